@@ -1,0 +1,34 @@
+//! The values that all crates share, where bytes go, and the canonical text of a text.
+#![tactic(auto)]
+
+mod blob;
+mod copied;
+mod copies;
+mod json_value;
+mod list;
+mod map;
+mod memory_sink;
+mod numbers;
+mod plain_sink;
+mod quoted;
+mod read;
+mod set;
+mod sink;
+mod text;
+
+pub use blob::Blob;
+pub use copied::Copied;
+pub use copies::{copies2, copies3, copies4, copies5, copies6, copies7};
+pub use json_value::Json;
+pub use list::List;
+pub use map::{Annotations, TextMap};
+pub use memory_sink::MemorySink;
+pub use plain_sink::PlainSink;
+pub use quoted::write_quoted;
+pub use read::read_json;
+pub use set::TextSet;
+pub use sink::{Sink, SinkError, put_all};
+pub use text::Text;
+
+#[cfg(test)]
+mod tests;
