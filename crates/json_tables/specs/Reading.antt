@@ -1,0 +1,122 @@
+-- How JSON data is read by a table. Each reader gives a value, or none where the data has another shape.
+use Rattle.std.specs.Prelude.{ℕ, ◌^◌, List, [], ◌∷◌, Bool, true, nat_lt, int_lt, if◌then◌else◌, Option, Some, None, option_map, ⊤, ℤ, pos, negsuc, ◌&&◌}
+use Rattle.std.specs.List.{list_any}
+use Rattle.std.specs.Str.{bytes_eq}
+use Rattle.std.specs.FinMap.{FinMap, empty, insert}
+use Rattle.json_canon.specs.Places.{by_bytes}
+use Rattle.serde_json.specs.Data.{Data, null, Items, no_items, item, Members, no_members, member}
+use Rattle.serde_json.specs.Find.{get, as_bool, as_number, as_str, as_array, as_object, as_u64, as_i64}
+
+-- what f reads from what was found
+infixl 10 ◌>>=◌
+abbrev pub ◌>>=◌ : {A B : Type 0} → Option A → (A → Option B) → Option B
+None >>= f = None
+(Some x) >>= f = f x
+
+-- what is below a limit
+abbrev pub below : ℕ → ℕ → Option ℕ
+below limit n = if nat_lt n limit then Some n else None
+
+-- what lies from the least to the greatest
+abbrev pub within : ℤ → ℤ → ℤ → Option ℤ
+within least greatest z = if int_lt z least then None else (if int_lt greatest z then None else Some z)
+
+-- a whole number in the range of its type
+abbrev pub u64_of : Data → Option ℕ
+u64_of d = as_number d >>= as_u64
+
+abbrev pub u8_of : Data → Option ℕ
+u8_of d = u64_of d >>= below (2 ^ 8)
+
+abbrev pub u16_of : Data → Option ℕ
+u16_of d = u64_of d >>= below (2 ^ 16)
+
+abbrev pub u32_of : Data → Option ℕ
+u32_of d = u64_of d >>= below (2 ^ 32)
+
+abbrev pub i64_of : Data → Option ℤ
+i64_of d = as_number d >>= as_i64
+
+abbrev pub i32_of : Data → Option ℤ
+i32_of d = i64_of d >>= within (negsuc 2147483647) (pos 2147483647)
+
+-- a truth value
+abbrev pub bool_of : Data → Option Bool
+bool_of = as_bool
+
+-- a text
+abbrev pub text_of : Data → Option (List ℕ)
+text_of = as_str
+
+abbrev pub items_by : {X : Type 0} → (Data → Option X) → Items → Option (List X)
+items_by f no_items = Some []
+items_by f (item d ds) = f d >>= λ x. items_by f ds >>= λ xs. Some (x ∷ xs)
+
+-- a list of what f reads
+abbrev pub list_of : {X : Type 0} → (Data → Option X) → Data → Option (List X)
+list_of f d = as_array d >>= items_by f
+
+abbrev pub two_by : {X Y : Type 0} → (Data → Option X) → (Data → Option Y) → Items → Option (X × Y)
+two_by f g (item d (item e no_items)) = f d >>= λ x. g e >>= λ y. Some (x, y)
+two_by f g ds = None
+
+-- a list of two: what f reads, then what g reads
+abbrev pub pair_of : {X Y : Type 0} → (Data → Option X) → (Data → Option Y) → Data → Option (X × Y)
+pair_of f g d = as_array d >>= two_by f g
+
+abbrev pub Map : Type 0 → Type 0
+Map V = FinMap by_bytes V
+
+-- the members go in one after another
+abbrev pub members_by : {V : Type 0} → (Data → Option V) → Map V → Members → Option (Map V)
+members_by f found no_members = Some found
+members_by f found (member k d ms) = f d >>= λ x. members_by f (insert found k x) ms
+
+-- an object whose values f reads
+abbrev pub map_of : {V : Type 0} → (Data → Option V) → Data → Option (Map V)
+map_of f d = as_object d >>= members_by f empty
+
+-- what was found, if it is there
+abbrev pub present : {X : Type 0} → (Data → Option X) → Option Data → Option X
+present f o = o >>= f
+
+-- none where nothing or null was found
+abbrev pub unless_null : {X : Type 0} → (Data → Option X) → Option Data → Option (Option X)
+unless_null f None = Some None
+unless_null f (Some null) = Some None
+unless_null f (Some d) = option_map Some (f d)
+
+-- any value, and null where nothing was found
+abbrev pub or_null : Option Data → Option Data
+or_null None = Some null
+or_null (Some d) = Some d
+
+-- a member that must be there
+abbrev pub required : {X : Type 0} → (Data → Option X) → List ℕ → Data → Option X
+required f name d = get name d >>= f
+
+-- a member that may be absent or null
+abbrev pub optional : {X : Type 0} → (Data → Option X) → List ℕ → Data → Option (Option X)
+optional f name d = unless_null f (get name d)
+
+-- a reader of what was found, at its name
+abbrev pub at_name : {X : Type 0} → (Option Data → Option X) → List ℕ → Data → Option X
+at_name f name d = f (get name d)
+
+-- an object, whatever its members
+abbrev pub an_object : Data → Option ⊤
+an_object d = as_object d >>= λ ms. Some tt
+
+-- whether each member has one of the names
+abbrev pub names_within : List (List ℕ) → Members → Bool
+names_within names no_members = true
+names_within names (member k d ms) = list_any (bytes_eq k) names && names_within names ms
+
+-- an object with no members but these
+abbrev pub only : List (List ℕ) → Data → Option ⊤
+only names d = as_object d >>= λ ms. if names_within names ms then Some tt else None
+
+-- the text at the end of a path of members
+abbrev pub text_at : List (List ℕ) → Data → Option (List ℕ)
+text_at [] d = text_of d
+text_at (name ∷ names) d = get name d >>= text_at names

@@ -1,0 +1,40 @@
+use std::alloc::{AllocError, AllocFailed};
+use thiserror::Error;
+
+/// Why a value is not the document.
+#[derive(Clone, Copy, Debug, PartialEq, Eq, Error)]
+pub enum ReadError {
+    /// A float stands in it.
+    #[error("a float stands in the value")]
+    Float,
+    /// Its table does not read it.
+    #[error("the value has another shape")]
+    Shape,
+    /// The tables of two documents read it.
+    #[error("the value reads as two documents")]
+    Ambiguous,
+    #[error("out of memory")]
+    WantOfMemory,
+}
+
+impl From<AllocError> for ReadError {
+    ghost use Rattle.std.specs.Prelude.{◌≡◌};
+    ghost use Rattle.json_tables.specs.declared.error.ReadError.TheVariants.{WantOfMemory};
+
+    ghost from_gives = { λ _ e. e ≡ WantOfMemory };
+
+    fn from(_error: AllocError) -> ReadError {
+        ReadError::WantOfMemory
+    }
+}
+
+impl<T: Drop> From<AllocFailed<T>> for ReadError {
+    ghost use Rattle.std.specs.Prelude.{◌≡◌};
+    ghost use Rattle.json_tables.specs.declared.error.ReadError.TheVariants.{WantOfMemory};
+
+    ghost from_gives = { λ _ e. e ≡ WantOfMemory };
+
+    fn from(_error: AllocFailed<T>) -> ReadError {
+        ReadError::WantOfMemory
+    }
+}

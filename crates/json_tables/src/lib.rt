@@ -1,0 +1,31 @@
+//! Documents read from JSON by tables.
+#![tactic(auto)]
+
+mod blobs;
+mod document;
+mod error;
+mod floats;
+mod lists;
+mod long_rows;
+mod maps;
+mod member;
+mod numbers;
+mod objects;
+mod paths;
+mod reads;
+mod rows;
+mod values;
+
+pub use blobs::{decode_base64, required_base64};
+pub use document::{read_document, read_or_none};
+pub use error::ReadError;
+pub use floats::holds_float;
+pub use long_rows::{row7, row8, row9, row10};
+pub use member::{Member, optional, or_null, present, required};
+pub use objects::{an_object, only};
+pub use paths::text_at;
+pub use reads::Reads;
+pub use rows::{row2, row3, row4, row5, row6};
+
+#[cfg(test)]
+mod tests;
