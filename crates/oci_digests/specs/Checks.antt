@@ -1,0 +1,63 @@
+-- What the checks of a body against digest texts answer.
+use Rattle.std.specs.Prelude.{◌≡◌, ℕ, Bool, true, false, ◌&&◌, ◌||◌, MatchBool, List, [], nat_le, ◌==◌, if◌then◌else◌, bytes_eq, Option, Some, None, Result, Ok, Err}
+use Rattle.std.specs.List.{list_all}
+use Rattle.oci_digests.specs.Names.{digest_text}
+use Rattle.oci_digests.specs.Parts.{parts_of, named_algorithm}
+use Rattle.oci_digests.specs.declared.digester.Algorithm.{Algorithm}
+use Rattle.oci_digests.specs.declared.digester.Algorithm.TheVariants.{Sha256}
+use Rattle.oci_digests.specs.declared.error.DigestError.{DigestError}
+use Rattle.oci_digests.specs.declared.error.DigestError.TheVariants.{InvalidHeader, MissingAlgorithm, VerificationError, WantOfMemory}
+
+-- which refusal says that memory was wanting
+abbrev pub is_memory : DigestError → Bool
+is_memory WantOfMemory = true
+is_memory _ = false
+
+-- the answer is this one, unless memory was wanting
+abbrev pub Says : {A : Type 0} → Result A DigestError → Result A DigestError → Type 0
+Says (Ok a) said = said ≡ Ok a
+Says (Err e) said = MatchBool (is_memory e) (Unit {0}) (said ≡ Err e)
+
+-- the second answer, unless the first one is a refusal
+abbrev pub and_then : {A B : Type 0} → Result A DigestError → (A → Result B DigestError) → Result B DigestError
+and_then (Err e) next = Err e
+and_then (Ok a) next = next a
+
+-- each byte is a tab, a space or a visible character of ASCII
+abbrev pub is_header_text : List ℕ → Bool
+is_header_text value = list_all (λ b. b == 9 || (nat_le 32 b && nat_le b 126)) value
+
+-- the digest in the value of a digest header: none where it is absent or empty
+abbrev pub header_digest : Option (List ℕ) → Result (Option (List ℕ)) DigestError
+header_digest None = Ok None
+header_digest (Some []) = Ok None
+header_digest (Some value) = if is_header_text value then Ok (Some value) else Err (InvalidHeader value)
+
+-- the text, where it is that of the hash of the body by this algorithm
+abbrev pub checked_by : Algorithm → List ℕ → List ℕ → Result (List ℕ) DigestError
+checked_by a body text = if bytes_eq text (digest_text a body) then Ok text else Err (VerificationError text (digest_text a body))
+
+-- the text, where it names the body by the algorithm that it begins with
+abbrev pub checked : List ℕ → List ℕ → Result (List ℕ) DigestError
+checked body text = and_then (named_algorithm text) (λ a. checked_by a body text)
+
+-- one check where the texts are equal, else the reference's and then the header's
+abbrev pub both_checked : List ℕ → List ℕ → List ℕ → Result (List ℕ) DigestError
+both_checked body header reference =
+    if bytes_eq header reference
+    then checked body header
+    else and_then (checked body reference) (λ _. checked body header)
+
+-- where both texts have parts, both are checked
+abbrev pub both_validated : Option (List ℕ × List ℕ) → Option (List ℕ × List ℕ) → Result (List ℕ) DigestError → Result (List ℕ) DigestError
+both_validated None reference answer = Err MissingAlgorithm
+both_validated (Some header) None answer = Err MissingAlgorithm
+both_validated (Some header) (Some reference) answer = answer
+
+-- the digest of the body, by the texts of a header and of a reference
+abbrev pub validated : List ℕ → Option (List ℕ) → Option (List ℕ) → Result (List ℕ) DigestError
+validated body None None = Ok (digest_text Sha256 body)
+validated body (Some header) None = checked body header
+validated body None (Some reference) = checked body reference
+validated body (Some header) (Some reference) =
+    both_validated (parts_of header) (parts_of reference) (both_checked body header reference)

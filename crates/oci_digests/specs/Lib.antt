@@ -1,0 +1,6 @@
+pub mod Both
+pub mod Checks
+pub mod Holds
+pub mod Names
+pub mod Parts
+pub mod Validates

@@ -1,0 +1,143 @@
+// A body against the digest texts of a header and of a reference.
+ghost use Rattle.std.specs.Prelude.{◌≡◌, true, false, ℕ, List, Some, MatchOption, IfOk, IfErr};
+ghost use Rattle.std.specs.Option.{option_copied};
+ghost use Rattle.oci_digests.specs.Checks.{Says, is_memory, checked, validated, header_digest, is_header_text};
+ghost use Rattle.oci_digests.specs.Parts.{algorithm_of, named_algorithm};
+ghost use Rattle.oci_digests.specs.Validates.{Validates};
+
+use crate::digest::Digest;
+use crate::digester::Algorithm;
+use crate::error::DigestError;
+use crate::names::{digest_text, sha256_digest};
+use json_canon::{Blob, Text};
+use std::alloc::Global;
+
+fn algorithm_of(name: &str) -> Option<Algorithm>
+    ensures { result ≡ algorithm_of name.now }
+{
+    if name == "sha256" {
+        Some(Algorithm::Sha256)
+    } else if name == "sha384" {
+        Some(Algorithm::Sha384)
+    } else if name == "sha512" {
+        Some(Algorithm::Sha512)
+    } else {
+        None
+    }
+}
+
+/// The algorithm that a digest text names.
+pub fn named_algorithm(alloc: Global, text: &str) -> Result<Algorithm, DigestError>
+    ensures { Says result (named_algorithm text.now) }
+{
+    let parts = Digest::new(text)?;
+    match algorithm_of(parts.algorithm) {
+        Some(algorithm) => Ok(algorithm),
+        None => Err(DigestError::UnsupportedAlgorithm(Text::new(alloc, parts.algorithm)?)),
+    }
+}
+
+// The text, where it names the body.
+fn check(alloc: Global, body: &[u8], text: &str) -> Result<Text, DigestError>
+    ensures { Says result (checked body.now text.now) }
+{
+    let algorithm = named_algorithm(alloc, text)?;
+    let actual = digest_text(alloc, algorithm, body)?;
+    if text == actual.as_str() {
+        return Ok(actual);
+    }
+    let expected = Text::new(alloc, text)?;
+    Err(DigestError::VerificationError { expected, actual })
+}
+
+/// The digest of a body, by the digest in its header and the one in its reference.
+///
+/// `MissingAlgorithm` where a text that is given has no colon. Then the reference's text is checked, and then the
+/// header's where it is another one; a check refuses `UnsupportedAlgorithm`, or `VerificationError` with the given and
+/// the computed text. The answer is the header's text, else the reference's, else the SHA-256 text of the body.
+#[tactic(auto, using(crate::proofs::Validated::ok_of, crate::proofs::Validated::err_of))]
+pub fn validate_digest(
+    alloc: Global,
+    body: &[u8],
+    digest_header: Option<&str>,
+    reference_digest: Option<&str>,
+) -> Result<Text, DigestError>
+    ensures says { Says result (validated body.now (option_copied digest_header.entry) (option_copied reference_digest.entry)) }
+    ensures ok { IfOk result (Validates body.now (option_copied digest_header.entry) (option_copied reference_digest.entry)) }
+    ensures err { IfErr result (λ e. is_memory e ≡ false
+        → (text : List ℕ) → Validates body.now (option_copied digest_header.entry) (option_copied reference_digest.entry) text → ⊥) }
+{
+    check_given(alloc, body, digest_header, reference_digest)
+}
+
+fn check_given(
+    alloc: Global,
+    body: &[u8],
+    digest_header: Option<&str>,
+    reference_digest: Option<&str>,
+) -> Result<Text, DigestError>
+    ensures { Says result (validated body.now (option_copied digest_header.entry) (option_copied reference_digest.entry)) }
+{
+    match (digest_header, reference_digest) {
+        (None, None) => Ok(sha256_digest(alloc, body)?),
+        (Some(header), None) => check(alloc, body, header),
+        (None, Some(reference)) => check(alloc, body, reference),
+        (Some(header), Some(reference)) => check_both(alloc, body, header, reference),
+    }
+}
+
+fn check_both(
+    alloc: Global,
+    body: &[u8],
+    header: &str,
+    reference: &str,
+) -> Result<Text, DigestError>
+    ensures { Says result (validated body.now (Some header.now) (Some reference.now)) }
+{
+    Digest::new(header)?;
+    Digest::new(reference)?;
+    if header != reference {
+        check(alloc, body, reference)?;
+    }
+    let text = check(alloc, body, header)?;
+    Ok(text)
+}
+
+// The value as a text, where each byte may stand in one.
+#[tactic(auto, using(crate::proofs::HeaderText::not_text))]
+fn header_text(value: &[u8]) -> Option<&str>
+    ensures { MatchOption result (is_header_text value.now ≡ false) (λ text. (is_header_text value.now ≡ true) × (text.now ≡ value.now)) }
+{
+    if !is_header_text(value) {
+        return None;
+    }
+    match str::from_utf8(value) {
+        Ok(text) => Some(text),
+        Err(_) => None,
+    }
+}
+
+fn is_header_text(value: &[u8]) -> bool
+    ensures { result ≡ is_header_text value.now }
+{
+    value
+        .iter()
+        .all(|&byte| byte == 0x09 || (0x20 <= byte && byte <= 0x7E))
+}
+
+/// The digest in the value of the first `Docker-Content-Digest` header (OCI distribution specification, "Pulling
+/// manifests"): none where the header is absent or empty, `InvalidHeader` where it is not text.
+pub fn digest_header_value(alloc: Global, value: Option<&[u8]>) -> Result<Option<Text>, DigestError>
+    ensures { Says result (header_digest (option_copied value.entry)) }
+{
+    let Some(value) = value else {
+        return Ok(None);
+    };
+    if value.is_empty() {
+        return Ok(None);
+    }
+    let Some(text) = header_text(value) else {
+        return Err(DigestError::InvalidHeader(Blob::new(alloc, value)?));
+    };
+    Ok(Some(Text::new(alloc, text)?))
+}

@@ -1,0 +1,18 @@
+//! Digests of bytes by SHA-2, as the OCI image specification writes them, and checks of bodies against them.
+#![tactic(auto)]
+
+mod both;
+mod checks;
+mod digest;
+mod digester;
+mod error;
+mod names;
+#[cfg(test)]
+mod tests;
+
+pub use both::Digesters;
+pub use checks::{digest_header_value, named_algorithm, validate_digest};
+pub use digest::Digest;
+pub use digester::{Algorithm, Digester};
+pub use error::DigestError;
+pub use names::{digest_text, names_digest, sha256_digest};
