@@ -1,0 +1,6 @@
+pub mod Grammar
+pub mod Parts
+pub mod Platforms
+pub mod References
+pub mod Refusals
+pub mod Seen

@@ -1,0 +1,15 @@
+//! References to images, and the platforms that images are made for.
+#![tactic(auto)]
+
+mod grammar;
+mod parse_error;
+mod parts;
+mod platform;
+mod reference;
+
+pub use parse_error::ParseError;
+pub use platform::{Arch, Os};
+pub use reference::Reference;
+
+#[cfg(test)]
+mod tests;
