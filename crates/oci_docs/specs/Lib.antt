@@ -1,0 +1,10 @@
+pub mod Descriptor
+pub mod Document
+pub mod Envelope
+pub mod ErrorCode
+pub mod Index
+pub mod IndexEntry
+pub mod Manifest
+pub mod Platform
+pub mod Types
+pub mod Versioned

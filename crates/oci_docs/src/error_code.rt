@@ -1,0 +1,113 @@
+ghost use Rattle.std.specs.Prelude.{◌≡◌};
+ghost use Rattle.oci_docs.specs.ErrorCode.{known_code};
+
+use json_canon::{Copied, Text};
+use json_tables::{Member, ReadError, Reads, present};
+use serde_json::Value;
+use std::alloc::{AllocError, Global};
+
+/// The code of an error (OCI distribution specification, "Error Codes").
+#[derive(Debug, Drop, PartialEq, Eq)]
+pub enum OciErrorCode {
+    BlobUnknown,
+    BlobUploadInvalid,
+    BlobUploadUnknown,
+    DigestInvalid,
+    ManifestBlobUnknown,
+    ManifestInvalid,
+    ManifestUnknown,
+    ManifestUnverified,
+    NameInvalid,
+    NameUnknown,
+    NotFound,
+    SizeInvalid,
+    TagInvalid,
+    Unauthorized,
+    Denied,
+    Unsupported,
+    Toomanyrequests,
+    /// Any other text.
+    Other(Text),
+}
+
+// The code of a text of the table.
+#[tactic(auto, unfolding(crate::specs::ErrorCode::known_code))]
+fn known_code(text: &str) -> Option<OciErrorCode>
+    ensures { result ≡ known_code text.now }
+{
+    let code = match text {
+        "BLOB_UNKNOWN" => OciErrorCode::BlobUnknown,
+        "BLOB_UPLOAD_INVALID" => OciErrorCode::BlobUploadInvalid,
+        "BLOB_UPLOAD_UNKNOWN" => OciErrorCode::BlobUploadUnknown,
+        "DIGEST_INVALID" => OciErrorCode::DigestInvalid,
+        "MANIFEST_BLOB_UNKNOWN" => OciErrorCode::ManifestBlobUnknown,
+        "MANIFEST_INVALID" => OciErrorCode::ManifestInvalid,
+        "MANIFEST_UNKNOWN" => OciErrorCode::ManifestUnknown,
+        "MANIFEST_UNVERIFIED" => OciErrorCode::ManifestUnverified,
+        "NAME_INVALID" => OciErrorCode::NameInvalid,
+        "NAME_UNKNOWN" => OciErrorCode::NameUnknown,
+        "NOT_FOUND" => OciErrorCode::NotFound,
+        "SIZE_INVALID" => OciErrorCode::SizeInvalid,
+        "TAG_INVALID" => OciErrorCode::TagInvalid,
+        "UNAUTHORIZED" => OciErrorCode::Unauthorized,
+        "DENIED" => OciErrorCode::Denied,
+        "UNSUPPORTED" => OciErrorCode::Unsupported,
+        "TOOMANYREQUESTS" => OciErrorCode::Toomanyrequests,
+        _ => return None,
+    };
+    Some(code)
+}
+
+impl Reads for OciErrorCode {
+    ghost use Rattle.oci_docs.specs.ErrorCode.{code_of};
+
+    ghost reading = { code_of };
+
+    #[tactic(auto, unfolding(crate::specs::ErrorCode::code_of))]
+    fn read_value(alloc: Global, value: &Value) -> Result<OciErrorCode, ReadError> {
+        let Some(text) = value.as_str() else {
+            return Err(ReadError::Shape);
+        };
+        match known_code(text) {
+            Some(code) => Ok(code),
+            None => Ok(OciErrorCode::Other(Text::new(alloc, text)?)),
+        }
+    }
+}
+
+impl Member for OciErrorCode {
+    ghost use Rattle.json_tables.specs.Reading.{present};
+    ghost use Rattle.oci_docs.specs.ErrorCode.{code_of};
+
+    ghost found = { present code_of };
+
+    fn read_member(alloc: Global, member: Option<&Value>) -> Result<OciErrorCode, ReadError> {
+        present(alloc, member)
+    }
+}
+
+impl Copied for OciErrorCode {
+    fn copy(&self, alloc: Global) -> Result<OciErrorCode, AllocError> {
+        let code = match self {
+            OciErrorCode::BlobUnknown => OciErrorCode::BlobUnknown,
+            OciErrorCode::BlobUploadInvalid => OciErrorCode::BlobUploadInvalid,
+            OciErrorCode::BlobUploadUnknown => OciErrorCode::BlobUploadUnknown,
+            OciErrorCode::DigestInvalid => OciErrorCode::DigestInvalid,
+            OciErrorCode::ManifestBlobUnknown => OciErrorCode::ManifestBlobUnknown,
+            OciErrorCode::ManifestInvalid => OciErrorCode::ManifestInvalid,
+            OciErrorCode::ManifestUnknown => OciErrorCode::ManifestUnknown,
+            OciErrorCode::ManifestUnverified => OciErrorCode::ManifestUnverified,
+            OciErrorCode::NameInvalid => OciErrorCode::NameInvalid,
+            OciErrorCode::NameUnknown => OciErrorCode::NameUnknown,
+            OciErrorCode::NotFound => OciErrorCode::NotFound,
+            OciErrorCode::SizeInvalid => OciErrorCode::SizeInvalid,
+            OciErrorCode::TagInvalid => OciErrorCode::TagInvalid,
+            OciErrorCode::Unauthorized => OciErrorCode::Unauthorized,
+            OciErrorCode::Denied => OciErrorCode::Denied,
+            OciErrorCode::Unsupported => OciErrorCode::Unsupported,
+            OciErrorCode::Toomanyrequests => OciErrorCode::Toomanyrequests,
+            OciErrorCode::Other(text) => OciErrorCode::Other(text.copy(alloc)?),
+        };
+        Ok(code)
+    }
+}

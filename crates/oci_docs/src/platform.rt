@@ -1,0 +1,90 @@
+ghost use Rattle.serde_json.specs.View.{view};
+ghost use Rattle.json_tables.specs.Outcomes.{ReadsDocument};
+
+use json_canon::{Copied, List, Text, copies6};
+use json_tables::{Member, ReadError, Reads, present, read_document, row6};
+use serde_json::Value;
+use std::alloc::{AllocError, Global};
+
+/// The platform that an image runs on (OCI image specification, image-index.md).
+#[derive(Debug, Drop)]
+pub struct Platform {
+    pub architecture: Text,
+    pub os: Text,
+    pub os_version: Option<Text>,
+    pub os_features: Option<List<Text>>,
+    pub variant: Option<Text>,
+    pub features: Option<List<Text>>,
+}
+
+impl Platform {
+    ghost use Rattle.oci_docs.specs.Platform.{platform_of};
+
+    /// `Float` exactly where a float stands anywhere, else `Shape` exactly where the table does not read it.
+    pub fn read(alloc: Global, value: &Value) -> Result<Platform, ReadError>
+        ensures { ReadsDocument result platform_of (view value.now) }
+    {
+        read_document(alloc, value)
+    }
+}
+
+impl Reads for Platform {
+    ghost use Rattle.oci_docs.specs.Platform.{platform_of};
+
+    ghost reading = { platform_of };
+
+    #[tactic(auto, unfolding(crate::specs::Platform::platform_of))]
+    fn read_value(alloc: Global, value: &Value) -> Result<Platform, ReadError> {
+        let (architecture, os, os_version, os_features, variant, features) = row6(
+            alloc,
+            value,
+            "architecture",
+            "os",
+            "os.version",
+            "os.features",
+            "variant",
+            "features",
+        )?;
+        Ok(Platform {
+            architecture,
+            os,
+            os_version,
+            os_features,
+            variant,
+            features,
+        })
+    }
+}
+
+impl Member for Platform {
+    ghost use Rattle.json_tables.specs.Reading.{present};
+    ghost use Rattle.oci_docs.specs.Platform.{platform_of};
+
+    ghost found = { present platform_of };
+
+    fn read_member(alloc: Global, member: Option<&Value>) -> Result<Platform, ReadError> {
+        present(alloc, member)
+    }
+}
+
+impl Copied for Platform {
+    fn copy(&self, alloc: Global) -> Result<Platform, AllocError> {
+        let (architecture, os, os_version, os_features, variant, features) = copies6(
+            alloc,
+            &self.architecture,
+            &self.os,
+            &self.os_version,
+            &self.os_features,
+            &self.variant,
+            &self.features,
+        )?;
+        Ok(Platform {
+            architecture,
+            os,
+            os_version,
+            os_features,
+            variant,
+            features,
+        })
+    }
+}
