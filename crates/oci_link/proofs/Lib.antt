@@ -1,0 +1,3 @@
+pub mod Calming
+pub mod Fields
+pub mod Playing

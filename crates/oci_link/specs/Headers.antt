@@ -1,0 +1,54 @@
+-- Header fields: names in lower case with their values (RFC 9110, section 5).
+use Rattle.std.specs.Prelude.{ℕ, ◌==◌, Bool, ◌&&◌, ◌||◌, not, nat_le, List, [], ◌∷◌, ◌++◌, Option, Some, None, unwrap_or, length, slice_get, sum_by, if◌then◌else◌}
+use Rattle.std.specs.List.{list_all}
+use Rattle.std.specs.FinMap as map
+use Rattle.std.specs.FinMap.{FinMap}
+use Rattle.std.specs.FinMap.Entries.{where_key}
+use Rattle.std.specs.Ordering.{eq_by_cmp}
+use Rattle.json_canon.specs.Places.{by_bytes}
+
+-- the values of each name
+abbrev pub Fields : Type 0
+Fields = FinMap by_bytes (List (List ℕ))
+
+-- the values of a name, in order
+abbrev pub values_of : List ℕ → Fields → List (List ℕ)
+values_of name m = unwrap_or (map.get m name) []
+
+-- the first of them
+abbrev pub first_of : List ℕ → Fields → Option (List ℕ)
+first_of name m = slice_get (values_of name m) 0
+
+-- with this value behind the others of its name
+abbrev pub added : Fields → List ℕ → List ℕ → Fields
+added m name value = map.insert m name (values_of name m ++ value ∷ [])
+
+-- with no value of this name
+abbrev pub without : List ℕ → Fields → Fields
+without name m = map.remove m name
+
+-- how many values there are in all
+abbrev pub held : Fields → ℕ
+held m = sum_by (λ e. length e.1) (map.entries m)
+
+-- a byte of a value: no control byte but the tab
+abbrev pub is_value_byte : ℕ → Bool
+is_value_byte b = (b == 9 || nat_le 32 b) && not (b == 127)
+
+abbrev pub is_header_value : List ℕ → Bool
+is_header_value value = list_all is_value_byte value
+
+-- a byte of a text: a tab, or visible ASCII or a space
+abbrev pub is_text_byte : ℕ → Bool
+is_text_byte b = b == 9 || (nat_le 32 b && nat_le b 126)
+
+abbrev pub is_text : List ℕ → Bool
+is_text value = list_all is_text_byte value
+
+-- a value that is text
+abbrev pub header_text : List ℕ → Option (List ℕ)
+header_text value = if is_text value then Some value else None
+
+-- the fields of other names, inserted from the last one on
+abbrev pub kept_fields : List ℕ → List (List ℕ × List (List ℕ)) → Fields
+kept_fields name es = map.from_entries (where_key by_bytes (λ x. not (eq_by_cmp by_bytes name x)) es)

@@ -1,0 +1,23 @@
+//! Requests, answers, and the transport that carries them.
+#![tactic(auto)]
+
+mod body;
+mod headers;
+mod message;
+mod recorded;
+mod redirects;
+mod script;
+mod transport;
+mod urls;
+
+pub use body::{BodyError, read_body};
+pub use headers::{HeaderError, Headers, header_text};
+pub use message::{Answer, AnswerHead, Conversation, Exchange, Method, Request};
+pub use recorded::Recorded;
+pub use redirects::redirected;
+pub use script::Script;
+pub use transport::{LinkError, Transport};
+pub use urls::{UrlError, registry_url, request_url, targets};
+
+#[cfg(test)]
+mod tests;
