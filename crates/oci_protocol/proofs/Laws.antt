@@ -1,0 +1,199 @@
+use Rattle.std.proofs.Common.{◌≡◌, ◌≤◌, inl, inr, ℕ, Bool, true, false, List, [], ◌∷◌, ◌++◌, Result, Ok, Err, refl, arith}
+use Rattle.std.specs.Prelude.{MatchBool}
+use Rattle.oci_link.specs.Link.{Link, IsAtMost, AddsAtMost}
+use Rattle.oci_protocol.proofs.Extending.{Extends-more, Extends-none}
+use Rattle.oci_link.specs.declared.message.Request.{Request}
+use Rattle.oci_link.specs.declared.message.AnswerHead.{AnswerHead}
+use Rattle.oci_link.specs.declared.message.Exchange.{Exchange}
+use Rattle.oci_protocol.specs.Proto.{Reading, Reply, Proto, Done, Ask, Recall, Keep, bind, unless_refused, ◌>>=◌}
+use Rattle.oci_protocol.specs.Runs.{Hears, Runs, Stops, Performs, Breaks, Outcome, Meets}
+
+-- a run of one protocol and a run of the one that its answer gives are a run of both
+pub Runs-bind : {K A B : Type 0} (p : Proto K A) (f : A → Proto K B) (k l j : K) (m n o : ℕ) (c d : List Exchange) (a : A) (b : B) → Runs p k m c n l a → Runs (f a) l n d o j b → Runs (bind p f) k m (c ++ d) o j b
+unfolding Runs bind
+Runs-bind (Done x) f k l j m n o [] d a b r s = rw (r.2, r.1, r.0) s
+Runs-bind (Done x) f k l j m n o (e ∷ c) d a b r s = absurd r
+Runs-bind (Ask request reading next) f k l j m n o [] d a b r s = absurd r
+Runs-bind (Ask request reading next) f k l j m n o (e ∷ c) d a b r s = (r.0, r.1, r.2, Runs-bind (next r.1) f k l j r.0 n o c d a b r.3 s)
+Runs-bind (Recall next) f k l j m n o c d a b r s = Runs-bind (next k) f k l j m n o c d a b r s
+Runs-bind (Keep kept rest) f k l j m n o c d a b r s = Runs-bind rest f kept l j m n o c d a b r s
+
+-- nothing was done yet
+pub Stops-start : {K A : Type 0} (p : Proto K A) (k : K) (m : ℕ) → Stops p k m [] k
+unfolding Stops
+Stops-start (Done x) k m = refl
+Stops-start (Ask request reading next) k m = refl
+Stops-start (Recall next) k m = Stops-start (next k) k m
+Stops-start (Keep kept rest) k m = inl (refl, refl)
+
+-- a front of the first part is a front of both
+pub Stops-first : {K A B : Type 0} (p : Proto K A) (f : A → Proto K B) (k l : K) (m : ℕ) (c : List Exchange) → Stops p k m c l → Stops (bind p f) k m c l
+unfolding Stops bind
+Stops-first (Done x) f k l m [] s = rw (← s) (Stops-start (f x) k m)
+Stops-first (Done x) f k l m (e ∷ c) s = absurd s
+Stops-first (Ask request reading next) f k l m [] s = s
+Stops-first (Ask request reading next) f k l m (e ∷ c) (inl s) = inl s
+Stops-first (Ask request reading next) f k l m (e ∷ c) (inr s) = inr (s.0, s.1, s.2, Stops-first (next s.1) f k l s.0 c s.3)
+Stops-first (Recall next) f k l m c s = Stops-first (next k) f k l m c s
+Stops-first (Keep kept rest) f k l m c (inl s) = inl s
+Stops-first (Keep kept rest) f k l m c (inr s) = inr (Stops-first rest f kept l m c s)
+
+-- a run of the first part and a front of what its answer gives are a front of both
+pub Stops-second : {K A B : Type 0} (p : Proto K A) (f : A → Proto K B) (k l j : K) (m n : ℕ) (c d : List Exchange) (a : A) → Runs p k m c n l a → Stops (f a) l n d j → Stops (bind p f) k m (c ++ d) j
+unfolding Runs Stops bind
+Stops-second (Done x) f k l j m n [] d a r s = rw (r.2, r.1, r.0) s
+Stops-second (Done x) f k l j m n (e ∷ c) d a r s = absurd r
+Stops-second (Ask request reading next) f k l j m n [] d a r s = absurd r
+Stops-second (Ask request reading next) f k l j m n (e ∷ c) d a r s = inr (r.0, r.1, r.2, Stops-second (next r.1) f k l j r.0 n c d a r.3 s)
+Stops-second (Recall next) f k l j m n c d a r s = Stops-second (next k) f k l j m n c d a r s
+Stops-second (Keep kept rest) f k l j m n c d a r s = inr (Stops-second rest f kept l j m n c d a r s)
+
+-- the count of faults never falls in a run
+pub Runs-count : {K A : Type 0} (p : Proto K A) (k l : K) (m n : ℕ) (c : List Exchange) (a : A) → Runs p k m c n l a → m ≤ n
+unfolding Runs
+Runs-count (Done x) k l m n [] a r = omega (arith, r.0)
+Runs-count (Done x) k l m n (e ∷ c) a r = absurd r
+Runs-count (Ask request reading next) k l m n [] a r = absurd r
+Runs-count (Ask request reading next) k l m n (e ∷ c) a r = omega (arith, r.2.count, Runs-count (next r.1) k l r.0 n c a r.3)
+Runs-count (Recall next) k l m n c a r = Runs-count (next k) k l m n c a r
+Runs-count (Keep kept rest) k l m n c a r = Runs-count rest kept l m n c a r
+
+-- what needs no request
+pub Performs-done : {K A : Type 0} (link : Link) (k : K) (a : A) → Performs (Done a) link link k k a
+unfolding Runs
+Performs-done link k a = record { conversation = []; told = Extends-none link; runs = (refl, refl, refl) }
+
+pub Performs-bind : {K A B : Type 0} {p : Proto K A} (f : A → Proto K B) {old mid new : Link} {k l j : K} {a : A} {b : B} → Performs p old mid k l a → Performs (f a) mid new l j b → Performs (bind p f) old new k j b
+Performs-bind {p} f {old} {mid} {new} {k} {l} {j} {a} {b} first second = record {
+  conversation = first.conversation ++ second.conversation;
+  told = Extends-more old mid new first.conversation second.conversation first.told second.told;
+  runs = Runs-bind p f k l j old.faults mid.faults new.faults first.conversation second.conversation a b first.runs second.runs;
+}
+
+pub Breaks-start : {K A : Type 0} (p : Proto K A) (link : Link) (k : K) → Breaks p link link k k
+Breaks-start p link k = record { conversation = []; told = Extends-none link; stops = Stops-start p k link.faults; count = omega arith }
+
+pub Breaks-first : {K A B : Type 0} {p : Proto K A} (f : A → Proto K B) {old new : Link} {k l : K} → Breaks p old new k l → Breaks (bind p f) old new k l
+Breaks-first {p} f {old} {new} {k} {l} first = record {
+  conversation = first.conversation;
+  told = first.told;
+  stops = Stops-first p f k l old.faults first.conversation first.stops;
+  count = first.count;
+}
+
+pub Breaks-second : {K A B : Type 0} {p : Proto K A} (f : A → Proto K B) {old mid new : Link} {k l j : K} {a : A} → Performs p old mid k l a → Breaks (f a) mid new l j → Breaks (bind p f) old new k j
+Breaks-second {p} f {old} {mid} {new} {k} {l} {j} {a} first second = record {
+  conversation = first.conversation ++ second.conversation;
+  told = Extends-more old mid new first.conversation second.conversation first.told second.told;
+  stops = Stops-second p f k l j old.faults mid.faults first.conversation second.conversation a first.runs second.stops;
+  count = omega (arith, Runs-count p k l old.faults mid.faults first.conversation a first.runs, second.count);
+}
+
+-- what makes runs of p into runs of q, and fronts into fronts, makes outcomes into outcomes
+pub outcome_by : {K A E : Type 0} (of_memory : E → Bool) (p : Proto K (Result A E)) (q : Proto K (Result A E)) (old mid new : Link) (k j l : K)
+    → ((x : Result A E) → Performs p mid new j l x → Performs q old new k l x) → (Breaks p mid new j l → Breaks q old new k l)
+    → (r : Result A E) → Outcome of_memory p mid new j l r → Outcome of_memory q old new k l r
+outcome_by of_memory p q old mid new k j l performs breaks (Ok a) h = performs (Ok a) h
+outcome_by {K} {A} {E} of_memory p q old mid new k j l performs breaks (Err e) h = refused (of_memory e) h where
+  refused : (b : Bool) → MatchBool b (Breaks p mid new j l) (Performs p mid new j l (Err e)) → MatchBool b (Breaks q old new k l) (Performs q old new k l (Err e))
+  refused true h = breaks h
+  refused false h = performs (Err e) h
+
+-- a step that was answered, and then what its answer gives
+pub Meets-next : {K A B E : Type 0} {of_memory : E → Bool} {p : Proto K (Result A E)} (f : A → Proto K (Result B E)) {old mid new : Link} {k l j : K} {a : A} {r : Result B E}
+    → Meets of_memory p old mid k l (Ok a) → Meets of_memory (f a) mid new l j r → Meets of_memory (p >>= f) old new k j r
+Meets-next {of_memory} {p} f {old} {mid} {new} {k} {l} {j} {a} {r} first second = record {
+  outcome = outcome_by of_memory (f a) (p >>= f) old mid new k l j (λ x h. Performs-bind (unless_refused f) first.outcome h) (λ h. Breaks-second (unless_refused f) first.outcome h) r second.outcome;
+}
+
+-- a step that was refused, or cut off, ends it all
+pub Meets-refused : {K A B E : Type 0} {of_memory : E → Bool} {p : Proto K (Result A E)} (f : A → Proto K (Result B E)) {old new : Link} {k l : K} {e : E}
+    → Meets of_memory p old new k l (Err e) → Meets of_memory (p >>= f) old new k l (Err e)
+Meets-refused {K} {A} {B} {E} {of_memory} {p} f {old} {new} {k} {l} {e} first = record { outcome = refused (of_memory e) first.outcome } where
+  refused : (b : Bool) → MatchBool b (Breaks p old new k l) (Performs p old new k l (Err e)) → MatchBool b (Breaks (p >>= f) old new k l) (Performs (p >>= f) old new k l (Err e))
+  refused true h = Breaks-first (unless_refused f) h
+  refused false h = Performs-bind (unless_refused f) h (Performs-done new l (Err e))
+
+-- the answer is there
+pub Meets-ok : {K A E : Type 0} (of_memory : E → Bool) (link : Link) (k : K) (a : A) → Meets of_memory (Done (Ok a)) link link k k (Ok a)
+Meets-ok of_memory link k a = record { outcome = Performs-done link k (Ok a) }
+
+-- the refusal is there
+pub Meets-err : {K A E : Type 0} (of_memory : E → Bool) (link : Link) (k : K) (e : E) → of_memory e ≡ false → Meets {A = A} of_memory (Done (Err e)) link link k k (Err e)
+Meets-err {K} {A} {E} of_memory link k e h = record { outcome = rw h (Performs-done link k (Err e)) }
+
+-- memory was wanting before a request was made
+pub Meets-memory : {K A E : Type 0} (of_memory : E → Bool) (p : Proto K (Result A E)) (link : Link) (k : K) (e : E) → of_memory e ≡ true → Meets of_memory p link link k k (Err e)
+Meets-memory of_memory p link k e h = record { outcome = rw h (Breaks-start p link k) }
+
+performs-recall : {K A : Type 0} (next : K → Proto K A) {old new : Link} {k l : K} {x : A} → Performs (next k) old new k l x → Performs (Recall next) old new k l x
+unfolding Runs
+performs-recall next h = record { conversation = h.conversation; told = h.told; runs = h.runs }
+
+breaks-recall : {K A : Type 0} (next : K → Proto K A) {old new : Link} {k l : K} → Breaks (next k) old new k l → Breaks (Recall next) old new k l
+unfolding Stops
+breaks-recall next h = record { conversation = h.conversation; told = h.told; stops = h.stops; count = h.count }
+
+-- what is kept is looked at
+pub Meets-recall : {K A E : Type 0} {of_memory : E → Bool} (next : K → Proto K (Result A E)) {old new : Link} {k l : K} {r : Result A E} → Meets of_memory (next k) old new k l r → Meets of_memory (Recall next) old new k l r
+Meets-recall {of_memory} next {old} {new} {k} {l} {r} rest = record {
+  outcome = outcome_by of_memory (next k) (Recall next) old old new k k l (λ x h. performs-recall next h) (λ h. breaks-recall next h) r rest.outcome;
+}
+
+performs-keep : {K A : Type 0} (kept : K) (rest : Proto K A) {old new : Link} {k l : K} {x : A} → Performs rest old new kept l x → Performs (Keep kept rest) old new k l x
+unfolding Runs
+performs-keep kept rest h = record { conversation = h.conversation; told = h.told; runs = h.runs }
+
+breaks-keep : {K A : Type 0} (kept : K) (rest : Proto K A) {old new : Link} {k l : K} → Breaks rest old new kept l → Breaks (Keep kept rest) old new k l
+unfolding Stops
+breaks-keep kept rest h = record { conversation = h.conversation; told = h.told; stops = inr h.stops; count = h.count }
+
+-- something else is kept
+pub Meets-keep : {K A E : Type 0} {of_memory : E → Bool} (kept : K) (rest : Proto K (Result A E)) {old new : Link} {k l : K} {r : Result A E} → Meets of_memory rest old new kept l r → Meets of_memory (Keep kept rest) old new k l r
+Meets-keep {of_memory} kept rest {old} {new} {k} {l} {r} met = record {
+  outcome = outcome_by of_memory rest (Keep kept rest) old old new k kept l (λ x h. performs-keep kept rest h) (λ h. breaks-keep kept rest h) r met.outcome;
+}
+
+performs-ask : {K A : Type 0} {request : Request} {reading : AnswerHead → Reading} (next : Reply → Proto K A) {old mid new : Link} {k l : K} {reply : Reply} {x : A} → Hears request reading old mid reply → Performs (next reply) mid new k l x → Performs (Ask request reading next) old new k l x
+unfolding Runs
+performs-ask next {old} {mid} {new} {reply} first h = record {
+  conversation = first.exchange ∷ h.conversation;
+  told = Extends-more old mid new (first.exchange ∷ []) h.conversation first.told h.told;
+  runs = (mid.faults, reply, first.replies, h.runs);
+}
+
+breaks-ask : {K A : Type 0} {request : Request} {reading : AnswerHead → Reading} (next : Reply → Proto K A) {old mid new : Link} {k l : K} {reply : Reply} → Hears request reading old mid reply → Breaks (next reply) mid new k l → Breaks (Ask request reading next) old new k l
+unfolding Stops
+breaks-ask next {old} {mid} {new} {reply} first h = record {
+  conversation = first.exchange ∷ h.conversation;
+  told = Extends-more old mid new (first.exchange ∷ []) h.conversation first.told h.told;
+  stops = inr (mid.faults, reply, first.replies, h.stops);
+  count = omega (arith, first.replies.count, h.count);
+}
+
+-- a request was answered so, and then what the reply gives
+pub Meets-ask : {K A E : Type 0} {of_memory : E → Bool} {request : Request} {reading : AnswerHead → Reading} (next : Reply → Proto K (Result A E)) {old mid new : Link} {k l : K} {reply : Reply} {r : Result A E}
+    → Hears request reading old mid reply → Meets of_memory (next reply) mid new k l r → Meets of_memory (Ask request reading next) old new k l r
+Meets-ask {of_memory} {request} {reading} next {old} {mid} {new} {k} {l} {reply} {r} first rest = record {
+  outcome = outcome_by of_memory (next reply) (Ask request reading next) old mid new k k l (λ x h. performs-ask next first h) (λ h. breaks-ask next first h) r rest.outcome;
+}
+
+cut-stops : {K A : Type 0} (request : Request) (reading : AnswerHead → Reading) (next : Reply → Proto K A) (k : K) (m : ℕ) (c : List Exchange) → IsAtMost request m c → Stops (Ask request reading next) k m c k
+unfolding Stops
+cut-stops request reading next k m [] h = refl
+cut-stops request reading next k m (e ∷ []) h = inl (h.0, h.1, refl, refl)
+cut-stops request reading next k m (e ∷ f ∷ c) h = absurd h
+
+-- memory was wanting at a request
+pub Meets-cut : {K A E : Type 0} (of_memory : E → Bool) (request : Request) (reading : AnswerHead → Reading) (next : Reply → Proto K (Result A E)) {old new : Link} (k : K) (e : E)
+    → AddsAtMost request old new → old.faults ≤ new.faults → of_memory e ≡ true → Meets of_memory (Ask request reading next) old new k k (Err e)
+Meets-cut of_memory request reading next {old} k e cut le h = record {
+  outcome = rw h (record { conversation = cut.conversation; told = cut.added; stops = cut-stops request reading next k old.faults cut.conversation cut.most; count = le });
+}
+
+-- a step whose refusal is looked at, and then what the row makes of it
+pub Meets-caught : {K A B E : Type 0} {of_memory : E → Bool} {p : Proto K A} (f : A → Proto K (Result B E)) {old mid new : Link} {k l j : K} {a : A} {r : Result B E}
+    → Performs p old mid k l a → Meets of_memory (f a) mid new l j r → Meets of_memory (bind p f) old new k j r
+Meets-caught {of_memory} {p} f {old} {mid} {new} {k} {l} {j} {a} {r} first second = record {
+  outcome = outcome_by of_memory (f a) (bind p f) old mid new k l j (λ x h. Performs-bind f first h) (λ h. Breaks-second f first h) r second.outcome;
+}

@@ -1,0 +1,17 @@
+pub mod Completing
+pub mod Driving
+pub mod Ending
+pub mod Ends
+pub mod Extending
+pub mod Following
+pub mod Guards
+pub mod Laws
+pub mod Lift
+pub mod Only
+pub mod Parts
+pub mod Pouring
+pub mod Reaching
+pub mod Safety
+pub mod Spilling
+pub mod Trailing
+pub mod Turning

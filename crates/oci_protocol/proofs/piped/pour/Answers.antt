@@ -1,0 +1,11 @@
+use Rattle.oci_protocol.proofs.Pouring.{takes_as, poured_part, poured_more}
+use Rattle.oci_protocol.proofs.piped.pour.Goals as goal
+
+pub returns-in-Err-Failed-put_all-clause-front : goal.returns-in-Err-Failed-put_all-clause-front
+returns-in-Err-Failed-put_all-clause-front g c = poured_part _ _ _ _ _ _ _ _ _ _ _ c.loop-piece.invariant (takes_as c.as_slice-bytes.ensures c.in-Ok.ensures.taken) c.in-Err-Failed-put_all.ensures.front
+
+pub returns-in-Err-WantOfMemory-put_all-clause-front : goal.returns-in-Err-WantOfMemory-put_all-clause-front
+returns-in-Err-WantOfMemory-put_all-clause-front g c = poured_part _ _ _ _ _ _ _ _ _ _ _ c.loop-piece.invariant (takes_as c.as_slice-bytes.ensures c.in-Ok.ensures.taken) c.in-Err-WantOfMemory-put_all.ensures.front
+
+pub loop-piece-preserved : goal.loop-piece-preserved
+loop-piece-preserved g c = poured_more _ _ _ _ _ _ _ _ _ _ _ _ c.loop-piece.invariant c.piece.ensures.told c.piece.ensures.steady c.piece.ensures.count (takes_as c.as_slice-bytes.ensures c.in-Ok.ensures.taken) c.if-more-limit.false c.update.ensures c.put_all.ensures.count c.in-Ok-put_all.ensures.whole

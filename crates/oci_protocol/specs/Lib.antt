@@ -1,0 +1,10 @@
+pub mod Drive
+pub mod Ends
+pub mod Follow
+pub mod Guards
+pub mod Lift
+pub mod Poured
+pub mod Proto
+pub mod Runs
+pub mod Safe
+pub mod Trails

@@ -1,0 +1,27 @@
+use Rattle.std.specs.Prelude.{◌≡◌, ◌≤◌, ℕ, List, [], ◌++◌, Some, Option, length}
+use Rattle.oci_link.specs.Link.{Link, HasTaken}
+use Rattle.json_canon.specs.Tray.{Tray, Adds}
+use Rattle.oci_digests.specs.declared.digester.Algorithm.{Algorithm}
+use Rattle.oci_digests.specs.declared.both.Digesters.{Digesters}
+use Rattle.oci_digests.specs.Both.{BothHold}
+
+-- these bytes were taken, hashed and put
+pub record PouredSoFar (body : List ℕ) (from to : Digesters) (old new : Link) (before after : Tray) : Type 0 where
+  pub taken : HasTaken body old new
+  pub put : Adds body before after
+  pub count : before.faults ≤ after.faults
+  pub hashed : (a : Option Algorithm) (b : Algorithm) → BothHold from a b [] → BothHold to a b body
+
+-- the whole body was, and it is within the limit
+pub record Pours (limit : ℕ) (from to : Digesters) (old new : Link) (before after : Tray) : Type 0 where
+  pub body : List ℕ
+  pub small : length body ≤ limit
+  pub whole : (rest : List ℕ) → old.rest ≡ Some rest → body ≡ rest
+  pub put : Adds body before after
+  pub hashed : (a : Option Algorithm) (b : Algorithm) → BothHold from a b [] → BothHold to a b body
+
+-- a front of it was put
+pub record PoursFront (old : Link) (before after : Tray) : Type 0 where
+  pub front : List ℕ
+  pub part : (rest : List ℕ) → old.rest ≡ Some rest → (left : List ℕ) × (rest ≡ front ++ left)
+  pub put : Adds front before after

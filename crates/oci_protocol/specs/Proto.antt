@@ -1,0 +1,60 @@
+use Rattle.std.specs.Prelude.{ℕ, Option, Some, None, Result, Ok, Err}
+use Rattle.oci_link.specs.declared.message.Request.{Request}
+use Rattle.oci_link.specs.declared.message.Answer.{Answer}
+use Rattle.oci_link.specs.declared.message.AnswerHead.{AnswerHead}
+
+-- how an answer's body is read, once its head is known: not at all, whole where it has no more
+-- bytes than this, or piece by piece into a sink, again where it has no more
+pub data Reading : Type 0 where
+  Unread : Reading
+  Within : (limit : ℕ) → Reading
+  Piped : (limit : ℕ) → Reading
+
+-- how many bytes a body may have that is read
+abbrev pub limit_of : Reading → Option ℕ
+limit_of Unread = None
+limit_of (Within limit) = Some limit
+limit_of (Piped limit) = Some limit
+
+-- whatever the head is
+unfoldable pub read_none : AnswerHead → Reading
+read_none head = Unread
+
+unfoldable pub read_within : ℕ → AnswerHead → Reading
+read_within limit head = Within limit
+
+-- what a protocol learns of an exchange
+pub data Reply : Type 0 where
+  Headed : (head : AnswerHead) → Reply
+  Answered : (answer : Answer) → Reply
+  Failed : Reply
+  TooLong : Reply
+  SinkFailed : Reply
+
+-- A protocol with answers in A and something kept in K: it ends with an answer, or makes a request
+-- and goes on by the reply, or looks at what is kept, or keeps something else.
+pub data Proto (K A : Type 0) : Type 0 where
+  Done : (answer : A) → Proto K A
+  Ask : (request : Request) → (reading : AnswerHead → Reading) → (next : Reply → Proto K A) → Proto K A
+  Recall : (next : K → Proto K A) → Proto K A
+  Keep : (kept : K) → (rest : Proto K A) → Proto K A
+
+-- one protocol, and then the one that its answer gives
+unfoldable pub bind : {K A B : Type 0} → Proto K A → (A → Proto K B) → Proto K B
+bind (Done a) f = f a
+bind (Ask request reading next) f = Ask request reading (λ reply. bind (next reply) f)
+bind (Recall next) f = Recall (λ kept. bind (next kept) f)
+bind (Keep kept rest) f = Keep kept (bind rest f)
+
+-- an error ends it
+abbrev pub unless_refused : {K A B E : Type 0} → (A → Proto K (Result B E)) → Result A E → Proto K (Result B E)
+unless_refused f (Ok a) = f a
+unless_refused f (Err e) = Done (Err e)
+
+infixl 10 ◌>>=◌
+abbrev pub ◌>>=◌ : {K A B E : Type 0} → Proto K (Result A E) → (A → Proto K (Result B E)) → Proto K (Result B E)
+p >>= f = bind p (unless_refused f)
+
+infixl 10 ◌>>◌
+abbrev pub ◌>>◌ : {K A B E : Type 0} → Proto K (Result A E) → Proto K (Result B E) → Proto K (Result B E)
+p >> q = p >>= (λ _. q)

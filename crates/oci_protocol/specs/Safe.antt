@@ -1,0 +1,24 @@
+use Rattle.std.specs.Prelude.{◌≡◌, ◌≢◌, ◌⊎◌, ℕ, List, [], ◌∷◌, ◌++◌}
+use Rattle.oci_link.specs.declared.message.Request.{Request}
+use Rattle.oci_link.specs.declared.message.Exchange.{Exchange}
+use Rattle.oci_protocol.specs.Proto.{Reply, Proto, Done, Ask, Recall, Keep}
+use Rattle.oci_protocol.specs.Runs.{Replies}
+
+-- What is kept and the exchanges so far decide what may be asked (P), kept (I) and answered (Q).
+unfoldable pub Safe : {K A : Type 0} → (K → List Exchange → Request → Type 0) → (K → List Exchange → Type 0) → (K → List Exchange → A → Type 0) → K → List Exchange → Proto K A → Type 0
+Safe P I Q k seen (Done a) = Q k seen a
+Safe P I Q k seen (Ask request reading next) = P k seen request × ((e : Exchange) (before after : ℕ) (reply : Reply) → Replies request reading before e after reply → Safe P I Q k (seen ++ e ∷ []) (next reply))
+Safe P I Q k seen (Recall next) = Safe P I Q k seen (next k)
+Safe P I Q k seen (Keep kept rest) = I kept seen × Safe P I Q kept seen rest
+
+-- each exchange of these may be asked after those before it
+abbrev pub EachAfter : (List Exchange → Request → Type 0) → List Exchange → List Exchange → Type 0
+EachAfter P seen [] = Unit {0}
+EachAfter P seen (e ∷ c) = P seen e.request × EachAfter P (seen ++ e ∷ []) c
+
+-- this answer comes only where the reply to the last request was this one
+unfoldable pub OnlyAfter : {K A : Type 0} → Reply → A → Proto K A → Type 0
+OnlyAfter cause a (Done x) = x ≢ a
+OnlyAfter cause a (Ask request reading next) = (reply : Reply) → (reply ≡ cause) ⊎ OnlyAfter cause a (next reply)
+OnlyAfter {K} cause a (Recall next) = (k : K) → OnlyAfter cause a (next k)
+OnlyAfter cause a (Keep kept rest) = OnlyAfter cause a rest

@@ -1,0 +1,30 @@
+-- The exchanges of a request that is followed.
+use Rattle.std.specs.Prelude.{◌≡◌, ℕ, List, ◌∷◌, ◌++◌}
+use Rattle.oci_link.specs.declared.message.Request.{Request}
+use Rattle.oci_link.specs.declared.message.AnswerHead.{AnswerHead}
+use Rattle.oci_link.specs.declared.message.Exchange.{Exchange}
+use Rattle.oci_protocol.specs.Proto.{Reading, Reply, Headed, Answered, Proto}
+use Rattle.oci_protocol.specs.Runs.{head_part, Replies, Runs}
+use Rattle.oci_protocol.specs.Follow.{Trail, IsFinal}
+
+-- an answer that is known is no redirect that is followed
+abbrev pub Settles : ℕ → Request → Reply → Type 0
+Settles left last (Headed head) = IsFinal left last head
+Settles left last (Answered answer) = IsFinal left last (head_part answer)
+Settles left last reply = Unit {0}
+
+-- a run of a request that is followed: its redirects, the last exchange, and after that what the last reply gives
+pub record Trailed {K A : Type 0} (n : ℕ) (request : Request) (reading : AnswerHead → Reading) (next : Request → Reply → Proto K A) (k : K) (m : ℕ) (c : List Exchange) (after : ℕ) (l : K) (a : A) : Type 0 where
+  pub redirects : List Exchange
+  pub exchange : Exchange
+  pub rest : List Exchange
+  pub split : c ≡ redirects ++ exchange ∷ rest
+  pub left : ℕ
+  pub last : Request
+  pub before : ℕ
+  pub trail : Trail n request m redirects left last before
+  pub count : ℕ
+  pub reply : Reply
+  pub replies : Replies last reading before exchange count reply
+  pub settles : Settles left last reply
+  pub runs : Runs (next last reply) k count rest after l a

@@ -1,0 +1,11 @@
+//! The protocol as trees of requests: their runs over a transport, and the laws of these.
+#![tactic(auto)]
+
+mod followed;
+mod piped;
+
+pub use followed::{Reached, reach};
+pub use piped::{PourError, pour};
+
+#[cfg(test)]
+mod tests;

@@ -1,0 +1,66 @@
+// An answer's body, piece by piece into a sink.
+ghost use Rattle.std.specs.Prelude.{◌≡◌, ◌≤◌, ◌<◌, length, OnOk, OnErr, IsErrOf, Some};
+ghost use Rattle.json_canon.specs.Counts.{Rose};
+ghost use Rattle.oci_link.specs.Link.{Steady};
+ghost use Rattle.oci_protocol.specs.Poured.{Pours, PoursFront};
+
+use json_canon::{Sink, SinkError, put_all};
+use oci_digests::Digesters;
+use oci_link::{LinkError, Transport};
+use std::alloc::Global;
+
+/// Why a body did not go into a sink whole.
+#[derive(Clone, Copy, Debug, PartialEq, Eq)]
+pub enum PourError {
+    /// The transport failed.
+    TransportFault,
+    /// More bytes came than the limit.
+    BodyTooLong,
+    /// The sink failed.
+    SinkFault,
+    WantOfMemory,
+}
+
+/// Takes the body of the last answer, where it has no more than `limit` bytes, hashes it and puts it into the sink. After
+/// a refusal the sink took a front of the body.
+pub fn pour<T: Transport, S: Sink>(
+    alloc: Global,
+    transport: &mut T,
+    sink: &mut S,
+    limit: u64,
+    digesters: &mut Digesters,
+) -> Result<(), PourError>
+    ensures told { (T.state transport.new).told ≡ (T.state transport.old).told }
+    ensures steady { Steady (T.state transport.old) (T.state transport.new) }
+    ensures count { (T.state transport.old).faults ≤ (T.state transport.new).faults }
+    ensures sink_count { (S.state sink.old).faults ≤ (S.state sink.new).faults }
+    ensures poured { OnOk result (Pours limit digesters.old digesters.new (T.state transport.old) (T.state transport.new) (S.state sink.old) (S.state sink.new)) }
+    ensures front { PoursFront (T.state transport.old) (S.state sink.old) (S.state sink.new) }
+    ensures long { IsErrOf result PourError.BodyTooLong → (rest : _) → (T.state transport.old).rest ≡ Some rest → limit < length rest }
+    ensures fault { IsErrOf result PourError.TransportFault → Rose (T.state transport.old).faults (T.state transport.new).faults }
+    ensures sink_fault { IsErrOf result PourError.SinkFault → Rose (S.state sink.old).faults (S.state sink.new).faults }
+{
+    let mut taken: u64 = 0;
+    loop {
+        let piece = match transport.piece(alloc) {
+            Ok(piece) => piece,
+            Err(LinkError::Failed) => return Err(PourError::TransportFault),
+            Err(LinkError::WantOfMemory) => return Err(PourError::WantOfMemory),
+        };
+        let bytes = piece.as_slice();
+        let more = bytes.len() as u64;
+        if more == 0 {
+            return Ok(());
+        }
+        if more > limit - taken {
+            return Err(PourError::BodyTooLong);
+        }
+        digesters.update(bytes);
+        match put_all(sink, bytes) {
+            Ok(()) => {}
+            Err(SinkError::Failed) => return Err(PourError::SinkFault),
+            Err(SinkError::WantOfMemory) => return Err(PourError::WantOfMemory),
+        }
+        taken += more;
+    }
+}
