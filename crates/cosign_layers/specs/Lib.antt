@@ -1,0 +1,6 @@
+pub mod Accepts
+pub mod Layer
+pub mod Payload
+pub mod Rejections
+pub mod Rows
+pub mod Standing

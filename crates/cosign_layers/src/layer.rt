@@ -1,0 +1,91 @@
+//! Signature layers (cosign's simple signing and bundle formats).
+ghost use Rattle.std.specs.Prelude.{◌≡◌, IfOk};
+
+use crate::certificate::CertificateSignature;
+use crate::log_entry::LogEntryBundle;
+use json_canon::{Annotations, Blob, Copied, Json, Text, copies3, copies7};
+use std::alloc::{AllocError, Global};
+
+/// The form of a signature layer.
+#[derive(Clone, Copy, Debug, PartialEq, Eq)]
+pub enum LayerKind {
+    /// A simple signing payload, with its signature in the annotations.
+    Payload,
+    /// A Sigstore bundle.
+    Bundle,
+}
+
+/// One signature that was found for an image.
+#[derive(Drop)]
+pub struct SignatureLayer {
+    pub kind: LayerKind,
+    pub content: Blob,
+    /// The digest text of the content.
+    pub oci_digest: Text,
+    pub annotations: Annotations,
+    /// What a payload says; a bundle has none.
+    pub simple_signing: Option<SimpleSigning>,
+    /// The signature in padded standard base64.
+    pub signature: Text,
+    pub certificate_signature: Option<CertificateSignature>,
+    pub bundle: Option<LogEntryBundle>,
+}
+
+/// What a simple signing payload says.
+#[derive(Drop)]
+pub struct SimpleSigning {
+    pub docker_reference: Text,
+    /// The digest text of the image that was signed.
+    pub docker_manifest_digest: Text,
+    /// Null where the payload has none.
+    pub optional: Json,
+}
+
+impl Copied for SignatureLayer {
+    fn copy(&self, alloc: Global) -> Result<SignatureLayer, AllocError> {
+        let (
+            content,
+            oci_digest,
+            annotations,
+            simple_signing,
+            signature,
+            certificate_signature,
+            bundle,
+        ) = copies7(
+            alloc,
+            &self.content,
+            &self.oci_digest,
+            &self.annotations,
+            &self.simple_signing,
+            &self.signature,
+            &self.certificate_signature,
+            &self.bundle,
+        )?;
+        Ok(SignatureLayer {
+            kind: self.kind,
+            content,
+            oci_digest,
+            annotations,
+            simple_signing,
+            signature,
+            certificate_signature,
+            bundle,
+        })
+    }
+}
+
+impl Copied for SimpleSigning {
+    fn copy(&self, alloc: Global) -> Result<SimpleSigning, AllocError> {
+        let (docker_reference, docker_manifest_digest, optional) = copies3(
+            alloc,
+            &self.docker_reference,
+            &self.docker_manifest_digest,
+            &self.optional,
+        )?;
+        Ok(SimpleSigning {
+            docker_reference,
+            docker_manifest_digest,
+            optional,
+        })
+    }
+}

@@ -1,0 +1,13 @@
+//! Policies for pulls.
+use crate::constraint::Constraint;
+use json_canon::{Blob, List, TextMap};
+
+/// Under which keys an image has to be signed, and what its signature layer has to say.
+#[derive(Drop)]
+pub struct PullPolicy {
+    pub keys: List<Blob>,
+    pub constraints: List<Constraint>,
+}
+
+/// The keys of transparency logs, by their log ids.
+pub type LogKeys = TextMap<Blob>;
