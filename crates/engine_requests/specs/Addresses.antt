@@ -1,0 +1,52 @@
+-- The URLs of requests (OCI distribution specification, "Endpoints").
+use Rattle.std.specs.Prelude.{ℕ, Bool, true, false, List, [], ◌∷◌, ◌++◌, Option, Some, None, Result, Ok, Err, codes, bytes_eq, if◌then◌else◌}
+use Rattle.url.specs.Parts.{Parts}
+use Rattle.oci_link.specs.Urls.{request_url}
+use Rattle.oci_names.specs.declared.reference.Reference.{Reference}
+use Rattle.oci_names.specs.References.{repository_of, tag_of, digest_of, namespace_of, resolved_registry}
+use Rattle.engine_requests.specs.declared.settings.ClientProtocol.{ClientProtocol}
+use Rattle.engine_requests.specs.declared.settings.ClientProtocol.TheVariants.{Http, Https, HttpsExcept}
+use Rattle.engine_requests.specs.declared.settings.Settings.{Settings}
+use Rattle.engine_requests.specs.declared.error.OciDistributionError.{OciDistributionError}
+use Rattle.engine_requests.specs.declared.error.OciDistributionError.TheVariants as refusal
+
+abbrev pub is_listed : List ℕ → List (List ℕ) → Bool
+is_listed registry [] = false
+is_listed registry (r ∷ rs) = if bytes_eq r registry then true else is_listed registry rs
+
+-- the scheme of a registry's URLs
+abbrev pub scheme_for : ClientProtocol → List ℕ → List ℕ
+scheme_for Http registry = codes "http"
+scheme_for Https registry = codes "https"
+scheme_for (HttpsExcept registries) registry = if is_listed registry registries then codes "http" else codes "https"
+
+abbrev pub registry_text : Settings → Reference → List ℕ
+registry_text s image = scheme_for s.protocol (resolved_registry image) ++ codes "://" ++ resolved_registry image
+
+abbrev pub base_text : Settings → Reference → List ℕ
+base_text s image = registry_text s image ++ codes "/v2/"
+
+-- the digest, else the tag, else `latest`
+abbrev pub manifest_name : Option (List ℕ) → Option (List ℕ) → List ℕ
+manifest_name (Some digest) tag = digest
+manifest_name None (Some tag) = tag
+manifest_name None None = codes "latest"
+
+-- a mirror is told the registry that it stands for
+abbrev pub mirrored : Option (List ℕ) → List ℕ
+mirrored None = []
+mirrored (Some registry) = codes "?ns=" ++ registry
+
+abbrev pub manifest_text : Settings → Reference → List ℕ
+manifest_text s image = base_text s image ++ repository_of image ++ codes "/manifests/" ++ manifest_name (digest_of image) (tag_of image) ++ mirrored (namespace_of image)
+
+abbrev pub blob_text : Settings → Reference → List ℕ → List ℕ
+blob_text s image digest = base_text s image ++ repository_of image ++ codes "/blobs/" ++ digest ++ mirrored (namespace_of image)
+
+abbrev pub url_or : List ℕ → Option Parts → Result Parts OciDistributionError
+url_or text (Some url) = Ok url
+url_or text None = Err (refusal.UrlParseError text)
+
+-- the URL of a text
+abbrev pub url_read : List ℕ → Result Parts OciDistributionError
+url_read text = url_or text (request_url text)

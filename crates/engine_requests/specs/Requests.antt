@@ -1,0 +1,43 @@
+-- What a request carries (OCI distribution specification, "Pull").
+use Rattle.std.specs.Prelude.{ℕ, flat_map, List, [], ◌∷◌, ◌++◌, Option, Some, None, Result, Ok, Err, codes, nat_lt, ◌&&◌, if◌then◌else◌}
+use Rattle.url.specs.Parts.{Parts, serialize}
+use Rattle.oci_link.specs.Headers.{Fields, added, held, is_header_value}
+use Rattle.std.specs.FinMap as map
+use Rattle.oci_link.specs.declared.message.Request.{Request}
+use Rattle.oci_link.specs.declared.message.Method.{Method}
+use Rattle.engine_requests.specs.declared.settings.Settings.{Settings}
+use Rattle.engine_requests.specs.declared.error.GenericCause.TheVariants.{HeaderText}
+use Rattle.engine_requests.specs.declared.error.OciDistributionError.{OciDistributionError}
+use Rattle.engine_requests.specs.declared.error.OciDistributionError.TheVariants as refusal
+use Rattle.engine_requests.specs.Errors.{◌>>=◌}
+
+-- several types in one header
+abbrev pub behind : List ℕ → List ℕ
+behind kind = codes ", " ++ kind
+
+abbrev pub listed : List (List ℕ) → List ℕ
+listed [] = []
+listed (kind ∷ rest) = kind ++ flat_map behind rest
+
+-- the four types of manifests and indexes
+abbrev pub manifest_types : List ℕ
+manifest_types = codes "application/vnd.docker.distribution.manifest.v2+json, application/vnd.docker.distribution.manifest.list.v2+json, application/vnd.oci.image.manifest.v1+json, application/vnd.oci.image.index.v1+json"
+
+-- a header is added, where its value can stand there
+abbrev pub with_header : Fields → List ℕ → List ℕ → Result Fields OciDistributionError
+with_header headers name value = if is_header_value value && nat_lt (held headers) 1000 then Ok (added headers name value) else Err (refusal.GenericError HeaderText)
+
+abbrev pub with_accept : Option (List ℕ) → Fields → Result Fields OciDistributionError
+with_accept None headers = Ok headers
+with_accept (Some types) headers = with_header headers (codes "accept") types
+
+-- every request names the client, and one for a document or a blob the types that are accepted
+abbrev pub headers_of : Settings → Option (List ℕ) → Result Fields OciDistributionError
+headers_of s types = with_header map.empty (codes "user-agent") s.user_agent >>= with_accept types
+
+abbrev pub bare_request : Method → Parts → Fields → Request
+bare_request method url headers = record { method = method; url = serialize url; headers = headers; body = [] }
+
+-- a request without a body
+unfoldable pub request_of : Settings → Method → Parts → Option (List ℕ) → Result Request OciDistributionError
+request_of s method url types = headers_of s types >>= λ headers. Ok (bare_request method url headers)

@@ -1,0 +1,166 @@
+// How the answer to a blob's request is read.
+ghost use Rattle.std.specs.Prelude.{◌≡◌, List, ℕ, IfOk, []};
+ghost use Rattle.oci_digests.specs.Holds.{Holds};
+ghost use Rattle.oci_digests.specs.Checks.{Says as DigestSays};
+ghost use Rattle.oci_digests.specs.Both.{MayHold, BothHold};
+ghost use Rattle.engine_requests.specs.Errors.{Says};
+ghost use Rattle.engine_requests.specs.Blobs.{digest_expected, given_expected, pouring, plan_by, plan_in, plan_of, compared, given_compared, both_compared, given_algorithm};
+
+use crate::OciDistributionError;
+use crate::answers::{header_in, is_success};
+use json_canon::{Copied, Text};
+use oci_digests::{Algorithm, DigestError, Digester, Digesters, named_algorithm};
+use oci_link::AnswerHead;
+use std::alloc::{AllocError, Global};
+
+/// A digest text that has to name the bytes, with its algorithm.
+#[derive(Drop)]
+pub struct Expected {
+    pub text: Text,
+    pub algorithm: Algorithm,
+}
+
+/// How a blob's answer is read.
+#[derive(Drop)]
+pub enum Plan {
+    /// Not at all, for this cause.
+    Refuse(DigestError),
+    /// Whole, for the refusal of its status.
+    Judge,
+    /// Piece by piece, against the digest of the header, where it names one, and against the descriptor's.
+    Pour(Option<Expected>, Expected),
+}
+
+fn digest_expected(alloc: Global, text: &str) -> Result<Expected, DigestError>
+    ensures { DigestSays result (digest_expected text.now) }
+{
+    let algorithm = named_algorithm(alloc, text)?;
+    let text = Text::new(alloc, text)?;
+    Ok(Expected { text, algorithm })
+}
+
+fn given_expected(alloc: Global, header: &Option<Text>) -> Result<Option<Expected>, DigestError>
+    ensures { DigestSays result (given_expected header.now) }
+{
+    match header {
+        Some(text) => {
+            let given = digest_expected(alloc, text.as_str())?;
+            Ok(Some(given))
+        }
+        None => Ok(None),
+    }
+}
+
+fn pouring(good: bool, given: Option<Expected>, own: Expected) -> Plan
+    ensures { result ≡ pouring good given own }
+{
+    if good {
+        return Plan::Pour(given, own);
+    }
+    Plan::Judge
+}
+
+fn plan_by(
+    alloc: Global,
+    good: bool,
+    digest: &str,
+    header: &Option<Text>,
+) -> Result<Plan, DigestError>
+    ensures { DigestSays result (plan_by good digest.now header.now) }
+{
+    let given = given_expected(alloc, header)?;
+    let own = digest_expected(alloc, digest)?;
+    Ok(pouring(good, given, own))
+}
+
+fn plan_in(alloc: Global, digest: &str, head: &AnswerHead) -> Result<Plan, DigestError>
+    ensures { DigestSays result (plan_in digest.now head.now) }
+{
+    let header = header_in(alloc, &head.headers)?;
+    let plan = plan_by(alloc, is_success(head.status), digest, &header)?;
+    Ok(plan)
+}
+
+/// How the answer to a blob's request is read: the header's digest is looked at, then the descriptor's, then the
+/// status.
+#[tactic(auto, unfolding(crate::specs::Blobs::plan_of))]
+pub fn plan_of(alloc: Global, digest: &str, head: &AnswerHead) -> Result<Plan, AllocError>
+    ensures { IfOk result (λ plan. plan ≡ plan_of digest.now head.now) }
+{
+    match plan_in(alloc, digest, head) {
+        Ok(plan) => Ok(plan),
+        Err(error) => {
+            if error.is_memory() {
+                return Err(AllocError);
+            }
+            Ok(Plan::Refuse(error))
+        }
+    }
+}
+
+fn given_digester(given: &Option<Expected>) -> Option<Digester>
+    ensures { MayHold result (given_algorithm given.now) [] }
+{
+    match given {
+        Some(given) => Some(Digester::of(given.algorithm)),
+        None => None,
+    }
+}
+
+/// Digesters of both algorithms, given nothing yet.
+pub fn digesters(given: &Option<Expected>, own: &Expected) -> Digesters
+    ensures { BothHold result (given_algorithm given.now) own.now.algorithm [] }
+{
+    let given = given_digester(given);
+    let own = Digester::of(own.algorithm);
+    Digesters { given, own }
+}
+
+// The digest is that of what the digester was given.
+fn compared(
+    alloc: Global,
+    digester: &mut Digester,
+    expected: &Expected,
+) -> Result<(), OciDistributionError>
+    ensures { (m : List ℕ) → Holds digester.old expected.now.algorithm m → Says result (compared expected.now m) }
+{
+    let actual = digester.finalize(alloc)?;
+    if expected.text.as_str() == actual.as_str() {
+        return Ok(());
+    }
+    let expected = expected.text.copy(alloc)?;
+    Err(OciDistributionError::DigestError(DigestError::VerificationError { expected, actual }))
+}
+
+fn given_compared(
+    alloc: Global,
+    digester: &mut Option<Digester>,
+    given: &Option<Expected>,
+) -> Result<(), OciDistributionError>
+    ensures { (m : List ℕ) → MayHold digester.old (given_algorithm given.now) m → Says result (given_compared given.now m) }
+{
+    match digester {
+        Some(digester) => match given {
+            Some(given) => {
+                compared(alloc, digester, given)?;
+                Ok(())
+            }
+            None => Ok(()),
+        },
+        None => Ok(()),
+    }
+}
+
+/// What the digesters were given has both digests.
+pub fn both_compared(
+    alloc: Global,
+    digesters: &mut Digesters,
+    given: &Option<Expected>,
+    own: &Expected,
+) -> Result<(), OciDistributionError>
+    ensures { (m : List ℕ) → BothHold digesters.old (given_algorithm given.now) own.now.algorithm m → Says result (both_compared given.now own.now m) }
+{
+    given_compared(alloc, &mut digesters.given, given)?;
+    compared(alloc, &mut digesters.own, own)?;
+    Ok(())
+}

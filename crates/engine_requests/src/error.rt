@@ -1,0 +1,131 @@
+// Why a call of the registry's client was refused.
+ghost use Rattle.std.specs.Prelude.{◌≡◌};
+ghost use Rattle.engine_requests.specs.Errors.{is_memory};
+
+use json_canon::{Blob, Text};
+use oci_digests::DigestError;
+use oci_docs::OciEnvelope;
+use std::alloc::{AllocError, AllocFailed};
+use std::error::Error;
+use std::fmt::{self, Display, Formatter};
+
+/// What a request could not be made of.
+#[derive(Clone, Copy, Debug, PartialEq, Eq)]
+pub enum GenericCause {
+    /// A value that cannot stand in a header: the user agent or an accepted type.
+    HeaderText,
+}
+
+/// How an answer departs from the OCI distribution specification.
+#[derive(Debug, Drop)]
+pub enum SpecViolation {
+    /// A status of success other than the one that the request asks for.
+    Status { expected: u16, got: u16, url: Text },
+}
+
+/// Why a call of the registry's client was refused. A refusal that speaks of an answer holds the URL or
+/// the bytes that it came with.
+#[derive(Debug, Drop)]
+pub enum OciDistributionError {
+    /// A document that reads both as a manifest and as an index.
+    AmbiguousManifest(Blob),
+    /// A body with more bytes than the settings allow.
+    BodyTooLong,
+    /// A digest in a header, a reference or a descriptor that is none, or that does not name the body.
+    DigestError(DigestError),
+    GenericError(GenericCause),
+    /// An index was read, and the client has no resolver of platforms.
+    ImageIndexParsingNoPlatformResolverError,
+    /// A layer of a media type that is not accepted.
+    IncompatibleLayerMediaTypeError(Text),
+    /// A document that reads neither as a manifest nor as an index.
+    ManifestParsingError(Blob),
+    /// A manifest without layers.
+    PullNoLayersError,
+    /// A status from 400 to 499 other than 401, with the registry's own list of errors.
+    RegistryError { envelope: OciEnvelope, url: Text },
+    /// A status of an error without such a list.
+    ServerError { code: u16, url: Text, message: Blob },
+    /// The sink failed: the count of its faults rose.
+    SinkFault,
+    SpecViolationError(SpecViolation),
+    /// The transport failed: the count of its faults rose.
+    TransportFault,
+    /// The status 401.
+    UnauthorizedError { url: Text },
+    UnsupportedMediaTypeError(Text),
+    UnsupportedSchemaVersionError(i32),
+    /// A text that is not the URL of a request.
+    UrlParseError(Text),
+    /// A document that does not read as one with a schema version and a media type.
+    VersionedParsingError(Blob),
+    WantOfMemory,
+}
+
+impl OciDistributionError {
+    /// Whether memory was wanting.
+    pub fn is_memory(&self) -> bool
+        ensures { result ≡ is_memory self.now }
+    {
+        matches!(self, OciDistributionError::WantOfMemory)
+    }
+
+    /// The name of the variant.
+    pub fn name(&self) -> &'static str {
+        match self {
+            OciDistributionError::AmbiguousManifest(_) => "AmbiguousManifest",
+            OciDistributionError::BodyTooLong => "BodyTooLong",
+            OciDistributionError::DigestError(_) => "DigestError",
+            OciDistributionError::GenericError(_) => "GenericError",
+            OciDistributionError::ImageIndexParsingNoPlatformResolverError => {
+                "ImageIndexParsingNoPlatformResolverError"
+            }
+            OciDistributionError::IncompatibleLayerMediaTypeError(_) => {
+                "IncompatibleLayerMediaTypeError"
+            }
+            OciDistributionError::ManifestParsingError(_) => "ManifestParsingError",
+            OciDistributionError::PullNoLayersError => "PullNoLayersError",
+            OciDistributionError::RegistryError { .. } => "RegistryError",
+            OciDistributionError::ServerError { .. } => "ServerError",
+            OciDistributionError::SinkFault => "SinkFault",
+            OciDistributionError::SpecViolationError(_) => "SpecViolationError",
+            OciDistributionError::TransportFault => "TransportFault",
+            OciDistributionError::UnauthorizedError { .. } => "UnauthorizedError",
+            OciDistributionError::UnsupportedMediaTypeError(_) => "UnsupportedMediaTypeError",
+            OciDistributionError::UnsupportedSchemaVersionError(_) => {
+                "UnsupportedSchemaVersionError"
+            }
+            OciDistributionError::UrlParseError(_) => "UrlParseError",
+            OciDistributionError::VersionedParsingError(_) => "VersionedParsingError",
+            OciDistributionError::WantOfMemory => "WantOfMemory",
+        }
+    }
+}
+
+impl Display for OciDistributionError {
+    fn fmt<W: fmt::Write>(&self, f: &mut Formatter<W>) -> fmt::Result {
+        f.write_str(self.name())
+    }
+}
+
+impl Error for OciDistributionError {}
+
+impl From<AllocError> for OciDistributionError {
+    ghost use Rattle.engine_requests.specs.declared.error.OciDistributionError.TheVariants.{WantOfMemory};
+
+    ghost from_gives = { λ _ e. e ≡ WantOfMemory };
+
+    fn from(_: AllocError) -> Self {
+        OciDistributionError::WantOfMemory
+    }
+}
+
+impl<T: Drop> From<AllocFailed<T>> for OciDistributionError {
+    ghost use Rattle.engine_requests.specs.declared.error.OciDistributionError.TheVariants.{WantOfMemory};
+
+    ghost from_gives = { λ _ e. e ≡ WantOfMemory };
+
+    fn from(_: AllocFailed<T>) -> Self {
+        OciDistributionError::WantOfMemory
+    }
+}

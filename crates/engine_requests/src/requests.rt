@@ -1,0 +1,106 @@
+// What a request carries.
+ghost use Rattle.std.specs.Prelude.{◌≡◌, ◌++◌, flat_map, IfOk, OnOk, IsTrue, option_copied, Ok};
+ghost use Rattle.http_header.specs.FieldName.{is_header_name};
+ghost use Rattle.engine_requests.specs.Errors.{Says};
+ghost use Rattle.engine_requests.specs.Requests.{behind, listed, with_header, with_accept, headers_of, request_of};
+
+use crate::{GenericCause, OciDistributionError, Settings};
+use json_canon::{Blob, Copied, Text};
+use oci_link::{HeaderError, Headers, Method, Request};
+use std::alloc::{AllocError, Global};
+use url::Url;
+
+/// The types of manifests and indexes that the client understands, as the header `accept` lists them.
+pub const MANIFEST_TYPES: &str =
+    "application/vnd.docker.distribution.manifest.v2+json, application/vnd.docker.distribution.manifest.list.v2+json, application/vnd.oci.image.manifest.v1+json, application/vnd.oci.image.index.v1+json";
+
+// Further media types, each behind a comma.
+fn push_others(text: &mut Text, others: &[Text]) -> Result<(), AllocError>
+    ensures { OnOk result (text.new ≡ text.old ++ flat_map behind others.now) }
+{
+    for kind in others {
+        text.push_str(", ")?;
+        text.push_str(kind.as_str())?;
+    }
+    Ok(())
+}
+
+/// Several media types as one header lists them.
+pub fn listed(alloc: Global, types: &[Text]) -> Result<Text, AllocError>
+    ensures { IfOk result (λ text. text ≡ listed types.now) }
+{
+    let Some((first, others)) = types.split_first() else {
+        return Text::new(alloc, "");
+    };
+    let mut text = first.copy(alloc)?;
+    push_others(&mut text, others)?;
+    Ok(text)
+}
+
+// A value that cannot stand in a header is refused.
+fn with_header(
+    mut headers: Headers,
+    name: &str,
+    value: &str,
+) -> Result<Headers, OciDistributionError>
+    requires { IsTrue (is_header_name name.now) }
+    ensures { Says result (with_header headers name.now value.now) }
+{
+    match headers.add(name, value.as_bytes()) {
+        Ok(()) => Ok(headers),
+        Err(HeaderError::WantOfMemory) => Err(OciDistributionError::WantOfMemory),
+        Err(HeaderError::BadName) => unreachable!(),
+        Err(HeaderError::BadValue) => Err(OciDistributionError::GenericError(
+            GenericCause::HeaderText,
+        )),
+        Err(HeaderError::TooMany) => Err(OciDistributionError::GenericError(
+            GenericCause::HeaderText,
+        )),
+    }
+}
+
+fn with_accept(headers: Headers, types: Option<&str>) -> Result<Headers, OciDistributionError>
+    ensures { Says result (with_accept (option_copied types.entry) headers) }
+{
+    match types {
+        Some(types) => with_header(headers, "accept", types),
+        None => Ok(headers),
+    }
+}
+
+fn headers_of(
+    alloc: Global,
+    settings: &Settings,
+    types: Option<&str>,
+) -> Result<Headers, OciDistributionError>
+    ensures { Says result (headers_of settings.now (option_copied types.entry)) }
+{
+    let headers = with_header(
+        Headers::new(alloc),
+        "user-agent",
+        settings.user_agent.as_str(),
+    )?;
+    let headers = with_accept(headers, types)?;
+    Ok(headers)
+}
+
+/// A request without a body, for these media types where some are given.
+#[tactic(auto, unfolding(crate::specs::Requests::request_of))]
+pub fn request_of(
+    alloc: Global,
+    settings: &Settings,
+    method: Method,
+    url: &Url,
+    types: Option<&str>,
+) -> Result<Request, OciDistributionError>
+    ensures { Says result (request_of settings.now method url.now (option_copied types.entry)) }
+{
+    let headers = headers_of(alloc, settings, types)?;
+    let url = Text::new(alloc, url.as_str())?;
+    Ok(Request {
+        method,
+        url,
+        headers,
+        body: Blob::empty(alloc),
+    })
+}
