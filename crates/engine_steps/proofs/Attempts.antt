@@ -1,0 +1,228 @@
+-- One request for a blob, each outcome.
+use Rattle.std.proofs.Common.{◌≡◌, ◌≤◌, ◌<◌, inl, inr, ℕ, Bool, true, false, List, [], ◌∷◌, ◌++◌, Option, Some, None, Result, Ok, Err, length, refl, sym, ap, ◌∙◌, subst, append_assoc, append-nil, arith}
+use Rattle.std.specs.Prelude.{MatchBool, bytes_eq, nat_eq, if◌then◌else◌}
+use Rattle.std.specs.Result.{IsErrAnd}
+use Rattle.std.proofs.lemmas.Result.{err_from_is_err_and}
+use Rattle.json_canon.specs.Counts.{Rose}
+use Rattle.json_canon.specs.Tray.{Tray, Adds}
+use Rattle.json_canon.proofs.Sinks.{adds_none}
+use Rattle.oci_link.specs.Link.{Link, Extends, Steady, answer_of}
+use Rattle.oci_link.specs.declared.message.Request.{Request}
+use Rattle.oci_link.specs.declared.message.Answer.{Answer}
+use Rattle.oci_link.specs.declared.message.AnswerHead.{AnswerHead}
+use Rattle.oci_link.specs.declared.message.Exchange.{Exchange}
+use Rattle.oci_auth.specs.declared.memory.Memory.{Memory}
+use Rattle.oci_digests.specs.declared.both.Digesters.{Digesters}
+use Rattle.oci_digests.specs.Both.{BothHold}
+use Rattle.oci_digests.specs.Names.{digest_text}
+use Rattle.oci_digests.specs.declared.error.DigestError.{DigestError}
+use Rattle.oci_protocol.specs.Proto.{Unread, Within, Piped, limit_of, Done, ◌>>=◌}
+use Rattle.oci_protocol.specs.Follow.{Reaches, Misses, Cuts}
+use Rattle.oci_protocol.specs.Poured.{Pours, PoursFront}
+use Rattle.oci_protocol.specs.Runs.{Meets, Told, Performs, Breaks, Outcome}
+use Rattle.oci_protocol.proofs.Laws.{Meets-ok, Meets-err}
+use Rattle.oci_protocol.proofs.Extending.{Extends-more, Extends-still, Extends-untold, Steady-more, Steady-none}
+use Rattle.oci_protocol.proofs.Following.{reached_headed, reached_answered, reached_long, reached_failed, reached_spilled, reached_cut, missed, cut}
+use Rattle.engine_requests.specs.declared.error.OciDistributionError.{OciDistributionError}
+use Rattle.engine_requests.specs.declared.error.OciDistributionError.TheVariants as refusal
+use Rattle.oci_docs.specs.declared.envelope.OciEnvelope.{OciEnvelope}
+use Rattle.engine_requests.specs.declared.error.SpecViolation.TheVariants.{Status}
+use Rattle.oci_digests.specs.declared.error.DigestError.TheVariants.{VerificationError}
+use Rattle.engine_requests.specs.declared.blobs.Expected.{Expected}
+use Rattle.engine_requests.specs.declared.blobs.Plan.{Plan}
+use Rattle.engine_requests.specs.declared.blobs.Plan.TheVariants as plan
+use Rattle.engine_requests.specs.Errors.{is_memory, Says, SaysError, ◌>>◌}
+use Rattle.engine_requests.specs.Answers.{refused_answer, is_success, is_client_error, by_envelope, envelope_in}
+use Rattle.engine_requests.specs.Blobs.{plan_of, compared, given_compared, both_compared, given_algorithm}
+use Rattle.engine_steps.specs.Rows.{Row}
+use Rattle.engine_steps.specs.Blobs.{reading_by, blob_reading, unread_by, read_by, blob_reply, attempt, IsFront, filled, Spills}
+use Rattle.engine_steps.proofs.Exits.{said, and_then}
+
+-- what a call told, where it met a protocol
+pub meets_told : {A : Type 0} (P : List Exchange → Type 0) {p : Row A} {old new : Link} {k l : Memory} {r : Result A OciDistributionError} → ((c : List Exchange) → P c) → Meets is_memory p old new k l r → Told P old new
+meets_told {A} P {p} {old} {new} {k} {l} {r} all met = by_result r met.outcome where
+  by_memory : (b : Bool) (e : OciDistributionError) → MatchBool b (Breaks p old new k l) (Performs p old new k l (Err e)) → Told P old new
+  by_memory true e h = record { conversation = h.conversation; told = h.told; holds = all h.conversation }
+  by_memory false e h = record { conversation = h.conversation; told = h.told; holds = all h.conversation }
+
+  by_result : (r : Result A OciDistributionError) → Outcome is_memory p old new k l r → Told P old new
+  by_result (Ok a) h = record { conversation = h.conversation; told = h.told; holds = all h.conversation }
+  by_result (Err e) h = by_memory (is_memory e) e h
+
+abbrev IsSinkFault : OciDistributionError → Type 0
+IsSinkFault e = ◌≡◌ {A = Result Unit OciDistributionError} (Err e) (Err refusal.SinkFault)
+
+pub fault_is_none : (P : Type 0) → IsSinkFault refusal.TransportFault → P
+fault_is_none P h = cc
+
+pub long_is_none : (P : Type 0) → IsSinkFault refusal.BodyTooLong → P
+long_is_none P h = cc
+
+pub memory_is_none : (P : Type 0) → IsSinkFault refusal.WantOfMemory → P
+memory_is_none P h = cc
+
+pub digest_is_none : (P : Type 0) (e : DigestError) → IsSinkFault (refusal.DigestError e) → P
+digest_is_none P e h = cc
+
+-- a refusal with nothing put; a fault of the sink is none
+pub spills_none : {p : Row (List ℕ)} {old new : Link} {k l : Memory} {e : OciDistributionError} (tray : Tray) → Meets is_memory p old new k l (Err e) → (◌≡◌ {A = Result Unit OciDistributionError} (Err e) (Err refusal.SinkFault) → Rose tray.faults tray.faults) → Spills p old new k l tray tray (Err e)
+spills_none tray met fault = record { body = []; met = met; put = adds_none tray tray refl; front = meets_told (IsFront []) (λ c. inl refl) met; count = omega arith; fault = fault }
+
+-- memory was wanting, with nothing put
+pub spills_wanting : {p : Row (List ℕ)} {old new : Link} {k l : Memory} (tray : Tray) (r : Result Unit OciDistributionError) → IsErrAnd r (λ x. x ≡ refusal.WantOfMemory) → Meets is_memory p old new k l (Err refusal.WantOfMemory) → Spills p old new k l tray tray r
+spills_wanting tray r is met = let at = err_from_is_err_and r is in rw (at.1, at.2) (spills_none tray met (λ h. cc))
+
+-- a front of the last answer's body was told
+pub front_told : (n : ℕ) (request : Request) (head : AnswerHead) (last : Request) (old mid new : Link) (front : List ℕ) → Reaches n request head last old mid → new.told ≡ mid.told → Steady mid new → ((rest : List ℕ) → mid.rest ≡ Some rest → (left : List ℕ) × (rest ≡ front ++ left)) → Told (IsFront front) old new
+front_told n request head last old mid new front reach same steady part = by_told reach.mid.told refl where
+  tells : (body left : List ℕ) → body ≡ front ++ left → Extends reach.mid new (record { request = last; answer = Some (answer_of head body); faults = reach.mid.faults } ∷ []) → Told (IsFront front) old new
+  tells body left is told = record {
+    conversation = reach.follows.conversation ++ record { request = last; answer = Some (answer_of head body); faults = reach.mid.faults } ∷ [];
+    told = Extends-more old reach.mid new reach.follows.conversation _ reach.follows.told told;
+    holds = inr (reach.follows.conversation, record { request = last; answer = Some (answer_of head body); faults = reach.mid.faults }, answer_of head body, left, refl, refl, is);
+  }
+
+  by_told : (t : Option (List Exchange)) → reach.mid.told ≡ t → Told (IsFront front) old new
+  by_told None none = tells front [] (sym (append-nil front)) (Extends-untold reach.mid new _ none (Steady-more reach.mid mid new reach.sent.added.stays steady))
+  by_told (Some before) h = let at = part reach.sent.body (reach.sent.rest before h) in tells reach.sent.body at.0 at.1 (Extends-still reach.mid mid new _ reach.sent.added same steady)
+
+-- ---- each exit
+
+pub blob_missed : (limit : ℕ) (digest : List ℕ) (request : Request) (old new : Link) (k : Memory) → Misses 10 request old new → Meets is_memory (attempt limit digest request) old new k k (Err refusal.TransportFault)
+unfolding attempt
+blob_missed limit digest request old new k m = missed 10 request (blob_reading limit digest) (blob_reply digest) m (λ last. Meets-err is_memory new k refusal.TransportFault refl)
+
+pub blob_cut : (limit : ℕ) (digest : List ℕ) (request : Request) (old new : Link) (k : Memory) → Cuts 10 request old new → Meets is_memory (attempt limit digest request) old new k k (Err refusal.WantOfMemory)
+unfolding attempt
+blob_cut limit digest request old new k c = cut is_memory 10 request (blob_reading limit digest) (blob_reply digest) k refusal.WantOfMemory c refl
+
+pub blob_wanting : (limit : ℕ) (digest : List ℕ) (request : Request) (head : AnswerHead) (last : Request) (old mid new : Link) (k : Memory) (e : OciDistributionError) → Reaches 10 request head last old mid → mid.faults ≤ new.faults → new.told ≡ mid.told → Steady mid new → is_memory e ≡ true → Meets is_memory (attempt limit digest request) old new k k (Err e)
+unfolding attempt
+blob_wanting limit digest request head last old mid new k e reach le same steady is = reached_cut is_memory 10 request (blob_reading limit digest) (blob_reply digest) head last k e reach le same steady is
+
+unread_met : (p q : Plan) (r : Result (List ℕ) OciDistributionError) (link : Link) (k : Memory) → p ≡ q → Says r (unread_by q) → Meets is_memory (Done (unread_by p)) link link k k r
+unread_met p q r link k is says = said r (rw is says)
+
+-- the answer is not read, for this cause
+pub blob_unread : (limit : ℕ) (digest : List ℕ) (request : Request) (head : AnswerHead) (last : Request) (old new : Link) (k : Memory) (e : DigestError) → Reaches 10 request head last old new → plan_of digest head ≡ plan.Refuse e → Meets is_memory (attempt limit digest request) old new k k (Err (refusal.DigestError e))
+unfolding attempt blob_reading
+blob_unread limit digest request head last old new k e reach is = reached_headed 10 request (blob_reading limit digest) (blob_reply digest) head last reach (ap (reading_by limit) is) (unread_met (plan_of digest head) (plan.Refuse e) (Err (refusal.DigestError e)) new k is refl)
+
+read_met : (url : List ℕ) (head : AnswerHead) (body : List ℕ) (p q : Plan) (r : Result (List ℕ) OciDistributionError) (link : Link) (k : Memory) → p ≡ q → Says r (read_by url (answer_of head body) q) → Meets is_memory (Done (read_by url (answer_of head body) p)) link link k k r
+read_met url head body p q r link k is says = said r (rw is says)
+
+pub blob_read : (limit : ℕ) (digest : List ℕ) (request : Request) (head : AnswerHead) (last : Request) (body : List ℕ) (old mid new : Link) (k : Memory) (p : Plan) (r : Result (List ℕ) OciDistributionError) → Reaches 10 request head last old mid → plan_of digest head ≡ p → limit_of (reading_by limit p) ≡ Some limit → mid.faults ≤ new.faults → new.told ≡ mid.told → Steady mid new → length body ≤ limit → ((rest : List ℕ) → mid.rest ≡ Some rest → body ≡ rest) → Says r (read_by last.url (answer_of head body) p) → Meets is_memory (attempt limit digest request) old new k k r
+unfolding attempt blob_reading
+blob_read limit digest request head last body old mid new k p r reach is reads le same steady small whole says = reached_answered 10 request (blob_reading limit digest) (blob_reply digest) head last limit body reach (ap (λ (q : Plan). limit_of (reading_by limit q)) is ∙ reads) le same steady small whole (read_met last.url head body (plan_of digest head) p r new k is says)
+
+pub blob_long : (limit : ℕ) (digest : List ℕ) (request : Request) (head : AnswerHead) (last : Request) (old mid new : Link) (k : Memory) (p : Plan) → Reaches 10 request head last old mid → plan_of digest head ≡ p → limit_of (reading_by limit p) ≡ Some limit → mid.faults ≤ new.faults → new.told ≡ mid.told → Steady mid new → ((rest : List ℕ) → mid.rest ≡ Some rest → limit < length rest) → Meets is_memory (attempt limit digest request) old new k k (Err refusal.BodyTooLong)
+unfolding attempt blob_reading
+blob_long limit digest request head last old mid new k p reach is reads le same steady long = reached_long 10 request (blob_reading limit digest) (blob_reply digest) head last limit reach (ap (λ (q : Plan). limit_of (reading_by limit q)) is ∙ reads) le same steady long (Meets-err is_memory new k refusal.BodyTooLong refl)
+
+pub blob_failed : (limit : ℕ) (digest : List ℕ) (request : Request) (head : AnswerHead) (last : Request) (old mid new : Link) (k : Memory) → Reaches 10 request head last old mid → mid.faults ≤ new.faults → new.told ≡ mid.told → Steady mid new → Rose mid.faults new.faults → Meets is_memory (attempt limit digest request) old new k k (Err refusal.TransportFault)
+unfolding attempt
+blob_failed limit digest request head last old mid new k reach le same steady rose = reached_failed 10 request (blob_reading limit digest) (blob_reply digest) head last reach le same steady rose (Meets-err is_memory new k refusal.TransportFault refl)
+
+pub blob_spilled : (limit : ℕ) (digest : List ℕ) (request : Request) (head : AnswerHead) (last : Request) (old mid new : Link) (k : Memory) (p : Plan) → Reaches 10 request head last old mid → plan_of digest head ≡ p → reading_by limit p ≡ Piped limit → mid.faults ≤ new.faults → new.told ≡ mid.told → Steady mid new → Meets is_memory (attempt limit digest request) old new k k (Err refusal.SinkFault)
+unfolding attempt blob_reading
+blob_spilled limit digest request head last old mid new k p reach is piped le same steady = reached_spilled 10 request (blob_reading limit digest) (blob_reply digest) head last limit reach (ap (reading_by limit) is ∙ piped) le same steady (Meets-err is_memory new k refusal.SinkFault refl)
+
+-- a front was put, and the call was refused
+pub spills_front : {p : Row (List ℕ)} {old mid new : Link} {k l : Memory} {e : OciDistributionError} (n : ℕ) (request : Request) (head : AnswerHead) (last : Request) (before after : Tray) → Reaches n request head last old mid → new.told ≡ mid.told → Steady mid new → before.faults ≤ after.faults → PoursFront mid before after → Meets is_memory p old new k l (Err e) → (◌≡◌ {A = Result Unit OciDistributionError} (Err e) (Err refusal.SinkFault) → Rose before.faults after.faults) → Spills p old new k l before after (Err e)
+spills_front {p} {old} {mid} {new} n request head last before after reach same steady le front met fault = record { body = front.front; met = met; put = front.put; front = front_told n request head last old mid new front.front reach same steady front.part; count = le; fault = fault }
+
+-- ---- an answer of another status
+
+by_list : (url : List ℕ) (answer : Answer) (x : Option OciEnvelope) → by_envelope url answer x ≡ refusal.SinkFault → ⊥
+by_list url answer (Some envelope) h = cc
+by_list url answer None h = cc
+
+not_sink_answer : (url : List ℕ) (answer : Answer) → refused_answer url answer ≡ refusal.SinkFault → ⊥
+not_sink_answer url answer = by_status (nat_eq answer.status 401) (is_success answer.status) (is_client_error answer.status) where
+  by_status : (a b c : Bool) → (if a then refusal.UnauthorizedError url else (if b then refusal.SpecViolationError (Status 200 answer.status url) else (if c then by_envelope url answer (envelope_in answer.body) else refusal.ServerError answer.status url answer.body))) ≡ refusal.SinkFault → ⊥
+  by_status true b c h = cc
+  by_status false true c h = cc
+  by_status false false true h = by_list url answer (envelope_in answer.body) h
+  by_status false false false h = cc
+
+-- an answer of another status is refused, or memory was wanting to say why
+pub spills_judged : (limit : ℕ) (digest : List ℕ) (request : Request) (head : AnswerHead) (last : Request) (body : List ℕ) (old mid new : Link) (k : Memory) (tray : Tray) (e : OciDistributionError) → Reaches 10 request head last old mid → plan_of digest head ≡ plan.Judge → mid.faults ≤ new.faults → new.told ≡ mid.told → Steady mid new → length body ≤ limit → ((rest : List ℕ) → mid.rest ≡ Some rest → body ≡ rest) → SaysError e (refused_answer last.url (answer_of head body)) → Spills (attempt limit digest request) old new k k tray tray (Err e)
+spills_judged limit digest request head last body old mid new k tray e reach is le same steady small whole says = by_memory (is_memory e) refl says where
+  by_memory : (b : Bool) → is_memory e ≡ b → MatchBool b (Unit {0}) (e ≡ refused_answer last.url (answer_of head body)) → Spills (attempt limit digest request) old new k k tray tray (Err e)
+  by_memory true of_memory says = spills_none tray (blob_wanting limit digest request head last old mid new k e reach le same steady of_memory) (λ h. let is : e ≡ refusal.SinkFault = cc in absurd (cc (rw is at of_memory)))
+  by_memory false other says = spills_none tray (blob_read limit digest request head last body old mid new k plan.Judge (Err e) reach is refl le same steady small whole (rw other (ap Err (sym says)))) (λ h. let is : e ≡ refusal.SinkFault = cc in absurd (not_sink_answer last.url (answer_of head body) (sym says ∙ is)))
+
+-- ---- a body that was put whole
+
+filled_says : (body : List ℕ) (x : Result Unit OciDistributionError) → x ≡ Ok tt → (x >> Ok body) ≡ Ok body
+filled_says body x is = rw is refl
+
+-- the whole body was put, and has its digests
+pub spills_whole : (limit : ℕ) (digest : List ℕ) (request : Request) (head : AnswerHead) (last : Request) (old mid new : Link) (k : Memory) (before after : Tray) (from to : Digesters) (given : Option Expected) (own : Expected)
+    → Reaches 10 request head last old mid → plan_of digest head ≡ plan.Pour given own → mid.faults ≤ new.faults → new.told ≡ mid.told → Steady mid new → before.faults ≤ after.faults → Pours limit from to mid new before after → BothHold from (given_algorithm given) own.algorithm []
+    → ((m : List ℕ) → BothHold to (given_algorithm given) own.algorithm m → both_compared given own m ≡ Ok tt)
+    → Spills (attempt limit digest request) old new k k before after (Ok tt)
+spills_whole limit digest request head last old mid new k before after from to given own reach is le same steady count pours fresh good = record {
+  body = pours.body;
+  met = blob_read limit digest request head last pours.body old mid new k (plan.Pour given own) (Ok pours.body) reach is refl le same steady pours.small pours.whole (filled_says pours.body _ (good pours.body (pours.hashed (given_algorithm given) own.algorithm fresh)));
+  put = pours.put;
+  front = front_told 10 request head last old mid new pours.body reach same steady (λ rest h. ([], sym (pours.whole rest h) ∙ sym (append-nil pours.body)));
+  count = count;
+  fault = λ h. cc;
+}
+
+refused_says : (body : List ℕ) (e : OciDistributionError) (x : Result Unit OciDistributionError) → Says {A = Unit} (Err e) x → Says {A = List ℕ} (Err e) (x >> Ok body)
+refused_says body e x h = by_memory (is_memory e) h where
+  by_memory : (b : Bool) → MatchBool b (Unit {0}) (x ≡ Err e) → MatchBool b (Unit {0}) ((x >> Ok body) ≡ Err e)
+  by_memory true h = tt
+  by_memory false h = rw h refl
+
+one_not_sink : (x : Expected) (body : List ℕ) → compared x body ≡ Err refusal.SinkFault → ⊥
+one_not_sink x body = by_same (bytes_eq x.text (digest_text x.algorithm body)) where
+  by_same : (b : Bool) → (if b then Ok (tt {0}) else Err (refusal.DigestError (VerificationError x.text (digest_text x.algorithm body)))) ≡ Err refusal.SinkFault → ⊥
+  by_same true h = cc
+  by_same false h = cc
+
+given_not_sink : (given : Option Expected) (body : List ℕ) → given_compared given body ≡ Err refusal.SinkFault → ⊥
+given_not_sink None body h = cc
+given_not_sink (Some x) body h = one_not_sink x body h
+
+both_not_sink : (x y : Result Unit OciDistributionError) → (x ≡ Err refusal.SinkFault → ⊥) → (y ≡ Err refusal.SinkFault → ⊥) → (x >> y) ≡ Err refusal.SinkFault → ⊥
+both_not_sink (Ok u) y f g h = g h
+both_not_sink (Err e) y f g h = f h
+
+not_sink : (e : OciDistributionError) (x : Result Unit OciDistributionError) (P : Type 0) → (x ≡ Err refusal.SinkFault → ⊥) → Says {A = Unit} (Err e) x → ◌≡◌ {A = Result Unit OciDistributionError} (Err e) (Err refusal.SinkFault) → P
+not_sink e x P never says h = let is : e ≡ refusal.SinkFault = cc in absurd (never (rw is at says))
+
+-- the whole body was put, and has not its digests
+pub spills_other : (limit : ℕ) (digest : List ℕ) (request : Request) (head : AnswerHead) (last : Request) (old mid new : Link) (k : Memory) (before after : Tray) (from to : Digesters) (given : Option Expected) (own : Expected) (e : OciDistributionError) (r : Result Unit OciDistributionError)
+    → Reaches 10 request head last old mid → plan_of digest head ≡ plan.Pour given own → mid.faults ≤ new.faults → new.told ≡ mid.told → Steady mid new → before.faults ≤ after.faults → Pours limit from to mid new before after → BothHold from (given_algorithm given) own.algorithm []
+    → ((m : List ℕ) → BothHold to (given_algorithm given) own.algorithm m → Says {A = Unit} (Err e) (both_compared given own m)) → IsErrAnd r (λ x. x ≡ e)
+    → Spills (attempt limit digest request) old new k k before after r
+spills_other limit digest request head last old mid new k before after from to given own e r reach is le same steady count pours fresh bad from_is = let at = err_from_is_err_and r from_is in rw (at.1, at.2) (record {
+  body = pours.body;
+  met = blob_read limit digest request head last pours.body old mid new k (plan.Pour given own) (Err e) reach is refl le same steady pours.small pours.whole (refused_says pours.body e _ (bad pours.body (pours.hashed (given_algorithm given) own.algorithm fresh)));
+  put = pours.put;
+  front = front_told 10 request head last old mid new pours.body reach same steady (λ rest h. ([], sym (pours.whole rest h) ∙ sym (append-nil pours.body)));
+  count = count;
+  fault = not_sink e (both_compared given own pours.body) (Rose before.faults after.faults) (both_not_sink _ _ (given_not_sink given pours.body) (one_not_sink own pours.body)) (bad pours.body (pours.hashed (given_algorithm given) own.algorithm fresh));
+})
+
+-- ---- a step, and then one that puts bytes
+
+later_front : (bytes : List ℕ) (c d : List Exchange) → IsFront bytes d → IsFront bytes (c ++ d)
+later_front bytes c d (inl none) = inl none
+later_front bytes c d (inr h) = inr (c ++ h.0, h.1, h.2, h.3, ap (λ (x : List Exchange). c ++ x) h.4 ∙ sym (append_assoc c h.0 (h.1 ∷ [])), h.5, h.6)
+
+-- what was met first puts its exchanges in front
+pub spills_next : {A : Type 0} {p : Row A} (f : A → Row (List ℕ)) {old mid new : Link} {k l j : Memory} {a : A} {before after : Tray} {r : Result Unit OciDistributionError} → Meets is_memory p old mid k l (Ok a) → Spills (f a) mid new l j before after r → Spills (p >>= f) old new k j before after r
+spills_next {A} {p} f {old} {mid} {new} {k} {l} {j} {a} {before} {after} {r} first second = by_run first.outcome where
+  by_run : Performs p old mid k l (Ok a) → Spills (p >>= f) old new k j before after r
+  by_run run = record {
+    body = second.body;
+    met = and_then f first second.met;
+    put = second.put;
+    front = record { conversation = run.conversation ++ second.front.conversation; told = Extends-more old mid new run.conversation second.front.conversation run.told second.front.told; holds = later_front second.body run.conversation second.front.conversation second.front.holds };
+    count = second.count;
+    fault = second.fault;
+  }

@@ -1,0 +1,4 @@
+pub mod Attempts
+pub mod Exits
+pub mod HelperTrees
+pub mod NamedTree

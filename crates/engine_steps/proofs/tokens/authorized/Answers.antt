@@ -1,0 +1,24 @@
+use Rattle.std.proofs.Common.{sym, ◌∙◌}
+use Rattle.engine_steps.proofs.Exits.{refused, wanting, and_then, said, done, passed_on}
+use Rattle.engine_steps.specs.Rows.{authorized}
+use Rattle.engine_steps.proofs.tokens.authorized.Goals as goal
+
+pub returns-in_err-registry : goal.returns-in_err-registry
+unfolding authorized
+returns-in_err-registry g c = refused _ (said _ c.in_err-registry.ensures) c.from_residual.ensures.1
+
+pub returns-in_err-goes : goal.returns-in_err-goes
+unfolding authorized
+returns-in_err-goes g c = and_then _ (said _ c.in_ok-registry.ensures) (wanting c.from_residual-in_err-goes.ensures.1)
+
+pub returns-then-not-goes : goal.returns-then-not-goes
+unfolding authorized
+returns-then-not-goes g c = and_then _ (said _ c.in_ok-registry.ensures) (rw (sym c.in_ok-goes.ensures ∙ c.if-not-goes.true) done)
+
+pub returns-in_err-token_for : goal.returns-in_err-token_for
+unfolding authorized
+returns-in_err-token_for g c = and_then _ (said _ c.in_ok-registry.ensures) (rw (sym c.in_ok-goes.ensures ∙ c.if-not-goes.false) (passed_on c.in_err-token_for.ensures c.from_residual-in_err-token_for.ensures.1))
+
+pub returns : goal.returns
+unfolding authorized
+returns g c = and_then _ (said _ c.in_ok-registry.ensures) (rw (sym c.in_ok-goes.ensures ∙ c.if-not-goes.false) c.in_ok-token_for.ensures)

@@ -1,0 +1,105 @@
+// The ways to ask, as steps of a row.
+ghost use Rattle.std.specs.Prelude.{◌≡◌};
+ghost use Rattle.oci_auth.specs.declared.memory.Memory.{Memory};
+ghost use Rattle.oci_link.specs.Link.{answer_of};
+ghost use Rattle.oci_protocol.specs.Runs.{Meets};
+ghost use Rattle.engine_requests.specs.Errors.{is_memory};
+ghost use Rattle.engine_steps.specs.Rows.{whole, head_after, named_after};
+
+use engine_requests::{Got, OciDistributionError, header_digest};
+use json_canon::{Blob, Text};
+use oci_link::{Answer, AnswerHead, BodyError, LinkError, Request, Transport, read_body};
+use oci_protocol::{Reached, reach};
+use std::alloc::Global;
+
+/// Whether an answer's header names a digest; where it does, the whole answer.
+#[derive(Drop)]
+pub enum Named {
+    ByHeader(Text, Got),
+    Unnamed,
+}
+
+// The last answer, with its body.
+pub(crate) fn with_body(reached: Reached, body: Blob) -> Got
+    ensures { result ≡ record { url = reached.request.url; answer = answer_of reached.head body } }
+{
+    let Reached { request, head } = reached;
+    let Request { url, .. } = request;
+    let AnswerHead { status, headers } = head;
+    Got {
+        url,
+        answer: Answer {
+            status,
+            headers,
+            body,
+        },
+    }
+}
+
+/// The whole last answer to a request that may be followed so often.
+#[tactic(auto, using(crate::proofs::HelperTrees::whole_answered, crate::proofs::HelperTrees::whole_long, crate::proofs::HelperTrees::whole_failed, crate::proofs::HelperTrees::whole_cut, crate::proofs::HelperTrees::whole_missed, crate::proofs::HelperTrees::whole_wanting))]
+pub fn whole<T: Transport>(
+    alloc: Global,
+    transport: &mut T,
+    times: u64,
+    request: &Request,
+    limit: u64,
+) -> Result<Got, OciDistributionError>
+    ensures { (k : Memory) → Meets is_memory (whole times request.now limit) (T.state transport.old) (T.state transport.new) k k result }
+{
+    let reached = match reach(alloc, transport, times, request) {
+        Ok(reached) => reached,
+        Err(LinkError::Failed) => return Err(OciDistributionError::TransportFault),
+        Err(LinkError::WantOfMemory) => return Err(OciDistributionError::WantOfMemory),
+    };
+    match read_body(alloc, transport, limit) {
+        Ok(body) => Ok(with_body(reached, body)),
+        Err(BodyError::TransportFault) => Err(OciDistributionError::TransportFault),
+        Err(BodyError::BodyTooLong) => Err(OciDistributionError::BodyTooLong),
+        Err(BodyError::WantOfMemory) => Err(OciDistributionError::WantOfMemory),
+    }
+}
+
+/// The head of the last answer, whose body is not read.
+#[tactic(auto, using(crate::proofs::HelperTrees::head_came, crate::proofs::HelperTrees::head_missed, crate::proofs::HelperTrees::head_wanting))]
+pub(crate) fn head_after<T: Transport>(
+    alloc: Global,
+    transport: &mut T,
+    times: u64,
+    request: &Request,
+) -> Result<AnswerHead, OciDistributionError>
+    ensures { (k : Memory) → Meets is_memory (head_after times request.now) (T.state transport.old) (T.state transport.new) k k result }
+{
+    match reach(alloc, transport, times, request) {
+        Ok(reached) => Ok(reached.head),
+        Err(LinkError::Failed) => Err(OciDistributionError::TransportFault),
+        Err(LinkError::WantOfMemory) => Err(OciDistributionError::WantOfMemory),
+    }
+}
+
+#[tactic(none)]
+/// The whole last answer, where its header names a digest. Without one the body is not read.
+pub fn named_after<T: Transport>(
+    alloc: Global,
+    transport: &mut T,
+    times: u64,
+    request: &Request,
+    limit: u64,
+) -> Result<Named, OciDistributionError>
+    ensures { (k : Memory) → Meets is_memory (named_after times request.now limit) (T.state transport.old) (T.state transport.new) k k result }
+{
+    let reached = match reach(alloc, transport, times, request) {
+        Ok(reached) => reached,
+        Err(LinkError::Failed) => return Err(OciDistributionError::TransportFault),
+        Err(LinkError::WantOfMemory) => return Err(OciDistributionError::WantOfMemory),
+    };
+    let Some(digest) = header_digest(alloc, &reached.head.headers)? else {
+        return Ok(Named::Unnamed);
+    };
+    match read_body(alloc, transport, limit) {
+        Ok(body) => Ok(Named::ByHeader(digest, with_body(reached, body))),
+        Err(BodyError::TransportFault) => Err(OciDistributionError::TransportFault),
+        Err(BodyError::BodyTooLong) => Err(OciDistributionError::BodyTooLong),
+        Err(BodyError::WantOfMemory) => Err(OciDistributionError::WantOfMemory),
+    }
+}

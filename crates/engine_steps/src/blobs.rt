@@ -1,0 +1,57 @@
+// One request for a blob, whose bytes go to a sink as they come.
+ghost use Rattle.std.specs.Prelude.{◌≡◌};
+ghost use Rattle.oci_auth.specs.declared.memory.Memory.{Memory};
+ghost use Rattle.engine_requests.specs.Errors.{SaysError};
+ghost use Rattle.engine_steps.specs.Blobs.{attempt, Spills};
+
+use crate::asking::with_body;
+use engine_requests::{
+    OciDistributionError, Plan, both_compared, digesters, plan_of, refused_answer,
+};
+use json_canon::Sink;
+use oci_link::{BodyError, LinkError, Request, Transport, read_body};
+use oci_protocol::{PourError, pour, reach};
+use std::alloc::Global;
+
+/// One request for a blob, whose bytes are put as they come. After a refusal the sink has taken a front of the last
+/// answer's body, or nothing.
+#[tactic(none)]
+pub fn attempt<T: Transport, K: Sink>(
+    alloc: Global,
+    transport: &mut T,
+    limit: u64,
+    digest: &str,
+    request: &Request,
+    out: &mut K,
+) -> Result<(), OciDistributionError>
+    ensures { (k : Memory) → Spills (attempt limit digest.now request.now) (T.state transport.old) (T.state transport.new) k k (K.state out.old) (K.state out.new) result }
+{
+    let reached = match reach(alloc, transport, 10, request) {
+        Ok(reached) => reached,
+        Err(LinkError::Failed) => return Err(OciDistributionError::TransportFault),
+        Err(LinkError::WantOfMemory) => return Err(OciDistributionError::WantOfMemory),
+    };
+    let plan = plan_of(alloc, digest, &reached.head)?;
+    match plan {
+        Plan::Refuse(error) => Err(OciDistributionError::DigestError(error)),
+        Plan::Judge => match read_body(alloc, transport, limit) {
+            Ok(body) => Err(refused_answer(alloc, with_body(reached, body))),
+            Err(BodyError::TransportFault) => Err(OciDistributionError::TransportFault),
+            Err(BodyError::BodyTooLong) => Err(OciDistributionError::BodyTooLong),
+            Err(BodyError::WantOfMemory) => Err(OciDistributionError::WantOfMemory),
+        },
+        Plan::Pour(given, own) => {
+            let mut digesters = digesters(&given, &own);
+            match pour(alloc, transport, out, limit, &mut digesters) {
+                Ok(()) => {
+                    both_compared(alloc, &mut digesters, &given, &own)?;
+                    Ok(())
+                }
+                Err(PourError::TransportFault) => Err(OciDistributionError::TransportFault),
+                Err(PourError::BodyTooLong) => Err(OciDistributionError::BodyTooLong),
+                Err(PourError::SinkFault) => Err(OciDistributionError::SinkFault),
+                Err(PourError::WantOfMemory) => Err(OciDistributionError::WantOfMemory),
+            }
+        }
+    }
+}

@@ -1,0 +1,10 @@
+//! The steps of the registry's client: ways to ask, the token step, one attempt at a blob.
+#![tactic(auto)]
+
+mod asking;
+mod blobs;
+mod tokens;
+
+pub use asking::{Named, named_after, whole};
+pub use blobs::attempt;
+pub use tokens::prepared;
