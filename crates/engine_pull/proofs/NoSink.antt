@@ -1,0 +1,125 @@
+-- What comes before a blob's request is no fault of the sink.
+use Rattle.std.proofs.Common.{◌≡◌, ◌≤◌, ℕ, Bool, true, false, List, [], ◌++◌, Option, Some, None, Result, Ok, Err, refl, sym, ap, ◌∙◌, arith}
+use Rattle.std.specs.Prelude.{MatchBool, if◌then◌else◌, nat_lt, ◌&&◌}
+use Rattle.std.specs.Result.{IsErrAnd}
+use Rattle.std.proofs.lemmas.Result.{err_from_is_err_and}
+use Rattle.std.specs.FinMap as map
+use Rattle.url.specs.Parts.{Parts, serialize}
+use Rattle.json_canon.specs.Counts.{Rose}
+use Rattle.json_canon.specs.Tray.{Tray, Adds}
+use Rattle.json_canon.proofs.Sinks.{adds_none}
+use Rattle.oci_link.specs.Link.{Link}
+use Rattle.oci_link.specs.Urls.{request_url}
+use Rattle.oci_link.specs.Headers.{Fields, added, held, is_header_value}
+use Rattle.oci_link.specs.declared.message.Method.{Method}
+use Rattle.oci_link.specs.declared.message.Request.{Request}
+use Rattle.oci_names.specs.declared.reference.Reference.{Reference}
+use Rattle.oci_names.specs.References.{resolved_registry}
+use Rattle.oci_auth.specs.declared.auth.RegistryAuth.{RegistryAuth}
+use Rattle.oci_auth.specs.declared.memory.Memory.{Memory}
+use Rattle.oci_protocol.specs.Proto.{Proto, Done, Recall, bind, unless_refused, ◌>>=◌}
+use Rattle.oci_protocol.specs.Runs.{Meets}
+use Rattle.oci_protocol.specs.Ends.{Ends}
+use Rattle.oci_protocol.proofs.Ends.{Ends-any, Ends-bind, Meets-ends}
+use Rattle.engine_requests.specs.declared.settings.Settings.{Settings}
+use Rattle.engine_requests.specs.declared.error.OciDistributionError.{OciDistributionError}
+use Rattle.engine_requests.specs.declared.error.OciDistributionError.TheVariants as refusal
+use Rattle.engine_requests.specs.declared.error.GenericCause.TheVariants.{HeaderText}
+use Rattle.engine_requests.specs.Errors.{is_memory, ◌>>=◌ as ◌into◌}
+use Rattle.engine_requests.specs.Addresses.{url_or, url_read, registry_text}
+use Rattle.engine_requests.specs.Requests.{with_header, with_accept, headers_of, request_of, bare_request}
+use Rattle.engine_steps.specs.Rows.{Row, passed_over, token_step, token_asked, token_by, token_for, goes_to, token_where, authorized, prepared}
+use Rattle.engine_steps.specs.Blobs.{IsFront, Spills}
+use Rattle.engine_steps.proofs.Attempts.{spills_none}
+
+-- the refusal, if it is one, is no fault of the sink
+abbrev pub Calm : {A : Type 0} → Result A OciDistributionError → Type 0
+Calm (Ok a) = Unit {0}
+Calm (Err e) = e ≡ refusal.SinkFault → ⊥
+
+url_calm : (text : List ℕ) (url : Option Parts) → Calm (url_or text url)
+url_calm text (Some url) = tt
+url_calm text None = λ h. cc
+
+pub read_calm : (text : List ℕ) → Calm (url_read text)
+read_calm text = url_calm text (request_url text)
+
+into_calm : {A B : Type 0} (r : Result A OciDistributionError) (f : A → Result B OciDistributionError) → Calm r → ((a : A) → Calm (f a)) → Calm (r into f)
+into_calm (Ok a) f h each = each a
+into_calm (Err e) f h each = h
+
+header_calm : (headers : Fields) (name value : List ℕ) → Calm (with_header headers name value)
+header_calm headers name value = by_test (is_header_value value && nat_lt (held headers) 1000) where
+  by_test : (b : Bool) → Calm (if b then Ok (added headers name value) else Err (refusal.GenericError HeaderText))
+  by_test true = tt
+  by_test false = λ h. cc
+
+accept_calm : (types : Option (List ℕ)) (headers : Fields) → Calm (with_accept types headers)
+accept_calm None headers = tt
+accept_calm (Some types) headers = header_calm headers _ types
+
+pub request_calm : (s : Settings) (method : Method) (url : Parts) (types : Option (List ℕ)) → Calm (request_of s method url types)
+unfolding request_of
+request_calm s method url types = into_calm (headers_of s types) _ (into_calm (with_header map.empty _ s.user_agent) (with_accept types) (header_calm map.empty _ s.user_agent) (accept_calm types)) (λ headers. tt)
+
+unless_calm : {A B : Type 0} (f : A → Row B) → ((a : A) → Ends Calm (f a)) → (r : Result A OciDistributionError) → Calm r → Ends Calm (unless_refused f r)
+unfolding Ends
+unless_calm f each (Ok a) h = each a
+unless_calm f each (Err e) h = h
+
+-- a step, and then what it leads to
+pub next_calm : {A B : Type 0} (p : Row A) (f : A → Row B) → Ends Calm p → ((a : A) → Ends Calm (f a)) → Ends Calm (p >>= f)
+next_calm p f h each = Ends-bind Calm Calm p (unless_refused f) h (unless_calm f each)
+
+pub done_calm : {A : Type 0} (r : Result A OciDistributionError) → Calm r → Ends {K = Memory} Calm (Done r)
+unfolding Ends
+done_calm r h = h
+
+over_calm : (r : Result Unit OciDistributionError) → Calm (passed_over r)
+over_calm (Ok u) = tt
+over_calm (Err e) = by_cause e where
+  by_cause : (e : OciDistributionError) → Calm (passed_over (Err e))
+  by_cause refusal.WantOfMemory = λ h. cc
+  by_cause _ = tt
+
+asked_calm : (s : Settings) (image : Reference) → Ends Calm (token_asked s image)
+unfolding token_asked
+asked_calm s image = Ends-bind (λ r. Unit {0}) Calm (token_step s image) (λ r. Done (passed_over r)) (Ends-any (λ r. Unit {0}) (token_step s image) (λ r. tt)) (λ r h. done_calm (passed_over r) (over_calm r))
+
+by_calm : (s : Settings) (image : Reference) (a : Option RegistryAuth) → Ends Calm (token_by s image a)
+by_calm s image None = done_calm (Ok tt) tt
+by_calm s image (Some a) = asked_calm s image
+
+for_calm : (s : Settings) (image : Reference) → Ends Calm (token_for s image)
+unfolding token_for Ends bind
+for_calm s image = λ k. by_calm s image (map.get k.credentials (resolved_registry image))
+
+where_calm : (s : Settings) (image : Reference) (b : Bool) → Ends Calm (token_where s image b)
+where_calm s image true = for_calm s image
+where_calm s image false = done_calm (Ok tt) tt
+
+authorized_calm : (s : Settings) (image : Reference) (url : Parts) → Ends Calm (authorized s image url)
+unfolding authorized
+authorized_calm s image url = next_calm (Done (url_read (registry_text s image))) _ (done_calm _ (read_calm (registry_text s image))) (λ registry. where_calm s image (goes_to (request_url (serialize url)) registry))
+
+pub prepared_calm : (s : Settings) (image : Reference) (method : Method) (url : Parts) (types : List ℕ) → Ends Calm (prepared s image method url types)
+unfolding prepared
+prepared_calm s image method url types = next_calm (authorized s image url) _ (authorized_calm s image url) (λ u. done_calm _ (request_calm s method url (Some types)))
+
+is_calm : (e : OciDistributionError) → MatchBool (is_memory e) (Unit {0}) (e ≡ refusal.SinkFault → ⊥) → e ≡ refusal.SinkFault → ⊥
+is_calm e h is = (rw is at h) refl
+
+-- a step before it was refused, with nothing put
+pub spills_refused : {A : Type 0} {p : Row A} (f : A → Row (List ℕ)) {old new : Link} {k l : Memory} {e : OciDistributionError} {r : Result Unit OciDistributionError} (tray : Tray) → Ends Calm p → Meets is_memory p old new k l (Err e) → Meets is_memory (p >>= f) old new k l (Err e) → IsErrAnd r (λ x. x ≡ e) → Spills (p >>= f) old new k l tray tray r
+spills_refused f {e = e} {r = r} tray calm met all is = let at = err_from_is_err_and r is in rw (at.1, at.2) (spills_none tray all (λ h. let sink : e ≡ refusal.SinkFault = cc in absurd (is_calm e (Meets-ends Calm calm met) sink)))
+
+-- what a refusal spilled, at the exit of a `?`
+pub spills_on : {p : Row (List ℕ)} {old new : Link} {k l : Memory} {before after : Tray} {e : OciDistributionError} {r : Result Unit OciDistributionError} → Spills p old new k l before after (Err e) → IsErrAnd r (λ x. x ≡ e) → Spills p old new k l before after r
+spills_on {r = r} spills is = let at = err_from_is_err_and r is in rw (at.1, at.2) spills
+
+-- a sink that was empty has what the call answers
+pub spilled_into : {p : Row (List ℕ)} {old new : Link} {k l : Memory} {before after : Tray} (bytes : List ℕ) → Spills p old new k l before after (Ok tt) → before.taken ≡ Some [] → after.taken ≡ Some bytes → Meets is_memory p old new k l (Ok bytes)
+spilled_into bytes spills empty all =
+    let whole : Some spills.body ≡ Some bytes = sym (spills.put.took [] empty) ∙ all in
+    let same : spills.body ≡ bytes = cc in
+    rw same at spills.met

@@ -1,0 +1,69 @@
+-- A whole image: its manifest, its configuration and its layers in the manifest's order.
+use Rattle.std.specs.Prelude.{ℕ, Bool, true, false, List, [], ◌∷◌, ◌++◌, Option, Some, None, Result, Ok, Err, if◌then◌else◌, bytes_eq}
+use Rattle.oci_names.specs.declared.reference.Reference.{Reference}
+use Rattle.oci_auth.specs.declared.auth.RegistryAuth.{RegistryAuth}
+use Rattle.oci_docs.specs.declared.document.OciManifest.{OciManifest}
+use Rattle.oci_docs.specs.declared.document.OciManifest.TheVariants.{Image, ImageIndex}
+use Rattle.oci_docs.specs.declared.manifest.OciImageManifest.{OciImageManifest}
+use Rattle.oci_docs.specs.declared.descriptor.OciDescriptor.{OciDescriptor}
+use Rattle.oci_docs.specs.declared.blob.ImageLayer.{ImageLayer}
+use Rattle.oci_docs.specs.declared.blob.Config.{Config}
+use Rattle.oci_protocol.specs.Proto.{Done, ◌>>=◌, ◌>>◌}
+use Rattle.engine_requests.specs.declared.settings.Settings.{Settings}
+use Rattle.engine_requests.specs.declared.error.OciDistributionError.{OciDistributionError}
+use Rattle.engine_requests.specs.declared.error.OciDistributionError.TheVariants as refusal
+use Rattle.oci_link.specs.Link.{Link}
+use Rattle.oci_auth.specs.declared.memory.Memory.{Memory}
+use Rattle.oci_protocol.specs.Runs.{Meets}
+use Rattle.engine_requests.specs.Errors.{is_memory}
+use Rattle.engine_steps.specs.Rows.{Row}
+use Rattle.engine_pull.specs.declared.image.ImageData.{ImageData}
+use Rattle.engine_pull.specs.Pulls.{pull_manifest, pull_blob}
+
+-- the manifest of an image; an index has none without a resolver of platforms
+abbrev pub image_manifest : OciManifest → Result OciImageManifest OciDistributionError
+image_manifest (Image manifest) = Ok manifest
+image_manifest (ImageIndex index) = Err refusal.ImageIndexParsingNoPlatformResolverError
+
+abbrev pub is_accepted : List (List ℕ) → List ℕ → Bool
+is_accepted [] kind = false
+is_accepted (a ∷ accepted) kind = if bytes_eq a kind then true else is_accepted accepted kind
+
+-- each layer's media type is accepted
+abbrev pub all_accepted : List (List ℕ) → List OciDescriptor → Result Unit OciDistributionError
+all_accepted accepted [] = Ok tt
+all_accepted accepted (x ∷ xs) = if is_accepted accepted x.media_type then all_accepted accepted xs else Err (refusal.IncompatibleLayerMediaTypeError x.media_type)
+
+-- there is a layer, and each one's media type is accepted
+abbrev pub layers_accepted : List (List ℕ) → List OciDescriptor → Result Unit OciDistributionError
+layers_accepted accepted [] = Err refusal.PullNoLayersError
+layers_accepted accepted (x ∷ xs) = all_accepted accepted (x ∷ xs)
+
+-- a descriptor's blob as a layer
+abbrev pub layer_of : OciDescriptor → List ℕ → ImageLayer
+layer_of x content = record { content = content; media_type = x.media_type; annotations = x.annotations }
+
+-- a manifest's configuration
+abbrev pub config_of : OciImageManifest → List ℕ → Config
+config_of manifest content = record { content = content; media_type = manifest.config.media_type; annotations = manifest.annotations }
+
+-- each descriptor's blob, in order
+unfoldable pub pull_layers : Settings → Reference → List OciDescriptor → List ImageLayer → Row (List ImageLayer)
+pull_layers s image [] layers = Done (Ok layers)
+pull_layers s image (x ∷ xs) layers = do
+  content ← pull_blob s image x.digest
+  pull_layers s image xs (layers ++ layer_of x content ∷ [])
+
+-- an image whose layers are of these types
+unfoldable pub pull : Settings → Reference → RegistryAuth → List (List ℕ) → Row ImageData
+pull s image a accepted = do
+  found ← pull_manifest s image a
+  manifest ← Done (image_manifest found.0)
+  config ← pull_blob s image manifest.config.digest
+  Done (layers_accepted accepted manifest.layers)
+  layers ← pull_layers s image manifest.layers []
+  Done (Ok (record { layers = layers; digest = Some found.1; config = config_of manifest config; manifest = Some manifest }))
+
+-- From one row, what was done leads to another: whatever the other then does, the first did.
+pub record Leads {A : Type 0} (p q : Row A) (old mid : Link) (k j : Memory) : Type 0 where
+  pub met : (new : Link) (l : Memory) (r : Result A OciDistributionError) → Meets is_memory q mid new j l r → Meets is_memory p old new k l r

@@ -1,0 +1,191 @@
+// Whole images.
+ghost use Rattle.std.specs.Prelude.{◌≡◌, IfOk};
+ghost use Rattle.oci_auth.specs.declared.memory.Memory.{Memory};
+ghost use Rattle.oci_protocol.specs.Runs.{Meets};
+ghost use Rattle.engine_requests.specs.Errors.{is_memory, Says};
+ghost use Rattle.engine_pull.specs.Images.{image_manifest, is_accepted, all_accepted, layers_accepted, layer_of, config_of, pull_layers, pull};
+
+use crate::documents::pull_manifest;
+use crate::piped::pulled_blob;
+use engine_requests::{OciDistributionError, Settings};
+use json_canon::{Blob, Copied, List, Text, copies2};
+use oci_auth::{Memory, RegistryAuth};
+use oci_docs::blob::Config;
+use oci_docs::{ImageLayer, OciDescriptor, OciImageManifest, OciManifest};
+use oci_link::Transport;
+use oci_names::Reference;
+use std::alloc::{AllocError, Global};
+
+/// What a pull of an image answers.
+#[derive(Drop)]
+pub struct ImageData {
+    /// In the manifest's order.
+    pub layers: List<ImageLayer>,
+    /// The digest of the manifest.
+    pub digest: Option<Text>,
+    pub config: Config,
+    pub manifest: Option<OciImageManifest>,
+}
+
+/// The manifest of an image. An index has none without a resolver of platforms.
+pub fn image_manifest(document: OciManifest) -> Result<OciImageManifest, OciDistributionError>
+    ensures { Says result (image_manifest document) }
+{
+    match document {
+        OciManifest::Image(manifest) => Ok(manifest),
+        OciManifest::ImageIndex(_) => {
+            Err(OciDistributionError::ImageIndexParsingNoPlatformResolverError)
+        }
+    }
+}
+
+fn is_accepted(accepted: &[Text], kind: &str) -> bool
+    ensures { result ≡ is_accepted accepted.now kind.now }
+{
+    for allowed in accepted {
+        if allowed.as_str() == kind {
+            return true;
+        }
+    }
+    false
+}
+
+/// There is a layer, and the media type of each is accepted.
+pub fn layers_accepted(
+    alloc: Global,
+    accepted: &[Text],
+    layers: &[OciDescriptor],
+) -> Result<(), OciDistributionError>
+    ensures { Says result (layers_accepted accepted.now layers.now) }
+{
+    if layers.is_empty() {
+        return Err(OciDistributionError::PullNoLayersError);
+    }
+    all_accepted(alloc, accepted, layers)?;
+    Ok(())
+}
+
+fn all_accepted(
+    alloc: Global,
+    accepted: &[Text],
+    layers: &[OciDescriptor],
+) -> Result<(), OciDistributionError>
+    ensures { Says result (all_accepted accepted.now layers.now) }
+{
+    for layer in layers {
+        if !is_accepted(accepted, layer.media_type.as_str()) {
+            let kind = layer.media_type.copy(alloc)?;
+            return Err(OciDistributionError::IncompatibleLayerMediaTypeError(kind));
+        }
+    }
+    Ok(())
+}
+
+/// A descriptor's blob as a layer.
+pub fn layer_of(
+    alloc: Global,
+    descriptor: &OciDescriptor,
+    content: Blob,
+) -> Result<ImageLayer, AllocError>
+    ensures { IfOk result (λ layer. layer ≡ layer_of descriptor.now content) }
+{
+    let (media_type, annotations) = copies2(
+        alloc,
+        &descriptor.media_type,
+        &descriptor.annotations,
+    )?;
+    Ok(ImageLayer {
+        content,
+        media_type,
+        annotations,
+    })
+}
+
+/// A manifest's configuration.
+pub fn config_of(
+    alloc: Global,
+    manifest: &OciImageManifest,
+    content: Blob,
+) -> Result<Config, AllocError>
+    ensures { IfOk result (λ config. config ≡ config_of manifest.now content) }
+{
+    let (media_type, annotations) = copies2(
+        alloc,
+        &manifest.config.media_type,
+        &manifest.annotations,
+    )?;
+    Ok(Config {
+        content,
+        media_type,
+        annotations,
+    })
+}
+
+// Each descriptor's blob, behind the layers that are there.
+fn pull_layers<T: Transport>(
+    alloc: Global,
+    transport: &mut T,
+    settings: &Settings,
+    memory: &Memory,
+    image: &Reference,
+    descriptors: &[OciDescriptor],
+    mut layers: List<ImageLayer>,
+) -> Result<List<ImageLayer>, OciDistributionError>
+    ensures { Meets is_memory (pull_layers settings.now image.now descriptors.now layers) (T.state transport.old) (T.state transport.new) memory.now memory.now result }
+{
+    for descriptor in descriptors {
+        let content = pulled_blob(
+            alloc,
+            transport,
+            settings,
+            memory,
+            image,
+            descriptor.digest.as_str(),
+        )?;
+        let layer = layer_of(alloc, descriptor, content)?;
+        layers.push(layer)?;
+    }
+    Ok(layers)
+}
+
+/// An image whose layers are of these media types.
+pub fn pull<T: Transport>(
+    alloc: Global,
+    transport: &mut T,
+    settings: &Settings,
+    memory: &mut Memory,
+    image: &Reference,
+    auth: &RegistryAuth,
+    accepted: &[Text],
+) -> Result<ImageData, OciDistributionError>
+    ensures { Meets is_memory (pull settings.now image.now auth.now accepted.now) (T.state transport.old) (T.state transport.new) memory.old memory.new result }
+{
+    let found = pull_manifest(alloc, transport, settings, memory, image, auth)?;
+    let (document, digest) = found;
+    let manifest = image_manifest(document)?;
+    let content = pulled_blob(
+        alloc,
+        transport,
+        settings,
+        memory,
+        image,
+        manifest.config.digest.as_str(),
+    )?;
+    let config = config_of(alloc, &manifest, content)?;
+    layers_accepted(alloc, accepted, manifest.layers.as_slice())?;
+    let layers = pull_layers(
+        alloc,
+        transport,
+        settings,
+        memory,
+        image,
+        manifest.layers.as_slice(),
+        List::new(alloc),
+    )?;
+    Ok(ImageData {
+        layers,
+        digest: Some(digest),
+        config,
+        manifest: Some(manifest),
+    })
+}

@@ -1,0 +1,66 @@
+// Blobs, into a sink or into memory.
+ghost use Rattle.std.specs.Prelude.{◌≡◌};
+ghost use Rattle.oci_auth.specs.declared.memory.Memory.{Memory};
+ghost use Rattle.oci_protocol.specs.Runs.{Meets};
+ghost use Rattle.engine_requests.specs.Errors.{is_memory};
+ghost use Rattle.engine_steps.specs.Blobs.{Spills};
+ghost use Rattle.engine_pull.specs.Pulls.{pull_blob};
+
+use engine_requests::{MANIFEST_TYPES, OciDistributionError, Settings, blob_url};
+use engine_steps::{attempt, prepared};
+use json_canon::{Blob, PlainSink, Sink};
+use oci_auth::Memory;
+use oci_link::{Method, Transport};
+use oci_names::Reference;
+use std::alloc::Global;
+
+/// Puts the bytes of a blob, piece by piece as they come. After a refusal the sink has taken a front of the
+/// last answer's body, or nothing.
+pub fn pull_blob<T: Transport, K: Sink>(
+    alloc: Global,
+    transport: &mut T,
+    settings: &Settings,
+    memory: &Memory,
+    image: &Reference,
+    digest: &str,
+    out: &mut K,
+) -> Result<(), OciDistributionError>
+    ensures { Spills (pull_blob settings.now image.now digest.now) (T.state transport.old) (T.state transport.new) memory.now memory.now (K.state out.old) (K.state out.new) result }
+{
+    let url = blob_url(alloc, settings, image, digest)?;
+    let request = prepared(
+        alloc,
+        transport,
+        settings,
+        memory,
+        image,
+        Method::Get,
+        &url,
+        MANIFEST_TYPES,
+    )?;
+    attempt(
+        alloc,
+        transport,
+        settings.max_body_bytes,
+        digest,
+        &request,
+        out,
+    )?;
+    Ok(())
+}
+
+/// The bytes of a blob.
+pub fn pulled_blob<T: Transport>(
+    alloc: Global,
+    transport: &mut T,
+    settings: &Settings,
+    memory: &Memory,
+    image: &Reference,
+    digest: &str,
+) -> Result<Blob, OciDistributionError>
+    ensures { Meets is_memory (pull_blob settings.now image.now digest.now) (T.state transport.old) (T.state transport.new) memory.now memory.now result }
+{
+    let mut out = PlainSink::new(alloc);
+    pull_blob(alloc, transport, settings, memory, image, digest, &mut out)?;
+    Ok(out.into_blob())
+}
