@@ -1,0 +1,188 @@
+ghost use Rattle.std.specs.Prelude.{◌≡◌};
+ghost use Rattle.std.specs.FinMap as map;
+ghost use Rattle.oci_protocol.specs.Runs.{Meets};
+ghost use Rattle.engine_requests.specs.Errors.{is_memory};
+ghost use Rattle.engine_requests.specs.Requests.{listed};
+ghost use Rattle.engine_steps.specs.Blobs.{Spills};
+ghost use Rattle.engine_pull.specs.Pulls.{fetch_manifest_digest, pull_manifest, pull_manifest_raw, pull_blob};
+ghost use Rattle.engine_pull.specs.Images.{pull};
+ghost use Rattle.oci_engine.specs.Clients.{settings_of};
+
+use crate::config::ClientConfig;
+use engine_pull::ImageData;
+use engine_requests::{OciDistributionError, Settings};
+use json_canon::{Blob, Sink, Text};
+use oci_auth::{Memory, RegistryAuth};
+use oci_docs::OciManifest;
+use oci_link::Transport;
+use oci_names::Reference;
+use std::alloc::Global;
+
+/// A client of registries. Each call makes the requests of its row over the transport that it is handed.
+#[derive(Drop)]
+pub struct Client {
+    pub settings: Settings,
+    /// What is kept between the calls.
+    pub memory: Memory,
+}
+
+impl Client {
+    pub fn new(alloc: Global, config: ClientConfig) -> Client
+        ensures settings { result.settings ≡ settings_of config }
+        ensures fresh { result.memory ≡ record { credentials = map.empty } }
+    {
+        let ClientConfig {
+            protocol,
+            user_agent,
+            max_body_bytes,
+        } = config;
+        Client {
+            settings: Settings {
+                protocol,
+                user_agent,
+                max_body_bytes,
+            },
+            memory: Memory::new(alloc),
+        }
+    }
+
+    /// The digest of the image's manifest or index, as the registry names it. `moment` is in seconds since 1970.
+    pub fn fetch_manifest_digest<T: Transport>(
+        &mut self,
+        alloc: Global,
+        transport: &mut T,
+        _moment: u64,
+        image: &Reference,
+        auth: &RegistryAuth,
+    ) -> Result<Text, OciDistributionError>
+        ensures run { Meets is_memory (fetch_manifest_digest self.old.settings image.now auth.now) (T.state transport.old) (T.state transport.new) self.old.memory self.new.memory result }
+        ensures settings { self.new.settings ≡ self.old.settings }
+    {
+        engine_pull::fetch_manifest_digest(
+            alloc,
+            transport,
+            &self.settings,
+            &mut self.memory,
+            image,
+            auth,
+        )
+    }
+
+    /// The bytes of the image's manifest or index, with their digest.
+    pub fn pull_manifest_raw<T: Transport>(
+        &mut self,
+        alloc: Global,
+        transport: &mut T,
+        _moment: u64,
+        image: &Reference,
+        auth: &RegistryAuth,
+        accepted_media_types: &[Text],
+    ) -> Result<(Blob, Text), OciDistributionError>
+        ensures run { Meets is_memory (pull_manifest_raw self.old.settings image.now auth.now (listed accepted_media_types.now)) (T.state transport.old) (T.state transport.new) self.old.memory self.new.memory result }
+        ensures settings { self.new.settings ≡ self.old.settings }
+    {
+        let types = engine_requests::listed(alloc, accepted_media_types)?;
+        let found = engine_pull::pull_manifest_raw(
+            alloc,
+            transport,
+            &self.settings,
+            &mut self.memory,
+            image,
+            auth,
+            types.as_str(),
+        )?;
+        Ok(found)
+    }
+
+    /// The image's manifest or index, with its digest.
+    pub fn pull_manifest<T: Transport>(
+        &mut self,
+        alloc: Global,
+        transport: &mut T,
+        _moment: u64,
+        image: &Reference,
+        auth: &RegistryAuth,
+    ) -> Result<(OciManifest, Text), OciDistributionError>
+        ensures run { Meets is_memory (pull_manifest self.old.settings image.now auth.now) (T.state transport.old) (T.state transport.new) self.old.memory self.new.memory result }
+        ensures settings { self.new.settings ≡ self.old.settings }
+    {
+        engine_pull::pull_manifest(
+            alloc,
+            transport,
+            &self.settings,
+            &mut self.memory,
+            image,
+            auth,
+        )
+    }
+
+    /// The image with its configuration and its layers, whose media types are among these.
+    pub fn pull<T: Transport>(
+        &mut self,
+        alloc: Global,
+        transport: &mut T,
+        _moment: u64,
+        image: &Reference,
+        auth: &RegistryAuth,
+        accepted_media_types: &[Text],
+    ) -> Result<ImageData, OciDistributionError>
+        ensures run { Meets is_memory (pull self.old.settings image.now auth.now accepted_media_types.now) (T.state transport.old) (T.state transport.new) self.old.memory self.new.memory result }
+        ensures settings { self.new.settings ≡ self.old.settings }
+    {
+        engine_pull::pull(
+            alloc,
+            transport,
+            &self.settings,
+            &mut self.memory,
+            image,
+            auth,
+            accepted_media_types,
+        )
+    }
+
+    /// Puts the bytes of a blob of the image's repository into the sink, piece by piece as they come.
+    pub fn pull_blob<T: Transport, K: Sink>(
+        &mut self,
+        alloc: Global,
+        transport: &mut T,
+        _moment: u64,
+        image: &Reference,
+        digest: &str,
+        out: &mut K,
+    ) -> Result<(), OciDistributionError>
+        ensures spills { Spills (pull_blob self.old.settings image.now digest.now) (T.state transport.old) (T.state transport.new) self.old.memory self.new.memory (K.state out.old) (K.state out.new) result }
+        ensures settings { self.new.settings ≡ self.old.settings }
+    {
+        engine_pull::pull_blob(
+            alloc,
+            transport,
+            &self.settings,
+            &self.memory,
+            image,
+            digest,
+            out,
+        )
+    }
+
+    /// The bytes of a blob of the image's repository.
+    pub fn pulled_blob<T: Transport>(
+        &mut self,
+        alloc: Global,
+        transport: &mut T,
+        _moment: u64,
+        image: &Reference,
+        digest: &str,
+    ) -> Result<Blob, OciDistributionError>
+        ensures run { Meets is_memory (pull_blob self.old.settings image.now digest.now) (T.state transport.old) (T.state transport.new) self.old.memory self.new.memory result }
+        ensures settings { self.new.settings ≡ self.old.settings }
+    {
+        engine_pull::pulled_blob(
+            alloc,
+            transport,
+            &self.settings,
+            &self.memory,
+            image,
+            digest,
+        )
+    }
+}

@@ -1,0 +1,190 @@
+ghost use Rattle.std.specs.Prelude.{IfOk};
+ghost use Rattle.oci_link.specs.Pieces.{NoneEmpty};
+
+use crate::{Client, ClientConfig, ImageData};
+use json_canon::{Blob, List, PlainSink, Text};
+use oci_auth::RegistryAuth;
+use oci_docs::OciManifest;
+use oci_link::{HeaderError, Headers, Recorded, Script};
+use oci_names::Reference;
+use std::alloc::{AllocError, Global};
+use std::test::Fail;
+
+const MANIFEST: &str =
+    r#"{"schemaVersion":2,"mediaType":"application/vnd.oci.image.manifest.v1+json","config":{"mediaType":"application/vnd.oci.image.config.v1+json","digest":"sha256:44136fa355b3678a1146ad16f7e8649e94fb4fc21fe77e8310c060f61caaff8a","size":2},"layers":[{"mediaType":"application/vnd.oci.image.layer.v1.tar","digest":"sha256:b94d27b9934d3e08a52e52d7da7dabfac484efe37a5380ee9088f7ace2efcde9","size":11}]}"#;
+
+const MANIFEST_DIGEST: &str =
+    "sha256:517b86da29754bfa57e312c35d4cf22caa38dbce39ecd24684830c1f9777a635";
+
+const CONFIG_DIGEST: &str =
+    "sha256:44136fa355b3678a1146ad16f7e8649e94fb4fc21fe77e8310c060f61caaff8a";
+
+const LAYER_DIGEST: &str =
+    "sha256:b94d27b9934d3e08a52e52d7da7dabfac484efe37a5380ee9088f7ace2efcde9";
+
+const LAYER_TYPE: &str = "application/vnd.oci.image.layer.v1.tar";
+
+// The body in one piece, where it has any byte.
+fn pieces(alloc: Global, body: &str) -> Result<List<Blob>, AllocError>
+    ensures { IfOk result (λ pieces. NoneEmpty pieces) }
+{
+    let mut pieces = List::new(alloc);
+    if !body.is_empty() {
+        pieces.push(Blob::new(alloc, body.as_bytes())?)?;
+    }
+    Ok(pieces)
+}
+
+// An answer of the status 200 that names its body's digest.
+fn answer(alloc: Global, digest: &str, body: &str) -> Result<Recorded, HeaderError> {
+    let mut headers = Headers::new(alloc);
+    headers.add("docker-content-digest", digest.as_bytes())?;
+    let pieces = pieces(alloc, body)?;
+    Ok(Recorded {
+        fails: false,
+        status: 200,
+        headers,
+        pieces,
+        fails_before: None,
+    })
+}
+
+// These answers, each after that to the request for a token.
+fn script(alloc: Global, bodies: &[(&str, &str)]) -> Result<Script, HeaderError> {
+    let mut answers = List::new(alloc);
+    for (digest, body) in bodies {
+        answers.push(answer(alloc, *digest, "")?)?;
+        answers.push(answer(alloc, *digest, *body)?)?;
+    }
+    Ok(Script::new(alloc, answers))
+}
+
+// This answer alone: a client that keeps no credentials asks for no token.
+fn tokenless(alloc: Global, body: &str) -> Result<Script, HeaderError> {
+    let mut answers = List::new(alloc);
+    answers.push(answer(alloc, LAYER_DIGEST, body)?)?;
+    Ok(Script::new(alloc, answers))
+}
+
+fn client(alloc: Global) -> Result<Client, AllocError> {
+    let config = ClientConfig::default(alloc)?;
+    Ok(Client::new(alloc, config))
+}
+
+fn image(alloc: Global) -> Option<Reference> {
+    Reference::parse(alloc, "localhost:5000/app:v1").ok()
+}
+
+fn digest(alloc: Global, script: &mut Script) -> Option<Text> {
+    let mut client = client(alloc).ok()?;
+    let image = image(alloc)?;
+    client
+        .fetch_manifest_digest(alloc, script, 100, &image, &RegistryAuth::Anonymous)
+        .ok()
+}
+
+#[test]
+fn the_digest_is_the_one_that_the_header_names(rt: HostRuntime) -> Result<(), Fail> {
+    let mut script = script(rt.alloc(), &[(MANIFEST_DIGEST, "")])?;
+    let found = digest(rt.alloc(), &mut script);
+    assert!(rt; found.is_some_and(|text| text.as_str() == MANIFEST_DIGEST));
+    assert_eq!(rt; script.conversation().as_slice().len(), 2);
+    Ok(())
+}
+
+fn layers_listed(alloc: Global, script: &mut Script) -> Option<usize> {
+    let mut client = client(alloc).ok()?;
+    let image = image(alloc)?;
+    let found = client
+        .pull_manifest(alloc, script, 100, &image, &RegistryAuth::Anonymous)
+        .ok()?;
+    let (document, _digest) = found;
+    match document {
+        OciManifest::Image(manifest) => Some(manifest.layers.as_slice().len()),
+        OciManifest::ImageIndex(_) => None,
+    }
+}
+
+fn raw(alloc: Global, script: &mut Script) -> Option<(Blob, Text)> {
+    let mut client = client(alloc).ok()?;
+    let image = image(alloc)?;
+    client
+        .pull_manifest_raw(alloc, script, 100, &image, &RegistryAuth::Anonymous, &[])
+        .ok()
+}
+
+#[test]
+fn a_manifest_comes_with_its_digest(rt: HostRuntime) -> Result<(), Fail> {
+    let mut named = script(rt.alloc(), &[(MANIFEST_DIGEST, MANIFEST)])?;
+    assert_eq!(rt; layers_listed(rt.alloc(), &mut named), Some(1));
+    let mut bytes = script(rt.alloc(), &[(MANIFEST_DIGEST, MANIFEST)])?;
+    let found = raw(rt.alloc(), &mut bytes);
+    assert!(rt; found.is_some_and(|it| it.1.as_str() == MANIFEST_DIGEST));
+    let mut misnamed = script(rt.alloc(), &[(LAYER_DIGEST, MANIFEST)])?;
+    assert!(rt; raw(rt.alloc(), &mut misnamed).is_none());
+    Ok(())
+}
+
+fn pulled(alloc: Global, script: &mut Script) -> Option<ImageData> {
+    let mut client = client(alloc).ok()?;
+    let image = image(alloc)?;
+    let mut accepted = List::new(alloc);
+    accepted.push(Text::new(alloc, LAYER_TYPE).ok()?).ok()?;
+    client
+        .pull(
+            alloc,
+            script,
+            100,
+            &image,
+            &RegistryAuth::Anonymous,
+            accepted.as_slice(),
+        )
+        .ok()
+}
+
+#[test]
+fn an_image_comes_with_its_configuration_and_layers(rt: HostRuntime) -> Result<(), Fail> {
+    let mut script = script(
+        rt.alloc(),
+        &[
+            (MANIFEST_DIGEST, MANIFEST),
+            (CONFIG_DIGEST, "{}"),
+            (LAYER_DIGEST, "hello world"),
+        ],
+    )?;
+    let found = pulled(rt.alloc(), &mut script);
+    assert!(rt; found.is_some_and(|it| it.config.content.as_slice() == b"{}".as_slice()));
+    assert_eq!(rt; script.conversation().as_slice().len(), 6);
+    Ok(())
+}
+
+fn blob(alloc: Global, script: &mut Script) -> Option<Blob> {
+    let mut client = client(alloc).ok()?;
+    let image = image(alloc)?;
+    client
+        .pulled_blob(alloc, script, 100, &image, LAYER_DIGEST)
+        .ok()
+}
+
+fn poured(alloc: Global, script: &mut Script) -> Option<Blob> {
+    let mut client = client(alloc).ok()?;
+    let image = image(alloc)?;
+    let mut sink = PlainSink::new(alloc);
+    client
+        .pull_blob(alloc, script, 100, &image, LAYER_DIGEST, &mut sink)
+        .ok()?;
+    Some(sink.into_blob())
+}
+
+#[test]
+fn a_blob_is_what_its_digest_names(rt: HostRuntime) -> Result<(), Fail> {
+    let mut held = tokenless(rt.alloc(), "hello world")?;
+    let found = blob(rt.alloc(), &mut held);
+    assert!(rt; found.is_some_and(|it| it.as_slice() == b"hello world".as_slice()));
+    let mut streamed = tokenless(rt.alloc(), "hello world")?;
+    let found = poured(rt.alloc(), &mut streamed);
+    assert!(rt; found.is_some_and(|it| it.as_slice() == b"hello world".as_slice()));
+    let mut other = tokenless(rt.alloc(), "hello there")?;
+    assert!(rt; blob(rt.alloc(), &mut other).is_none());
+    Ok(())
+}
