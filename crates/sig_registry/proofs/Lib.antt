@@ -1,0 +1,2 @@
+pub mod InWords
+pub mod NoMirror

@@ -1,0 +1,10 @@
+use Rattle.std.proofs.Common.{List}
+use Rattle.engine_pull.specs.Pulls.{fetch_manifest_digest}
+use Rattle.sig_registry.specs.Calls.{digest_call}
+use Rattle.sig_registry.specs.declared.wording.Called.TheVariants.{FetchManifest}
+use Rattle.sig_registry.proofs.InWords.{made}
+use Rattle.sig_registry.proofs.plain.OciClientClientCapabilities.fetch_manifest_digest.Goals as goal
+
+pub returns : goal.returns
+unfolding digest_call
+returns g c = record { run = λ s. made FetchManifest c.args.image.now (λ t. fetch_manifest_digest t c.args.image.now c.args.auth.now) s c.fetch_manifest_digest-outcome.ensures.settings c.fetch_manifest_digest-outcome.ensures.run c.worded.ensures }

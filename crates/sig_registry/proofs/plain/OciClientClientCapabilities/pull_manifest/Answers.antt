@@ -1,0 +1,10 @@
+use Rattle.std.proofs.Common.{List}
+use Rattle.engine_pull.specs.Pulls.{pull_manifest}
+use Rattle.sig_registry.specs.Calls.{manifest_call}
+use Rattle.sig_registry.specs.declared.wording.Called.TheVariants.{PullManifest}
+use Rattle.sig_registry.proofs.InWords.{made}
+use Rattle.sig_registry.proofs.plain.OciClientClientCapabilities.pull_manifest.Goals as goal
+
+pub returns : goal.returns
+unfolding manifest_call
+returns g c = record { run = λ s. made PullManifest c.args.image.now (λ t. pull_manifest t c.args.image.now c.args.auth.now) s c.pull_manifest-outcome.ensures.settings c.pull_manifest-outcome.ensures.run c.worded.ensures }

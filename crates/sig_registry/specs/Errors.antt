@@ -1,0 +1,28 @@
+-- Refusals, with the image that a call was made for.
+use Rattle.std.specs.Prelude.{◌≡◌, ℕ, Bool, true, false, List, Result, Ok, Err, MatchBool, if◌then◌else◌}
+use Rattle.engine_requests.specs.declared.error.OciDistributionError.{OciDistributionError}
+use Rattle.engine_requests.specs.Errors.{is_memory as engine_is_memory}
+use Rattle.sig_registry.specs.declared.wording.Called.{Called}
+use Rattle.sig_registry.specs.declared.wording.Called.TheVariants.{FetchManifest, Pull, PullManifest}
+use Rattle.sig_registry.specs.declared.error.SigstoreError.{SigstoreError}
+use Rattle.sig_registry.specs.declared.error.SigstoreError.TheVariants as sigstore
+
+abbrev pub is_memory : SigstoreError → Bool
+is_memory sigstore.WantOfMemory = true
+is_memory _ = false
+
+-- the call's refusal around the registry's
+abbrev pub refusal : Called → List ℕ → OciDistributionError → SigstoreError
+refusal FetchManifest image e = sigstore.RegistryFetchManifestError image e
+refusal Pull image e = sigstore.RegistryPullError image e
+refusal PullManifest image e = sigstore.RegistryPullManifestError image e
+
+-- want of memory stays what it is
+abbrev pub worded : Called → List ℕ → {A : Type 0} → Result A OciDistributionError → Result A SigstoreError
+worded called image (Ok a) = Ok a
+worded called image (Err e) = if engine_is_memory e then Err sigstore.WantOfMemory else Err (refusal called image e)
+
+-- what a step with no request answers, unless memory was wanting
+abbrev pub Says : {A : Type 0} → Result A SigstoreError → Result A SigstoreError → Type 0
+Says (Ok a) said = said ≡ Ok a
+Says (Err e) said = MatchBool (is_memory e) (Unit {0}) (said ≡ Err e)

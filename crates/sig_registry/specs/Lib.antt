@@ -1,0 +1,5 @@
+pub mod Calls
+pub mod Clients
+pub mod Conversions
+pub mod Direct
+pub mod Errors

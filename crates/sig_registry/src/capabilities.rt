@@ -1,0 +1,79 @@
+// What the search asks of a client.
+ghost use Rattle.std.specs.Prelude.{◌≡◌};
+ghost use Rattle.engine_requests.specs.declared.settings.Settings.{Settings};
+ghost use Rattle.engine_requests.specs.Requests.{listed};
+ghost use Rattle.sig_registry.specs.Errors.{is_memory};
+ghost use Rattle.sig_registry.specs.Clients.{Client, Made};
+ghost use Rattle.sig_registry.specs.Calls.{digest_call, manifest_call, image_call, document_call, blob_call};
+
+use crate::error::SigstoreError;
+use json_canon::{Blob, Text};
+use oci_auth::RegistryAuth;
+use oci_docs::{OciDescriptor, OciManifest};
+use oci_engine::ImageData;
+use oci_link::Transport;
+use oci_names::Reference;
+use std::alloc::Global;
+
+/// The calls of a registry's client. Each is one row of requests with a result, whatever is kept.
+pub trait ClientCapabilities {
+    /// The settings and what is kept.
+    ghost state: { Self → Client };
+
+    /// The digest of the image's manifest or index; a refusal is `RegistryFetchManifestError`.
+    fn fetch_manifest_digest<T: Transport>(
+        &mut self,
+        alloc: Global,
+        transport: &mut T,
+        moment: u64,
+        image: &Reference,
+        auth: &RegistryAuth,
+    ) -> Result<Text, SigstoreError>
+        ensures run { (s : Settings) → Made is_memory s (digest_call s image.now auth.now) (state self.old) (state self.new) (T.state transport.old) (T.state transport.new) result };
+
+    /// The image with its blobs; a refusal is `RegistryPullError`.
+    fn pull<T: Transport>(
+        &mut self,
+        alloc: Global,
+        transport: &mut T,
+        moment: u64,
+        image: &Reference,
+        auth: &RegistryAuth,
+        accepted_media_types: &[Text],
+    ) -> Result<ImageData, SigstoreError>
+        ensures run { (s : Settings) → Made is_memory s (image_call s image.now auth.now accepted_media_types.now) (state self.old) (state self.new) (T.state transport.old) (T.state transport.new) result };
+
+    /// The image's manifest or index with its digest; a refusal is `RegistryPullManifestError`.
+    fn pull_manifest<T: Transport>(
+        &mut self,
+        alloc: Global,
+        transport: &mut T,
+        moment: u64,
+        image: &Reference,
+        auth: &RegistryAuth,
+    ) -> Result<(OciManifest, Text), SigstoreError>
+        ensures run { (s : Settings) → Made is_memory s (manifest_call s image.now auth.now) (state self.old) (state self.new) (T.state transport.old) (T.state transport.new) result };
+
+    /// The bytes of the image's manifest or index with their digest; a refusal is `RegistryPullError`.
+    fn pull_manifest_raw<T: Transport>(
+        &mut self,
+        alloc: Global,
+        transport: &mut T,
+        moment: u64,
+        image: &Reference,
+        auth: &RegistryAuth,
+        accepted_media_types: &[Text],
+    ) -> Result<(Blob, Text), SigstoreError>
+        ensures run { (s : Settings) → Made is_memory s (document_call s image.now auth.now (listed accepted_media_types.now)) (state self.old) (state self.new) (T.state transport.old) (T.state transport.new) result };
+
+    /// The bytes of a blob of the image's repository; a refusal is `RegistryPullError`.
+    fn pull_blob<T: Transport>(
+        &mut self,
+        alloc: Global,
+        transport: &mut T,
+        moment: u64,
+        image: &Reference,
+        layer: &OciDescriptor,
+    ) -> Result<Blob, SigstoreError>
+        ensures run { (s : Settings) → Made is_memory s (blob_call s image.now layer.now.digest) (state self.old) (state self.new) (T.state transport.old) (T.state transport.new) result };
+}
