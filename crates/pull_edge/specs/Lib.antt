@@ -1,0 +1,3 @@
+pub mod Spring
+pub mod Adapters
+pub mod Sources

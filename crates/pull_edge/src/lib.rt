@@ -1,0 +1,22 @@
+//! Where the program's bytes come from and go to: sources, standard input and output, and numbers as text.
+#![tactic(auto)]
+
+mod decimal;
+mod give;
+mod memory_source;
+mod plain_source;
+mod reading;
+mod source;
+mod std_sink;
+mod std_source;
+
+pub use decimal::write_decimal;
+pub use memory_source::MemorySource;
+pub use plain_source::PlainSource;
+pub use reading::{ReadRefusal, read_all};
+pub use source::{Failed, Source};
+pub use std_sink::StdSink;
+pub use std_source::StdSource;
+
+#[cfg(test)]
+mod tests;

@@ -1,0 +1,71 @@
+ghost use Rattle.std.specs.Prelude.{◌≡◌, ◌≤◌, ◌<◌, length, take, Some, Contains, IfOk, OnErr};
+ghost use Rattle.std.specs.Io.KnownBytes.{Consumes, Keeps, IsAtEnd};
+ghost use Rattle.json_canon.specs.Counts.{Rose, raised};
+
+use crate::give::give;
+use crate::source::{Failed, Source};
+use json_canon::{Blob, List};
+
+/// Gives bytes that stand in memory, and fails at the calls whose numbers, counted from 0, it was given.
+#[derive(Drop)]
+pub struct MemorySource {
+    content: Blob,
+    at: usize,
+    failing: List<u64>,
+    calls: u64,
+    faults: u64,
+    ghost within: { at ≤ length content },
+}
+
+impl MemorySource {
+    ghost use Rattle.pull_edge.specs.Sources.{memory_spring, calls_of, failing_of};
+
+    pub fn new(content: Blob, failing: List<u64>) -> MemorySource
+        ensures left { (memory_spring result).left ≡ Some content }
+        ensures faults { (memory_spring result).faults ≡ 0 }
+        ensures calls { calls_of result ≡ 0 }
+        ensures failing { failing_of result ≡ failing }
+    {
+        MemorySource {
+            content,
+            at: 0,
+            failing,
+            calls: 0,
+            faults: 0,
+        }
+    }
+}
+
+impl Source for MemorySource {
+    ghost use Rattle.pull_edge.specs.Sources.{memory_spring, calls_of, failing_of};
+
+    ghost state = { memory_spring };
+
+    fn take(&mut self, room: &mut [u8]) -> Result<usize, Failed>
+        ensures count { (memory_spring self.old).faults ≤ (memory_spring self.new).faults }
+        ensures most { IfOk result (λ n. n ≤ length room.new) }
+        ensures front { IfOk result (λ n. Consumes (memory_spring self.old).left (memory_spring self.new).left (take n room.new)) }
+        ensures end { IfOk result (λ n. n ≡ 0 → 0 < length room.new → IsAtEnd (memory_spring self.new).left) }
+        ensures stays { OnErr result (Keeps (memory_spring self.old).left (memory_spring self.new).left) }
+        ensures fault { OnErr result (Rose (memory_spring self.old).faults (memory_spring self.new).faults) }
+        ensures raised { OnErr result ((memory_spring self.new).faults ≡ raised (memory_spring self.old).faults) }
+        ensures calls { calls_of self.new ≡ raised (calls_of self.old) }
+        ensures failing { failing_of self.new ≡ failing_of self.old }
+        ensures fails { OnErr result (Contains (failing_of self.old) (calls_of self.old)) }
+        ensures serves { IfOk result (λ _. Contains (failing_of self.old) (calls_of self.old) → ⊥) }
+    {
+        let call = self.calls;
+        self.calls = call.saturating_add(1);
+        if self.failing.as_slice().contains(&call) {
+            self.faults = self.faults.saturating_add(1);
+            return Err(Failed);
+        }
+        let count = give(self.content.as_slice(), self.at, room);
+        self.at += count;
+        Ok(count)
+    }
+
+    fn faults(&self) -> u64 {
+        self.faults
+    }
+}

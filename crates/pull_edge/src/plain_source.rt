@@ -1,0 +1,39 @@
+ghost use Rattle.std.specs.Prelude.{◌≡◌, ◌≤◌, length, Some};
+
+use crate::give::give;
+use crate::source::{Failed, Source};
+use json_canon::Blob;
+
+/// Gives bytes that stand in memory, and never fails.
+#[derive(Drop)]
+pub struct PlainSource {
+    content: Blob,
+    at: usize,
+    ghost within: { at ≤ length content },
+}
+
+impl PlainSource {
+    ghost use Rattle.pull_edge.specs.Sources.{plain_spring};
+
+    pub fn new(content: Blob) -> PlainSource
+        ensures { (plain_spring result).left ≡ Some content }
+    {
+        PlainSource { content, at: 0 }
+    }
+}
+
+impl Source for PlainSource {
+    ghost use Rattle.pull_edge.specs.Sources.{plain_spring};
+
+    ghost state = { plain_spring };
+
+    fn take(&mut self, room: &mut [u8]) -> Result<usize, Failed> {
+        let count = give(self.content.as_slice(), self.at, room);
+        self.at += count;
+        Ok(count)
+    }
+
+    fn faults(&self) -> u64 {
+        0
+    }
+}

@@ -1,0 +1,29 @@
+// Where bytes come from.
+ghost use Rattle.std.specs.Prelude.{◌≡◌, ◌≤◌, ◌<◌, length, take, IfOk, OnErr};
+ghost use Rattle.std.specs.Io.KnownBytes.{Consumes, Keeps, IsAtEnd};
+ghost use Rattle.json_canon.specs.Counts.{Rose};
+ghost use Rattle.pull_edge.specs.Spring.{Spring};
+
+/// A source gave nothing, and what it has left stays as it was.
+#[derive(Clone, Copy, Debug, PartialEq, Eq)]
+pub struct Failed;
+
+/// Gives bytes, piece by piece.
+pub trait Source {
+    /// The bytes that are left, where it tells them, and the count of its faults.
+    ghost state: { Self → Spring };
+
+    /// Moves the first bytes that are left to the front of the room, and answers how many.
+    /// No byte into room that is not empty is the end.
+    fn take(&mut self, room: &mut [u8]) -> Result<usize, Failed>
+        ensures count { (state self.old).faults ≤ (state self.new).faults }
+        ensures most { IfOk result (λ n. n ≤ length room.new) }
+        ensures front { IfOk result (λ n. Consumes (state self.old).left (state self.new).left (take n room.new)) }
+        ensures end { IfOk result (λ n. n ≡ 0 → 0 < length room.new → IsAtEnd (state self.new).left) }
+        ensures stays { OnErr result (Keeps (state self.old).left (state self.new).left) }
+        ensures fault { OnErr result (Rose (state self.old).faults (state self.new).faults) };
+
+    /// How often it failed, up to the greatest count.
+    fn faults(&self) -> u64
+        ensures { result ≡ (state self.now).faults };
+}

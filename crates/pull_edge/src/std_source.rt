@@ -1,0 +1,42 @@
+ghost use Rattle.std.specs.Prelude.{◌≡◌};
+
+use crate::source::{Failed, Source};
+use std::io::Read;
+
+/// Gives what a reader of std gives, as standard input. Each error of the reader is a fault.
+#[derive(Drop)]
+pub struct StdSource<R> {
+    reader: R,
+    faults: u64,
+}
+
+impl<R: Read> StdSource<R> {
+    ghost use Rattle.pull_edge.specs.Adapters.{std_spring};
+
+    pub fn new(reader: R) -> StdSource<R>
+        ensures left { (std_spring R.remaining result).left ≡ R.remaining reader }
+        ensures faults { (std_spring R.remaining result).faults ≡ 0 }
+    {
+        StdSource { reader, faults: 0 }
+    }
+}
+
+impl<R: Read> Source for StdSource<R> {
+    ghost use Rattle.pull_edge.specs.Adapters.{std_spring};
+
+    ghost state = { std_spring R.remaining };
+
+    fn take(&mut self, room: &mut [u8]) -> Result<usize, Failed> {
+        match self.reader.read(room) {
+            Ok(count) => Ok(count),
+            Err(_) => {
+                self.faults = self.faults.saturating_add(1);
+                Err(Failed)
+            }
+        }
+    }
+
+    fn faults(&self) -> u64 {
+        self.faults
+    }
+}
