@@ -12,6 +12,7 @@ pub mod Parts
 pub mod Pouring
 pub mod Reaching
 pub mod Safety
+pub mod Showing
 pub mod Spilling
 pub mod Trailing
 pub mod Turning

@@ -7,4 +7,5 @@ pub mod Poured
 pub mod Proto
 pub mod Runs
 pub mod Safe
+pub mod Shows
 pub mod Trails
