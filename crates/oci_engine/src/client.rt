@@ -1,11 +1,14 @@
-ghost use Rattle.std.specs.Prelude.{◌≡◌};
+ghost use Rattle.std.specs.Prelude.{◌≡◌, ℕ, List, Some, IfOk};
 ghost use Rattle.std.specs.FinMap as map;
-ghost use Rattle.oci_protocol.specs.Runs.{Meets};
+ghost use Rattle.oci_digests.specs.Names.{Names};
+ghost use Rattle.oci_names.specs.References.{digest_of};
+ghost use Rattle.oci_protocol.specs.Runs.{Meets, Told};
 ghost use Rattle.engine_requests.specs.Errors.{is_memory};
 ghost use Rattle.engine_requests.specs.Requests.{listed};
 ghost use Rattle.engine_steps.specs.Blobs.{Spills};
 ghost use Rattle.engine_pull.specs.Pulls.{fetch_manifest_digest, pull_manifest, pull_manifest_raw, pull_blob};
 ghost use Rattle.engine_pull.specs.Images.{pull};
+ghost use Rattle.oci_engine.specs.Answered.{Answered, Body, TookBlob};
 ghost use Rattle.oci_engine.specs.Clients.{settings_of};
 
 use crate::config::ClientConfig;
@@ -57,6 +60,7 @@ impl Client {
     ) -> Result<Text, OciDistributionError>
         ensures run { Meets is_memory (fetch_manifest_digest self.old.settings image.now auth.now) (T.state transport.old) (T.state transport.new) self.old.memory self.new.memory result }
         ensures settings { self.new.settings ≡ self.old.settings }
+        ensures answered { IfOk result (λ d. Told (λ c. Answered self.old.settings image.now c d) (T.state transport.old) (T.state transport.new)) }
     {
         engine_pull::fetch_manifest_digest(
             alloc,
@@ -80,6 +84,9 @@ impl Client {
     ) -> Result<(Blob, Text), OciDistributionError>
         ensures run { Meets is_memory (pull_manifest_raw self.old.settings image.now auth.now (listed accepted_media_types.now)) (T.state transport.old) (T.state transport.new) self.old.memory self.new.memory result }
         ensures settings { self.new.settings ≡ self.old.settings }
+        ensures body { IfOk result (λ found. Told (λ c. Body c found.0) (T.state transport.old) (T.state transport.new)) }
+        ensures named { IfOk result (λ found. Names found.1 found.0) }
+        ensures given { IfOk result (λ found. (d : List ℕ) → digest_of image.now ≡ Some d → Names d found.0) }
     {
         let types = engine_requests::listed(alloc, accepted_media_types)?;
         let found = engine_pull::pull_manifest_raw(
@@ -152,6 +159,7 @@ impl Client {
     ) -> Result<(), OciDistributionError>
         ensures spills { Spills (pull_blob self.old.settings image.now digest.now) (T.state transport.old) (T.state transport.new) self.old.memory self.new.memory (K.state out.old) (K.state out.new) result }
         ensures settings { self.new.settings ≡ self.old.settings }
+        ensures took { IfOk result (λ u. TookBlob digest.now (T.state transport.old) (T.state transport.new) (K.state out.old) (K.state out.new)) }
     {
         engine_pull::pull_blob(
             alloc,
@@ -175,6 +183,8 @@ impl Client {
     ) -> Result<Blob, OciDistributionError>
         ensures run { Meets is_memory (pull_blob self.old.settings image.now digest.now) (T.state transport.old) (T.state transport.new) self.old.memory self.new.memory result }
         ensures settings { self.new.settings ≡ self.old.settings }
+        ensures body { IfOk result (λ bytes. Told (λ c. Body c bytes) (T.state transport.old) (T.state transport.new)) }
+        ensures named { IfOk result (λ bytes. Names digest.now bytes) }
     {
         engine_pull::pulled_blob(
             alloc,

@@ -1,5 +1,15 @@
 use Rattle.engine_steps.proofs.Exits.{wanting}
+use Rattle.oci_engine.proofs.Results.{raw_body, raw_named, raw_given}
 use Rattle.oci_engine.proofs.client.Client.pull_manifest_raw.Goals as goal
 
 pub returns-in_err-types-clause-run : goal.returns-in_err-types-clause-run
 returns-in_err-types-clause-run g c = wanting c.from_residual.ensures.1
+
+pub returns-clause-body : goal.returns-clause-body
+returns-clause-body g c = raw_body c.args.self.now.settings c.args.image.now c.args.auth.now _ c.in_ok-found.ensures
+
+pub returns-clause-named : goal.returns-clause-named
+returns-clause-named g c = raw_named c.args.self.now.settings c.args.image.now c.args.auth.now _ c.in_ok-found.ensures
+
+pub returns-clause-given : goal.returns-clause-given
+returns-clause-given g c = raw_given c.args.self.now.settings c.args.image.now c.args.auth.now _ c.in_ok-found.ensures

@@ -1,0 +1,178 @@
+-- What the requests of a client ask, and that its token step asks no document.
+use Rattle.std.proofs.Common.{◌≡◌, ℕ, zero, Bool, true, false, List, [], ◌∷◌, ◌++◌, Option, Some, None, Result, Ok, Err, codes, unwrap_or, refl, sym, ap, subst, ◌∙◌, append-nil}
+use Rattle.std.specs.Prelude.{slice_get, nat_lt, ◌&&◌, if◌then◌else◌}
+use Rattle.std.specs.FinMap as map
+use Rattle.std.specs.FinMap.{get-insert, get-empty}
+use Rattle.std.specs.Cmp.Lexicographic.{nat_list_cmp_total}
+use Rattle.url.specs.Parts.{Parts, serialize}
+use Rattle.json_canon.specs.Places.{by_bytes}
+use Rattle.oci_link.specs.Headers.{Fields, values_of, first_of, added, held, is_header_value}
+use Rattle.oci_link.specs.Urls.{request_url}
+use Rattle.oci_link.specs.declared.message.Request.{Request}
+use Rattle.oci_link.specs.declared.message.Exchange.{Exchange}
+use Rattle.oci_link.specs.declared.message.Method.{Method}
+use Rattle.oci_link.specs.declared.message.Method.TheVariants.{Get}
+use Rattle.oci_names.specs.declared.reference.Reference.{Reference}
+use Rattle.oci_names.specs.References.{resolved_registry}
+use Rattle.oci_auth.specs.declared.auth.RegistryAuth.{RegistryAuth}
+use Rattle.oci_auth.specs.declared.memory.Memory.{Memory}
+use Rattle.oci_auth.specs.Memory.{stored}
+use Rattle.oci_protocol.specs.Proto.{Reply, Headed, Answered, Failed, TooLong, SinkFailed, read_none, Proto, Done, bind, unless_refused, ◌>>=◌}
+use Rattle.oci_protocol.specs.Follow.{Trail}
+use Rattle.oci_protocol.specs.Shows.{Shows, WhereOk, Heard}
+use Rattle.oci_protocol.proofs.Showing.{Shows-done, Shows-more, Shows-bind, Shows-next, Shows-step, Shows-last, Shows-recall, Shows-keep, Shows-follow}
+use Rattle.engine_requests.specs.declared.settings.Settings.{Settings}
+use Rattle.engine_requests.specs.declared.error.GenericCause.TheVariants.{HeaderText}
+use Rattle.engine_requests.specs.declared.error.OciDistributionError.TheVariants as refusal
+use Rattle.engine_requests.specs.Errors.{◌>>=◌ as ◌into◌}
+use Rattle.engine_requests.specs.Addresses.{url_read, base_text, registry_text}
+use Rattle.engine_requests.specs.Requests.{with_header, with_accept, headers_of, request_of, bare_request}
+use Rattle.engine_steps.specs.Rows.{head_reply, head_after, recalled, store, passed_over, token_step, token_asked, token_by, token_for, goes_to, token_where, authorized, prepared}
+use Rattle.oci_engine.specs.Answered.{Asks, NoneAsks}
+
+-- ---- what a request lists
+
+accept_first : (m : Fields) (types : List ℕ) → values_of (codes "accept") m ≡ [] → first_of (codes "accept") (added m (codes "accept") types) ≡ Some types
+accept_first m types none =
+    ap (λ o. slice_get (unwrap_or o []) 0) (get-insert nat_list_cmp_total m (codes "accept") (values_of (codes "accept") m ++ types ∷ []) (codes "accept")) ∙ ap (λ (xs : List (List ℕ)). slice_get (xs ++ types ∷ []) 0) none
+
+accept_none : (name : List ℕ) → values_of (codes "accept") (added map.empty (codes "user-agent") name) ≡ []
+accept_none name =
+    ap (λ (o : Option (List (List ℕ))). unwrap_or o []) (get-insert nat_list_cmp_total map.empty (codes "user-agent") (values_of (codes "user-agent") map.empty ++ name ∷ []) (codes "accept") ∙ get-empty by_bytes (codes "accept"))
+
+with_ok : (headers : Fields) (name value : List ℕ) (made : Fields) → with_header headers name value ≡ Ok made → made ≡ added headers name value
+with_ok headers name value made = by_test (is_header_value value && nat_lt (held headers) 1000) where
+  by_test : (b : Bool) → (if b then Ok (added headers name value) else Err (refusal.GenericError HeaderText)) ≡ Ok made → made ≡ added headers name value
+  by_test true is = cc
+  by_test false is = cc
+
+-- steps that were not refused
+pub into_ok : {A B E : Type 0} (r : Result A E) (f : A → Result B E) (b : B) → (r into f) ≡ Ok b → (a : A) × (r ≡ Ok a) × (f a ≡ Ok b)
+into_ok (Ok a) f b is = (a, refl, is)
+into_ok (Err e) f b is = cc
+
+-- a request that was made
+record Made (s : Settings) (method : Method) (url : Parts) (types : Option (List ℕ)) (request : Request) : Type 0 where
+  headers : Fields
+  is : request ≡ bare_request method url headers
+  by : with_accept types (added map.empty (codes "user-agent") s.user_agent) ≡ Ok headers
+
+made_of : (s : Settings) (method : Method) (url : Parts) (types : Option (List ℕ)) (request : Request) → request_of s method url types ≡ Ok request → Made s method url types request
+unfolding request_of
+made_of s method url types request is =
+    let two = into_ok (headers_of s types) (λ headers. Ok (bare_request method url headers)) request is in
+    let one = into_ok (with_header map.empty (codes "user-agent") s.user_agent) (with_accept types) two.0 two.1 in
+    record { headers = two.0; is = cc (two.2); by = subst (λ (h : Fields). with_accept types h ≡ Ok two.0) (with_ok map.empty (codes "user-agent") s.user_agent one.0 one.1) one.2 }
+
+-- a request that lists types asks for its URL
+pub asks_of : (s : Settings) (method : Method) (url : Parts) (types : List ℕ) (request : Request) → request_of s method url (Some types) ≡ Ok request → Asks method (serialize url) request
+asks_of s method url types request is =
+    let made = made_of s method url (Some types) request is in
+    let headers = with_ok (added map.empty (codes "user-agent") s.user_agent) (codes "accept") types made.headers made.by in
+    subst (Asks method (serialize url)) (sym made.is) (record {
+      method_is = refl;
+      address_is = refl;
+      types = types;
+      accepts = ap (first_of (codes "accept")) headers ∙ accept_first (added map.empty (codes "user-agent") s.user_agent) types (accept_none s.user_agent);
+    })
+
+-- one that lists none does not ask
+pub asks_none : (s : Settings) (method of_method : Method) (url : Parts) (address : List ℕ) (request : Request) → request_of s of_method url None ≡ Ok request → Asks method address request → ⊥
+asks_none s method of_method url address request is asks =
+    let made = made_of s of_method url None request is in
+    let headers : made.headers ≡ added map.empty (codes "user-agent") s.user_agent = cc (made.by) in
+    let none : first_of (codes "accept") request.headers ≡ None = ap (λ (r : Request). first_of (codes "accept") r.headers) made.is ∙ ap (first_of (codes "accept")) headers ∙ ap (λ xs. slice_get xs 0) (accept_none s.user_agent) in
+    cc (none, asks.accepts)
+
+-- ---- what the token step asks
+
+pub none_more : (method : Method) (address : List ℕ) (c d : List Exchange) → NoneAsks method address c → NoneAsks method address d → NoneAsks method address (c ++ d)
+none_more method address [] d first second = second
+none_more method address (e ∷ c) d first second = (first.0, none_more method address c d first.1 second)
+
+-- no exchange asks so
+abbrev Quiet : Method → List ℕ → {A : Type 0} → ℕ → List Exchange → ℕ → A → Type 0
+Quiet method address m c n a = NoneAsks method address c
+
+quiet_done : (method : Method) (address : List ℕ) {A : Type 0} (a : A) → Shows {K = Memory} (Quiet method address) (Done a)
+quiet_done method address a = Shows-done (Quiet method address) a (λ m. tt)
+
+quiet_bind : (method : Method) (address : List ℕ) {A B : Type 0} (p : Proto Memory A) (f : A → Proto Memory B) → Shows (Quiet method address) p → ((a : A) → Shows (Quiet method address) (f a)) → Shows (Quiet method address) (bind p f)
+quiet_bind method address p f first each = Shows-bind (Quiet method address) (Quiet method address) p f first (λ m n c a h. Shows-more (Quiet method address) (λ s d o b. NoneAsks method address (c ++ d)) (f a) (each a) (λ s o d b g. none_more method address c d h g))
+
+quiet_unless : (method : Method) (address : List ℕ) {A B E : Type 0} (f : A → Proto Memory (Result B E)) → ((a : A) → Shows (Quiet method address) (f a)) → (r : Result A E) → Shows (Quiet method address) (unless_refused f r)
+quiet_unless method address f each (Ok a) = each a
+quiet_unless method address f each (Err e) = quiet_done method address (Err e)
+
+quiet_next : (method : Method) (address : List ℕ) {A B E : Type 0} (p : Proto Memory (Result A E)) (f : A → Proto Memory (Result B E)) → Shows (Quiet method address) p → ((a : A) → Shows (Quiet method address) (f a)) → Shows (Quiet method address) (p >>= f)
+quiet_next method address p f first each = quiet_bind method address p (unless_refused f) first (quiet_unless method address f each)
+
+quiet_step : (method : Method) (address : List ℕ) {A B E : Type 0} (r : Result A E) (f : A → Proto Memory (Result B E)) → ((a : A) → r ≡ Ok a → Shows (Quiet method address) (f a)) → Shows (Quiet method address) (Done r >>= f)
+quiet_step method address r f each = Shows-step (Quiet method address) r f each (λ e is m. tt)
+
+-- a request that is not followed
+once_heard : (method : Method) (address : List ℕ) (request last : Request) (m after : ℕ) (c : List Exchange) (reply : Reply) → (Asks method address request → ⊥) → Heard zero request read_none m c after last reply → NoneAsks method address c
+unfolding Trail
+once_heard method address request last m after c reply not h = by_trail h.redirects h.split h.trail where
+  by_trail : (redirects : List Exchange) → c ≡ redirects ++ h.exchange ∷ [] → Trail zero request m redirects h.left last h.before → NoneAsks method address c
+  by_trail [] split trail = subst (NoneAsks method address) (sym split) ((λ asks. not (subst (Asks method address) (h.replies.request_is ∙ sym trail.1) asks), tt))
+  by_trail (e ∷ redirects) split trail = absurd trail
+
+head_done : (method : Method) (address : List ℕ) (last : Request) (reply : Reply) → Shows (Quiet method address) (head_reply last reply)
+head_done method address last (Headed head) = quiet_done method address (Ok head)
+head_done method address last (Answered answer) = quiet_done method address (Err refusal.TransportFault)
+head_done method address last Failed = quiet_done method address (Err refusal.TransportFault)
+head_done method address last TooLong = quiet_done method address (Err refusal.TransportFault)
+head_done method address last SinkFailed = quiet_done method address (Err refusal.TransportFault)
+
+quiet_head : (method : Method) (address : List ℕ) (request : Request) → (Asks method address request → ⊥) → Shows (Quiet method address) (head_after 0 request)
+unfolding head_after
+quiet_head method address request not = Shows-follow (Quiet method address) 0 request read_none head_reply (λ k l m after o c d last reply a h r. none_more method address c d (once_heard method address request last m after c reply not h) ((head_done method address last reply).shows k l after o d a r))
+
+quiet_step_token : (method : Method) (address : List ℕ) (s : Settings) (image : Reference) → Shows (Quiet method address) (token_step s image)
+unfolding token_step
+quiet_step_token method address s image = quiet_step method address (url_read (base_text s image)) _ (λ url is. quiet_step method address (request_of s Get url None) _ (λ request made. quiet_next method address (head_after 0 request) _ (quiet_head method address request (asks_none s method Get url address request made)) (λ head. quiet_done method address (Ok tt))))
+
+quiet_asked : (method : Method) (address : List ℕ) (s : Settings) (image : Reference) → Shows (Quiet method address) (token_asked s image)
+unfolding token_asked
+quiet_asked method address s image = quiet_bind method address (token_step s image) (λ r. Done (passed_over r)) (quiet_step_token method address s image) (λ r. quiet_done method address (passed_over r))
+
+quiet_by : (method : Method) (address : List ℕ) (s : Settings) (image : Reference) (a : Option RegistryAuth) → Shows (Quiet method address) (token_by s image a)
+quiet_by method address s image None = quiet_done method address (Ok tt)
+quiet_by method address s image (Some a) = quiet_asked method address s image
+
+quiet_recalled : (method : Method) (address : List ℕ) → Shows (Quiet method address) recalled
+quiet_recalled method address = Shows-recall (Quiet method address) _ (λ k. quiet_done method address (Ok k))
+
+quiet_for : (method : Method) (address : List ℕ) (s : Settings) (image : Reference) → Shows (Quiet method address) (token_for s image)
+unfolding token_for
+quiet_for method address s image = quiet_next method address recalled _ (quiet_recalled method address) (λ k. quiet_by method address s image (map.get k.credentials (resolved_registry image)))
+
+quiet_where : (method : Method) (address : List ℕ) (s : Settings) (image : Reference) (b : Bool) → Shows (Quiet method address) (token_where s image b)
+quiet_where method address s image true = quiet_for method address s image
+quiet_where method address s image false = quiet_done method address (Ok tt)
+
+quiet_authorized : (method : Method) (address : List ℕ) (s : Settings) (image : Reference) (url : Parts) → Shows (Quiet method address) (authorized s image url)
+unfolding authorized
+quiet_authorized method address s image url = quiet_step method address (url_read (registry_text s image)) _ (λ registry is. quiet_where method address s image (goes_to (request_url (serialize url)) registry))
+
+pub quiet_store : (method : Method) (address : List ℕ) (image : Reference) (a : RegistryAuth) → Shows (Quiet method address) (store image a)
+unfolding store
+quiet_store method address image a = quiet_next method address recalled _ (quiet_recalled method address) (λ k. Shows-keep (Quiet method address) (stored k (resolved_registry image) a) (Done (Ok tt)) (quiet_done method address (Ok tt)))
+
+-- where nothing is said of refusals
+pub quiet_ok : (method : Method) (address : List ℕ) {A E : Type 0} (m n : ℕ) (c : List Exchange) (r : Result A E) → NoneAsks method address c → WhereOk (λ m c n a. NoneAsks method address c) m c n r
+quiet_ok method address m n c (Ok a) h = h
+quiet_ok method address m n c (Err e) h = tt
+
+-- a request is prepared with no exchange that asks so
+pub record Prepared (s : Settings) (asked : Method) (url : Parts) (types : List ℕ) (method : Method) (address : List ℕ) (c : List Exchange) (request : Request) : Type 0 where
+  pub none : NoneAsks method address c
+  pub made : request_of s asked url (Some types) ≡ Ok request
+
+pub prepared_shows : (s : Settings) (image : Reference) (asked : Method) (url : Parts) (types : List ℕ) (method : Method) (address : List ℕ) → Shows (WhereOk (λ m c n request. Prepared s asked url types method address c request)) (prepared s image asked url types)
+unfolding prepared
+prepared_shows s image asked url types method address =
+    Shows-next (λ m c n u. NoneAsks method address c) (λ m c n request. Prepared s asked url types method address c request) (authorized s image url) (λ u. Done (request_of s asked url (Some types)))
+    (Shows-more (Quiet method address) (WhereOk (λ m c n u. NoneAsks method address c)) (authorized s image url) (quiet_authorized method address s image url) (quiet_ok method address))
+    (λ m n c u h. Shows-last (λ s' d o request. Prepared s asked url types method address (c ++ d) request) (λ s' d o e. Unit {0}) (request_of s asked url (Some types)) (λ request is o. record { none = rw append-nil h; made = is }) (λ e is o. tt))
