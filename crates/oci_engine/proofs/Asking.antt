@@ -40,7 +40,7 @@ accept_none : (name : List ℕ) → values_of (codes "accept") (added map.empty 
 accept_none name =
     ap (λ (o : Option (List (List ℕ))). unwrap_or o []) (get-insert nat_list_cmp_total map.empty (codes "user-agent") (values_of (codes "user-agent") map.empty ++ name ∷ []) (codes "accept") ∙ get-empty by_bytes (codes "accept"))
 
-with_ok : (headers : Fields) (name value : List ℕ) (made : Fields) → with_header headers name value ≡ Ok made → made ≡ added headers name value
+pub with_ok : (headers : Fields) (name value : List ℕ) (made : Fields) → with_header headers name value ≡ Ok made → made ≡ added headers name value
 with_ok headers name value made = by_test (is_header_value value && nat_lt (held headers) 1000) where
   by_test : (b : Bool) → (if b then Ok (added headers name value) else Err (refusal.GenericError HeaderText)) ≡ Ok made → made ≡ added headers name value
   by_test true is = cc
@@ -64,17 +64,23 @@ made_of s method url types request is =
     let one = into_ok (with_header map.empty (codes "user-agent") s.user_agent) (with_accept types) two.0 two.1 in
     record { headers = two.0; is = cc (two.2); by = subst (λ (h : Fields). with_accept types h ≡ Ok two.0) (with_ok map.empty (codes "user-agent") s.user_agent one.0 one.1) one.2 }
 
--- a request that lists types asks for its URL
+-- a request lists the types that it is made of
+pub accepts_of : (s : Settings) (method : Method) (url : Parts) (types : List ℕ) (request : Request) → request_of s method url (Some types) ≡ Ok request → first_of (codes "accept") request.headers ≡ Some types
+accepts_of s method url types request is =
+    let made = made_of s method url (Some types) request is in
+    let headers = with_ok (added map.empty (codes "user-agent") s.user_agent) (codes "accept") types made.headers made.by in
+    ap (λ (r : Request). first_of (codes "accept") r.headers) made.is ∙ ap (first_of (codes "accept")) headers ∙ accept_first (added map.empty (codes "user-agent") s.user_agent) types (accept_none s.user_agent)
+
+-- and asks for its URL
 pub asks_of : (s : Settings) (method : Method) (url : Parts) (types : List ℕ) (request : Request) → request_of s method url (Some types) ≡ Ok request → Asks method (serialize url) request
 asks_of s method url types request is =
     let made = made_of s method url (Some types) request is in
-    let headers = with_ok (added map.empty (codes "user-agent") s.user_agent) (codes "accept") types made.headers made.by in
-    subst (Asks method (serialize url)) (sym made.is) (record {
-      method_is = refl;
-      address_is = refl;
+    record {
+      method_is = ap (λ (r : Request). r.method) made.is;
+      address_is = ap (λ (r : Request). r.url) made.is;
       types = types;
-      accepts = ap (first_of (codes "accept")) headers ∙ accept_first (added map.empty (codes "user-agent") s.user_agent) types (accept_none s.user_agent);
-    })
+      accepts = accepts_of s method url types request is;
+    }
 
 -- one that lists none does not ask
 pub asks_none : (s : Settings) (method of_method : Method) (url : Parts) (address : List ℕ) (request : Request) → request_of s of_method url None ≡ Ok request → Asks method address request → ⊥

@@ -1,5 +1,13 @@
 pub mod Asking
+pub mod BlobRefused
 pub mod Blobs
+pub mod Causing
+pub mod Counting
+pub mod Digested
 pub mod Digests
 pub mod Documents
+pub mod Early
+pub mod ImageRefused
+pub mod Reasons
+pub mod Refused
 pub mod Results

@@ -1,14 +1,16 @@
-ghost use Rattle.std.specs.Prelude.{◌≡◌, ℕ, List, Some, IfOk};
+ghost use Rattle.std.specs.Prelude.{◌≡◌, ℕ, List, Some, Err, IfOk, IfErr};
 ghost use Rattle.std.specs.FinMap as map;
+ghost use Rattle.json_canon.specs.Counts.{Rose};
 ghost use Rattle.oci_digests.specs.Names.{Names};
 ghost use Rattle.oci_names.specs.References.{digest_of};
 ghost use Rattle.oci_protocol.specs.Runs.{Meets, Told};
 ghost use Rattle.engine_requests.specs.Errors.{is_memory};
-ghost use Rattle.engine_requests.specs.Requests.{listed};
+ghost use Rattle.engine_requests.specs.Requests.{listed, manifest_types};
 ghost use Rattle.engine_steps.specs.Blobs.{Spills};
 ghost use Rattle.engine_pull.specs.Pulls.{fetch_manifest_digest, pull_manifest, pull_manifest_raw, pull_blob};
 ghost use Rattle.engine_pull.specs.Images.{pull};
 ghost use Rattle.oci_engine.specs.Answered.{Answered, Body, TookBlob};
+ghost use Rattle.oci_engine.specs.Causes.{AnswerCause, DocumentCause, Cause, OwnDigest, BlobCause, ImageCause};
 ghost use Rattle.oci_engine.specs.Clients.{settings_of};
 
 use crate::config::ClientConfig;
@@ -61,6 +63,8 @@ impl Client {
         ensures run { Meets is_memory (fetch_manifest_digest self.old.settings image.now auth.now) (T.state transport.old) (T.state transport.new) self.old.memory self.new.memory result }
         ensures settings { self.new.settings ≡ self.old.settings }
         ensures answered { IfOk result (λ d. Told (λ c. Answered self.old.settings image.now c d) (T.state transport.old) (T.state transport.new)) }
+        ensures causes { IfErr result (λ e. Told (λ c. Cause (AnswerCause (OwnDigest image.now)) self.old.settings manifest_types c (T.state transport.new).faults e) (T.state transport.old) (T.state transport.new)) }
+        ensures fault { result ≡ Err OciDistributionError.TransportFault → Rose (T.state transport.old).faults (T.state transport.new).faults }
     {
         engine_pull::fetch_manifest_digest(
             alloc,
@@ -87,6 +91,8 @@ impl Client {
         ensures body { IfOk result (λ found. Told (λ c. Body c found.0) (T.state transport.old) (T.state transport.new)) }
         ensures named { IfOk result (λ found. Names found.1 found.0) }
         ensures given { IfOk result (λ found. (d : List ℕ) → digest_of image.now ≡ Some d → Names d found.0) }
+        ensures causes { IfErr result (λ e. Told (λ c. Cause (AnswerCause (OwnDigest image.now)) self.old.settings (listed accepted_media_types.now) c (T.state transport.new).faults e) (T.state transport.old) (T.state transport.new)) }
+        ensures fault { result ≡ Err OciDistributionError.TransportFault → Rose (T.state transport.old).faults (T.state transport.new).faults }
     {
         let types = engine_requests::listed(alloc, accepted_media_types)?;
         let found = engine_pull::pull_manifest_raw(
@@ -112,6 +118,8 @@ impl Client {
     ) -> Result<(OciManifest, Text), OciDistributionError>
         ensures run { Meets is_memory (pull_manifest self.old.settings image.now auth.now) (T.state transport.old) (T.state transport.new) self.old.memory self.new.memory result }
         ensures settings { self.new.settings ≡ self.old.settings }
+        ensures causes { IfErr result (λ e. Told (λ c. Cause (DocumentCause (OwnDigest image.now)) self.old.settings manifest_types c (T.state transport.new).faults e) (T.state transport.old) (T.state transport.new)) }
+        ensures fault { result ≡ Err OciDistributionError.TransportFault → Rose (T.state transport.old).faults (T.state transport.new).faults }
     {
         engine_pull::pull_manifest(
             alloc,
@@ -135,6 +143,8 @@ impl Client {
     ) -> Result<ImageData, OciDistributionError>
         ensures run { Meets is_memory (pull self.old.settings image.now auth.now accepted_media_types.now) (T.state transport.old) (T.state transport.new) self.old.memory self.new.memory result }
         ensures settings { self.new.settings ≡ self.old.settings }
+        ensures causes { IfErr result (λ e. Told (λ c. ImageCause self.old.settings image.now accepted_media_types.now c (T.state transport.new).faults e) (T.state transport.old) (T.state transport.new)) }
+        ensures fault { result ≡ Err OciDistributionError.TransportFault → Rose (T.state transport.old).faults (T.state transport.new).faults }
     {
         engine_pull::pull(
             alloc,
@@ -160,6 +170,9 @@ impl Client {
         ensures spills { Spills (pull_blob self.old.settings image.now digest.now) (T.state transport.old) (T.state transport.new) self.old.memory self.new.memory (K.state out.old) (K.state out.new) result }
         ensures settings { self.new.settings ≡ self.old.settings }
         ensures took { IfOk result (λ u. TookBlob digest.now (T.state transport.old) (T.state transport.new) (K.state out.old) (K.state out.new)) }
+        ensures causes { IfErr result (λ e. Told (λ c. BlobCause self.old.settings digest.now c (T.state transport.new).faults e) (T.state transport.old) (T.state transport.new)) }
+        ensures fault { result ≡ Err OciDistributionError.TransportFault → Rose (T.state transport.old).faults (T.state transport.new).faults }
+        ensures sink { result ≡ Err OciDistributionError.SinkFault → Rose (K.state out.old).faults (K.state out.new).faults }
     {
         engine_pull::pull_blob(
             alloc,
@@ -185,6 +198,8 @@ impl Client {
         ensures settings { self.new.settings ≡ self.old.settings }
         ensures body { IfOk result (λ bytes. Told (λ c. Body c bytes) (T.state transport.old) (T.state transport.new)) }
         ensures named { IfOk result (λ bytes. Names digest.now bytes) }
+        ensures causes { IfErr result (λ e. Told (λ c. BlobCause self.old.settings digest.now c (T.state transport.new).faults e) (T.state transport.old) (T.state transport.new)) }
+        ensures fault { result ≡ Err OciDistributionError.TransportFault → Rose (T.state transport.old).faults (T.state transport.new).faults }
     {
         engine_pull::pulled_blob(
             alloc,

@@ -1,4 +1,6 @@
-use Rattle.engine_steps.proofs.Exits.{wanting}
+use Rattle.std.proofs.Common.{◌∙◌}
+use Rattle.engine_steps.proofs.Exits.{wanting, passed_on}
+use Rattle.oci_engine.proofs.Reasons.{listed_reason, raw_fault}
 use Rattle.oci_engine.proofs.Results.{raw_body, raw_named, raw_given}
 use Rattle.oci_engine.proofs.client.Client.pull_manifest_raw.Goals as goal
 
@@ -13,3 +15,9 @@ returns-clause-named g c = raw_named c.args.self.now.settings c.args.image.now c
 
 pub returns-clause-given : goal.returns-clause-given
 returns-clause-given g c = raw_given c.args.self.now.settings c.args.image.now c.args.auth.now _ c.in_ok-found.ensures
+
+pub returns-in_err-found-clause-causes : goal.returns-in_err-found-clause-causes
+returns-in_err-found-clause-causes g c = listed_reason c.args.self.now.settings c.args.image.now c.args.auth.now _ _ (c.as_str.ensures ∙ c.in_ok-types.ensures) (passed_on c.in_err-found.ensures c.from_residual-in_err-found.ensures.1)
+
+pub returns-in_err-found-clause-fault : goal.returns-in_err-found-clause-fault
+returns-in_err-found-clause-fault g c = raw_fault c.args.self.now.settings c.args.image.now c.args.auth.now _ (passed_on c.in_err-found.ensures c.from_residual-in_err-found.ensures.1)

@@ -1,0 +1,102 @@
+-- Why the results of a client's calls are refusals.
+use Rattle.std.proofs.Common.{◌≡◌, ℕ, true, List, Result, Ok, Err, IfErr, refl}
+use Rattle.json_canon.specs.Counts.{Rose}
+use Rattle.json_canon.specs.Tray.{Tray}
+use Rattle.oci_link.specs.Link.{Link}
+use Rattle.oci_link.specs.declared.message.Answer.{Answer}
+use Rattle.oci_link.specs.declared.message.Exchange.{Exchange}
+use Rattle.oci_names.specs.declared.reference.Reference.{Reference}
+use Rattle.oci_docs.specs.declared.document.OciManifest.{OciManifest}
+use Rattle.oci_auth.specs.declared.auth.RegistryAuth.{RegistryAuth}
+use Rattle.oci_auth.specs.declared.memory.Memory.{Memory}
+use Rattle.oci_protocol.specs.Runs.{Meets, Told}
+use Rattle.oci_protocol.specs.Shows.{Shows, ByAnswer}
+use Rattle.engine_requests.specs.declared.settings.Settings.{Settings}
+use Rattle.engine_requests.specs.declared.error.OciDistributionError.{OciDistributionError}
+use Rattle.engine_requests.specs.declared.error.OciDistributionError.TheVariants as refusal
+use Rattle.engine_requests.specs.Errors.{is_memory}
+use Rattle.engine_requests.specs.Requests.{manifest_types}
+use Rattle.engine_steps.specs.Rows.{Row}
+use Rattle.engine_steps.specs.Blobs.{Spills}
+use Rattle.engine_pull.specs.Pulls.{fetch_manifest_digest, pull_manifest_raw, pull_manifest, pull_blob}
+use Rattle.engine_pull.specs.Images.{pull}
+use Rattle.engine_pull.specs.declared.image.ImageData.{ImageData}
+use Rattle.oci_engine.specs.Causes.{LastFailed, AnswerCause, DocumentCause, Cause, OwnDigest, BlobCause, ImageCause}
+use Rattle.oci_engine.proofs.Causing.{Accepted, raw_causes}
+use Rattle.oci_engine.proofs.Refused.{digest_causes}
+use Rattle.oci_engine.proofs.BlobRefused.{blob_causes}
+use Rattle.oci_engine.proofs.ImageRefused.{ReadLast, manifest_causes, image_causes}
+use Rattle.oci_engine.proofs.Counting.{fault_rose, refusal_told}
+
+-- want of memory has no cause
+cause_free : (Of : List ℕ → Answer → OciDistributionError → Type 0) (s : Settings) (types : List ℕ) (now : ℕ) (c : List Exchange) (e : OciDistributionError) → is_memory e ≡ true → Cause Of s types c now e
+cause_free Of s types now c refusal.WantOfMemory is = tt
+cause_free Of s types now c _ is = absurd (cc is)
+
+blob_free : (s : Settings) (digest : List ℕ) (now : ℕ) (c : List Exchange) (e : OciDistributionError) → is_memory e ≡ true → BlobCause s digest c now e
+blob_free s digest now c refusal.WantOfMemory is = tt
+blob_free s digest now c _ is = absurd (cc is)
+
+image_free : (s : Settings) (image : Reference) (accepted : List (List ℕ)) (now : ℕ) (c : List Exchange) (e : OciDistributionError) → is_memory e ≡ true → ImageCause s image accepted c now e
+image_free s image accepted now c refusal.WantOfMemory is = tt
+image_free s image accepted now c _ is = absurd (cc is)
+
+-- a fault of the transport, where a result is one
+faulted : {A : Type 0} (P : ℕ → List Exchange → ℕ → A → Type 0) (R : ℕ → List Exchange → ℕ → OciDistributionError → Type 0) (p : Row A) {old new : Link} {k l : Memory} {r : Result A OciDistributionError} → ((m n : ℕ) (c : List Exchange) → R m c n refusal.TransportFault → LastFailed c n) → Shows (ByAnswer P R) p → Meets is_memory p old new k l r → r ≡ Err refusal.TransportFault → Rose old.faults new.faults
+faulted P R p {old} {new} {k} {l} {r} fails h met is = fault_rose P R p refusal.TransportFault refl fails h (rw is at met)
+
+-- ---- the digest
+
+pub digest_reason : (s : Settings) (image : Reference) (a : RegistryAuth) {old new : Link} {k l : Memory} {r : Result (List ℕ) OciDistributionError} → Meets is_memory (fetch_manifest_digest s image a) old new k l r → IfErr r (λ e. Told (λ c. Cause (AnswerCause (OwnDigest image)) s manifest_types c new.faults e) old new)
+digest_reason s image a met = refusal_told (λ m c n digest. Unit {0}) (λ m c n e. Cause (AnswerCause (OwnDigest image)) s manifest_types c n e) (fetch_manifest_digest s image a) (λ m n c e is. cause_free (AnswerCause (OwnDigest image)) s manifest_types n c e is) (digest_causes s image a) met
+
+pub digest_fault : (s : Settings) (image : Reference) (a : RegistryAuth) {old new : Link} {k l : Memory} {r : Result (List ℕ) OciDistributionError} → Meets is_memory (fetch_manifest_digest s image a) old new k l r → r ≡ Err refusal.TransportFault → Rose old.faults new.faults
+digest_fault s image a met is = faulted (λ m c n digest. Unit {0}) (λ m c n e. Cause (AnswerCause (OwnDigest image)) s manifest_types c n e) (fetch_manifest_digest s image a) (λ m n c h. h) (digest_causes s image a) met is
+
+-- ---- documents
+
+pub raw_reason : (s : Settings) (image : Reference) (a : RegistryAuth) (types : List ℕ) {old new : Link} {k l : Memory} {r : Result (List ℕ × List ℕ) OciDistributionError} → Meets is_memory (pull_manifest_raw s image a types) old new k l r → IfErr r (λ e. Told (λ c. Cause (AnswerCause (OwnDigest image)) s types c new.faults e) old new)
+raw_reason s image a types met = refusal_told (λ m c n found. Accepted c found.0) (λ m c n e. Cause (AnswerCause (OwnDigest image)) s types c n e) (pull_manifest_raw s image a types) (λ m n c e is. cause_free (AnswerCause (OwnDigest image)) s types n c e is) (raw_causes s image a types) met
+
+pub raw_fault : (s : Settings) (image : Reference) (a : RegistryAuth) (types : List ℕ) {old new : Link} {k l : Memory} {r : Result (List ℕ × List ℕ) OciDistributionError} → Meets is_memory (pull_manifest_raw s image a types) old new k l r → r ≡ Err refusal.TransportFault → Rose old.faults new.faults
+raw_fault s image a types met is = faulted (λ m c n found. Accepted c found.0) (λ m c n e. Cause (AnswerCause (OwnDigest image)) s types c n e) (pull_manifest_raw s image a types) (λ m n c h. h) (raw_causes s image a types) met is
+
+-- for types that were put into one text
+pub listed_reason : (s : Settings) (image : Reference) (a : RegistryAuth) (text types : List ℕ) {old new : Link} {k l : Memory} {r : Result (List ℕ × List ℕ) OciDistributionError} → text ≡ types → Meets is_memory (pull_manifest_raw s image a text) old new k l r → IfErr r (λ e. Told (λ c. Cause (AnswerCause (OwnDigest image)) s types c new.faults e) old new)
+listed_reason s image a text types is met = raw_reason s image a types (rw is at met)
+
+-- ---- manifests
+
+pub manifest_reason : (s : Settings) (image : Reference) (a : RegistryAuth) {old new : Link} {k l : Memory} {r : Result (OciManifest × List ℕ) OciDistributionError} → Meets is_memory (pull_manifest s image a) old new k l r → IfErr r (λ e. Told (λ c. Cause (DocumentCause (OwnDigest image)) s manifest_types c new.faults e) old new)
+manifest_reason s image a met = refusal_told (λ m c n found. ReadLast c found.0) (λ m c n e. Cause (DocumentCause (OwnDigest image)) s manifest_types c n e) (pull_manifest s image a) (λ m n c e is. cause_free (DocumentCause (OwnDigest image)) s manifest_types n c e is) (manifest_causes s image a) met
+
+pub manifest_fault : (s : Settings) (image : Reference) (a : RegistryAuth) {old new : Link} {k l : Memory} {r : Result (OciManifest × List ℕ) OciDistributionError} → Meets is_memory (pull_manifest s image a) old new k l r → r ≡ Err refusal.TransportFault → Rose old.faults new.faults
+manifest_fault s image a met is = faulted (λ m c n found. ReadLast c found.0) (λ m c n e. Cause (DocumentCause (OwnDigest image)) s manifest_types c n e) (pull_manifest s image a) (λ m n c h. h) (manifest_causes s image a) met is
+
+-- ---- images
+
+pub image_reason : (s : Settings) (image : Reference) (a : RegistryAuth) (accepted : List (List ℕ)) {old new : Link} {k l : Memory} {r : Result ImageData OciDistributionError} → Meets is_memory (pull s image a accepted) old new k l r → IfErr r (λ e. Told (λ c. ImageCause s image accepted c new.faults e) old new)
+image_reason s image a accepted met = refusal_told (λ m c n found. Unit {0}) (λ m c n e. ImageCause s image accepted c n e) (pull s image a accepted) (λ m n c e is. image_free s image accepted n c e is) (image_causes s image a accepted) met
+
+pub image_fault : (s : Settings) (image : Reference) (a : RegistryAuth) (accepted : List (List ℕ)) {old new : Link} {k l : Memory} {r : Result ImageData OciDistributionError} → Meets is_memory (pull s image a accepted) old new k l r → r ≡ Err refusal.TransportFault → Rose old.faults new.faults
+image_fault s image a accepted met is = faulted (λ m c n found. Unit {0}) (λ m c n e. ImageCause s image accepted c n e) (pull s image a accepted) (λ m n c h. h) (image_causes s image a accepted) met is
+
+-- ---- blobs
+
+pub blob_reason : (s : Settings) (image : Reference) (digest : List ℕ) {old new : Link} {k l : Memory} {r : Result (List ℕ) OciDistributionError} → Meets is_memory (pull_blob s image digest) old new k l r → IfErr r (λ e. Told (λ c. BlobCause s digest c new.faults e) old new)
+blob_reason s image digest met = refusal_told (λ m c n bytes. Unit {0}) (λ m c n e. BlobCause s digest c n e) (pull_blob s image digest) (λ m n c e is. blob_free s digest n c e is) (blob_causes s image digest) met
+
+pub blob_fault : (s : Settings) (image : Reference) (digest : List ℕ) {old new : Link} {k l : Memory} {r : Result (List ℕ) OciDistributionError} → Meets is_memory (pull_blob s image digest) old new k l r → r ≡ Err refusal.TransportFault → Rose old.faults new.faults
+blob_fault s image digest met is = faulted (λ m c n bytes. Unit {0}) (λ m c n e. BlobCause s digest c n e) (pull_blob s image digest) (λ m n c h. h) (blob_causes s image digest) met is
+
+-- into a sink
+pub spilled_reason : (s : Settings) (image : Reference) (digest : List ℕ) {old new : Link} {k l : Memory} {before after : Tray} {r : Result (Unit {0}) OciDistributionError} → Spills (pull_blob s image digest) old new k l before after r → IfErr r (λ e. Told (λ c. BlobCause s digest c new.faults e) old new)
+spilled_reason s image digest {old} {new} {k} {l} {before} {after} {r} spills = by_result r spills where
+  by_result : (r : Result (Unit {0}) OciDistributionError) → Spills (pull_blob s image digest) old new k l before after r → IfErr r (λ e. Told (λ c. BlobCause s digest c new.faults e) old new)
+  by_result (Ok u) spills = tt
+  by_result (Err e) spills = blob_reason s image digest spills.met
+
+pub spilled_fault : (s : Settings) (image : Reference) (digest : List ℕ) {old new : Link} {k l : Memory} {before after : Tray} {r : Result (Unit {0}) OciDistributionError} → Spills (pull_blob s image digest) old new k l before after r → r ≡ Err refusal.TransportFault → Rose old.faults new.faults
+spilled_fault s image digest {old} {new} {k} {l} {before} {after} {r} spills is = failed (rw is at spills) where
+  failed : Spills (pull_blob s image digest) old new k l before after (Err refusal.TransportFault) → Rose old.faults new.faults
+  failed spills = blob_fault s image digest spills.met refl

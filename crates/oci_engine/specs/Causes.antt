@@ -1,0 +1,189 @@
+-- Why a call was refused. A refusal that speaks of an answer speaks of the last one of the call.
+use Rattle.std.specs.Prelude.{◌≡◌, ◌≢◌, ◌<◌, ◌⊎◌, ℕ, true, false, List, [], ◌∷◌, ◌++◌, Some, None, Ok, Err, codes, length}
+use Rattle.std.specs.List.{Contains}
+use Rattle.json_canon.specs.Counts.{Rose}
+use Rattle.oci_link.specs.Headers.{first_of, is_header_value}
+use Rattle.oci_link.specs.Urls.{request_url}
+use Rattle.oci_link.specs.declared.message.Request.{Request}
+use Rattle.oci_link.specs.declared.message.Answer.{Answer}
+use Rattle.oci_link.specs.declared.message.Exchange.{Exchange}
+use Rattle.oci_names.specs.declared.reference.Reference.{Reference}
+use Rattle.oci_names.specs.References.{digest_of}
+use Rattle.oci_digests.specs.Names.{digest_text}
+use Rattle.oci_digests.specs.Checks.{is_header_text}
+use Rattle.oci_digests.specs.Parts.{parts_of, algorithm_of, named_algorithm}
+use Rattle.oci_digests.specs.declared.digester.Algorithm.{Algorithm}
+use Rattle.oci_digests.specs.declared.error.DigestError.{DigestError}
+use Rattle.oci_digests.specs.declared.error.DigestError.TheVariants as digest_refusal
+use Rattle.oci_docs.specs.declared.document.OciManifest.TheVariants.{Image, ImageIndex}
+use Rattle.oci_docs.specs.declared.manifest.OciImageManifest.{OciImageManifest}
+use Rattle.oci_docs.specs.declared.index.OciImageIndex.{OciImageIndex}
+use Rattle.oci_docs.specs.declared.descriptor.OciDescriptor.{OciDescriptor}
+use Rattle.oci_protocol.specs.Runs.{head_part}
+use Rattle.oci_protocol.specs.Follow.{Trail, IsFinal}
+use Rattle.engine_requests.specs.declared.settings.Settings.{Settings}
+use Rattle.engine_requests.specs.declared.error.GenericCause.TheVariants.{HeaderText}
+use Rattle.engine_requests.specs.declared.error.SpecViolation.TheVariants.{Status}
+use Rattle.engine_requests.specs.declared.error.OciDistributionError.{OciDistributionError}
+use Rattle.engine_requests.specs.declared.error.OciDistributionError.TheVariants as refusal
+use Rattle.engine_requests.specs.Answers.{is_success, is_client_error, envelope_in, header_digest}
+use Rattle.engine_requests.specs.Requests.{manifest_types}
+use Rattle.engine_requests.specs.Documents.{document_read}
+use Rattle.engine_pull.specs.Images.{is_accepted}
+use Rattle.oci_engine.specs.Answered.{Body}
+
+-- ---- the last exchange of a call
+
+-- The last request of the call that lists accepted types led to this exchange, and the exchange is
+-- the last one of all. No request of the token step lists types.
+pub record LastAsked (c : List Exchange) (last : Exchange) : Type 0 where
+  pub front : List Exchange
+  pub redirects : List Exchange
+  pub split : c ≡ front ++ (redirects ++ last ∷ [])
+  pub request : Request
+  pub types : List ℕ
+  pub accepts : first_of (codes "accept") request.headers ≡ Some types
+  pub before : ℕ
+  pub left : ℕ
+  pub count : ℕ
+  pub trail : Trail 10 request before redirects left last.request count
+
+-- it was answered so, from this address, and the answer is no redirect that is followed
+pub record LastAnswer (c : List Exchange) (address : List ℕ) (answer : Answer) : Type 0 where
+  pub last : Exchange
+  pub asked : LastAsked c last
+  pub sent : last.request.url ≡ address
+  pub answered : last.answer ≡ Some answer
+  pub final : IsFinal asked.left last.request (head_part answer)
+
+-- it failed: the count of faults, which is this now, rose since it was sent
+pub record LastFailed (c : List Exchange) (now : ℕ) : Type 0 where
+  pub last : Exchange
+  pub asked : LastAsked c last
+  pub rose : Rose last.faults now
+
+-- it was answered with more bytes than this
+pub record LastTooLong (c : List Exchange) (limit : ℕ) : Type 0 where
+  pub last : Exchange
+  pub asked : LastAsked c last
+  pub answer : Answer
+  pub answered : last.answer ≡ Some answer
+  pub long : limit < length answer.body
+
+-- ---- statuses (OCI distribution specification, "Error Codes")
+
+-- an answer with the status of a client's error, other than 401
+pub record IsClientError (answer : Answer) : Type 0 where
+  pub status : is_client_error answer.status ≡ true
+  pub other : answer.status ≢ 401
+
+-- one with no list of errors in it, or an answer of no success and no client's error
+abbrev pub IsServerError : Answer → Type 0
+IsServerError answer = (IsClientError answer × (envelope_in answer.body ≡ None)) ⊎ ((is_success answer.status ≡ false) × (is_client_error answer.status ≡ false))
+
+-- ---- digests
+
+-- the text is a digest that the call was given, or the one of the answer's header
+abbrev pub Claimed : (List ℕ → Type 0) → Answer → List ℕ → Type 0
+Claimed Given answer text = Given text ⊎ (header_digest answer.headers ≡ Ok (Some text))
+
+-- the text of the hash of these bytes, by the algorithm that the other text names
+abbrev pub Computed : List ℕ → List ℕ → List ℕ → Type 0
+Computed text bytes computed = (a : Algorithm) × (named_algorithm text ≡ Ok a) × (computed ≡ digest_text a bytes)
+
+-- two texts with the same name of an algorithm
+abbrev pub SameAlgorithm : List ℕ → List ℕ → Type 0
+SameAlgorithm a b = (name : List ℕ) × (x : List ℕ) × (y : List ℕ) × (parts_of a ≡ Some (name, x)) × (parts_of b ≡ Some (name, y))
+
+abbrev pub DigestCause : (List ℕ → Type 0) → Answer → DigestError → Type 0
+DigestCause Given answer (digest_refusal.InvalidHeader value) = (first_of (codes "docker-content-digest") answer.headers ≡ Some value) × (is_header_text value ≡ false)
+DigestCause Given answer digest_refusal.MissingAlgorithm = (text : List ℕ) × Claimed Given answer text × (parts_of text ≡ None)
+DigestCause Given answer (digest_refusal.UnsupportedAlgorithm name) = (text : List ℕ) × (rest : List ℕ) × Claimed Given answer text × (parts_of text ≡ Some (name, rest)) × (algorithm_of name ≡ None)
+DigestCause Given answer (digest_refusal.VerificationError expected actual) = Claimed Given answer expected × (expected ≢ actual) × (Computed expected answer.body actual ⊎ ((header_digest answer.headers ≡ Ok (Some actual)) × SameAlgorithm actual expected))
+DigestCause Given answer digest_refusal.WantOfMemory = ⊥
+
+-- ---- causes
+
+-- what the last answer shows of a refusal: its status, its digests
+abbrev pub AnswerCause : (List ℕ → Type 0) → List ℕ → Answer → OciDistributionError → Type 0
+AnswerCause Given address answer (refusal.UnauthorizedError url) = (url ≡ address) × (answer.status ≡ 401)
+AnswerCause Given address answer (refusal.RegistryError envelope url) = (url ≡ address) × IsClientError answer × (envelope_in answer.body ≡ Some envelope)
+AnswerCause Given address answer (refusal.ServerError status url body) = (url ≡ address) × IsServerError answer × (status ≡ answer.status) × (body ≡ answer.body)
+AnswerCause Given address answer (refusal.SpecViolationError (Status expected got url)) = (url ≡ address) × (expected ≡ 200) × (got ≡ answer.status) × (is_success got ≡ true) × (got ≢ expected)
+AnswerCause Given address answer (refusal.DigestError e) = DigestCause Given answer e
+AnswerCause Given address answer _ = ⊥
+
+-- and that its body does not read as a document, as the refusal says
+abbrev pub Unread : Answer → OciDistributionError → Type 0
+Unread answer e = (answer.status ≡ 200) × (document_read answer.body ≡ Err e)
+
+abbrev pub DocumentCause : (List ℕ → Type 0) → List ℕ → Answer → OciDistributionError → Type 0
+DocumentCause Given address answer (refusal.VersionedParsingError body) = Unread answer (refusal.VersionedParsingError body)
+DocumentCause Given address answer (refusal.ManifestParsingError body) = Unread answer (refusal.ManifestParsingError body)
+DocumentCause Given address answer (refusal.AmbiguousManifest body) = Unread answer (refusal.AmbiguousManifest body)
+DocumentCause Given address answer (refusal.UnsupportedSchemaVersionError version) = Unread answer (refusal.UnsupportedSchemaVersionError version)
+DocumentCause Given address answer (refusal.UnsupportedMediaTypeError kind) = Unread answer (refusal.UnsupportedMediaTypeError kind)
+DocumentCause Given address answer e = AnswerCause Given address answer e
+
+-- this is so of the last answer and its address
+pub record ByLast (P : List ℕ → Answer → Type 0) (c : List Exchange) : Type 0 where
+  pub address : List ℕ
+  pub answer : Answer
+  pub last : LastAnswer c address answer
+  pub holds : P address answer
+
+-- Why a call was refused that accepts these types. Of an answer the refusal speaks so. Memory may be
+-- wanting anywhere.
+abbrev pub Cause : (List ℕ → Answer → OciDistributionError → Type 0) → Settings → List ℕ → List Exchange → ℕ → OciDistributionError → Type 0
+Cause Of s types c now (refusal.UrlParseError text) = request_url text ≡ None
+Cause Of s types c now (refusal.GenericError HeaderText) = (is_header_value s.user_agent ≡ false) ⊎ (is_header_value types ≡ false)
+Cause Of s types c now refusal.BodyTooLong = LastTooLong c s.max_body_bytes
+Cause Of s types c now refusal.TransportFault = LastFailed c now
+Cause Of s types c now refusal.WantOfMemory = Unit {0}
+Cause Of s types c now e = ByLast (λ address answer. Of address answer e) c
+
+-- the digest that a reference has
+abbrev pub OwnDigest : Reference → List ℕ → Type 0
+OwnDigest image text = digest_of image ≡ Some text
+
+-- the digest that was asked for
+abbrev pub AskedDigest : List ℕ → List ℕ → Type 0
+AskedDigest digest text = text ≡ digest
+
+-- of a blob: the count of the sink's faults is not told here
+abbrev pub BlobCause : Settings → List ℕ → List Exchange → ℕ → OciDistributionError → Type 0
+BlobCause s digest c now refusal.SinkFault = Unit {0}
+BlobCause s digest c now e = Cause (AnswerCause (AskedDigest digest)) s manifest_types c now e
+
+-- the manifest was read from an answer's body
+pub record ManifestRead (c : List Exchange) (manifest : OciImageManifest) : Type 0 where
+  pub bytes : List ℕ
+  pub body : Body c bytes
+  pub reads : document_read bytes ≡ Ok (Image manifest)
+
+-- the digest of a descriptor in a manifest that was read
+pub record ReadDigest (c : List Exchange) (text : List ℕ) : Type 0 where
+  pub manifest : OciImageManifest
+  pub read : ManifestRead c manifest
+  pub digest : (text ≡ manifest.config.digest) ⊎ ((x : OciDescriptor) × Contains manifest.layers x × (text ≡ x.digest))
+
+-- the digest of the image's reference or of a descriptor
+abbrev pub ImageDigest : Reference → List Exchange → List ℕ → Type 0
+ImageDigest image c text = OwnDigest image text ⊎ ReadDigest c text
+
+-- a layer of a manifest that was read is of this media type, which is not accepted
+pub record NotAccepted (accepted : List (List ℕ)) (c : List Exchange) (kind : List ℕ) : Type 0 where
+  pub manifest : OciImageManifest
+  pub read : ManifestRead c manifest
+  pub layer : OciDescriptor
+  pub contains : Contains manifest.layers layer
+  pub media_type : layer.media_type ≡ kind
+  pub other : is_accepted accepted kind ≡ false
+
+-- of a whole image
+abbrev pub ImageCause : Settings → Reference → List (List ℕ) → List Exchange → ℕ → OciDistributionError → Type 0
+ImageCause s image accepted c now refusal.ImageIndexParsingNoPlatformResolverError = ByLast (λ address answer. (index : OciImageIndex) × (document_read answer.body ≡ Ok (ImageIndex index))) c
+ImageCause s image accepted c now refusal.PullNoLayersError = (manifest : OciImageManifest) × ManifestRead c manifest × (manifest.layers ≡ [])
+ImageCause s image accepted c now (refusal.IncompatibleLayerMediaTypeError kind) = NotAccepted accepted c kind
+ImageCause s image accepted c now refusal.SinkFault = Unit {0}
+ImageCause s image accepted c now e = Cause (DocumentCause (ImageDigest image c)) s manifest_types c now e
