@@ -13,3 +13,4 @@ pub use capabilities::ClientCapabilities;
 pub use error::SigstoreError;
 pub use plain::OciClient;
 pub use reference::OciReference;
+pub use wording::{Called, worded};

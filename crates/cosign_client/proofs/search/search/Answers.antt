@@ -1,0 +1,24 @@
+use Rattle.std.proofs.Common.{refl}
+use Rattle.cosign_client.specs.Search.{searched}
+use Rattle.cosign_client.proofs.Exits.{and_then, refused, wanting, passed, said}
+use Rattle.cosign_client.proofs.search.search.Goals as goal
+
+pub returns-in_err-digest : goal.returns-in_err-digest
+unfolding searched
+returns-in_err-digest g c = λ s. refused _ (c.in_err-digest.ensures.run s) c.from_residual.ensures.1
+
+pub returns-in_err-source : goal.returns-in_err-source
+unfolding searched
+returns-in_err-source g c = λ s. and_then _ (c.in_ok-digest.ensures.run s) (wanting _ refl c.from_residual-in_err-source.ensures.1)
+
+pub returns-in_err-reading_back : goal.returns-in_err-reading_back
+unfolding searched
+returns-in_err-reading_back g c = λ s. and_then _ (c.in_ok-digest.ensures.run s) (refused _ (said _ (rw (c.in_ok-source.ensures, c.as_str.ensures) at c.in_err-reading_back.ensures)) c.from_residual-in_err-reading_back.ensures.1)
+
+pub returns-in_err-all : goal.returns-in_err-all
+unfolding searched
+returns-in_err-all g c = λ s. and_then _ (c.in_ok-digest.ensures.run s) (and_then _ (said _ (rw (c.in_ok-source.ensures, c.as_str.ensures) at c.in_ok-reading_back.ensures)) (passed (rw (c.new.ensures, c.new-2.ensures) at (c.in_err-all.ensures s)) c.from_residual-in_err-all.ensures.1))
+
+pub returns : goal.returns
+unfolding searched
+returns g c = λ s. and_then _ (c.in_ok-digest.ensures.run s) (and_then _ (said _ (rw (c.in_ok-source.ensures, c.as_str.ensures) at c.in_ok-reading_back.ensures)) (rw (c.new.ensures, c.new-2.ensures) at (c.in_ok-all.ensures s)))

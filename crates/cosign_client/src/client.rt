@@ -1,0 +1,99 @@
+// The client that users hold.
+ghost use Rattle.std.specs.Prelude.{◌≡◌, IfOk};
+ghost use Rattle.oci_protocol.specs.Runs.{Meets, Told};
+ghost use Rattle.cosign_layers.specs.Accepts.{has_no_item};
+ghost use Rattle.cosign_layers.specs.Standing.{meaning, stands};
+ghost use Rattle.sig_registry.specs.Conversions.{registry_auth};
+ghost use Rattle.sig_registry.specs.Direct.{reference_in};
+ghost use Rattle.sig_registry.specs.Clients.{plain_state};
+ghost use Rattle.sig_registry.specs.Errors.{is_memory as of_memory};
+ghost use Rattle.cosign_client.specs.Chain.{Chain};
+ghost use Rattle.cosign_client.specs.Refusals.{is_memory};
+ghost use Rattle.cosign_client.specs.Search.{searched};
+ghost use Rattle.cosign_client.specs.Sound.{Backed};
+ghost use Rattle.cosign_client.specs.Verified.{verified};
+
+use crate::found::TrustedLayers;
+use crate::search::search;
+use crate::standing::pull_verified;
+use crate::verified::{PullRefusal, VerifiedImage};
+use cosign_layers::{Offline, PullPolicy, SignatureVerifier};
+use json_canon::Text;
+use oci_link::Transport;
+use sig_registry::{Auth, OciClient, OciReference, SigstoreError};
+use std::alloc::Global;
+
+/// Pulls images only where a trusted signature stands for them.
+#[derive(Drop)]
+pub struct Client {
+    pub registry_client: OciClient,
+}
+
+impl Client {
+    ghost use Rattle.cosign_client.specs.State.{client_state};
+
+    /// The digest of an image, the signature layers that stand in its repository, and why others do not. `moment` is in
+    /// seconds since 1970.
+    ///
+    /// The call is refused where the digest is not answered (`RegistryFetchManifestError`) or the reference by it does not
+    /// read back (`OciReferenceNotValidError`). Whatever else is refused is a cause in `skipped`.
+    pub fn trusted_signature_layers<T: Transport, V: SignatureVerifier, O: Offline>(
+        &mut self,
+        alloc: Global,
+        transport: &mut T,
+        moment: u64,
+        auth: &Auth,
+        source_image: &OciReference,
+        _verifier: &V,
+        _judge: &O,
+    ) -> Result<TrustedLayers, SigstoreError>
+        ensures run { Meets of_memory (searched (client_state self.old).settings (reference_in source_image.now) (registry_auth auth.now)) (T.state transport.old) (T.state transport.new) (client_state self.old).kept (client_state self.new).kept result }
+        ensures settings { (client_state self.new).settings ≡ (client_state self.old).settings }
+    {
+        let auth = auth.to_registry(alloc)?;
+        search(
+            alloc,
+            &mut self.registry_client,
+            transport,
+            moment,
+            source_image.reference(),
+            &auth,
+        )
+    }
+
+    /// Pulls an image only where a trusted signature stands for it. `moment` is in seconds since 1970.
+    ///
+    /// The answer is a chain that checks by itself: it starts at the digest that was answered for the image, which names
+    /// the manifest, whose digests name the configuration and the layers, and one signature layer stands for the digest
+    /// under the policy. See `PullRefusal` for when the call is refused.
+    pub fn verified_pull<T: Transport, V: SignatureVerifier, O: Offline>(
+        &mut self,
+        alloc: Global,
+        transport: &mut T,
+        moment: u64,
+        image: &OciReference,
+        auth: &Auth,
+        accepted_media_types: &[Text],
+        policy: &PullPolicy,
+        verifier: &V,
+        _judge: &O,
+    ) -> Result<VerifiedImage, PullRefusal>
+        ensures run { Meets is_memory (verified (has_no_item policy.now.constraints) (stands (meaning policy.now (V.valid verifier.now) (λ b. accepts (b.vtable, b.value)))) (client_state self.old).settings (reference_in image.now) (registry_auth auth.now) accepted_media_types.now) (T.state transport.old) (T.state transport.new) (client_state self.old).kept (client_state self.new).kept result }
+        ensures settings { (client_state self.new).settings ≡ (client_state self.old).settings }
+        ensures chain { IfOk result (λ v. Chain (meaning policy.now (V.valid verifier.now) (λ b. accepts (b.vtable, b.value))) (reference_in image.now) accepted_media_types.now v) }
+        ensures backed { IfOk result (λ v. Told (λ c. Backed (client_state self.old).settings (reference_in image.now) c v) (T.state transport.old) (T.state transport.new)) }
+    {
+        let auth = auth.to_registry(alloc)?;
+        pull_verified(
+            alloc,
+            &mut self.registry_client,
+            transport,
+            moment,
+            image.reference(),
+            &auth,
+            accepted_media_types,
+            policy,
+            verifier,
+        )
+    }
+}

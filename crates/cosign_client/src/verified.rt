@@ -1,0 +1,103 @@
+// An image with the signature layer that stands for it, and why there is none.
+use crate::found::Skipped;
+use cosign_layers::SignatureLayer;
+use json_canon::{Blob, List, Text};
+use oci_docs::{ImageLayer, OciImageManifest};
+use oci_docs::blob::Config;
+use oci_engine::OciDistributionError;
+use sig_registry::SigstoreError;
+use std::alloc::{AllocError, AllocFailed};
+
+/// An image, and the one signature layer that stands for it: a chain that can be checked again with nothing else.
+#[derive(Drop)]
+pub struct VerifiedImage {
+    /// The digest that was answered for the reference. It names `first`.
+    pub digest: Text,
+    /// The document that was pulled for `digest`.
+    pub first: Blob,
+    /// The document that `manifest` is read from.
+    pub manifest_bytes: Blob,
+    pub manifest: OciImageManifest,
+    pub manifest_digest: Text,
+    /// The digest of the index that led to the manifest, where one did.
+    pub list_digest: Option<Text>,
+    pub config: Config,
+    /// In the manifest's order.
+    pub layers: List<ImageLayer>,
+    pub signature: SignatureLayer,
+}
+
+/// Why an image was not pulled.
+#[derive(Drop)]
+pub enum PullRefusal {
+    /// The policy has no constraint. Nothing was asked.
+    EmptyPolicy,
+    /// The image does not read back, and nothing was asked; or the reference by the answered digest does not.
+    OciReferenceNotValidError {
+        reference: Text,
+    },
+    /// The digest of the image was not answered.
+    RegistryFetchManifestError {
+        image: Text,
+        error: OciDistributionError,
+    },
+    /// A signature layer stands for the digest, and its image was not pulled.
+    RegistryPullError {
+        image: Text,
+        error: OciDistributionError,
+    },
+    /// No signature layer that was found stands for the digest.
+    Unsatisfied {
+        digest: Text,
+        collected: List<SignatureLayer>,
+        skipped: List<Skipped>,
+    },
+    WantOfMemory,
+}
+
+impl From<AllocError> for PullRefusal {
+    ghost use Rattle.std.specs.Prelude.{◌≡◌};
+    ghost use Rattle.cosign_client.specs.declared.verified.PullRefusal.TheVariants.{WantOfMemory};
+
+    ghost from_gives = { λ _ e. e ≡ WantOfMemory };
+
+    fn from(_: AllocError) -> Self {
+        PullRefusal::WantOfMemory
+    }
+}
+
+impl<T: Drop> From<AllocFailed<T>> for PullRefusal {
+    ghost use Rattle.std.specs.Prelude.{◌≡◌};
+    ghost use Rattle.cosign_client.specs.declared.verified.PullRefusal.TheVariants.{WantOfMemory};
+
+    ghost from_gives = { λ _ e. e ≡ WantOfMemory };
+
+    fn from(_: AllocFailed<T>) -> Self {
+        PullRefusal::WantOfMemory
+    }
+}
+
+impl From<SigstoreError> for PullRefusal {
+    ghost use Rattle.std.specs.Prelude.{◌≡◌};
+    ghost use Rattle.cosign_client.specs.Refusals.{refused_as};
+
+    ghost from_gives = { λ e r. r ≡ refused_as e };
+
+    fn from(error: SigstoreError) -> Self {
+        match error {
+            SigstoreError::OciReferenceNotValidError { reference } => {
+                PullRefusal::OciReferenceNotValidError { reference }
+            }
+            SigstoreError::RegistryFetchManifestError { image, error } => {
+                PullRefusal::RegistryFetchManifestError { image, error }
+            }
+            SigstoreError::RegistryPullError { image, error } => {
+                PullRefusal::RegistryPullError { image, error }
+            }
+            SigstoreError::RegistryPullManifestError { image, error } => {
+                PullRefusal::RegistryPullError { image, error }
+            }
+            SigstoreError::WantOfMemory => PullRefusal::WantOfMemory,
+        }
+    }
+}
