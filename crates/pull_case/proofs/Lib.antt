@@ -1,0 +1,4 @@
+pub mod Added
+pub mod AnswerParts
+pub mod CaseParts
+pub mod Full

@@ -1,0 +1,52 @@
+-- Recorded cases: what to pull, under which policy, and what the registry answers.
+use Rattle.std.specs.Prelude.{ℕ, nat_lt, List, [], ◌∷◌, Option, Some, None, is_ok, length, if◌then◌else◌, codes}
+use Rattle.std.specs.Str.{bytes_eq}
+use Rattle.serde_json.specs.Data.{Data}
+use Rattle.json_canon.specs.JsonText.{plain_json_of}
+use Rattle.json_tables.specs.Reading.{◌>>=◌, text_of, u64_of, list_of, required, at_name, only}
+use Rattle.json_tables.specs.Bytes.{bytes_of}
+use Rattle.oci_names.specs.References.{reference_of}
+use Rattle.engine_requests.specs.declared.settings.ClientProtocol.{ClientProtocol}
+use Rattle.engine_requests.specs.declared.settings.ClientProtocol.TheVariants.{Http, Https}
+use Rattle.pull_case.specs.Answer.{answer_of}
+use Rattle.pull_case.specs.Entries.{constraint_of, signature_of}
+use Rattle.pull_case.specs.Members.{unless_absent, passing}
+use Rattle.pull_case.specs.declared.case.Case.{Case}
+
+-- a text that reads as a reference
+unfoldable pub reference_text_of : Data → Option (List ℕ)
+reference_text_of d = text_of d >>= passing (λ text. is_ok (reference_of text))
+
+-- the protocol of this name
+abbrev pub protocol_named : List ℕ → Option ClientProtocol
+protocol_named text =
+    if bytes_eq text (codes "http") then Some Http
+    else (if bytes_eq text (codes "https") then Some Https else None)
+
+unfoldable pub protocol_of : Data → Option ClientProtocol
+protocol_of d = text_of d >>= protocol_named
+
+-- a list of at least one moment
+unfoldable pub moments_of : Data → Option (List ℕ)
+moments_of d = list_of u64_of d >>= passing (λ moments. nat_lt 0 (length moments))
+
+-- the members of a case
+abbrev pub members : List (List ℕ)
+members = codes "reference" ∷ codes "protocol" ∷ codes "accepted" ∷ codes "moments" ∷ codes "keys" ∷ codes "constraints" ∷ codes "signatures" ∷ codes "answers" ∷ []
+
+unfoldable pub case_of : Data → Option Case
+case_of d = do
+  known ← only members d
+  reference ← required reference_text_of (codes "reference") d
+  protocol ← at_name (unless_absent Https protocol_of) (codes "protocol") d
+  accepted ← required (list_of text_of) (codes "accepted") d
+  moments ← required moments_of (codes "moments") d
+  keys ← required (list_of bytes_of) (codes "keys") d
+  constraints ← required (list_of constraint_of) (codes "constraints") d
+  signatures ← required (list_of signature_of) (codes "signatures") d
+  answers ← required (list_of answer_of) (codes "answers") d
+  Some (record { reference = reference; protocol = protocol; accepted = accepted; moments = moments; keys = keys; constraints = constraints; signatures = signatures; answers = answers })
+
+-- the case that a JSON text without floats says
+abbrev pub case_in : List ℕ → Option Case
+case_in bytes = plain_json_of bytes >>= case_of

@@ -1,0 +1,105 @@
+ghost use Rattle.std.specs.Prelude.{◌≡◌, ◌<◌, IfOk, IfSome, IsOk, length};
+ghost use Rattle.oci_names.specs.References.{reference_of};
+ghost use Rattle.pull_case.specs.Case.{case_in};
+
+use crate::entries::Entries;
+use crate::members::{Moments, Protocol, ReferenceText};
+use cosign_layers::{AnnotationVerifier, SignedRow};
+use engine_requests::ClientProtocol;
+use json_canon::{Blob, List, Text, read_json};
+use json_tables::{ReadError, Reads, holds_float, only, read_or_none, row8};
+use oci_link::Recorded;
+use serde_json::Value;
+use std::alloc::{AllocError, Global};
+
+/// A recorded case.
+#[derive(Drop)]
+pub struct Case {
+    /// A text that reads as a reference.
+    pub reference: Text,
+    /// `http` or `https`.
+    pub protocol: ClientProtocol,
+    /// The media types of layers that are accepted.
+    pub accepted: List<Text>,
+    /// When the image is pulled, in seconds since 1970, once for each of them. There is at least one.
+    pub moments: List<u64>,
+    /// The keys of the policy.
+    pub keys: List<Blob>,
+    /// The constraints of the policy.
+    pub constraints: List<AnnotationVerifier>,
+    /// The signatures that are valid.
+    pub signatures: List<SignedRow>,
+    /// What the registry answers, in order.
+    pub answers: List<Recorded>,
+}
+
+impl Reads for Case {
+    ghost use Rattle.pull_case.specs.Case.{case_of};
+
+    ghost reading = { case_of };
+
+    #[tactic(auto, unfolding(crate::specs::Case::case_of))]
+    fn read_value(alloc: Global, value: &Value) -> Result<Case, ReadError> {
+        only(
+            value,
+            &[
+                "reference",
+                "protocol",
+                "accepted",
+                "moments",
+                "keys",
+                "constraints",
+                "signatures",
+                "answers",
+            ],
+        )?;
+        let (reference, protocol, accepted, moments, keys, constraints, signatures, answers): (
+            ReferenceText,
+            Protocol,
+            List<Text>,
+            Moments,
+            List<Blob>,
+            Entries<AnnotationVerifier>,
+            Entries<SignedRow>,
+            Entries<Recorded>,
+        ) = row8(
+            alloc,
+            value,
+            "reference",
+            "protocol",
+            "accepted",
+            "moments",
+            "keys",
+            "constraints",
+            "signatures",
+            "answers",
+        )?;
+        Ok(Case {
+            reference: reference.text,
+            protocol: protocol.client,
+            accepted,
+            moments: moments.list,
+            keys,
+            constraints: constraints.list,
+            signatures: signatures.list,
+            answers: answers.list,
+        })
+    }
+}
+
+/// Reads a case. None where the bytes are no JSON text (RFC 8259), where a float stands in it, or where the table does
+/// not read it.
+pub fn read_case(alloc: Global, bytes: &[u8]) -> Result<Option<Case>, AllocError>
+    ensures exact { IfOk result (λ found. found ≡ case_in bytes.now) }
+    ensures parses { IfOk result (λ found. IfSome found (λ case. IsOk (reference_of case.reference))) }
+    ensures timed { IfOk result (λ found. IfSome found (λ case. 0 < length case.moments)) }
+{
+    let Some(json) = read_json(alloc, bytes)? else {
+        return Ok(None);
+    };
+    if holds_float(json.value()) {
+        return Ok(None);
+    }
+    let case = read_or_none(alloc, json.value())?;
+    Ok(case)
+}

@@ -1,0 +1,89 @@
+// Lists whose entries are values of other crates.
+ghost use Rattle.serde_json.specs.Data.{Data};
+ghost use Rattle.serde_json.specs.View.{view, items_view};
+ghost use Rattle.std.specs.Prelude.{Option};
+ghost use Rattle.json_tables.specs.Outcomes.{Gives};
+ghost use Rattle.json_tables.specs.Reading.{items_by, list_of, present};
+
+use cosign_layers::{AnnotationVerifier, SignedRow};
+use json_canon::List;
+use json_tables::{Member, ReadError, only, required, row3};
+use serde_json::Value;
+use std::alloc::Global;
+use std::marker::Model;
+
+/// What an entry of a list is read as.
+pub trait Entry: Sized {
+    /// What a value reads as.
+    ghost entry: { Data → Option Self };
+
+    /// `Shape` exactly where the value does not read.
+    fn read_entry(alloc: Global, value: &Value) -> Result<Self, ReadError>
+        ensures { Gives result (entry (view value.now)) };
+}
+
+/// A list of entries. A contract sees the list of their values.
+#[derive(Drop)]
+pub struct Entries<T> {
+    pub list: List<T>,
+}
+
+impl<T> Model for Entries<T> {
+    ghost use Rattle.std.specs.Prelude.{List};
+
+    ghost Value = { List T };
+
+    ghost view = { λ entries. entries.list };
+}
+
+impl<T: Entry + Drop> Member for Entries<T> {
+    ghost found = { present (list_of T.entry) };
+
+    fn read_member(alloc: Global, member: Option<&Value>) -> Result<Entries<T>, ReadError> {
+        let Some(Value::Array(items)) = member else {
+            return Err(ReadError::Shape);
+        };
+        let list = read_entries(alloc, items.as_slice())?;
+        Ok(Entries { list })
+    }
+}
+
+fn read_entries<T: Entry + Drop>(alloc: Global, items: &[Value]) -> Result<List<T>, ReadError>
+    ensures { Gives result (items_by T.entry (items_view items.now)) }
+{
+    let mut list = List::new(alloc);
+    for item in items {
+        list.push(T::read_entry(alloc, item)?)?;
+    }
+    Ok(list)
+}
+
+impl Entry for AnnotationVerifier {
+    ghost use Rattle.pull_case.specs.Entries.{constraint_of};
+
+    ghost entry = { constraint_of };
+
+    #[tactic(auto, unfolding(crate::specs::Entries::constraint_of))]
+    fn read_entry(alloc: Global, value: &Value) -> Result<AnnotationVerifier, ReadError> {
+        only(value, &["annotations"])?;
+        let annotations = required(alloc, value, "annotations")?;
+        Ok(AnnotationVerifier { annotations })
+    }
+}
+
+impl Entry for SignedRow {
+    ghost use Rattle.pull_case.specs.Entries.{signature_of};
+
+    ghost entry = { signature_of };
+
+    #[tactic(auto, unfolding(crate::specs::Entries::signature_of))]
+    fn read_entry(alloc: Global, value: &Value) -> Result<SignedRow, ReadError> {
+        only(value, &["key", "message", "signature"])?;
+        let (key, message, signature) = row3(alloc, value, "key", "message", "signature")?;
+        Ok(SignedRow {
+            key,
+            message,
+            signature,
+        })
+    }
+}

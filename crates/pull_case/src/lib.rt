@@ -1,0 +1,15 @@
+//! Recorded cases: what to pull, under which policy, and what the registry answers, read from JSON by their table.
+#![tactic(auto)]
+
+mod answer;
+mod case;
+mod entries;
+mod headers;
+mod members;
+mod pull_policy;
+
+pub use case::{Case, read_case};
+pub use pull_policy::policy;
+
+#[cfg(test)]
+mod tests;

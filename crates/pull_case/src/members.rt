@@ -1,0 +1,129 @@
+// Members of a case that have a rule of their own.
+ghost use Rattle.std.specs.Prelude.{◌≡◌, IfOk, Some, is_ok, option_map};
+ghost use Rattle.json_tables.specs.Reading.{present};
+ghost use Rattle.oci_names.specs.References.{reference_of};
+ghost use Rattle.engine_requests.specs.declared.settings.ClientProtocol.TheVariants.{Https};
+ghost use Rattle.pull_case.specs.Case.{reference_text_of, protocol_named, protocol_of, moments_of};
+ghost use Rattle.pull_case.specs.Members.{unless_absent};
+
+use engine_requests::ClientProtocol;
+use json_canon::{List, Text};
+use json_tables::{Member, ReadError, present};
+use oci_names::{ParseError, Reference};
+use serde_json::Value;
+use std::alloc::{AllocError, Global};
+use std::marker::Model;
+
+/// A text that reads as a reference. A contract sees the text.
+#[derive(Drop)]
+pub struct ReferenceText {
+    pub text: Text,
+}
+
+impl Model for ReferenceText {
+    ghost use Rattle.std.specs.Prelude.{ℕ, List};
+
+    ghost Value = { List ℕ };
+
+    ghost view = { λ reference. reference.text };
+}
+
+impl Member for ReferenceText {
+    ghost found = { present reference_text_of };
+
+    #[tactic(auto, unfolding(crate::specs::Case::reference_text_of))]
+    fn read_member(alloc: Global, member: Option<&Value>) -> Result<ReferenceText, ReadError> {
+        let text: Text = present(alloc, member)?;
+        let parses = is_reference(alloc, text.as_str())?;
+        if !parses {
+            return Err(ReadError::Shape);
+        }
+        Ok(ReferenceText { text })
+    }
+}
+
+// Whether the text reads as a reference.
+fn is_reference(alloc: Global, text: &str) -> Result<bool, AllocError>
+    ensures { IfOk result (λ b. b ≡ is_ok (reference_of text.now)) }
+{
+    match Reference::parse(alloc, text) {
+        Ok(_) => Ok(true),
+        Err(ParseError::WantOfMemory) => Err(AllocError),
+        Err(ParseError::NameEmpty) => Ok(false),
+        Err(ParseError::ReferenceInvalidFormat) => Ok(false),
+        Err(ParseError::NameTooLong) => Ok(false),
+        Err(ParseError::DigestUnsupported) => Ok(false),
+        Err(ParseError::DigestInvalidLength) => Ok(false),
+    }
+}
+
+/// The protocol of a case. A contract sees the protocol of the client.
+#[derive(Drop)]
+pub struct Protocol {
+    pub client: ClientProtocol,
+}
+
+impl Model for Protocol {
+    ghost use Rattle.engine_requests.specs.declared.settings.ClientProtocol.{ClientProtocol};
+
+    ghost Value = { ClientProtocol };
+
+    ghost view = { λ protocol. protocol.client };
+}
+
+impl Member for Protocol {
+    ghost found = { unless_absent Https protocol_of };
+
+    #[tactic(auto, unfolding(crate::specs::Case::protocol_of))]
+    fn read_member(_alloc: Global, member: Option<&Value>) -> Result<Protocol, ReadError> {
+        let Some(value) = member else {
+            return Ok(Protocol {
+                client: ClientProtocol::Https,
+            });
+        };
+        let Some(text) = value.as_str() else {
+            return Err(ReadError::Shape);
+        };
+        let Some(client) = protocol_named(text) else {
+            return Err(ReadError::Shape);
+        };
+        Ok(Protocol { client })
+    }
+}
+
+fn protocol_named(text: &str) -> Option<ClientProtocol>
+    ensures { result ≡ protocol_named text.now }
+{
+    match text {
+        "http" => Some(ClientProtocol::Http),
+        "https" => Some(ClientProtocol::Https),
+        _ => None,
+    }
+}
+
+/// At least one moment, in seconds since 1970. A contract sees the list of them.
+#[derive(Drop)]
+pub struct Moments {
+    pub list: List<u64>,
+}
+
+impl Model for Moments {
+    ghost use Rattle.std.specs.Prelude.{ℕ, List};
+
+    ghost Value = { List ℕ };
+
+    ghost view = { λ moments. moments.list };
+}
+
+impl Member for Moments {
+    ghost found = { present moments_of };
+
+    #[tactic(auto, unfolding(crate::specs::Case::moments_of))]
+    fn read_member(alloc: Global, member: Option<&Value>) -> Result<Moments, ReadError> {
+        let list: List<u64> = present(alloc, member)?;
+        if list.as_slice().is_empty() {
+            return Err(ReadError::Shape);
+        }
+        Ok(Moments { list })
+    }
+}
