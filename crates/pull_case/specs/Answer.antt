@@ -41,17 +41,17 @@ abbrev pub Adds : Result ⊤ ReadError → Fields → Fields → List ℕ × Lis
 Adds (Ok done) old new header = with_header old header ≡ Some new
 Adds (Err e) old new header = Refuses e (with_header old header)
 
--- that no piece is empty, where none is
+-- the fact that no piece is empty, which a recorded answer carries, or none where one is
 abbrev pub none_empty : (pieces : List (List ℕ)) → Option (NoneEmpty pieces)
 none_empty [] = Some (All-nil (λ piece. 0 < length piece))
 none_empty ([] ∷ pieces) = None
 none_empty ((b ∷ bs) ∷ pieces) = option_map (All-cons (λ piece. 0 < length piece) (b ∷ bs) pieces (zero-lt-suc (length bs))) (none_empty pieces)
 
--- how many pieces are given before a call fails
+-- how many pieces are given before a call fails, once
 abbrev pub fault_of : Data → Option (Option ℕ)
 fault_of d = option_map Some (u64_of d)
 
--- a send that fails
+-- a send that fails, whose other parts say nothing
 abbrev pub failing : Recorded
 failing = record { fails = true; status = 0; headers = empty; pieces = []; fails_before = None; none_empty = All-nil (λ piece. 0 < length piece) }
 

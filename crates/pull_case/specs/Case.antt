@@ -34,6 +34,7 @@ moments_of d = list_of u64_of d >>= passing (λ moments. nat_lt 0 (length moment
 abbrev pub members : List (List ℕ)
 members = codes "reference" ∷ codes "protocol" ∷ codes "accepted" ∷ codes "moments" ∷ codes "keys" ∷ codes "constraints" ∷ codes "signatures" ∷ codes "answers" ∷ []
 
+-- an object with no members but these; the protocol alone may be absent, which is `https`
 unfoldable pub case_of : Data → Option Case
 case_of d = do
   known ← only members d

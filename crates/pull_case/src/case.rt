@@ -12,24 +12,28 @@ use oci_link::Recorded;
 use serde_json::Value;
 use std::alloc::{AllocError, Global};
 
-/// A recorded case.
+/// A recorded case: a JSON object with a member of each field's name and no others. Bytes are a text, which stands for
+/// its UTF-8, or `{"base64": text}` with a text in padded standard base64 (RFC 4648, 4).
 #[derive(Drop)]
 pub struct Case {
     /// A text that reads as a reference.
     pub reference: Text,
-    /// `http` or `https`.
+    /// `"http"` or `"https"`; `https` where the member is absent.
     pub protocol: ClientProtocol,
-    /// The media types of layers that are accepted.
+    /// A list of texts, the media types of layers that are accepted.
     pub accepted: List<Text>,
-    /// When the image is pulled, in seconds since 1970, once for each of them. There is at least one.
+    /// A list of at least one number, in seconds since 1970, at each of which the image is pulled.
     pub moments: List<u64>,
-    /// The keys of the policy.
+    /// A list of bytes, the keys of the policy.
     pub keys: List<Blob>,
-    /// The constraints of the policy.
+    /// A list of `{"annotations": {name: text}}`, the constraints of the policy.
     pub constraints: List<AnnotationVerifier>,
-    /// The signatures that are valid.
+    /// A list of `{"key": bytes, "message": text, "signature": bytes}`, the signatures that are valid.
     pub signatures: List<SignedRow>,
-    /// What the registry answers, in order.
+    /// A list of what the registry answers, in order. Each is `"fail"`, a send that fails, or an object with the
+    /// member `status` (100 to 999) and perhaps `headers` (a list of pairs of a name and a text, which
+    /// `Headers::add` takes), `pieces` (the body, a list of bytes of which none is empty) and `fault` (before how
+    /// many pieces a call fails).
     pub answers: List<Recorded>,
 }
 
@@ -87,8 +91,8 @@ impl Reads for Case {
     }
 }
 
-/// Reads a case. None where the bytes are no JSON text (RFC 8259), where a float stands in it, or where the table does
-/// not read it.
+/// Reads a case. None exactly where the bytes are no JSON text (RFC 8259) that nests at most 127 deep, where a float
+/// stands in it, or where it is no object of the members that `Case` names.
 pub fn read_case(alloc: Global, bytes: &[u8]) -> Result<Option<Case>, AllocError>
     ensures exact { IfOk result (λ found. found ≡ case_in bytes.now) }
     ensures parses { IfOk result (λ found. IfSome found (λ case. IsOk (reference_of case.reference))) }
