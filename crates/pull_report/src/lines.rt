@@ -1,0 +1,115 @@
+// Lines of a report: words with one space between each two, and a line feed.
+ghost use Rattle.std.specs.Prelude.{◌≡◌, [], ◌∷◌, ◌++◌, OnOk, flat_map};
+ghost use Rattle.pull_report.specs.Words.{line};
+ghost use Rattle.pull_report.specs.Report.{method_name};
+
+use crate::printed::{Printed, print1, word};
+use cosign_client::Skipped;
+use cosign_layers::SignatureLayer;
+use json_canon::Blob;
+use oci_docs::OciDescriptor;
+use oci_link::{Exchange, Method};
+use std::alloc::{AllocError, Global};
+
+/// What has a line of its own in a report. Where memory was wanting, what was added of it is left open.
+pub trait Line {
+    ghost use Rattle.std.specs.Prelude.{ℕ, List};
+
+    /// The line's bytes.
+    ghost line: { Self → List ℕ };
+
+    /// Adds the line at the end.
+    fn write_line(&self, alloc: Global, out: &mut Blob) -> Result<(), AllocError>
+        ensures { OnOk result (out.new ≡ out.old ++ line self.now) };
+}
+
+/// A line of a label and a text as it stands.
+pub fn text_line(out: &mut Blob, label: &str, text: &str) -> Result<(), AllocError>
+    ensures { OnOk result (out.new ≡ out.old ++ line (label.now ∷ text.now ∷ [])) }
+{
+    word(out, label)?;
+    word(out, " ")?;
+    word(out, text)?;
+    word(out, "\n")?;
+    Ok(())
+}
+
+/// A line of a label and a print.
+pub fn print_line<A: Printed>(
+    alloc: Global,
+    out: &mut Blob,
+    label: &str,
+    value: &A,
+) -> Result<(), AllocError>
+    ensures { OnOk result (out.new ≡ out.old ++ line (label.now ∷ A.print value.now ∷ [])) }
+{
+    print1(alloc, out, label, value)?;
+    word(out, "\n")?;
+    Ok(())
+}
+
+/// The line of each item, in order.
+pub fn write_lines<L: Line>(alloc: Global, out: &mut Blob, items: &[L]) -> Result<(), AllocError>
+    ensures { OnOk result (out.new ≡ out.old ++ flat_map L.line items.now) }
+{
+    for item in items {
+        item.write_line(alloc, out)?;
+    }
+    Ok(())
+}
+
+fn method_name(method: Method) -> &'static str
+    ensures { result.now ≡ method_name method }
+{
+    match method {
+        Method::Get => "GET",
+        Method::Head => "HEAD",
+        Method::Post => "POST",
+        Method::Put => "PUT",
+        Method::Patch => "PATCH",
+    }
+}
+
+impl Line for Exchange {
+    ghost use Rattle.pull_report.specs.Report.{exchange_line};
+
+    ghost line = { exchange_line };
+
+    fn write_line(&self, _alloc: Global, out: &mut Blob) -> Result<(), AllocError> {
+        text_line(
+            out,
+            method_name(self.request.method),
+            self.request.url.as_str(),
+        )
+    }
+}
+
+impl Line for OciDescriptor {
+    ghost use Rattle.pull_report.specs.Report.{layer_line};
+
+    ghost line = { layer_line };
+
+    fn write_line(&self, _alloc: Global, out: &mut Blob) -> Result<(), AllocError> {
+        text_line(out, "layer", self.digest.as_str())
+    }
+}
+
+impl Line for SignatureLayer {
+    ghost use Rattle.pull_report.specs.Report.{collected_line};
+
+    ghost line = { collected_line };
+
+    fn write_line(&self, _alloc: Global, out: &mut Blob) -> Result<(), AllocError> {
+        text_line(out, "collected", self.oci_digest.as_str())
+    }
+}
+
+impl Line for Skipped {
+    ghost use Rattle.pull_report.specs.Report.{skipped_line};
+
+    ghost line = { skipped_line };
+
+    fn write_line(&self, alloc: Global, out: &mut Blob) -> Result<(), AllocError> {
+        print_line(alloc, out, "skipped", self)
+    }
+}

@@ -1,0 +1,28 @@
+// The print of a pull's refusal.
+use crate::printed::{Printed, print1, print2, word};
+use cosign_client::PullRefusal;
+use json_canon::Blob;
+use std::alloc::{AllocError, Global};
+
+impl Printed for PullRefusal {
+    ghost use Rattle.pull_report.specs.Prints.{refusal_print};
+
+    ghost print = { refusal_print };
+
+    fn write_print(&self, alloc: Global, out: &mut Blob) -> Result<(), AllocError> {
+        match self {
+            PullRefusal::EmptyPolicy => word(out, "EmptyPolicy"),
+            PullRefusal::OciReferenceNotValidError { reference } => {
+                print1(alloc, out, "OciReferenceNotValidError", reference)
+            }
+            PullRefusal::RegistryFetchManifestError { image, error } => {
+                print2(alloc, out, "RegistryFetchManifestError", image, error)
+            }
+            PullRefusal::RegistryPullError { image, error } => {
+                print2(alloc, out, "RegistryPullError", image, error)
+            }
+            PullRefusal::Unsatisfied { digest, .. } => print1(alloc, out, "Unsatisfied", digest),
+            PullRefusal::WantOfMemory => word(out, "WantOfMemory"),
+        }
+    }
+}

@@ -1,0 +1,76 @@
+// The report of a pull.
+ghost use Rattle.std.specs.Prelude.{◌≡◌, ◌++◌, OnOk};
+ghost use Rattle.pull_report.specs.Report.{image_lines, search_lines, refusal_lines, outcome_lines, report};
+
+use crate::lines::{print_line, text_line, write_lines};
+use cosign_client::{PullRefusal, VerifiedImage};
+use json_canon::Blob;
+use oci_link::Exchange;
+use pull_edge::write_decimal;
+use std::alloc::{AllocError, Global};
+
+fn write_image(alloc: Global, out: &mut Blob, image: &VerifiedImage) -> Result<(), AllocError>
+    ensures { OnOk result (out.new ≡ out.old ++ image_lines image.now) }
+{
+    text_line(out, "ok", image.digest.as_str())?;
+    text_line(out, "manifest", image.manifest_digest.as_str())?;
+    text_line(out, "config", image.manifest.config.digest.as_str())?;
+    write_lines(alloc, out, image.manifest.layers.as_slice())?;
+    text_line(out, "signature", image.signature.oci_digest.as_str())?;
+    Ok(())
+}
+
+fn write_search(alloc: Global, out: &mut Blob, refusal: &PullRefusal) -> Result<(), AllocError>
+    ensures { OnOk result (out.new ≡ out.old ++ search_lines refusal.now) }
+{
+    let PullRefusal::Unsatisfied {
+        collected,
+        skipped,
+        ..
+    } = refusal
+    else {
+        return Ok(());
+    };
+    write_lines(alloc, out, collected.as_slice())?;
+    write_lines(alloc, out, skipped.as_slice())?;
+    Ok(())
+}
+
+fn write_refusal(alloc: Global, out: &mut Blob, refusal: &PullRefusal) -> Result<(), AllocError>
+    ensures { OnOk result (out.new ≡ out.old ++ refusal_lines refusal.now) }
+{
+    print_line(alloc, out, "refused", refusal)?;
+    write_search(alloc, out, refusal)?;
+    Ok(())
+}
+
+fn write_outcome(
+    alloc: Global,
+    out: &mut Blob,
+    outcome: &Result<VerifiedImage, PullRefusal>,
+) -> Result<(), AllocError>
+    ensures { OnOk result (out.new ≡ out.old ++ outcome_lines outcome.now) }
+{
+    match outcome {
+        Ok(image) => write_image(alloc, out, image),
+        Err(refusal) => write_refusal(alloc, out, refusal),
+    }
+}
+
+/// Adds the report of a pull at the end of `out`: its moment in seconds since 1970, a line for each exchange of
+/// its conversation, and its outcome. Where memory was wanting, what was added of it is left open.
+pub fn write_report(
+    alloc: Global,
+    out: &mut Blob,
+    moment: u64,
+    conversation: &[Exchange],
+    outcome: &Result<VerifiedImage, PullRefusal>,
+) -> Result<(), AllocError>
+    ensures { OnOk result (out.new ≡ out.old ++ report moment conversation.now outcome.now) }
+{
+    let digits = write_decimal(alloc, moment)?;
+    text_line(out, "moment", digits.as_str())?;
+    write_lines(alloc, out, conversation)?;
+    write_outcome(alloc, out, outcome)?;
+    Ok(())
+}
