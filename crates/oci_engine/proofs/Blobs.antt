@@ -1,5 +1,5 @@
 -- What the call that answers a blob shows.
-use Rattle.std.proofs.Common.{◌≡◌, ℕ, Bool, true, false, List, [], ◌++◌, Option, Result, Ok, Err, bytes_eq, refl, sym, ap, subst, ◌∙◌, append-nil}
+use Rattle.std.proofs.Common.{◌≡◌, ℕ, Bool, true, false, List, [], ◌∷◌, ◌++◌, Option, Result, Ok, Err, bytes_eq, refl, sym, ap, subst, ◌∙◌, append_assoc, append-nil}
 use Rattle.std.specs.Prelude.{if◌then◌else◌}
 use Rattle.std.proofs.lemmas.Slice.Eq.{bytes_eq-Decides}
 use Rattle.url.specs.Parts.{serialize}
@@ -34,7 +34,7 @@ use Rattle.engine_requests.specs.Blobs.{digest_expected, given_expected, pouring
 use Rattle.engine_steps.specs.Rows.{prepared}
 use Rattle.engine_steps.specs.Blobs.{reading_by, blob_reading, unread_by, read_by, blob_reply, attempt}
 use Rattle.engine_pull.specs.Pulls.{pull_blob}
-use Rattle.oci_engine.specs.Answered.{Body}
+use Rattle.oci_engine.specs.Answered.{LedTo, Body, LastBody}
 use Rattle.oci_engine.proofs.Asking.{into_ok, Prepared, prepared_shows}
 use Rattle.oci_engine.proofs.Documents.{led_of, body_after, body_led}
 
@@ -82,30 +82,36 @@ poured_is given own body bytes is =
 
 -- ---- the row
 
--- the bytes are an answer's body, which the digest names
+-- the bytes are an answer's body, which the digest names, and the answer is the last one
 abbrev pub Blob : List ℕ → List Exchange → List ℕ → Type 0
-Blob digest c bytes = Body c bytes × Names digest bytes
+Blob digest c bytes = Body c bytes × Names digest bytes × LastBody c bytes
+
+last_led : {request : Request} {c : List Exchange} {answer : Answer} → LedTo request c answer → LastBody c answer.body
+last_led {answer = answer} led = record { before = led.redirects; last = led.last; split = led.split; answer = answer; answered = led.answered; body = refl }
+
+last_after : (c : List Exchange) {d : List Exchange} {bytes : List ℕ} → LastBody d bytes → LastBody (c ++ d) bytes
+last_after c b = record { before = c ++ b.before; last = b.last; split = ap (λ x. c ++ x) b.split ∙ sym (append_assoc c b.before (b.last ∷ [])); answer = b.answer; answered = b.answered; body = b.body }
 
 unread_where : (digest : List ℕ) (limit m after : ℕ) (c : List Exchange) (p : Plan) → reading_by limit p ≡ Unread → WhereOk (λ m c n bytes. Blob digest c bytes) m (c ++ []) after (unread_by p)
 unread_where digest limit m after c (plan.Refuse e) reading = tt
 unread_where digest limit m after c plan.Judge reading = absurd (cc reading)
 unread_where digest limit m after c (plan.Pour given own) reading = absurd (cc reading)
 
-blob_of : (digest : List ℕ) (url : List ℕ) (m after : ℕ) (c : List Exchange) (answer : Answer) (given : Option Expected) (own : Expected) → digest ≡ own.text → Body c answer.body → (r : Result (List ℕ) OciDistributionError) → (both_compared given own answer.body before Ok answer.body) ≡ r → WhereOk (λ m c n bytes. Blob digest c bytes) m (c ++ []) after r
-blob_of digest url m after c answer given own same body (Ok bytes) is =
+blob_of : (digest : List ℕ) (url : List ℕ) (m after : ℕ) (c : List Exchange) (answer : Answer) (given : Option Expected) (own : Expected) → digest ≡ own.text → Body c answer.body → LastBody c answer.body → (r : Result (List ℕ) OciDistributionError) → (both_compared given own answer.body before Ok answer.body) ≡ r → WhereOk (λ m c n bytes. Blob digest c bytes) m (c ++ []) after r
+blob_of digest url m after c answer given own same body last (Ok bytes) is =
     let poured = poured_is given own answer.body bytes is in
-    rw append-nil (subst (Body c) poured.0 body, subst (λ (b : List ℕ). Names digest b) poured.0 (subst (λ (t : List ℕ). Names t answer.body) (sym same) poured.1))
-blob_of digest url m after c answer given own same body (Err e) is = tt
+    rw append-nil (subst (Body c) poured.0 body, subst (λ (b : List ℕ). Names digest b) poured.0 (subst (λ (t : List ℕ). Names t answer.body) (sym same) poured.1), subst (LastBody c) poured.0 last)
+blob_of digest url m after c answer given own same body last (Err e) is = tt
 
-read_where : (digest url : List ℕ) (m after : ℕ) (c : List Exchange) (answer : Answer) (p : Plan) → plan_of digest (head_part answer) ≡ p → Body c answer.body → WhereOk (λ m c n bytes. Blob digest c bytes) m (c ++ []) after (read_by url answer p)
-read_where digest url m after c answer (plan.Refuse e) is body = tt
-read_where digest url m after c answer plan.Judge is body = tt
-read_where digest url m after c answer (plan.Pour given own) is body = blob_of digest url m after c answer given own (own_text digest (head_part answer) given own is) body (both_compared given own answer.body before Ok answer.body) refl
+read_where : (digest url : List ℕ) (m after : ℕ) (c : List Exchange) (answer : Answer) (p : Plan) → plan_of digest (head_part answer) ≡ p → Body c answer.body → LastBody c answer.body → WhereOk (λ m c n bytes. Blob digest c bytes) m (c ++ []) after (read_by url answer p)
+read_where digest url m after c answer (plan.Refuse e) is body last = tt
+read_where digest url m after c answer plan.Judge is body last = tt
+read_where digest url m after c answer (plan.Pour given own) is body last = blob_of digest url m after c answer given own (own_text digest (head_part answer) given own is) body last (both_compared given own answer.body before Ok answer.body) refl
 
 blob_run : (digest : List ℕ) (request : Request) (limit : ℕ) (k l : Memory) (m after o : ℕ) (c d : List Exchange) (last : Request) (reply : Reply) (r : Result (List ℕ) OciDistributionError) → Heard 10 request (blob_reading limit digest) m c after last reply → Runs (blob_reply digest last reply) k after d o l r → WhereOk (λ m c n bytes. Blob digest c bytes) m (c ++ d) o r
 unfolding blob_reading
 blob_run digest request limit k l m after o c d last (Headed head) r h run = done_run (λ s d o r. WhereOk (λ m c n bytes. Blob digest c bytes) m (c ++ d) o r) (unread_by (plan_of digest head)) k l after o d r (unread_where digest limit m after c (plan_of digest head) h.replies.reply_is.2) run
-blob_run digest request limit k l m after o c d last (Answered answer) r h run = done_run (λ s d o r. WhereOk (λ m c n bytes. Blob digest c bytes) m (c ++ d) o r) (read_by last.url answer (plan_of digest (head_part answer))) k l after o d r (read_where digest last.url m after c answer (plan_of digest (head_part answer)) refl (body_led (led_of h answer h.replies.reply_is.1 h.settles))) run
+blob_run digest request limit k l m after o c d last (Answered answer) r h run = done_run (λ s d o r. WhereOk (λ m c n bytes. Blob digest c bytes) m (c ++ d) o r) (read_by last.url answer (plan_of digest (head_part answer))) k l after o d r (read_where digest last.url m after c answer (plan_of digest (head_part answer)) refl (body_led (led_of h answer h.replies.reply_is.1 h.settles)) (last_led (led_of h answer h.replies.reply_is.1 h.settles))) run
 blob_run digest request limit k l m after o c d last Failed r h run = done_run (λ s d o r. WhereOk (λ m c n bytes. Blob digest c bytes) m (c ++ d) o r) (Err refusal.TransportFault) k l after o d r tt run
 blob_run digest request limit k l m after o c d last TooLong r h run = done_run (λ s d o r. WhereOk (λ m c n bytes. Blob digest c bytes) m (c ++ d) o r) (Err refusal.BodyTooLong) k l after o d r tt run
 blob_run digest request limit k l m after o c d last SinkFailed r h run = done_run (λ s d o r. WhereOk (λ m c n bytes. Blob digest c bytes) m (c ++ d) o r) (Err refusal.SinkFault) k l after o d r tt run
@@ -115,7 +121,7 @@ unfolding attempt
 attempt_shows digest request limit = Shows-follow (WhereOk (λ m c n bytes. Blob digest c bytes)) 10 request (blob_reading limit digest) (blob_reply digest) (blob_run digest request limit)
 
 later_where : (digest : List ℕ) (c : List Exchange) (m start n : ℕ) (d : List Exchange) (r : Result (List ℕ) OciDistributionError) → WhereOk (λ m c n bytes. Blob digest c bytes) start d n r → WhereOk (λ m c n bytes. Blob digest c bytes) m (c ++ d) n r
-later_where digest c m start n d (Ok bytes) h = (body_after c h.0, h.1)
+later_where digest c m start n d (Ok bytes) h = (body_after c h.0, h.1, last_after c h.2)
 later_where digest c m start n d (Err e) h = tt
 
 -- the bytes are those of an answer, and the digest names them

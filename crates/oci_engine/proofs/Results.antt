@@ -15,7 +15,7 @@ use Rattle.engine_requests.specs.declared.error.OciDistributionError.{OciDistrib
 use Rattle.engine_requests.specs.Errors.{is_memory}
 use Rattle.engine_steps.specs.Blobs.{Spills}
 use Rattle.engine_pull.specs.Pulls.{fetch_manifest_digest, pull_manifest_raw, pull_blob}
-use Rattle.oci_engine.specs.Answered.{Answered, Body, Document, TookBlob}
+use Rattle.oci_engine.specs.Answered.{Answered, Body, LastBody, Document, TookBlob}
 use Rattle.oci_engine.proofs.Documents.{raw_shows}
 use Rattle.oci_engine.proofs.Digests.{digest_shows}
 use Rattle.oci_engine.proofs.Blobs.{Blob, blob_shows}
@@ -49,11 +49,14 @@ blob_told s image digest met = Meets-shows-ok (λ m c n bytes. Blob digest c byt
 pub blob_body : (s : Settings) (image : Reference) (digest : List ℕ) {old new : Link} {k l : Memory} {r : Result (List ℕ) OciDistributionError} → Meets is_memory (pull_blob s image digest) old new k l r → IfOk r (λ bytes. Told (λ c. Body c bytes) old new)
 blob_body s image digest {old = old} {new = new} {r = r} met = ok_more (λ bytes. Told (λ c. Blob digest c bytes) old new) (λ bytes. Told (λ c. Body c bytes) old new) r (blob_told s image digest met) (λ bytes told. told_more (λ c b. b.0) told)
 
+pub blob_last : (s : Settings) (image : Reference) (digest : List ℕ) {old new : Link} {k l : Memory} {r : Result (List ℕ) OciDistributionError} → Meets is_memory (pull_blob s image digest) old new k l r → IfOk r (λ bytes. Told (λ c. LastBody c bytes) old new)
+blob_last s image digest {old = old} {new = new} {r = r} met = ok_more (λ bytes. Told (λ c. Blob digest c bytes) old new) (λ bytes. Told (λ c. LastBody c bytes) old new) r (blob_told s image digest met) (λ bytes told. told_more (λ c b. b.2) told)
+
 pub blob_named : (s : Settings) (image : Reference) (digest : List ℕ) {old new : Link} {k l : Memory} {r : Result (List ℕ) OciDistributionError} → Meets is_memory (pull_blob s image digest) old new k l r → IfOk r (λ bytes. Names digest bytes)
 blob_named s image digest {old = old} {new = new} {r = r} met = ok_more (λ bytes. Told (λ c. Blob digest c bytes) old new) (λ bytes. Names digest bytes) r (blob_told s image digest met) (λ bytes told. told.holds.1)
 
 pub blob_took : (s : Settings) (image : Reference) (digest : List ℕ) {old new : Link} {k l : Memory} {before after : Tray} {r : Result (Unit {0}) OciDistributionError} → Spills (pull_blob s image digest) old new k l before after r → IfOk r (λ u. TookBlob digest old new before after)
 blob_took s image digest {old} {new} {k} {l} {before} {after} {r} spills = by_result r spills where
   by_result : (r : Result (Unit {0}) OciDistributionError) → Spills (pull_blob s image digest) old new k l before after r → IfOk r (λ u. TookBlob digest old new before after)
-  by_result (Ok u) spills = record { bytes = spills.body; took = spills.put; names = blob_named s image digest spills.met; body = blob_body s image digest spills.met }
+  by_result (Ok u) spills = record { bytes = spills.body; took = spills.put; names = blob_named s image digest spills.met; body = blob_last s image digest spills.met }
   by_result (Err e) spills = tt

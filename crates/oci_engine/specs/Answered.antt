@@ -93,15 +93,24 @@ pub record Body (c : List Exchange) (bytes : List ℕ) : Type 0 where
   pub answered : exchange.answer ≡ Some answer
   pub body : answer.body ≡ bytes
 
+-- the bytes are the body of the last answer of all
+pub record LastBody (c : List Exchange) (bytes : List ℕ) : Type 0 where
+  pub before : List Exchange
+  pub last : Exchange
+  pub split : c ≡ before ++ last ∷ []
+  pub answer : Answer
+  pub answered : last.answer ≡ Some answer
+  pub body : answer.body ≡ bytes
+
 -- a document's bytes with their digest, which names them, as the reference's digest does where it has one
 pub record Document (image : Reference) (c : List Exchange) (bytes d : List ℕ) : Type 0 where
   pub body : Body c bytes
   pub names : Names d bytes
   pub named : (own : List ℕ) → digest_of image ≡ Some own → Names own bytes
 
--- the sink took a blob that the digest names, and that is an answer's body
+-- the sink took a blob that the digest names: the whole body of the last answer
 pub record TookBlob (digest : List ℕ) (old new : Link) (before after : Tray) : Type 0 where
   pub bytes : List ℕ
   pub took : Adds bytes before after
   pub names : Names digest bytes
-  pub body : Told (λ c. Body c bytes) old new
+  pub body : Told (λ c. LastBody c bytes) old new

@@ -9,7 +9,7 @@ ghost use Rattle.engine_requests.specs.Requests.{listed, manifest_types};
 ghost use Rattle.engine_steps.specs.Blobs.{Spills};
 ghost use Rattle.engine_pull.specs.Pulls.{fetch_manifest_digest, pull_manifest, pull_manifest_raw, pull_blob};
 ghost use Rattle.engine_pull.specs.Images.{pull};
-ghost use Rattle.oci_engine.specs.Answered.{Answered, Body, TookBlob};
+ghost use Rattle.oci_engine.specs.Answered.{Answered, Body, LastBody, TookBlob};
 ghost use Rattle.oci_engine.specs.Causes.{AnswerCause, DocumentCause, Cause, OwnDigest, BlobCause, ImageCause};
 ghost use Rattle.oci_engine.specs.Clients.{settings_of};
 
@@ -197,6 +197,7 @@ impl Client {
         ensures run { Meets is_memory (pull_blob self.old.settings image.now digest.now) (T.state transport.old) (T.state transport.new) self.old.memory self.new.memory result }
         ensures settings { self.new.settings ≡ self.old.settings }
         ensures body { IfOk result (λ bytes. Told (λ c. Body c bytes) (T.state transport.old) (T.state transport.new)) }
+        ensures last { IfOk result (λ bytes. Told (λ c. LastBody c bytes) (T.state transport.old) (T.state transport.new)) }
         ensures named { IfOk result (λ bytes. Names digest.now bytes) }
         ensures causes { IfErr result (λ e. Told (λ c. BlobCause self.old.settings digest.now c (T.state transport.new).faults e) (T.state transport.old) (T.state transport.new)) }
         ensures fault { result ≡ Err OciDistributionError.TransportFault → Rose (T.state transport.old).faults (T.state transport.new).faults }

@@ -35,18 +35,28 @@ fn pieces(alloc: Global, body: &str) -> Result<List<Blob>, AllocError>
     Ok(pieces)
 }
 
-// An answer of the status 200 that names its body's digest.
-fn answer(alloc: Global, digest: &str, body: &str) -> Result<Recorded, HeaderError> {
+// An answer of this status that names this digest.
+fn answer_of(
+    alloc: Global,
+    status: u16,
+    digest: &str,
+    body: &str,
+) -> Result<Recorded, HeaderError> {
     let mut headers = Headers::new(alloc);
     headers.add("docker-content-digest", digest.as_bytes())?;
     let pieces = pieces(alloc, body)?;
     Ok(Recorded {
         fails: false,
-        status: 200,
+        status,
         headers,
         pieces,
         fails_before: None,
     })
+}
+
+// An answer of the status 200 that names its body's digest.
+fn answer(alloc: Global, digest: &str, body: &str) -> Result<Recorded, HeaderError> {
+    answer_of(alloc, 200, digest, body)
 }
 
 // These answers, each after that to the request for a token.
@@ -186,5 +196,116 @@ fn a_blob_is_what_its_digest_names(rt: HostRuntime) -> Result<(), Fail> {
     assert!(rt; found.is_some_and(|it| it.as_slice() == b"hello world".as_slice()));
     let mut other = tokenless(rt.alloc(), "hello there")?;
     assert!(rt; blob(rt.alloc(), &mut other).is_none());
+    Ok(())
+}
+
+// The name of the refusal of a pull that accepts no layer, where a body may have this many bytes.
+fn refused(alloc: Global, script: &mut Script, limit: u64) -> Option<&'static str> {
+    let mut config = ClientConfig::default(alloc).ok()?;
+    config.max_body_bytes = limit;
+    let mut client = Client::new(alloc, config);
+    let image = image(alloc)?;
+    let refusal = client
+        .pull(alloc, script, 100, &image, &RegistryAuth::Anonymous, &[])
+        .err()?;
+    Some(refusal.name())
+}
+
+// The manifest is answered so, after the token's answer and before that of the configuration's blob.
+fn manifest_answered(alloc: Global, manifest: Recorded) -> Result<Script, HeaderError> {
+    let mut answers = List::new(alloc);
+    answers.push(answer(alloc, "", "")?)?;
+    answers.push(manifest)?;
+    answers.push(answer(alloc, "", "")?)?;
+    answers.push(answer(alloc, CONFIG_DIGEST, "{}")?)?;
+    Ok(Script::new(alloc, answers))
+}
+
+// Whether a pull is refused so, where the manifest's answer has this status, digest and body.
+fn is_refused(
+    alloc: Global,
+    status: u16,
+    digest: &str,
+    body: &str,
+    wanted: &str,
+) -> Result<bool, HeaderError> {
+    let manifest = answer_of(alloc, status, digest, body)?;
+    ends_with(alloc, manifest, 1000, wanted)
+}
+
+const TWICE: &str =
+    r#"{"schemaVersion":2,"config":{"mediaType":"a","digest":"sha256:44136fa355b3678a1146ad16f7e8649e94fb4fc21fe77e8310c060f61caaff8a","size":2},"layers":[],"manifests":[]}"#;
+
+const NO_LAYERS: &str =
+    r#"{"schemaVersion":2,"config":{"mediaType":"a","digest":"sha256:44136fa355b3678a1146ad16f7e8649e94fb4fc21fe77e8310c060f61caaff8a","size":2},"layers":[]}"#;
+
+const DENIED: &str = r#"{"errors":[{"code":"DENIED","message":"no"}]}"#;
+
+#[test]
+fn each_answer_is_refused_by_its_name(rt: HostRuntime) -> Result<(), Fail> {
+    let cases = [
+        (401, "", "", "UnauthorizedError"),
+        (404, "", DENIED, "RegistryError"),
+        (404, "", "gone", "ServerError"),
+        (502, "", "", "ServerError"),
+        (204, "", "", "SpecViolationError"),
+        (200, "latest", MANIFEST, "DigestError"),
+        (200, "md5:00", MANIFEST, "DigestError"),
+        (200, LAYER_DIGEST, MANIFEST, "DigestError"),
+        (200, "", "no document", "VersionedParsingError"),
+        (
+            200,
+            "",
+            r#"{"schemaVersion":1}"#,
+            "UnsupportedSchemaVersionError",
+        ),
+        (
+            200,
+            "",
+            r#"{"schemaVersion":2,"mediaType":"text/plain"}"#,
+            "UnsupportedMediaTypeError",
+        ),
+        (200, "", r#"{"schemaVersion":2}"#, "ManifestParsingError"),
+        (200, "", TWICE, "AmbiguousManifest"),
+        (
+            200,
+            "",
+            r#"{"schemaVersion":2,"manifests":[]}"#,
+            "ImageIndexParsingNoPlatformResolverError",
+        ),
+        (200, "", NO_LAYERS, "PullNoLayersError"),
+        (200, "", MANIFEST, "IncompatibleLayerMediaTypeError"),
+    ];
+    for (status, digest, body, wanted) in cases {
+        assert!(rt;
+            is_refused(rt.alloc(), status, digest, body, wanted)?,
+            "{wanted}"
+        );
+    }
+    Ok(())
+}
+
+// Whether a pull is refused so, where this is the manifest's answer.
+fn ends_with(
+    alloc: Global,
+    manifest: Recorded,
+    limit: u64,
+    wanted: &str,
+) -> Result<bool, HeaderError> {
+    let mut script = manifest_answered(alloc, manifest)?;
+    let refusal = refused(alloc, &mut script, limit);
+    Ok(refusal.is_some_and(|name| name == wanted))
+}
+
+#[test]
+fn faults_and_long_bodies_are_told_apart(rt: HostRuntime) -> Result<(), Fail> {
+    let mut unsent = answer(rt.alloc(), "", MANIFEST)?;
+    unsent.fails = true;
+    assert!(rt; ends_with(rt.alloc(), unsent, 1000, "TransportFault")?);
+    let mut cut = answer(rt.alloc(), "", MANIFEST)?;
+    cut.fails_before = Some(0);
+    assert!(rt; ends_with(rt.alloc(), cut, 1000, "TransportFault")?);
+    let long = answer(rt.alloc(), "", MANIFEST)?;
+    assert!(rt; ends_with(rt.alloc(), long, 10, "BodyTooLong")?);
     Ok(())
 }

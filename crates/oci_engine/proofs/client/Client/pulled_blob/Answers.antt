@@ -1,4 +1,4 @@
-use Rattle.oci_engine.proofs.Results.{blob_body, blob_named}
+use Rattle.oci_engine.proofs.Results.{blob_body, blob_last, blob_named}
 use Rattle.oci_engine.proofs.Reasons.{blob_reason, blob_fault}
 use Rattle.oci_engine.proofs.client.Client.pulled_blob.Goals as goal
 
@@ -13,3 +13,6 @@ returns-clause-causes g c = blob_reason c.args.self.now.settings c.args.image.no
 
 pub returns-clause-fault : goal.returns-clause-fault
 returns-clause-fault g c = blob_fault c.args.self.now.settings c.args.image.now c.args.digest.now c.pulled_blob.ensures
+
+pub returns-clause-last : goal.returns-clause-last
+returns-clause-last g c = blob_last c.args.self.now.settings c.args.image.now c.args.digest.now c.pulled_blob.ensures
