@@ -30,7 +30,7 @@ use Rattle.engine_requests.specs.Documents.{document_read}
 use Rattle.engine_steps.specs.Rows.{Row as Engine}
 use Rattle.engine_pull.specs.Pulls.{fetch_manifest_digest, pull_manifest_raw, pull_blob}
 use Rattle.engine_pull.specs.Images.{image_manifest, is_accepted, all_accepted, layers_accepted, layer_of, config_of}
-use Rattle.oci_engine.specs.Answered.{Answered, Body, Document}
+use Rattle.oci_engine.specs.Answered.{Answered, Body, Document, LastBody}
 use Rattle.oci_engine.proofs.Documents.{body_before, body_after, raw_shows}
 use Rattle.oci_engine.proofs.Blobs.{blob_shows}
 use Rattle.oci_engine.proofs.Digests.{digest_shows}
@@ -78,9 +78,9 @@ document_call_shows : (s : Settings) (image : Reference) (a : RegistryAuth) (typ
 unfolding document_call
 document_call_shows s image a types = words_show (IsDocument image) Pull image (pull_manifest_raw s image a types) (raw_shows s image a types)
 
--- the bytes of an answer, which the digest names
+-- the bytes of the last answer, which the digest names
 abbrev IsBlob : List ℕ → List Exchange → List ℕ → Type 0
-IsBlob digest c bytes = Body c bytes × Names digest bytes
+IsBlob digest c bytes = Body c bytes × Names digest bytes × LastBody c bytes
 
 blob_call_shows : (s : Settings) (image : Reference) (digest : List ℕ) → Shows (Seen (IsBlob digest)) (blob_call s image digest)
 unfolding blob_call

@@ -55,6 +55,18 @@ pub enum PullRefusal {
     WantOfMemory,
 }
 
+impl PullRefusal {
+    ghost use Rattle.std.specs.Prelude.{◌≡◌};
+    ghost use Rattle.cosign_client.specs.Refusals.{is_memory};
+
+    /// Whether memory was wanting, and nothing is said of the image.
+    pub fn is_memory(&self) -> bool
+        ensures { result ≡ is_memory self.now }
+    {
+        matches!(self, PullRefusal::WantOfMemory)
+    }
+}
+
 impl From<AllocError> for PullRefusal {
     ghost use Rattle.std.specs.Prelude.{◌≡◌};
     ghost use Rattle.cosign_client.specs.declared.verified.PullRefusal.TheVariants.{WantOfMemory};
