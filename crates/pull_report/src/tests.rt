@@ -1,13 +1,10 @@
 use crate::printed::Printed;
-use crate::write_report;
-use cosign_client::{PullRefusal, SkipCause, Skipped, SourceKind, VerifiedImage};
-use cosign_layers::{LayerKind, LayerPart, LayerRejection, SignatureLayer};
+use cosign_client::{PullRefusal, SkipCause, Skipped, SourceKind};
+use cosign_layers::{LayerPart, LayerRejection};
 use engine_requests::{GenericCause, OciDistributionError, SpecViolation};
-use json_canon::{Annotations, Blob, Copied, List, Text, read_json};
+use json_canon::{Blob, Copied, Text, read_json};
 use oci_digests::DigestError;
-use oci_docs::blob::Config;
-use oci_docs::{OciDescriptor, OciEnvelope, OciImageManifest};
-use oci_link::{Exchange, Headers, Method, Request};
+use oci_docs::OciEnvelope;
 use sig_registry::SigstoreError;
 use std::alloc::{AllocError, Global};
 use std::process::Abort;
@@ -21,14 +18,13 @@ fn blob(alloc: Global, bytes: &[u8]) -> Result<Blob, AllocError> {
     Blob::new(alloc, bytes)
 }
 
-fn assert_print<P: Printed>(
+fn assert_print<P: Printed + Drop>(
     rt: &(impl Abort + AllocGlobal),
-    value: &P,
+    value: P,
     want: &str,
 ) -> Result<(), Fail> {
-    let alloc = rt.alloc();
-    let mut out = Blob::empty(alloc);
-    value.write_print(alloc, &mut out)?;
+    let mut out = Blob::empty(rt.alloc());
+    value.write_print(rt.alloc(), &mut out)?;
     assert_eq!(rt; out.as_slice(), want.as_bytes(), "{want}");
     Ok(())
 }
@@ -38,13 +34,13 @@ fn values_are_printed_by_their_kinds(rt: HostRuntime) -> Result<(), Fail> {
     let alloc = rt.alloc();
     assert_print(
         &rt,
-        &text(alloc, "a\"b\\c\n\u{e9}/")?,
+        text(alloc, "a\"b\\c\n\u{e9}/")?,
         "\"a\\\"b\\\\c\\n\u{e9}/\"",
     )?;
-    assert_print(&rt, &blob(alloc, b"\xff\n\"")?, "3")?;
-    assert_print(&rt, &65535u16, "65535")?;
-    assert_print(&rt, &-2147483648i32, "-2147483648")?;
-    assert_print(&rt, &0i32, "0")
+    assert_print(&rt, blob(alloc, b"\xff\n\"")?, "3")?;
+    assert_print(&rt, 65535u16, "65535")?;
+    assert_print(&rt, -2147483648i32, "-2147483648")?;
+    assert_print(&rt, 0i32, "0")
 }
 
 #[test]
@@ -52,52 +48,56 @@ fn digest_errors_are_printed_with_their_texts(rt: HostRuntime) -> Result<(), Fai
     let alloc = rt.alloc();
     assert_print(
         &rt,
-        &DigestError::InvalidHeader(blob(alloc, b"\xc3\xa9")?),
+        DigestError::InvalidHeader(blob(alloc, b"\xc3\xa9")?),
         "InvalidHeader 2",
     )?;
     assert_print(
         &rt,
-        &DigestError::UnsupportedAlgorithm(text(alloc, "md5")?),
+        DigestError::UnsupportedAlgorithm(text(alloc, "md5")?),
         "UnsupportedAlgorithm \"md5\"",
     )?;
-    assert_print(&rt, &DigestError::MissingAlgorithm, "MissingAlgorithm")?;
+    assert_print(&rt, DigestError::MissingAlgorithm, "MissingAlgorithm")?;
     let expected = text(alloc, "sha256:a")?;
     let actual = text(alloc, "sha256:b")?;
     assert_print(
         &rt,
-        &DigestError::VerificationError { expected, actual },
+        DigestError::VerificationError { expected, actual },
         "VerificationError \"sha256:a\" \"sha256:b\"",
     )?;
-    assert_print(&rt, &DigestError::WantOfMemory, "WantOfMemory")
+    assert_print(&rt, DigestError::WantOfMemory, "WantOfMemory")
 }
 
 #[test]
 fn errors_that_keep_nothing_are_printed_by_name(rt: HostRuntime) -> Result<(), Fail> {
-    for (error, want) in [
-        (OciDistributionError::BodyTooLong, "BodyTooLong"),
-        (
-            OciDistributionError::ImageIndexParsingNoPlatformResolverError,
-            "ImageIndexParsingNoPlatformResolverError",
-        ),
-        (OciDistributionError::PullNoLayersError, "PullNoLayersError"),
-        (OciDistributionError::SinkFault, "SinkFault"),
-        (OciDistributionError::TransportFault, "TransportFault"),
-        (OciDistributionError::WantOfMemory, "WantOfMemory"),
-        (
-            OciDistributionError::DigestError(DigestError::MissingAlgorithm),
-            "DigestError MissingAlgorithm",
-        ),
-        (
-            OciDistributionError::GenericError(GenericCause::HeaderText),
-            "GenericError HeaderText",
-        ),
-        (
-            OciDistributionError::UnsupportedSchemaVersionError(-1),
-            "UnsupportedSchemaVersionError -1",
-        ),
-    ] {
-        assert_print(&rt, &error, want)?;
-    }
+    assert_print(&rt, OciDistributionError::BodyTooLong, "BodyTooLong")?;
+    assert_print(
+        &rt,
+        OciDistributionError::ImageIndexParsingNoPlatformResolverError,
+        "ImageIndexParsingNoPlatformResolverError",
+    )?;
+    assert_print(
+        &rt,
+        OciDistributionError::PullNoLayersError,
+        "PullNoLayersError",
+    )?;
+    assert_print(&rt, OciDistributionError::SinkFault, "SinkFault")?;
+    assert_print(&rt, OciDistributionError::TransportFault, "TransportFault")?;
+    assert_print(&rt, OciDistributionError::WantOfMemory, "WantOfMemory")?;
+    assert_print(
+        &rt,
+        OciDistributionError::DigestError(DigestError::MissingAlgorithm),
+        "DigestError MissingAlgorithm",
+    )?;
+    assert_print(
+        &rt,
+        OciDistributionError::GenericError(GenericCause::HeaderText),
+        "GenericError HeaderText",
+    )?;
+    assert_print(
+        &rt,
+        OciDistributionError::UnsupportedSchemaVersionError(-1),
+        "UnsupportedSchemaVersionError -1",
+    )?;
     Ok(())
 }
 
@@ -107,17 +107,17 @@ fn errors_about_documents_are_printed_with_their_lengths(rt: HostRuntime) -> Res
     let document = blob(alloc, b"{\"schemaVersion\":2}")?;
     assert_print(
         &rt,
-        &OciDistributionError::AmbiguousManifest(document.copy(alloc)?),
+        OciDistributionError::AmbiguousManifest(document.copy(alloc)?),
         "AmbiguousManifest 19",
     )?;
     assert_print(
         &rt,
-        &OciDistributionError::ManifestParsingError(document.copy(alloc)?),
+        OciDistributionError::ManifestParsingError(document.copy(alloc)?),
         "ManifestParsingError 19",
     )?;
     assert_print(
         &rt,
-        &OciDistributionError::VersionedParsingError(document),
+        OciDistributionError::VersionedParsingError(document),
         "VersionedParsingError 19",
     )
 }
@@ -127,24 +127,24 @@ fn errors_about_texts_are_printed_with_them(rt: HostRuntime) -> Result<(), Fail>
     let alloc = rt.alloc();
     assert_print(
         &rt,
-        &OciDistributionError::IncompatibleLayerMediaTypeError(text(alloc, "application/x")?),
+        OciDistributionError::IncompatibleLayerMediaTypeError(text(alloc, "application/x")?),
         "IncompatibleLayerMediaTypeError \"application/x\"",
     )?;
     assert_print(
         &rt,
-        &OciDistributionError::UnauthorizedError {
+        OciDistributionError::UnauthorizedError {
             url: text(alloc, "https://r.example/v2/")?,
         },
         "UnauthorizedError \"https://r.example/v2/\"",
     )?;
     assert_print(
         &rt,
-        &OciDistributionError::UnsupportedMediaTypeError(text(alloc, "text/plain")?),
+        OciDistributionError::UnsupportedMediaTypeError(text(alloc, "text/plain")?),
         "UnsupportedMediaTypeError \"text/plain\"",
     )?;
     assert_print(
         &rt,
-        &OciDistributionError::UrlParseError(text(alloc, "http://u:p@cdn.example/l")?),
+        OciDistributionError::UrlParseError(text(alloc, "http://u:p@cdn.example/l")?),
         "UrlParseError \"http://u:p@cdn.example/l\"",
     )
 }
@@ -163,14 +163,14 @@ fn errors_about_answers_are_printed_with_them(rt: HostRuntime) -> Result<(), Fai
     let url = text(alloc, "http://x/y")?;
     assert_print(
         &rt,
-        &OciDistributionError::RegistryError { envelope, url },
+        OciDistributionError::RegistryError { envelope, url },
         "RegistryError 2 \"http://x/y\"",
     )?;
     let url = text(alloc, "http://x/y")?;
     let message = Blob::empty(alloc);
     assert_print(
         &rt,
-        &OciDistributionError::ServerError {
+        OciDistributionError::ServerError {
             code: 302,
             url,
             message,
@@ -180,7 +180,7 @@ fn errors_about_answers_are_printed_with_them(rt: HostRuntime) -> Result<(), Fai
     let url = text(alloc, "http://x")?;
     assert_print(
         &rt,
-        &OciDistributionError::SpecViolationError(SpecViolation::Status {
+        OciDistributionError::SpecViolationError(SpecViolation::Status {
             expected: 200,
             got: 204,
             url,
@@ -192,37 +192,37 @@ fn errors_about_answers_are_printed_with_them(rt: HostRuntime) -> Result<(), Fai
 #[test]
 fn rejections_are_printed_with_their_parts(rt: HostRuntime) -> Result<(), Fail> {
     let alloc = rt.alloc();
-    for (rejection, want) in [
-        (LayerRejection::DigestMismatch, "DigestMismatch"),
-        (
-            LayerRejection::Unreadable(LayerPart::Content),
-            "Unreadable Content",
-        ),
-        (
-            LayerRejection::Unreadable(LayerPart::Signature),
-            "Unreadable Signature",
-        ),
-        (
-            LayerRejection::Unreadable(LayerPart::LogEntry),
-            "Unreadable LogEntry",
-        ),
-        (
-            LayerRejection::Unreadable(LayerPart::Certificate),
-            "Unreadable Certificate",
-        ),
-        (LayerRejection::OtherDigest, "OtherDigest"),
-        (LayerRejection::NoSignature, "NoSignature"),
-        (LayerRejection::BadLogSignature, "BadLogSignature"),
-        (LayerRejection::NoLogEntry, "NoLogEntry"),
-        (LayerRejection::NotVouched, "NotVouched"),
-        (LayerRejection::LayerNotPulled, "LayerNotPulled"),
-        (LayerRejection::WantOfMemory, "WantOfMemory"),
-    ] {
-        assert_print(&rt, &rejection, want)?;
-    }
+    assert_print(&rt, LayerRejection::DigestMismatch, "DigestMismatch")?;
     assert_print(
         &rt,
-        &LayerRejection::UnknownLogKey(text(alloc, "ab")?),
+        LayerRejection::Unreadable(LayerPart::Content),
+        "Unreadable Content",
+    )?;
+    assert_print(
+        &rt,
+        LayerRejection::Unreadable(LayerPart::Signature),
+        "Unreadable Signature",
+    )?;
+    assert_print(
+        &rt,
+        LayerRejection::Unreadable(LayerPart::LogEntry),
+        "Unreadable LogEntry",
+    )?;
+    assert_print(
+        &rt,
+        LayerRejection::Unreadable(LayerPart::Certificate),
+        "Unreadable Certificate",
+    )?;
+    assert_print(&rt, LayerRejection::OtherDigest, "OtherDigest")?;
+    assert_print(&rt, LayerRejection::NoSignature, "NoSignature")?;
+    assert_print(&rt, LayerRejection::BadLogSignature, "BadLogSignature")?;
+    assert_print(&rt, LayerRejection::NoLogEntry, "NoLogEntry")?;
+    assert_print(&rt, LayerRejection::NotVouched, "NotVouched")?;
+    assert_print(&rt, LayerRejection::LayerNotPulled, "LayerNotPulled")?;
+    assert_print(&rt, LayerRejection::WantOfMemory, "WantOfMemory")?;
+    assert_print(
+        &rt,
+        LayerRejection::UnknownLogKey(text(alloc, "ab")?),
         "UnknownLogKey \"ab\"",
     )
 }
@@ -232,7 +232,7 @@ fn what_was_passed_over_is_printed_with_its_cause(rt: HostRuntime) -> Result<(),
     let alloc = rt.alloc();
     assert_print(
         &rt,
-        &Skipped::Source(
+        Skipped::Source(
             SourceKind::Tag,
             SkipCause::NotAReference(text(alloc, "r/a:b")?),
         ),
@@ -240,12 +240,12 @@ fn what_was_passed_over_is_printed_with_its_cause(rt: HostRuntime) -> Result<(),
     )?;
     assert_print(
         &rt,
-        &Skipped::Referrer(text(alloc, "sha256:p")?, SkipCause::FoundIndex),
+        Skipped::Referrer(text(alloc, "sha256:p")?, SkipCause::FoundIndex),
         "Referrer \"sha256:p\" FoundIndex",
     )?;
     assert_print(
         &rt,
-        &Skipped::Source(
+        Skipped::Source(
             SourceKind::Referrers,
             SkipCause::Refused(SigstoreError::WantOfMemory),
         ),
@@ -253,7 +253,7 @@ fn what_was_passed_over_is_printed_with_its_cause(rt: HostRuntime) -> Result<(),
     )?;
     assert_print(
         &rt,
-        &Skipped::Layer(
+        Skipped::Layer(
             SourceKind::Tag,
             text(alloc, "sha256:p")?,
             LayerRejection::Unreadable(LayerPart::Content),
@@ -268,28 +268,28 @@ fn refused_calls_are_printed_with_their_image(rt: HostRuntime) -> Result<(), Fai
     let reference = text(alloc, "localhost:5000/app@sha256")?;
     assert_print(
         &rt,
-        &SigstoreError::OciReferenceNotValidError { reference },
+        SigstoreError::OciReferenceNotValidError { reference },
         "OciReferenceNotValidError \"localhost:5000/app@sha256\"",
     )?;
     let image = text(alloc, "x")?;
     let error = OciDistributionError::TransportFault;
     assert_print(
         &rt,
-        &SigstoreError::RegistryFetchManifestError { image, error },
+        SigstoreError::RegistryFetchManifestError { image, error },
         "RegistryFetchManifestError \"x\" TransportFault",
     )?;
     let image = text(alloc, "x")?;
     let error = OciDistributionError::IncompatibleLayerMediaTypeError(text(alloc, "t")?);
     assert_print(
         &rt,
-        &SigstoreError::RegistryPullError { image, error },
+        SigstoreError::RegistryPullError { image, error },
         "RegistryPullError \"x\" IncompatibleLayerMediaTypeError \"t\"",
     )?;
     let image = text(alloc, "x")?;
     let error = OciDistributionError::BodyTooLong;
     assert_print(
         &rt,
-        &SigstoreError::RegistryPullManifestError { image, error },
+        SigstoreError::RegistryPullManifestError { image, error },
         "RegistryPullManifestError \"x\" BodyTooLong",
     )
 }
@@ -297,198 +297,26 @@ fn refused_calls_are_printed_with_their_image(rt: HostRuntime) -> Result<(), Fai
 #[test]
 fn refused_pulls_are_printed_with_their_image(rt: HostRuntime) -> Result<(), Fail> {
     let alloc = rt.alloc();
-    assert_print(&rt, &PullRefusal::EmptyPolicy, "EmptyPolicy")?;
-    assert_print(&rt, &PullRefusal::WantOfMemory, "WantOfMemory")?;
+    assert_print(&rt, PullRefusal::EmptyPolicy, "EmptyPolicy")?;
+    assert_print(&rt, PullRefusal::WantOfMemory, "WantOfMemory")?;
     let reference = text(alloc, "localhost:5000/app@sha256")?;
     assert_print(
         &rt,
-        &PullRefusal::OciReferenceNotValidError { reference },
+        PullRefusal::OciReferenceNotValidError { reference },
         "OciReferenceNotValidError \"localhost:5000/app@sha256\"",
     )?;
     let image = text(alloc, "localhost:5000/app:v1")?;
     let error = OciDistributionError::TransportFault;
     assert_print(
         &rt,
-        &PullRefusal::RegistryFetchManifestError { image, error },
+        PullRefusal::RegistryFetchManifestError { image, error },
         "RegistryFetchManifestError \"localhost:5000/app:v1\" TransportFault",
     )?;
     let image = text(alloc, "a@b")?;
     let error = OciDistributionError::UnsupportedSchemaVersionError(1);
     assert_print(
         &rt,
-        &PullRefusal::RegistryPullError { image, error },
+        PullRefusal::RegistryPullError { image, error },
         "RegistryPullError \"a@b\" UnsupportedSchemaVersionError 1",
-    )
-}
-
-fn conversation(alloc: Global, asked: &[(Method, &str)]) -> Result<List<Exchange>, AllocError> {
-    let mut exchanges = List::new(alloc);
-    for (method, url) in asked {
-        let request = Request {
-            method: *method,
-            url: text(alloc, *url)?,
-            headers: Headers::new(alloc),
-            body: Blob::empty(alloc),
-        };
-        exchanges.push(Exchange {
-            request,
-            answer: None,
-            faults: 0,
-        })?;
-    }
-    Ok(exchanges)
-}
-
-fn descriptor(alloc: Global, digest: &str) -> Result<OciDescriptor, AllocError> {
-    let media_type = text(alloc, "application/x")?;
-    let digest = text(alloc, digest)?;
-    Ok(OciDescriptor {
-        media_type,
-        digest,
-        size: 2,
-        urls: None,
-        annotations: None,
-        artifact_type: None,
-    })
-}
-
-fn manifest(alloc: Global, config: &str, layers: &[&str]) -> Result<OciImageManifest, AllocError> {
-    let mut descriptors = List::new(alloc);
-    for layer in layers {
-        descriptors.push(descriptor(alloc, *layer)?)?;
-    }
-    Ok(OciImageManifest {
-        schema_version: 2,
-        media_type: None,
-        config: descriptor(alloc, config)?,
-        layers: descriptors,
-        subject: None,
-        artifact_type: None,
-        annotations: None,
-    })
-}
-
-fn signature_layer(alloc: Global, digest: &str) -> Result<SignatureLayer, AllocError> {
-    let oci_digest = text(alloc, digest)?;
-    let signature = text(alloc, "c2lnMQ==")?;
-    Ok(SignatureLayer {
-        kind: LayerKind::Payload,
-        content: Blob::empty(alloc),
-        oci_digest,
-        annotations: Annotations::new(alloc),
-        simple_signing: None,
-        signature,
-        certificate_signature: None,
-        bundle: None,
-    })
-}
-
-// An image of this manifest, with another configuration and no layers.
-fn image(
-    alloc: Global,
-    digest: &str,
-    manifest_digest: &str,
-    manifest: OciImageManifest,
-    signature: SignatureLayer,
-) -> Result<VerifiedImage, AllocError> {
-    let digest = text(alloc, digest)?;
-    let manifest_digest = text(alloc, manifest_digest)?;
-    let media_type = text(alloc, "application/x")?;
-    Ok(VerifiedImage {
-        digest,
-        first: Blob::empty(alloc),
-        manifest_bytes: Blob::empty(alloc),
-        manifest,
-        manifest_digest,
-        list_digest: None,
-        config: Config::new(Blob::empty(alloc), media_type, None),
-        layers: List::new(alloc),
-        signature,
-    })
-}
-
-fn assert_report(
-    rt: &(impl Abort + AllocGlobal),
-    moment: u64,
-    asked: &[(Method, &str)],
-    outcome: &Result<VerifiedImage, PullRefusal>,
-    want: &str,
-) -> Result<(), Fail> {
-    let alloc = rt.alloc();
-    let exchanges = conversation(alloc, asked)?;
-    let mut out = blob(alloc, b"before\n")?;
-    write_report(alloc, &mut out, moment, exchanges.as_slice(), outcome)?;
-    let mut whole = text(alloc, "before\n")?;
-    whole.push_str(want)?;
-    assert_eq!(rt; out.as_slice(), whole.as_str().as_bytes());
-    Ok(())
-}
-
-#[test]
-fn an_image_is_reported_by_the_digests_of_its_descriptors(rt: HostRuntime) -> Result<(), Fail> {
-    let alloc = rt.alloc();
-    let asked = [
-        (Method::Get, "http://localhost:5000/v2/"),
-        (Method::Head, "http://localhost:5000/v2/app/manifests/v1"),
-        (Method::Post, "http://localhost:5000/v2/app/blobs/uploads/"),
-        (Method::Patch, "http://localhost:5000/u?a=\"b\""),
-        (Method::Put, "http://localhost:5000/u"),
-    ];
-    let manifest = manifest(alloc, "sha256:c", &["sha256:l2", "sha256:l1"])?;
-    let signature = signature_layer(alloc, "sha256:p")?;
-    let image = image(alloc, "sha256:i", "sha256:m", manifest, signature)?;
-    let want = "moment 18446744073709551615
-GET http://localhost:5000/v2/
-HEAD http://localhost:5000/v2/app/manifests/v1
-POST http://localhost:5000/v2/app/blobs/uploads/
-PATCH http://localhost:5000/u?a=\"b\"
-PUT http://localhost:5000/u
-ok sha256:i
-manifest sha256:m
-config sha256:c
-layer sha256:l2
-layer sha256:l1
-signature sha256:p
-";
-    assert_report(&rt, u64::MAX, &asked, &Ok(image), want)
-}
-
-#[test]
-fn a_refusal_is_reported_by_its_print(rt: HostRuntime) -> Result<(), Fail> {
-    let refusal = Err(PullRefusal::EmptyPolicy);
-    assert_report(&rt, 100, &[], &refusal, "moment 100\nrefused EmptyPolicy\n")
-}
-
-#[test]
-fn an_unsatisfied_policy_is_reported_with_what_was_found(rt: HostRuntime) -> Result<(), Fail> {
-    let alloc = rt.alloc();
-    let mut collected = List::new(alloc);
-    for digest in ["sha256:p1", "sha256:p2"] {
-        collected.push(signature_layer(alloc, digest)?)?;
-    }
-    let mut skipped = List::new(alloc);
-    for layer in ["sha256:p3", "sha256:p4"] {
-        let layer = text(alloc, layer)?;
-        skipped.push(Skipped::Layer(SourceKind::Tag, layer, LayerRejection::NoSignature))?;
-    }
-    let refusal = Err(PullRefusal::Unsatisfied {
-        digest: text(alloc, "sha256:i")?,
-        collected,
-        skipped,
-    });
-    let want = "moment 0
-GET https://r.example/v2/
-refused Unsatisfied \"sha256:i\"
-collected sha256:p1
-collected sha256:p2
-skipped Layer Tag \"sha256:p3\" NoSignature
-skipped Layer Tag \"sha256:p4\" NoSignature
-";
-    assert_report(
-        &rt,
-        0,
-        &[(Method::Get, "https://r.example/v2/")],
-        &refusal,
-        want,
     )
 }
