@@ -36,7 +36,7 @@ fn write_search(alloc: Global, out: &mut Blob, refusal: &PullRefusal) -> Result<
     Ok(())
 }
 
-fn write_refusal(alloc: Global, out: &mut Blob, refusal: &PullRefusal) -> Result<(), AllocError>
+pub fn write_refusal(alloc: Global, out: &mut Blob, refusal: &PullRefusal) -> Result<(), AllocError>
     ensures { OnOk result (out.new ≡ out.old ++ refusal_lines refusal.now) }
 {
     print_line(alloc, out, "refused", refusal)?;

@@ -1,10 +1,13 @@
 use crate::printed::Printed;
+use crate::report::write_refusal;
+use crate::write_report;
 use cosign_client::{PullRefusal, SkipCause, Skipped, SourceKind};
-use cosign_layers::{LayerPart, LayerRejection};
+use cosign_layers::{LayerKind, LayerPart, LayerRejection, SignatureLayer};
 use engine_requests::{GenericCause, OciDistributionError, SpecViolation};
-use json_canon::{Blob, Copied, Text, read_json};
+use json_canon::{Annotations, Blob, Copied, List, Text, read_json};
 use oci_digests::DigestError;
 use oci_docs::OciEnvelope;
+use oci_link::{Exchange, Headers, Method, Request};
 use sig_registry::SigstoreError;
 use std::alloc::{AllocError, Global};
 use std::process::Abort;
@@ -319,4 +322,116 @@ fn refused_pulls_are_printed_with_their_image(rt: HostRuntime) -> Result<(), Fai
         PullRefusal::RegistryPullError { image, error },
         "RegistryPullError \"a@b\" UnsupportedSchemaVersionError 1",
     )
+}
+
+fn conversation(alloc: Global, asked: &[(Method, &str)]) -> Result<List<Exchange>, AllocError> {
+    let mut exchanges = List::new(alloc);
+    for (method, url) in asked {
+        let request = Request {
+            method: *method,
+            url: text(alloc, *url)?,
+            headers: Headers::new(alloc),
+            body: Blob::empty(alloc),
+        };
+        exchanges.push(Exchange {
+            request,
+            answer: None,
+            faults: 0,
+        })?;
+    }
+    Ok(exchanges)
+}
+
+fn signature_layer(alloc: Global, digest: &str) -> Result<SignatureLayer, AllocError> {
+    let oci_digest = text(alloc, digest)?;
+    let signature = text(alloc, "c2lnMQ==")?;
+    Ok(SignatureLayer {
+        kind: LayerKind::Payload,
+        content: Blob::empty(alloc),
+        oci_digest,
+        annotations: Annotations::new(alloc),
+        simple_signing: None,
+        signature,
+        certificate_signature: None,
+        bundle: None,
+    })
+}
+
+fn signature_layers(alloc: Global, digests: &[&str]) -> Result<List<SignatureLayer>, AllocError> {
+    let mut layers = List::new(alloc);
+    for digest in digests {
+        layers.push(signature_layer(alloc, *digest)?)?;
+    }
+    Ok(layers)
+}
+
+fn without_signature(alloc: Global, layers: &[&str]) -> Result<List<Skipped>, AllocError> {
+    let mut skipped = List::new(alloc);
+    for layer in layers {
+        let layer = text(alloc, *layer)?;
+        skipped.push(Skipped::Layer(SourceKind::Tag, layer, LayerRejection::NoSignature))?;
+    }
+    Ok(skipped)
+}
+
+fn report_of_no_policy(alloc: Global) -> Result<Blob, AllocError> {
+    let exchanges = conversation(
+        alloc,
+        &[
+            (Method::Get, "http://localhost:5000/v2/"),
+            (Method::Head, "http://localhost:5000/v2/app/manifests/v1"),
+            (Method::Post, "http://localhost:5000/v2/app/blobs/uploads/"),
+            (Method::Patch, "http://localhost:5000/u?a=\"b\""),
+            (Method::Put, "http://localhost:5000/u"),
+        ],
+    )?;
+    let mut out = blob(alloc, b"before\n")?;
+    let outcome = Err(PullRefusal::EmptyPolicy);
+    let written = write_report(alloc, &mut out, u64::MAX, exchanges.as_slice(), &outcome);
+    drop(outcome);
+    written?;
+    Ok(out)
+}
+
+#[test]
+fn a_report_has_the_moment_the_requests_and_the_outcome(rt: HostRuntime) -> Result<(), Fail> {
+    let report = report_of_no_policy(rt.alloc())?;
+    let want = "before
+moment 18446744073709551615
+GET http://localhost:5000/v2/
+HEAD http://localhost:5000/v2/app/manifests/v1
+POST http://localhost:5000/v2/app/blobs/uploads/
+PATCH http://localhost:5000/u?a=\"b\"
+PUT http://localhost:5000/u
+refused EmptyPolicy
+";
+    assert_eq!(rt; report.as_slice(), want.as_bytes());
+    Ok(())
+}
+
+fn unsatisfied_report(alloc: Global) -> Result<Blob, AllocError> {
+    let digest = text(alloc, "sha256:i")?;
+    let collected = signature_layers(alloc, &["sha256:p1", "sha256:p2"])?;
+    let skipped = without_signature(alloc, &["sha256:p3", "sha256:p4"])?;
+    let refusal = PullRefusal::Unsatisfied {
+        digest,
+        collected,
+        skipped,
+    };
+    let mut out = Blob::empty(alloc);
+    write_refusal(alloc, &mut out, &refusal)?;
+    Ok(out)
+}
+
+#[test]
+fn an_unsatisfied_policy_is_reported_with_what_was_found(rt: HostRuntime) -> Result<(), Fail> {
+    let report = unsatisfied_report(rt.alloc())?;
+    let want = "refused Unsatisfied \"sha256:i\"
+collected sha256:p1
+collected sha256:p2
+skipped Layer Tag \"sha256:p3\" NoSignature
+skipped Layer Tag \"sha256:p4\" NoSignature
+";
+    assert_eq!(rt; report.as_slice(), want.as_bytes());
+    Ok(())
 }
