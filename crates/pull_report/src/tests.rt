@@ -1,12 +1,13 @@
 use crate::printed::Printed;
 use crate::report::write_refusal;
 use crate::write_report;
-use cosign_client::{PullRefusal, SkipCause, Skipped, SourceKind};
+use cosign_client::{PullRefusal, SkipCause, Skipped, SourceKind, VerifiedImage};
 use cosign_layers::{LayerKind, LayerPart, LayerRejection, SignatureLayer};
 use engine_requests::{GenericCause, OciDistributionError, SpecViolation};
 use json_canon::{Annotations, Blob, Copied, List, Text, read_json};
 use oci_digests::DigestError;
-use oci_docs::OciEnvelope;
+use oci_docs::blob::Config;
+use oci_docs::{OciDescriptor, OciEnvelope, OciImageManifest};
 use oci_link::{Exchange, Headers, Method, Request};
 use sig_registry::SigstoreError;
 use std::alloc::{AllocError, Global};
@@ -342,6 +343,27 @@ fn conversation(alloc: Global, asked: &[(Method, &str)]) -> Result<List<Exchange
     Ok(exchanges)
 }
 
+fn descriptor(alloc: Global, digest: &str) -> Result<OciDescriptor, AllocError> {
+    let media_type = text(alloc, "application/x")?;
+    let digest = text(alloc, digest)?;
+    Ok(OciDescriptor {
+        media_type,
+        digest,
+        size: 2,
+        urls: None,
+        annotations: None,
+        artifact_type: None,
+    })
+}
+
+fn descriptors(alloc: Global, digests: &[&str]) -> Result<List<OciDescriptor>, AllocError> {
+    let mut descriptors = List::new(alloc);
+    for digest in digests {
+        descriptors.push(descriptor(alloc, *digest)?)?;
+    }
+    Ok(descriptors)
+}
+
 fn signature_layer(alloc: Global, digest: &str) -> Result<SignatureLayer, AllocError> {
     let oci_digest = text(alloc, digest)?;
     let signature = text(alloc, "c2lnMQ==")?;
@@ -404,6 +426,67 @@ POST http://localhost:5000/v2/app/blobs/uploads/
 PATCH http://localhost:5000/u?a=\"b\"
 PUT http://localhost:5000/u
 refused EmptyPolicy
+";
+    assert_eq!(rt; report.as_slice(), want.as_bytes());
+    Ok(())
+}
+
+// An image without content, with another configuration than its manifest describes.
+fn image(
+    alloc: Global,
+    (digest, manifest_digest, media_type): (Text, Text, Text),
+    config: OciDescriptor,
+    layers: List<OciDescriptor>,
+    signature: SignatureLayer,
+) -> VerifiedImage {
+    let manifest = OciImageManifest {
+        schema_version: 2,
+        media_type: None,
+        config,
+        layers,
+        subject: None,
+        artifact_type: None,
+        annotations: None,
+    };
+    VerifiedImage {
+        digest,
+        first: Blob::empty(alloc),
+        manifest_bytes: Blob::empty(alloc),
+        manifest,
+        manifest_digest,
+        list_digest: None,
+        config: Config::new(Blob::empty(alloc), media_type, None),
+        layers: List::new(alloc),
+        signature,
+    }
+}
+
+fn image_report(alloc: Global) -> Result<Blob, AllocError> {
+    let digest = text(alloc, "sha256:i")?;
+    let manifest_digest = text(alloc, "sha256:m")?;
+    let media_type = text(alloc, "application/x")?;
+    let layers = descriptors(alloc, &["sha256:l2", "sha256:l1"])?;
+    let config = descriptor(alloc, "sha256:c")?;
+    let signature = signature_layer(alloc, "sha256:p")?;
+    let texts = (digest, manifest_digest, media_type);
+    let outcome = Ok(image(alloc, texts, config, layers, signature));
+    let mut out = Blob::empty(alloc);
+    let written = write_report(alloc, &mut out, 100, &[], &outcome);
+    drop(outcome);
+    written?;
+    Ok(out)
+}
+
+#[test]
+fn an_image_is_reported_by_the_digests_of_its_descriptors(rt: HostRuntime) -> Result<(), Fail> {
+    let report = image_report(rt.alloc())?;
+    let want = "moment 100
+ok sha256:i
+manifest sha256:m
+config sha256:c
+layer sha256:l2
+layer sha256:l1
+signature sha256:p
 ";
     assert_eq!(rt; report.as_slice(), want.as_bytes());
     Ok(())
