@@ -15,8 +15,8 @@ use oci_auth::RegistryAuth;
 use oci_digests::{DigestError, validate_digest};
 use oci_docs::blob::Config;
 use oci_docs::{
-    IMAGE_MANIFEST_LIST_MEDIA_TYPE, IMAGE_MANIFEST_MEDIA_TYPE, ImageLayer, OCI_IMAGE_INDEX_MEDIA_TYPE,
-    OCI_IMAGE_MEDIA_TYPE, OciDescriptor, OciImageManifest,
+    IMAGE_MANIFEST_LIST_MEDIA_TYPE, IMAGE_MANIFEST_MEDIA_TYPE, ImageLayer,
+    OCI_IMAGE_INDEX_MEDIA_TYPE, OCI_IMAGE_MEDIA_TYPE, OciDescriptor, OciImageManifest,
 };
 use oci_engine::OciDistributionError;
 use oci_link::Transport;
@@ -120,7 +120,15 @@ pub fn pull_image<C: ClientCapabilities, T: Transport>(
     let checked = layers_accepted(alloc, accepted, manifest.layers.as_slice());
     worded(alloc, Called::Pull, source, checked)?;
     let descriptors = manifest.layers.as_slice();
-    let layers = pull_layers(alloc, client, transport, moment, source, descriptors, List::new(alloc))?;
+    let layers = pull_layers(
+        alloc,
+        client,
+        transport,
+        moment,
+        source,
+        descriptors,
+        List::new(alloc),
+    )?;
     Ok(Pulled {
         first,
         manifest,

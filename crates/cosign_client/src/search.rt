@@ -25,7 +25,9 @@ const PAYLOAD_TYPE: &str = "application/vnd.dev.cosign.simplesigning.v1+json";
 fn with_dashes(alloc: Global, text: &str) -> Result<String, AllocError>
     ensures { IfOk result (λ dashes. string_bytes dashes ≡ with_dashes text.now) }
 {
-    text.chars().map(|c| if c == ':' { '-' } else { c }).collect(alloc)
+    text.chars()
+        .map(|c| if c == ':' { '-' } else { c })
+        .collect(alloc)
 }
 
 // The tag under which a digest's signatures stand.
@@ -39,7 +41,11 @@ fn signature_tag(alloc: Global, digest: &str) -> Result<Text, AllocError>
 }
 
 /// The reference of that tag, in the image's repository.
-pub fn tag_reference(alloc: Global, image: &Reference, digest: &str) -> Result<Reference, AllocError>
+pub fn tag_reference(
+    alloc: Global,
+    image: &Reference,
+    digest: &str,
+) -> Result<Reference, AllocError>
     ensures { IfOk result (λ tag. tag ≡ tag_reference image.now digest.now) }
 {
     let tag = signature_tag(alloc, digest)?;
@@ -153,7 +159,10 @@ fn refused_source(
     if error.is_memory() {
         return Err(error);
     }
-    let more = skipping(found, Skipped::Source(SourceKind::Tag, SkipCause::Refused(error)))?;
+    let more = skipping(
+        found,
+        Skipped::Source(SourceKind::Tag, SkipCause::Refused(error)),
+    )?;
     Ok(more)
 }
 
@@ -168,10 +177,18 @@ fn by_document(
 {
     match document {
         OciManifest::Image(manifest) => {
-            collected(alloc, manifest.layers.as_slice(), image.layers.as_slice(), found)
+            collected(
+                alloc,
+                manifest.layers.as_slice(),
+                image.layers.as_slice(),
+                found,
+            )
         }
         OciManifest::ImageIndex(_) => {
-            skipping(found, Skipped::Source(SourceKind::Tag, SkipCause::FoundIndex))
+            skipping(
+                found,
+                Skipped::Source(SourceKind::Tag, SkipCause::FoundIndex),
+            )
         }
     }
 }
@@ -227,7 +244,9 @@ fn search_manifest<C: ClientCapabilities, T: Transport>(
     match client.pull_manifest(alloc, transport, moment, tag, auth) {
         Ok(document) => {
             let (document, _) = document;
-            search_image(alloc, client, transport, moment, tag, auth, found, &document)
+            search_image(
+                alloc, client, transport, moment, tag, auth, found, &document,
+            )
         }
         Err(error) => refused_source(found, error),
     }

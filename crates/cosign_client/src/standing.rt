@@ -83,7 +83,9 @@ fn pull_signed<C: ClientCapabilities, T: Transport>(
     ensures { (s : Settings) → Made is_memory s (by_layer s image.now auth.now accepted.now found (Some signature)) (C.state client.old) (C.state client.new) (T.state transport.old) (T.state transport.new) result }
 {
     let source = digest_reference(alloc, image, found.digest.as_str())?;
-    match pull_image(alloc, client, transport, moment, image, &source, auth, accepted) {
+    match pull_image(
+        alloc, client, transport, moment, image, &source, auth, accepted,
+    ) {
         Ok(pulled) => {
             let verified = verified_image(alloc, found, signature, pulled)?;
             Ok(verified)
@@ -108,15 +110,7 @@ fn pull_standing<C: ClientCapabilities, T: Transport>(
 {
     match first {
         Some(signature) => pull_signed(
-            alloc,
-            client,
-            transport,
-            moment,
-            image,
-            auth,
-            accepted,
-            found,
-            signature,
+            alloc, client, transport, moment, image, auth, accepted, found, signature,
         ),
         None => {
             let TrustedLayers {
@@ -151,15 +145,7 @@ fn pull_searched<C: ClientCapabilities, T: Transport, V: SignatureVerifier>(
         Ok(found) => {
             let first = first_signature(alloc, verifier, policy, found.collected.as_slice())?;
             pull_standing(
-                alloc,
-                client,
-                transport,
-                moment,
-                image,
-                auth,
-                accepted,
-                found,
-                first,
+                alloc, client, transport, moment, image, auth, accepted, found, first,
             )
         }
         Err(error) => Err(PullRefusal::from(error)),
@@ -194,15 +180,7 @@ pub fn pull_verified<C: ClientCapabilities, T: Transport, V: SignatureVerifier>(
     let reads_back = image.reads_back(alloc)?;
     if reads_back {
         return pull_searched(
-            alloc,
-            client,
-            transport,
-            moment,
-            image,
-            auth,
-            accepted,
-            policy,
-            verifier,
+            alloc, client, transport, moment, image, auth, accepted, policy, verifier,
         );
     }
     let reference = image.whole(alloc)?;

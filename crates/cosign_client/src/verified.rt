@@ -2,8 +2,8 @@
 use crate::found::Skipped;
 use cosign_layers::SignatureLayer;
 use json_canon::{Blob, List, Text};
-use oci_docs::{ImageLayer, OciImageManifest};
 use oci_docs::blob::Config;
+use oci_docs::{ImageLayer, OciImageManifest};
 use oci_engine::OciDistributionError;
 use sig_registry::SigstoreError;
 use std::alloc::{AllocError, AllocFailed};
