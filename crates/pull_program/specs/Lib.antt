@@ -1,0 +1,4 @@
+pub mod Pulls
+pub mod Rounds
+pub mod Serving
+pub mod Words

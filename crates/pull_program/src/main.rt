@@ -1,0 +1,52 @@
+//! Pulls the image of a recorded case only where a trusted signature stands for it, and writes a report.
+#![tactic(auto)]
+
+mod pulls;
+mod report;
+mod serving;
+mod status;
+#[cfg(test)]
+mod tests;
+mod words;
+
+use json_canon::{List, Text};
+use pull_edge::{StdSink, StdSource};
+use serving::run;
+use std::alloc::Global;
+use std::env::{self, Env};
+use std::io;
+use std::process::ExitCode;
+
+// The words behind the program's name.
+fn arguments<R: Env + Alloc>(rt: &R, alloc: Global) -> io::Result<List<Text>> {
+    let mut words = List::new(alloc);
+    for word in env::args(rt)?.skip(1) {
+        words.push(Text::new(alloc, word.as_str())?)?;
+    }
+    Ok(words)
+}
+
+// What a status other than 0 and 1 means, and what to do.
+fn advice(status: u8) -> &'static str {
+    match status {
+        2 => "usage: pull_program pull < CASE",
+        3 => "pull: the input is not a case: see README.md for its members",
+        4 => "pull: the input could not be read",
+        5 => "pull: the report could not be written",
+        6 => "pull: out of memory",
+        7 => "pull: the input has more than 67108864 bytes",
+        _ => "",
+    }
+}
+
+fn main(rt: HostRuntime) -> io::Result<ExitCode> {
+    let alloc = rt.alloc();
+    let words = arguments(&rt, alloc)?;
+    let mut source = StdSource::new(rt.stdin());
+    let mut sink = StdSink::new(rt.stdout());
+    let status = run(alloc, words.as_slice(), &mut source, &mut sink);
+    if status > 1 {
+        eprintln!(rt; "{}", advice(status))?;
+    }
+    Ok(ExitCode::from(status))
+}

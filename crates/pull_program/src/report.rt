@@ -1,0 +1,9 @@
+// What was written for pulls.
+use json_canon::Blob;
+
+/// What was written for some pulls, and whether one of them was refused.
+#[derive(Drop)]
+pub struct Report {
+    pub bytes: Blob,
+    pub refused: bool,
+}

@@ -1,0 +1,86 @@
+// From the words and the input to the status.
+ghost use Rattle.std.specs.Prelude.{◌≡◌};
+ghost use Rattle.pull_program.specs.declared.status.Status.{Status};
+ghost use Rattle.pull_program.specs.Serving.{ReadsCase, Puts, SaysPull, Says};
+ghost use Rattle.pull_program.specs.Words.{code_of};
+
+use crate::pulls::pull_case;
+use crate::report::Report;
+use crate::status::Status;
+use crate::words::{Word, word_of};
+use json_canon::{Sink, SinkError, Text, put_all};
+use pull_case::{Case, read_case};
+use pull_edge::{ReadRefusal, Source, read_all};
+use std::alloc::Global;
+
+/// How many bytes the input may have.
+const INPUT_LIMIT: u64 = 67108864;
+
+// The case in the input.
+fn read_input<S: Source>(alloc: Global, source: &mut S) -> Result<Case, Status>
+    ensures { ReadsCase result (S.state source.old) (S.state source.new) }
+{
+    let input = match read_all(alloc, source, INPUT_LIMIT) {
+        Ok(input) => input,
+        Err(ReadRefusal::TooLong) => return Err(Status::TooLong),
+        Err(ReadRefusal::SourceFault) => return Err(Status::SourceFault),
+        Err(ReadRefusal::WantOfMemory) => return Err(Status::WantOfMemory),
+    };
+    match read_case(alloc, input.as_slice()) {
+        Ok(Some(case)) => Ok(case),
+        Ok(None) => Err(Status::NotACase),
+        Err(_) => Err(Status::WantOfMemory),
+    }
+}
+
+// Writes a report.
+fn deliver<K: Sink>(sink: &mut K, report: &Report) -> Status
+    ensures { Puts result report.now (K.state sink.old) (K.state sink.new) }
+{
+    match put_all(sink, report.bytes.as_slice()) {
+        Ok(()) => {
+            if report.refused {
+                return Status::Refused;
+            }
+            Status::Done
+        }
+        Err(SinkError::Failed) => Status::SinkFault,
+        Err(SinkError::WantOfMemory) => Status::WantOfMemory,
+    }
+}
+
+// Pulls the image of the case in the input, and writes the report.
+fn serve_pull<S: Source, K: Sink>(alloc: Global, source: &mut S, sink: &mut K) -> Status
+    ensures { SaysPull result (S.state source.old) (S.state source.new) (K.state sink.old) (K.state sink.new) }
+{
+    let case = match read_input(alloc, source) {
+        Ok(case) => case,
+        Err(status) => return status,
+    };
+    match pull_case(alloc, case) {
+        Ok(report) => deliver(sink, &report),
+        Err(_) => Status::WantOfMemory,
+    }
+}
+
+/// Does what the words ask for, with the input of the source and output to the sink.
+pub fn serve<S: Source, K: Sink>(
+    alloc: Global,
+    words: &[Text],
+    source: &mut S,
+    sink: &mut K,
+) -> Status
+    ensures { Says result words.now (S.state source.old) (S.state source.new) (K.state sink.old) (K.state sink.new) }
+{
+    match word_of(words) {
+        Some(Word::Pull) => serve_pull(alloc, source, sink),
+        None => Status::Usage,
+    }
+}
+
+/// The program: does what the words ask for, and answers the status that the process ends with.
+pub fn run<S: Source, K: Sink>(alloc: Global, words: &[Text], source: &mut S, sink: &mut K) -> u8
+    ensures { (status : Status) × (result ≡ code_of status) × Says status words.now (S.state source.old) (S.state source.new) (K.state sink.old) (K.state sink.new) }
+{
+    serve(alloc, words, source, sink).code()
+}

@@ -1,0 +1,42 @@
+// The statuses that the program ends with.
+ghost use Rattle.std.specs.Prelude.{◌≡◌};
+ghost use Rattle.pull_program.specs.Words.{code_of};
+
+/// How the program ended.
+#[derive(Clone, Copy, Debug, PartialEq, Eq)]
+pub enum Status {
+    /// Each pull answered an image, and the report went out.
+    Done,
+    /// Some pull was refused, and the report, which says so, went out.
+    Refused,
+    /// The words are no form that the program takes. Nothing was read or written.
+    Usage,
+    /// The input is no case. Nothing was written.
+    NotACase,
+    /// The source failed. Nothing was written.
+    SourceFault,
+    /// The sink failed. A front of the report went out.
+    SinkFault,
+    /// Memory was wanting. A front of the report went out, or nothing.
+    WantOfMemory,
+    /// The input is longer than 67108864 bytes. Nothing was written.
+    TooLong,
+}
+
+impl Status {
+    /// The number with which the process ends.
+    pub fn code(self) -> u8
+        ensures { result ≡ code_of self }
+    {
+        match self {
+            Status::Done => 0,
+            Status::Refused => 1,
+            Status::Usage => 2,
+            Status::NotACase => 3,
+            Status::SourceFault => 4,
+            Status::SinkFault => 5,
+            Status::WantOfMemory => 6,
+            Status::TooLong => 7,
+        }
+    }
+}

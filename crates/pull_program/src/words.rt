@@ -1,0 +1,22 @@
+// The words that the program takes.
+ghost use Rattle.std.specs.Prelude.{◌≡◌};
+ghost use Rattle.pull_program.specs.Words.{word_of};
+
+use json_canon::Text;
+
+/// What the program is asked to do.
+#[derive(Clone, Copy, Debug, PartialEq, Eq)]
+pub enum Word {
+    /// Pulls the image of the case in the input, and writes a report.
+    Pull,
+}
+
+/// What these words ask for, if they are a form that the program takes.
+pub fn word_of(words: &[Text]) -> Option<Word>
+    ensures { result ≡ word_of words.now }
+{
+    match words {
+        [word] if word.as_str() == "pull" => Some(Word::Pull),
+        _ => None,
+    }
+}
