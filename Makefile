@@ -4,13 +4,14 @@
 test:
 	rt ci
 
-# Shows the main job on the stored case.
+# Pulls the image of the stored case, and shows the report.
 run:
-	@echo 'There is no program yet: the call that it is to run, verified_pull, is not there.' >&2; exit 1
+	cd crates/pull_program && rt run -- pull < stdin
 
-# Runs the program over the recorded cases.
+# Builds the program, and runs it over the recorded cases.
 rows:
-	@echo 'There is no program yet, and so no recorded cases.' >&2; exit 1
+	cd crates/pull_program && rt run -- pull < stdin > /dev/null
+	tests/rows/run
 
 # Measures ratios within one run.
 bench:
