@@ -15,4 +15,5 @@ rows:
 
 # Measures ratios within one run.
 bench:
-	@echo 'There are no benchmarks yet.' >&2; exit 1
+	cd crates/pull_program && rt run -- pull < stdin > /dev/null
+	python3 bench/run.py

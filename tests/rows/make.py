@@ -38,14 +38,19 @@ def manifest(config, layers):
     return compact({"schemaVersion": 2, "mediaType": MANIFEST, "config": descriptor(CONFIG, config), "layers": layers})
 
 
+def image_of(content):
+    """A manifest with one layer, and the tag of its signatures."""
+    image = manifest("{}", [descriptor(LAYER, content)])
+    return image, digest(image).replace(":", "-") + ".sig"
+
+
 CONTENT = "hello world"
-IMAGE = manifest("{}", [descriptor(LAYER, CONTENT)])
-TAG = digest(IMAGE).replace(":", "-") + ".sig"
+IMAGE, TAG = image_of(CONTENT)
 
 
-def payload(optional=None, image=IMAGE):
+def payload(optional=None, image=None):
     identity = {"docker-reference": f"{REGISTRY}/app"}
-    named = {"docker-manifest-digest": digest(image)}
+    named = {"docker-manifest-digest": digest(image or IMAGE)}
     critical = {"identity": identity, "image": named, "type": "cosign container image signature"}
     return compact({"critical": critical, "optional": optional})
 
@@ -111,7 +116,7 @@ def write(name, args, stdin, lines, status):
             f.write(text)
 
 
-def pulls_the_base_case():
+def base_case():
     signature = payload()
     answers, asked = search(manifest("{}", [signed(signature)]), [signature])
     answers += served(IMAGE) + served("{}") + served(CONTENT)
@@ -123,7 +128,12 @@ def pulls_the_base_case():
         "layer " + digest(CONTENT),
         "signature " + digest(signature),
     ]
-    write("pulls_the_base_case", ["pull"], case(answers, [signature]), lines, 0)
+    return case(answers, [signature]), lines
+
+
+def pulls_the_base_case():
+    stdin, lines = base_case()
+    write("pulls_the_base_case", ["pull"], stdin, lines, 0)
 
 
 def a_policy_without_constraint():

@@ -1,0 +1,62 @@
+#!/usr/bin/env python3
+"""Measures the program on an image with a large layer, as ratios within one run.
+
+Time is told in runs of `sha256sum` over the same bytes, and memory in bytes held at once for each byte of the case.
+"""
+import importlib.util
+import os
+import subprocess
+import tempfile
+import time
+
+HERE = os.path.dirname(os.path.abspath(__file__))
+PROGRAM = os.path.join(HERE, "../crates/pull_program/out/pull_program")
+MEGABYTES = 24
+RUNS = 5
+
+
+def rows():
+    spec = importlib.util.spec_from_file_location("make", os.path.join(HERE, "../tests/rows/make.py"))
+    make = importlib.util.module_from_spec(spec)
+    spec.loader.exec_module(make)
+    return make
+
+
+def large_case(size):
+    make = rows()
+    make.CONTENT = "0123456789abcdef" * (size // 16)
+    make.IMAGE, make.TAG = make.image_of(make.CONTENT)
+    return make.base_case()
+
+
+def measured(words, path):
+    """The least time of some runs in seconds, the most memory of one in bytes, and what was written."""
+    times, memory = [], 0
+    for _ in range(RUNS):
+        with open(path, "rb") as stdin:
+            begun = time.monotonic()
+            process = subprocess.Popen(words, stdin=stdin, stdout=subprocess.PIPE)
+            written = process.stdout.read()
+            _, status, usage = os.wait4(process.pid, 0)
+        times.append(time.monotonic() - begun)
+        memory = max(memory, usage.ru_maxrss * 1024)
+        if status != 0:
+            raise SystemExit(f"{words[0]} ended with {status}")
+    return min(times), memory, written
+
+
+def main():
+    stdin, lines = large_case(MEGABYTES << 20)
+    with tempfile.NamedTemporaryFile("w") as case:
+        case.write(stdin)
+        case.flush()
+        pulled, memory, written = measured([PROGRAM, "pull"], case.name)
+        hashed, _, _ = measured(["sha256sum"], case.name)
+    if written.decode() != "".join(f"{line}\n" for line in lines):
+        raise SystemExit("the report is not the one that the case asks for")
+    print(f"a case of {len(stdin)} bytes with one layer of {MEGABYTES} MiB")
+    print(f"time: {pulled / hashed:.1f} times that of sha256sum over the case")
+    print(f"memory: {memory / len(stdin):.2f} bytes held at once for each byte of the case")
+
+
+main()
