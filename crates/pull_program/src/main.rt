@@ -12,6 +12,7 @@ mod words;
 use json_canon::{List, Text};
 use pull_edge::{StdSink, StdSource};
 use serving::run;
+use status::Status;
 use std::alloc::Global;
 use std::env::{self, Env};
 use std::io;
@@ -39,14 +40,20 @@ fn advice(status: u8) -> &'static str {
     }
 }
 
-fn main(rt: HostRuntime) -> io::Result<ExitCode> {
+fn main(rt: HostRuntime) -> ExitCode {
     let alloc = rt.alloc();
-    let words = arguments(&rt, alloc)?;
-    let mut source = StdSource::new(rt.stdin());
-    let mut sink = StdSink::new(rt.stdout());
-    let status = run(alloc, words.as_slice(), &mut source, &mut sink);
+    let status = match arguments(&rt, alloc) {
+        Ok(words) => {
+            let mut source = StdSource::new(rt.stdin());
+            let mut sink = StdSink::new(rt.stdout());
+            run(alloc, words.as_slice(), &mut source, &mut sink)
+        }
+        Err(error) if error.kind() == io::ErrorKind::OutOfMemory => Status::WantOfMemory.code(),
+        Err(_) => Status::Usage.code(),
+    };
     if status > 1 {
-        eprintln!(rt; "{}", advice(status))?;
+        // The status says it too, so nothing is lost where the line cannot be written.
+        let _ = eprintln!(rt; "{}", advice(status));
     }
-    Ok(ExitCode::from(status))
+    ExitCode::from(status)
 }
