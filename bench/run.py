@@ -6,8 +6,12 @@ Time is told in runs of `sha256sum` over the same bytes, and memory in bytes hel
 import importlib.util
 import os
 import subprocess
+import sys
 import tempfile
 import time
+
+# Nothing is left beside the recorded cases.
+sys.dont_write_bytecode = True
 
 HERE = os.path.dirname(os.path.abspath(__file__))
 PROGRAM = os.path.join(HERE, "../crates/pull_program/out/pull_program")
