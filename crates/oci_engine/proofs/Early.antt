@@ -133,7 +133,7 @@ where_early : (s : Settings) (types : List ℕ) (image : Reference) (b : Bool) �
 where_early s types image true = for_early s types image
 where_early s types image false = done_early s types (Ok tt) tt
 
-authorized_early : (s : Settings) (types : List ℕ) (image : Reference) (url : Parts) → Ends (Early s types) (authorized s image url)
+pub authorized_early : (s : Settings) (types : List ℕ) (image : Reference) (url : Parts) → Ends (Early s types) (authorized s image url)
 unfolding authorized
 authorized_early s types image url = next_early s types (Done (url_read (registry_text s image))) _ (done_early s types _ (read_early s types (registry_text s image))) (λ registry. where_early s types image (goes_to (request_url (serialize url)) registry))
 

@@ -7,6 +7,7 @@ pub mod Digested
 pub mod Digests
 pub mod Documents
 pub mod Early
+pub mod Exact
 pub mod ImageRefused
 pub mod Reasons
 pub mod Refused

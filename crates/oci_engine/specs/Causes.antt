@@ -1,5 +1,5 @@
 -- Why a call was refused. A refusal that speaks of an answer speaks of the last one of the call.
-use Rattle.std.specs.Prelude.{◌≡◌, ◌≢◌, ◌<◌, ◌⊎◌, ℕ, true, false, List, [], ◌∷◌, ◌++◌, Some, None, Ok, Err, codes, length}
+use Rattle.std.specs.Prelude.{◌≡◌, ◌≢◌, ◌<◌, ◌⊎◌, ℕ, true, false, List, [], ◌∷◌, ◌++◌, Some, None, Result, Ok, Err, codes, length}
 use Rattle.std.specs.List.{Contains}
 use Rattle.json_canon.specs.Counts.{Rose}
 use Rattle.oci_link.specs.Headers.{first_of, is_header_value}
@@ -20,6 +20,7 @@ use Rattle.oci_docs.specs.declared.manifest.OciImageManifest.{OciImageManifest}
 use Rattle.oci_docs.specs.declared.index.OciImageIndex.{OciImageIndex}
 use Rattle.oci_docs.specs.declared.descriptor.OciDescriptor.{OciDescriptor}
 use Rattle.oci_protocol.specs.Runs.{head_part}
+use Rattle.oci_protocol.specs.Ends.{UnlessMemory}
 use Rattle.oci_protocol.specs.Follow.{Trail, IsFinal}
 use Rattle.engine_requests.specs.declared.settings.Settings.{Settings}
 use Rattle.engine_requests.specs.declared.error.GenericCause.TheVariants.{HeaderText}
@@ -27,6 +28,7 @@ use Rattle.engine_requests.specs.declared.error.SpecViolation.TheVariants.{Statu
 use Rattle.engine_requests.specs.declared.error.OciDistributionError.{OciDistributionError}
 use Rattle.engine_requests.specs.declared.error.OciDistributionError.TheVariants as refusal
 use Rattle.engine_requests.specs.Answers.{is_success, is_client_error, envelope_in, header_digest}
+use Rattle.engine_requests.specs.Errors.{is_memory}
 use Rattle.engine_requests.specs.Requests.{manifest_types}
 use Rattle.engine_requests.specs.Documents.{document_read}
 use Rattle.engine_pull.specs.Images.{is_accepted}
@@ -132,11 +134,15 @@ pub record ByLast (P : List ℕ → Answer → Type 0) (c : List Exchange) : Typ
   pub last : LastAnswer c address answer
   pub holds : P address answer
 
+-- a value of the request cannot stand in a header
+abbrev pub HasBadHeader : Settings → List ℕ → Type 0
+HasBadHeader s types = (is_header_value s.user_agent ≡ false) ⊎ (is_header_value types ≡ false)
+
 -- Why a call was refused that accepts these types. Of an answer the refusal speaks so. Memory may be
 -- wanting anywhere.
 abbrev pub Cause : (List ℕ → Answer → OciDistributionError → Type 0) → Settings → List ℕ → List Exchange → ℕ → OciDistributionError → Type 0
 Cause Of s types c now (refusal.UrlParseError text) = request_url text ≡ None
-Cause Of s types c now (refusal.GenericError HeaderText) = (is_header_value s.user_agent ≡ false) ⊎ (is_header_value types ≡ false)
+Cause Of s types c now (refusal.GenericError HeaderText) = HasBadHeader s types
 Cause Of s types c now refusal.BodyTooLong = LastTooLong c s.max_body_bytes
 Cause Of s types c now refusal.TransportFault = LastFailed c now
 Cause Of s types c now refusal.WantOfMemory = Unit {0}
@@ -187,3 +193,22 @@ ImageCause s image accepted c now refusal.PullNoLayersError = (manifest : OciIma
 ImageCause s image accepted c now (refusal.IncompatibleLayerMediaTypeError kind) = NotAccepted accepted c kind
 ImageCause s image accepted c now refusal.SinkFault = Unit {0}
 ImageCause s image accepted c now e = Cause (DocumentCause (ImageDigest image c)) s manifest_types c now e
+
+-- ---- refusals that must come
+
+-- the refusal is this one, unless memory was wanting
+abbrev pub IsRefusedAs : {A : Type 0} → OciDistributionError → Result A OciDistributionError → Type 0
+IsRefusedAs e r = UnlessMemory is_memory (λ r. r ≡ Err e) r
+
+-- refused before the request: a text is no URL, a value cannot stand in a header, or memory was
+-- wanting
+abbrev pub IsEarlyRefusal : OciDistributionError → Type 0
+IsEarlyRefusal (refusal.UrlParseError text) = request_url text ≡ None
+IsEarlyRefusal (refusal.GenericError HeaderText) = Unit {0}
+IsEarlyRefusal refusal.WantOfMemory = Unit {0}
+IsEarlyRefusal _ = ⊥
+
+-- the call was refused so
+abbrev pub IsEarly : {A : Type 0} → Result A OciDistributionError → Type 0
+IsEarly (Ok a) = ⊥
+IsEarly (Err e) = IsEarlyRefusal e

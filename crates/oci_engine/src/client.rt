@@ -1,16 +1,18 @@
-ghost use Rattle.std.specs.Prelude.{◌≡◌, ℕ, List, Some, Err, IfOk, IfErr};
+ghost use Rattle.std.specs.Prelude.{◌≡◌, ℕ, List, Some, None, Err, IfOk, IfErr};
 ghost use Rattle.std.specs.FinMap as map;
 ghost use Rattle.json_canon.specs.Counts.{Rose};
 ghost use Rattle.oci_digests.specs.Names.{Names};
+ghost use Rattle.oci_link.specs.Urls.{request_url};
 ghost use Rattle.oci_names.specs.References.{digest_of};
 ghost use Rattle.oci_protocol.specs.Runs.{Meets, Told};
+ghost use Rattle.engine_requests.specs.Addresses.{manifest_text, blob_text};
 ghost use Rattle.engine_requests.specs.Errors.{is_memory};
 ghost use Rattle.engine_requests.specs.Requests.{listed, manifest_types};
 ghost use Rattle.engine_steps.specs.Blobs.{Spills};
 ghost use Rattle.engine_pull.specs.Pulls.{fetch_manifest_digest, pull_manifest, pull_manifest_raw, pull_blob};
 ghost use Rattle.engine_pull.specs.Images.{pull};
 ghost use Rattle.oci_engine.specs.Answered.{Answered, Body, LastBody, TookBlob};
-ghost use Rattle.oci_engine.specs.Causes.{AnswerCause, DocumentCause, Cause, OwnDigest, BlobCause, ImageCause};
+ghost use Rattle.oci_engine.specs.Causes.{AnswerCause, DocumentCause, Cause, OwnDigest, BlobCause, ImageCause, HasBadHeader, IsEarly, IsRefusedAs};
 ghost use Rattle.oci_engine.specs.Clients.{settings_of};
 
 use crate::config::ClientConfig;
@@ -65,6 +67,8 @@ impl Client {
         ensures answered { IfOk result (λ d. Told (λ c. Answered self.old.settings image.now c d) (T.state transport.old) (T.state transport.new)) }
         ensures causes { IfErr result (λ e. Told (λ c. Cause (AnswerCause (OwnDigest image.now)) self.old.settings manifest_types c (T.state transport.new).faults e) (T.state transport.old) (T.state transport.new)) }
         ensures fault { result ≡ Err OciDistributionError.TransportFault → Rose (T.state transport.old).faults (T.state transport.new).faults }
+        ensures no_url { request_url (manifest_text self.old.settings image.now) ≡ None → IsRefusedAs (OciDistributionError.UrlParseError (manifest_text self.old.settings image.now)) result }
+        ensures bad_header { HasBadHeader self.old.settings manifest_types → IsEarly result }
     {
         engine_pull::fetch_manifest_digest(
             alloc,
@@ -93,6 +97,8 @@ impl Client {
         ensures given { IfOk result (λ found. (d : List ℕ) → digest_of image.now ≡ Some d → Names d found.0) }
         ensures causes { IfErr result (λ e. Told (λ c. Cause (AnswerCause (OwnDigest image.now)) self.old.settings (listed accepted_media_types.now) c (T.state transport.new).faults e) (T.state transport.old) (T.state transport.new)) }
         ensures fault { result ≡ Err OciDistributionError.TransportFault → Rose (T.state transport.old).faults (T.state transport.new).faults }
+        ensures no_url { request_url (manifest_text self.old.settings image.now) ≡ None → IsRefusedAs (OciDistributionError.UrlParseError (manifest_text self.old.settings image.now)) result }
+        ensures bad_header { HasBadHeader self.old.settings (listed accepted_media_types.now) → IsEarly result }
     {
         let types = engine_requests::listed(alloc, accepted_media_types)?;
         let found = engine_pull::pull_manifest_raw(
@@ -120,6 +126,8 @@ impl Client {
         ensures settings { self.new.settings ≡ self.old.settings }
         ensures causes { IfErr result (λ e. Told (λ c. Cause (DocumentCause (OwnDigest image.now)) self.old.settings manifest_types c (T.state transport.new).faults e) (T.state transport.old) (T.state transport.new)) }
         ensures fault { result ≡ Err OciDistributionError.TransportFault → Rose (T.state transport.old).faults (T.state transport.new).faults }
+        ensures no_url { request_url (manifest_text self.old.settings image.now) ≡ None → IsRefusedAs (OciDistributionError.UrlParseError (manifest_text self.old.settings image.now)) result }
+        ensures bad_header { HasBadHeader self.old.settings manifest_types → IsEarly result }
     {
         engine_pull::pull_manifest(
             alloc,
@@ -145,6 +153,8 @@ impl Client {
         ensures settings { self.new.settings ≡ self.old.settings }
         ensures causes { IfErr result (λ e. Told (λ c. ImageCause self.old.settings image.now accepted_media_types.now c (T.state transport.new).faults e) (T.state transport.old) (T.state transport.new)) }
         ensures fault { result ≡ Err OciDistributionError.TransportFault → Rose (T.state transport.old).faults (T.state transport.new).faults }
+        ensures no_url { request_url (manifest_text self.old.settings image.now) ≡ None → IsRefusedAs (OciDistributionError.UrlParseError (manifest_text self.old.settings image.now)) result }
+        ensures bad_header { HasBadHeader self.old.settings manifest_types → IsEarly result }
     {
         engine_pull::pull(
             alloc,
@@ -173,6 +183,8 @@ impl Client {
         ensures causes { IfErr result (λ e. Told (λ c. BlobCause self.old.settings digest.now c (T.state transport.new).faults e) (T.state transport.old) (T.state transport.new)) }
         ensures fault { result ≡ Err OciDistributionError.TransportFault → Rose (T.state transport.old).faults (T.state transport.new).faults }
         ensures sink { result ≡ Err OciDistributionError.SinkFault → Rose (K.state out.old).faults (K.state out.new).faults }
+        ensures no_url { request_url (blob_text self.old.settings image.now digest.now) ≡ None → IsRefusedAs (OciDistributionError.UrlParseError (blob_text self.old.settings image.now digest.now)) result }
+        ensures bad_header { HasBadHeader self.old.settings manifest_types → IsEarly result }
     {
         engine_pull::pull_blob(
             alloc,
@@ -201,6 +213,8 @@ impl Client {
         ensures named { IfOk result (λ bytes. Names digest.now bytes) }
         ensures causes { IfErr result (λ e. Told (λ c. BlobCause self.old.settings digest.now c (T.state transport.new).faults e) (T.state transport.old) (T.state transport.new)) }
         ensures fault { result ≡ Err OciDistributionError.TransportFault → Rose (T.state transport.old).faults (T.state transport.new).faults }
+        ensures no_url { request_url (blob_text self.old.settings image.now digest.now) ≡ None → IsRefusedAs (OciDistributionError.UrlParseError (blob_text self.old.settings image.now digest.now)) result }
+        ensures bad_header { HasBadHeader self.old.settings manifest_types → IsEarly result }
     {
         engine_pull::pulled_blob(
             alloc,

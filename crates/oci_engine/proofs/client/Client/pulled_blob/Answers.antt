@@ -1,5 +1,6 @@
 use Rattle.oci_engine.proofs.Results.{blob_body, blob_last, blob_named}
 use Rattle.oci_engine.proofs.Reasons.{blob_reason, blob_fault}
+use Rattle.oci_engine.proofs.Exact.{blob_url, blob_bad, met_only, met_early}
 use Rattle.oci_engine.proofs.client.Client.pulled_blob.Goals as goal
 
 pub returns-clause-body : goal.returns-clause-body
@@ -16,3 +17,9 @@ returns-clause-fault g c = blob_fault c.args.self.now.settings c.args.image.now 
 
 pub returns-clause-last : goal.returns-clause-last
 returns-clause-last g c = blob_last c.args.self.now.settings c.args.image.now c.args.digest.now c.pulled_blob.ensures
+
+pub returns-clause-no_url : goal.returns-clause-no_url
+returns-clause-no_url g c = λ none. met_only _ (blob_url c.args.self.now.settings c.args.image.now c.args.digest.now none) c.pulled_blob.ensures
+
+pub returns-clause-bad_header : goal.returns-clause-bad_header
+returns-clause-bad_header g c = λ bad. met_early (blob_bad c.args.self.now.settings c.args.image.now c.args.digest.now bad) c.pulled_blob.ensures
