@@ -1,3 +1,4 @@
+pub mod Causing
 pub mod Exits
 pub mod Leads
 pub mod Loops

@@ -1,3 +1,4 @@
+pub mod Causes
 pub mod Chain
 pub mod Image
 pub mod Refusals

@@ -1,5 +1,5 @@
 // The client that users hold.
-ghost use Rattle.std.specs.Prelude.{◌≡◌, IfOk};
+ghost use Rattle.std.specs.Prelude.{◌≡◌, IfOk, IfErr};
 ghost use Rattle.oci_protocol.specs.Runs.{Meets, Told};
 ghost use Rattle.cosign_layers.specs.Accepts.{has_no_item};
 ghost use Rattle.cosign_layers.specs.Standing.{meaning, stands};
@@ -7,6 +7,7 @@ ghost use Rattle.sig_registry.specs.Conversions.{registry_auth};
 ghost use Rattle.sig_registry.specs.Direct.{reference_in};
 ghost use Rattle.sig_registry.specs.Clients.{plain_state};
 ghost use Rattle.sig_registry.specs.Errors.{is_memory as of_memory};
+ghost use Rattle.cosign_client.specs.Causes.{SearchCause, PullCause};
 ghost use Rattle.cosign_client.specs.Chain.{Chain};
 ghost use Rattle.cosign_client.specs.Refusals.{is_memory};
 ghost use Rattle.cosign_client.specs.Search.{searched};
@@ -49,6 +50,7 @@ impl Client {
     ) -> Result<TrustedLayers, SigstoreError>
         ensures run { Meets of_memory (searched (client_state self.old).settings (reference_in source_image.now) (registry_auth auth.now)) (T.state transport.old) (T.state transport.new) (client_state self.old).kept (client_state self.new).kept result }
         ensures settings { (client_state self.new).settings ≡ (client_state self.old).settings }
+        ensures causes { IfErr result (λ e. Told (λ c. SearchCause (client_state self.old).settings (reference_in source_image.now) (registry_auth auth.now) c e) (T.state transport.old) (T.state transport.new)) }
     {
         let auth = auth.to_registry(alloc)?;
         search(
@@ -81,6 +83,7 @@ impl Client {
         ensures run { Meets is_memory (verified (has_no_item policy.now.constraints) (stands (meaning policy.now (V.valid verifier.now) (λ b. accepts (b.vtable, b.value)))) (client_state self.old).settings (reference_in image.now) (registry_auth auth.now) accepted_media_types.now) (T.state transport.old) (T.state transport.new) (client_state self.old).kept (client_state self.new).kept result }
         ensures settings { (client_state self.new).settings ≡ (client_state self.old).settings }
         ensures chain { IfOk result (λ v. Chain (meaning policy.now (V.valid verifier.now) (λ b. accepts (b.vtable, b.value))) (reference_in image.now) accepted_media_types.now v) }
+        ensures causes { IfErr result (λ e. Told (λ c. PullCause (has_no_item policy.now.constraints) (stands (meaning policy.now (V.valid verifier.now) (λ b. accepts (b.vtable, b.value)))) (client_state self.old).settings (reference_in image.now) (registry_auth auth.now) accepted_media_types.now c e) (T.state transport.old) (T.state transport.new)) }
         ensures backed { IfOk result (λ v. Told (λ c. Backed (client_state self.old).settings (reference_in image.now) c v) (T.state transport.old) (T.state transport.new)) }
     {
         let auth = auth.to_registry(alloc)?;

@@ -1,0 +1,71 @@
+-- Why a search or a pull was refused: which of its parts was, and what the parts before it answered.
+use Rattle.std.specs.Prelude.{◌≡◌, ◌⊎◌, ℕ, Bool, true, false, List, [], ◌++◌, Option, Some, None, Result, Ok, Err, find}
+use Rattle.oci_names.specs.declared.reference.Reference.{Reference}
+use Rattle.oci_names.specs.References.{whole_text, reads_back}
+use Rattle.oci_auth.specs.declared.auth.RegistryAuth.{RegistryAuth}
+use Rattle.oci_link.specs.declared.message.Exchange.{Exchange}
+use Rattle.oci_protocol.specs.Runs.{Runs}
+use Rattle.engine_requests.specs.declared.settings.Settings.{Settings}
+use Rattle.sig_registry.specs.declared.error.SigstoreError.{SigstoreError}
+use Rattle.sig_registry.specs.declared.error.SigstoreError.TheVariants as sigstore
+use Rattle.sig_registry.specs.Clients.{Kept, Row}
+use Rattle.sig_registry.specs.Calls.{digest_call}
+use Rattle.cosign_layers.specs.declared.layer.SignatureLayer.{SignatureLayer}
+use Rattle.cosign_client.specs.declared.found.TrustedLayers.{TrustedLayers}
+use Rattle.cosign_client.specs.declared.verified.PullRefusal.{PullRefusal}
+use Rattle.cosign_client.specs.declared.verified.PullRefusal.TheVariants as refusal
+use Rattle.cosign_client.specs.Search.{digest_reference, searched}
+use Rattle.cosign_client.specs.Image.{image_row}
+
+-- these exchanges are a whole run of this part, which answered so
+pub record Ran {A : Type 0} (p : Row A) (c : List Exchange) (r : Result A SigstoreError) : Type 0 where
+  pub before : Kept
+  pub after : Kept
+  pub start : ℕ
+  pub end_count : ℕ
+  pub runs : Runs p before start c end_count after r
+
+-- a digest was answered, by which the image's reference, whose text is this, does not read back
+pub record NoReference (s : Settings) (image : Reference) (a : RegistryAuth) (c : List Exchange) (text : List ℕ) : Type 0 where
+  pub digest : List ℕ
+  pub answered : Ran (digest_call s image a) c (Ok digest)
+  pub unread : reads_back (digest_reference image digest) ≡ false
+  pub text_is : text ≡ whole_text (digest_reference image digest)
+
+-- why a search was refused: only its first step can end it
+abbrev pub SearchCause : Settings → Reference → RegistryAuth → List Exchange → SigstoreError → Type 0
+SearchCause s image a c (sigstore.OciReferenceNotValidError text) = NoReference s image a c text
+SearchCause s image a c (sigstore.RegistryFetchManifestError name e) = Ran (digest_call s image a) c (Err (sigstore.RegistryFetchManifestError name e))
+SearchCause s image a c (sigstore.RegistryPullError name e) = ⊥
+SearchCause s image a c (sigstore.RegistryPullManifestError name e) = ⊥
+SearchCause s image a c sigstore.WantOfMemory = Unit {0}
+
+-- the image itself does not read back, and nothing was asked
+pub record Unread (image : Reference) (c : List Exchange) (text : List ℕ) : Type 0 where
+  pub unread : reads_back image ≡ false
+  pub text_is : text ≡ whole_text image
+  pub silent : c ≡ []
+
+-- the search ran and found this
+abbrev pub Found : Settings → Reference → RegistryAuth → List Exchange → TrustedLayers → Type 0
+Found s image a c found = Ran (searched s image a) c (Ok found)
+
+-- a layer that the search found stands, and then the image was refused
+pub record ImageRefused (stands : SignatureLayer → Bool) (s : Settings) (image : Reference) (a : RegistryAuth) (accepted : List (List ℕ)) (c : List Exchange) (e : SigstoreError) : Type 0 where
+  pub search : List Exchange
+  pub pull : List Exchange
+  pub split : c ≡ search ++ pull
+  pub found : TrustedLayers
+  pub searched_is : Found s image a search found
+  pub signature : SignatureLayer
+  pub stands_is : find stands found.collected ≡ Some signature
+  pub refused : Ran (image_row s image (digest_reference image found.digest) a accepted) pull (Err e)
+
+-- why a pull was refused
+abbrev pub PullCause : Bool → (SignatureLayer → Bool) → Settings → Reference → RegistryAuth → List (List ℕ) → List Exchange → PullRefusal → Type 0
+PullCause unconstrained stands s image a accepted c refusal.EmptyPolicy = (unconstrained ≡ true) × (c ≡ [])
+PullCause unconstrained stands s image a accepted c (refusal.OciReferenceNotValidError text) = Unread image c text ⊎ NoReference s image a c text
+PullCause unconstrained stands s image a accepted c (refusal.RegistryFetchManifestError name e) = Ran (digest_call s image a) c (Err (sigstore.RegistryFetchManifestError name e))
+PullCause unconstrained stands s image a accepted c (refusal.RegistryPullError name e) = ImageRefused stands s image a accepted c (sigstore.RegistryPullError name e)
+PullCause unconstrained stands s image a accepted c (refusal.Unsatisfied digest collected skipped) = Found s image a c (record { digest = digest; collected = collected; skipped = skipped }) × (find stands collected ≡ None)
+PullCause unconstrained stands s image a accepted c refusal.WantOfMemory = Unit {0}
