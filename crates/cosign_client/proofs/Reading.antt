@@ -3,7 +3,7 @@ use Rattle.std.proofs.Common.{◌≡◌, ℕ, Bool, true, false, List, Option, S
 use Rattle.std.specs.Prelude.{if◌then◌else◌, option_map, option_and_then, unwrap_or, is_some, ◌&&◌, pos}
 use Rattle.std.specs.Ordering.{int_eq}
 use Rattle.serde_json.specs.Data.{Data}
-use Rattle.json_canon.specs.JsonText.{json_of, is_plain}
+use Rattle.json_values.specs.JsonText.{json_of, is_plain}
 use Rattle.oci_docs.specs.Types.{is_manifest_type}
 use Rattle.oci_docs.specs.Versioned.{versioned_of, is_known_version, is_versioned, IsVersioned}
 use Rattle.oci_docs.specs.Document.{document_of}

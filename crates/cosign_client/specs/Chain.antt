@@ -1,7 +1,7 @@
 -- A chain of hashes that can be checked again with nothing else: no request stands in it.
 use Rattle.std.specs.Prelude.{◌≡◌, ◌<◌, ℕ, List, [], ◌∷◌, length, Option, Some, None, Contains}
 use Rattle.serde_json.specs.Data.{Data}
-use Rattle.json_canon.specs.JsonText.{json_of}
+use Rattle.json_values.specs.JsonText.{json_of}
 use Rattle.oci_names.specs.declared.reference.Reference.{Reference}
 use Rattle.oci_names.specs.References.{digest_of}
 use Rattle.oci_digests.specs.Names.{Names}

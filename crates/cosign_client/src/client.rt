@@ -19,7 +19,7 @@ use crate::search::search;
 use crate::standing::pull_verified;
 use crate::verified::{PullRefusal, VerifiedImage};
 use cosign_layers::{Offline, PullPolicy, SignatureVerifier};
-use json_canon::Text;
+use json_values::Text;
 use oci_link::Transport;
 use sig_registry::{Auth, OciClient, OciReference, SigstoreError};
 use std::alloc::Global;

@@ -1,6 +1,6 @@
 // What a search for signatures found, and why it found no more.
 use cosign_layers::{LayerRejection, SignatureLayer};
-use json_canon::{List, Text};
+use json_values::{List, Text};
 use sig_registry::SigstoreError;
 
 /// Where signatures are looked for.

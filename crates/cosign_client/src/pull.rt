@@ -10,7 +10,7 @@ ghost use Rattle.cosign_client.specs.Image.{named_by_reference, manifest_in, lay
 
 use engine_pull::{config_of, image_manifest, layer_of, layers_accepted};
 use engine_requests::read_document;
-use json_canon::{Blob, Copied, List, Text};
+use json_values::{Blob, Copied, List, Text};
 use oci_auth::RegistryAuth;
 use oci_digests::{DigestError, validate_digest};
 use oci_docs::blob::Config;

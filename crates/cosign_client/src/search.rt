@@ -8,7 +8,7 @@ ghost use Rattle.cosign_client.specs.Search.{dashed, with_dashes, signature_tag,
 
 use crate::found::{SkipCause, Skipped, SourceKind, TrustedLayers};
 use cosign_layers::{LayerRejection, SignatureLayer, read_payload_layer};
-use json_canon::{Annotations, Copied, List, Text};
+use json_values::{Annotations, Copied, List, Text};
 use oci_auth::RegistryAuth;
 use oci_digests::names_digest;
 use oci_docs::{ImageLayer, OciDescriptor, OciManifest};

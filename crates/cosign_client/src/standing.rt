@@ -12,7 +12,7 @@ use crate::pull::{Pulled, pull_image};
 use crate::search::{digest_reference, search};
 use crate::verified::{PullRefusal, VerifiedImage};
 use cosign_layers::{PullPolicy, SignatureLayer, SignatureVerifier, first_standing};
-use json_canon::{Copied, Text};
+use json_values::{Copied, Text};
 use oci_auth::RegistryAuth;
 use oci_link::Transport;
 use oci_names::Reference;

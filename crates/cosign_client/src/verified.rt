@@ -1,7 +1,7 @@
 // An image with the signature layer that stands for it, and why there is none.
 use crate::found::Skipped;
 use cosign_layers::SignatureLayer;
-use json_canon::{Blob, List, Text};
+use json_values::{Blob, List, Text};
 use oci_docs::blob::Config;
 use oci_docs::{ImageLayer, OciImageManifest};
 use oci_engine::OciDistributionError;

@@ -3,7 +3,7 @@ use Rattle.std.specs.Prelude.{◌≡◌, ℕ, Bool, true, false, ◌<◌, List, 
 use Rattle.std.specs.FinMap.{FinMap, get}
 use Rattle.base64.specs.Engines.{standard}
 use Rattle.base64.specs.GeneralPurpose.{decoded_of}
-use Rattle.json_canon.specs.Places.{by_bytes}
+use Rattle.json_values.specs.Places.{by_bytes}
 use Rattle.oci_digests.specs.Names.{Names, names}
 use Rattle.cosign_layers.specs.Payload.{content_of}
 use Rattle.cosign_layers.specs.Rejections.{◌>>=◌}

@@ -3,7 +3,7 @@ ghost use Rattle.std.specs.Prelude.{◌≡◌, IfOk, Option};
 ghost use Rattle.cosign_layers.specs.declared.certificate.Evidence.{Evidence};
 ghost use Rattle.cosign_layers.specs.declared.certificate.Vouched.{Vouched};
 
-use json_canon::{Blob, Copied, Text, copies2, copies4};
+use json_values::{Blob, Copied, Text, copies2, copies4};
 use std::alloc::{AllocError, Global};
 
 /// What a certificate stands for.

@@ -6,7 +6,7 @@ ghost use Rattle.cosign_layers.specs.Accepts.{accepts as accepts_by, has_text_me
 ghost use Rattle.cosign_layers.specs.declared.layer.SignatureLayer.{SignatureLayer};
 
 use crate::layer::SignatureLayer;
-use json_canon::{Annotations, Copied, Text};
+use json_values::{Annotations, Copied, Text};
 use serde_json::Value;
 use std::alloc::{AllocError, Global};
 

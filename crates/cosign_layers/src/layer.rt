@@ -3,7 +3,7 @@ ghost use Rattle.std.specs.Prelude.{◌≡◌, IfOk};
 
 use crate::certificate::CertificateSignature;
 use crate::log_entry::LogEntryBundle;
-use json_canon::{Annotations, Blob, Copied, Json, Text, copies3, copies7};
+use json_values::{Annotations, Blob, Copied, Json, Text, copies3, copies7};
 use std::alloc::{AllocError, Global};
 
 /// The form of a signature layer.

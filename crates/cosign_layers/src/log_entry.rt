@@ -1,5 +1,5 @@
 //! Entries of a transparency log.
-use json_canon::{Blob, Copied, Text, copies5};
+use json_values::{Blob, Copied, Text, copies5};
 use std::alloc::{AllocError, Global};
 
 /// A log's entry for a signature, with the log's promise to keep it.

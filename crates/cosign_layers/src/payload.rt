@@ -4,8 +4,8 @@ ghost use Rattle.serde_json.specs.View.{view};
 ghost use Rattle.cosign_layers.specs.Payload.{content_of, payload_of};
 
 use crate::layer::SimpleSigning;
-use json_canon::{Text, read_json};
 use json_tables::{holds_float, or_null, text_at};
+use json_values::{Text, read_json};
 use serde_json::Value;
 use std::alloc::{AllocError, Global};
 

@@ -1,6 +1,6 @@
 //! Policies for pulls.
 use crate::constraint::Constraint;
-use json_canon::{Blob, List, TextMap};
+use json_values::{Blob, List, TextMap};
 
 /// Under which keys an image has to be signed, and what its signature layer has to say.
 #[derive(Drop)]

@@ -7,8 +7,8 @@ ghost use Rattle.cosign_layers.specs.Rejections.{Says};
 use crate::layer::{LayerKind, SignatureLayer, SimpleSigning};
 use crate::payload::read_payload;
 use crate::rejection::{LayerPart, LayerRejection};
-use json_canon::{Annotations, Blob, Copied, Text, copies2};
 use json_tables::decode_base64;
+use json_values::{Annotations, Blob, Copied, Text, copies2};
 use oci_digests::names_digest;
 use std::alloc::Global;
 

@@ -2,7 +2,7 @@
 ghost use Rattle.std.specs.Prelude.{◌≡◌};
 ghost use Rattle.cosign_layers.specs.Rejections.{is_memory};
 
-use json_canon::Text;
+use json_values::Text;
 use std::alloc::AllocError;
 use thiserror::Error;
 

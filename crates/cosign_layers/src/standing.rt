@@ -11,8 +11,8 @@ use crate::constraint::Constraint;
 use crate::layer::SignatureLayer;
 use crate::policy::PullPolicy;
 use crate::verifier::SignatureVerifier;
-use json_canon::Blob;
 use json_tables::decode_base64;
+use json_values::Blob;
 use std::alloc::{AllocError, Global};
 
 /// Whether a layer stands under a policy: its signature is valid for its content, under the key of its certificate or,

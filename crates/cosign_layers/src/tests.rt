@@ -3,7 +3,7 @@ use crate::{
     SignatureLayer, SignedRow, TableVerifier, VerificationConstraint, Vouched, first_standing,
     read_payload_layer, stands,
 };
-use json_canon::{Annotations, Blob, Copied, List, Text};
+use json_values::{Annotations, Blob, Copied, List, Text};
 use oci_digests::sha256_digest;
 use std::alloc::{AllocError, Global};
 use std::test::Fail;

@@ -2,7 +2,7 @@
 ghost use Rattle.std.specs.Prelude.{◌≡◌, ℕ, List, Bool, IfOk};
 ghost use Rattle.cosign_layers.specs.Rows.{is_valid_by};
 
-use json_canon::{Blob, Copied, List, Text, copies3};
+use json_values::{Blob, Copied, List, Text, copies3};
 use oci_digests::names_digest;
 use std::alloc::{AllocError, Global};
 

@@ -5,9 +5,9 @@ use Rattle.std.specs.Result.{IsErrAnd}
 use Rattle.std.proofs.lemmas.Result.{err_from_is_err_and}
 use Rattle.std.specs.FinMap as map
 use Rattle.url.specs.Parts.{Parts, serialize}
-use Rattle.json_canon.specs.Counts.{Rose}
-use Rattle.json_canon.specs.Tray.{Tray, Adds}
-use Rattle.json_canon.proofs.Sinks.{adds_none}
+use Rattle.json_values.specs.Counts.{Rose}
+use Rattle.json_values.specs.Tray.{Tray, Adds}
+use Rattle.json_values.proofs.Sinks.{adds_none}
 use Rattle.oci_link.specs.Link.{Link}
 use Rattle.oci_link.specs.Urls.{request_url}
 use Rattle.oci_link.specs.Headers.{Fields, added, held, is_header_value}

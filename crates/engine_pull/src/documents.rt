@@ -10,7 +10,7 @@ use engine_requests::{
     manifest_url, read_document,
 };
 use engine_steps::{Named, named_after, prepared, whole};
-use json_canon::{Blob, Text};
+use json_values::{Blob, Text};
 use oci_auth::{Memory, RegistryAuth, store};
 use oci_docs::OciManifest;
 use oci_link::{Method, Transport};

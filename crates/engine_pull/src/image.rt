@@ -8,7 +8,7 @@ ghost use Rattle.engine_pull.specs.Images.{image_manifest, is_accepted, all_acce
 use crate::documents::pull_manifest;
 use crate::piped::pulled_blob;
 use engine_requests::{OciDistributionError, Settings};
-use json_canon::{Blob, Copied, List, Text, copies2};
+use json_values::{Blob, Copied, List, Text, copies2};
 use oci_auth::{Memory, RegistryAuth};
 use oci_docs::blob::Config;
 use oci_docs::{ImageLayer, OciDescriptor, OciImageManifest, OciManifest};

@@ -8,7 +8,7 @@ ghost use Rattle.engine_pull.specs.Pulls.{pull_blob};
 
 use engine_requests::{MANIFEST_TYPES, OciDistributionError, Settings, blob_url};
 use engine_steps::{attempt, prepared};
-use json_canon::{Blob, PlainSink, Sink};
+use json_values::{Blob, PlainSink, Sink};
 use oci_auth::Memory;
 use oci_link::{Method, Transport};
 use oci_names::Reference;

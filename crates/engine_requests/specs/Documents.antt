@@ -2,7 +2,7 @@
 use Rattle.std.specs.Prelude.{ℕ, pos, Bool, true, false, List, Option, Some, None, Result, Ok, Err, is_some, ◌&&◌, if◌then◌else◌, option_and_then}
 use Rattle.std.specs.Ordering.{int_eq}
 use Rattle.serde_json.specs.Data.{Data}
-use Rattle.json_canon.specs.JsonText.{json_of, is_plain}
+use Rattle.json_values.specs.JsonText.{json_of, is_plain}
 use Rattle.oci_docs.specs.Types.{is_manifest_type}
 use Rattle.oci_docs.specs.Versioned.{versioned_of}
 use Rattle.oci_docs.specs.Manifest.{manifest_of}

@@ -5,7 +5,7 @@ ghost use Rattle.engine_requests.specs.Addresses.{registry_text, base_text, mani
 ghost use Rattle.oci_names.specs.References.{tag_of, digest_of, namespace_of};
 
 use crate::{OciDistributionError, Settings};
-use json_canon::Text;
+use json_values::Text;
 use oci_link::{UrlError, request_url};
 use oci_names::Reference;
 use std::alloc::{AllocError, Global};

@@ -9,7 +9,7 @@ ghost use Rattle.engine_requests.specs.Errors.{Says, SaysError};
 ghost use Rattle.engine_requests.specs.Answers.{is_success, is_client_error, envelope_in, by_envelope, refused_answer, accepted, or_digest_error, header_digest, body_digest, answer_digest, document_in, agreed, fits_reference};
 
 use crate::{OciDistributionError, SpecViolation};
-use json_canon::{Blob, Text, read_json};
+use json_values::{Blob, Text, read_json};
 use oci_digests::{Digest, DigestError, digest_header_value, validate_digest};
 use oci_docs::{OciEnvelope, ReadError};
 use oci_link::{Answer, Headers};

@@ -8,7 +8,7 @@ ghost use Rattle.engine_requests.specs.Blobs.{digest_expected, given_expected, p
 
 use crate::OciDistributionError;
 use crate::answers::{header_in, is_success};
-use json_canon::{Copied, Text};
+use json_values::{Copied, Text};
 use oci_digests::{Algorithm, DigestError, Digester, Digesters, named_algorithm};
 use oci_link::AnswerHead;
 use std::alloc::{AllocError, Global};

@@ -5,7 +5,7 @@ ghost use Rattle.engine_requests.specs.Errors.{Says};
 ghost use Rattle.engine_requests.specs.Documents.{plain_of, type_checked, version_checked, versioned_in, tables_read, document_from, document_read};
 
 use crate::OciDistributionError;
-use json_canon::{Blob, Copied, Json, Text, read_json};
+use json_values::{Blob, Copied, Json, Text, read_json};
 use oci_docs::{OciManifest, ReadError, Versioned, is_manifest_media_type};
 use std::alloc::{AllocError, Global};
 

@@ -2,7 +2,7 @@
 ghost use Rattle.std.specs.Prelude.{◌≡◌};
 ghost use Rattle.engine_requests.specs.Errors.{is_memory};
 
-use json_canon::{Blob, Text};
+use json_values::{Blob, Text};
 use oci_digests::DigestError;
 use oci_docs::OciEnvelope;
 use std::alloc::{AllocError, AllocFailed};

@@ -5,7 +5,7 @@ ghost use Rattle.engine_requests.specs.Errors.{Says};
 ghost use Rattle.engine_requests.specs.Requests.{behind, listed, with_header, with_accept, headers_of, request_of};
 
 use crate::{GenericCause, OciDistributionError, Settings};
-use json_canon::{Blob, Copied, Text};
+use json_values::{Blob, Copied, Text};
 use oci_link::{HeaderError, Headers, Method, Request};
 use std::alloc::{AllocError, Global};
 use url::Url;

@@ -2,7 +2,7 @@
 ghost use Rattle.std.specs.Prelude.{◌≡◌};
 ghost use Rattle.engine_requests.specs.Addresses.{is_listed, scheme_for};
 
-use json_canon::{List, Text};
+use json_values::{List, Text};
 
 /// The scheme of a registry's URLs.
 #[derive(Debug, Drop)]

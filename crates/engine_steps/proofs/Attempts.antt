@@ -3,9 +3,9 @@ use Rattle.std.proofs.Common.{◌≡◌, ◌≤◌, ◌<◌, inl, inr, ℕ, Bool
 use Rattle.std.specs.Prelude.{MatchBool, bytes_eq, nat_eq, if◌then◌else◌}
 use Rattle.std.specs.Result.{IsErrAnd}
 use Rattle.std.proofs.lemmas.Result.{err_from_is_err_and}
-use Rattle.json_canon.specs.Counts.{Rose}
-use Rattle.json_canon.specs.Tray.{Tray, Adds}
-use Rattle.json_canon.proofs.Sinks.{adds_none}
+use Rattle.json_values.specs.Counts.{Rose}
+use Rattle.json_values.specs.Tray.{Tray, Adds}
+use Rattle.json_values.proofs.Sinks.{adds_none}
 use Rattle.oci_link.specs.Link.{Link, Extends, Steady, answer_of}
 use Rattle.oci_link.specs.declared.message.Request.{Request}
 use Rattle.oci_link.specs.declared.message.Answer.{Answer}

@@ -1,7 +1,7 @@
 -- One request for a blob, and what a sink took of it.
 use Rattle.std.specs.Prelude.{◌≡◌, ◌≤◌, ◌⊎◌, ℕ, List, [], ◌∷◌, ◌++◌, Option, Some, None, Result, Ok, Err}
-use Rattle.json_canon.specs.Counts.{Rose}
-use Rattle.json_canon.specs.Tray.{Tray, Adds}
+use Rattle.json_values.specs.Counts.{Rose}
+use Rattle.json_values.specs.Tray.{Tray, Adds}
 use Rattle.oci_link.specs.Link.{Link}
 use Rattle.oci_link.specs.declared.message.Request.{Request}
 use Rattle.oci_link.specs.declared.message.Answer.{Answer}

@@ -7,7 +7,7 @@ ghost use Rattle.engine_requests.specs.Errors.{is_memory};
 ghost use Rattle.engine_steps.specs.Rows.{whole, head_after, named_after};
 
 use engine_requests::{Got, OciDistributionError, header_digest};
-use json_canon::{Blob, Text};
+use json_values::{Blob, Text};
 use oci_link::{Answer, AnswerHead, BodyError, LinkError, Request, Transport, read_body};
 use oci_protocol::{Reached, reach};
 use std::alloc::Global;

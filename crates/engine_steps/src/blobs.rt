@@ -8,7 +8,7 @@ use crate::asking::with_body;
 use engine_requests::{
     OciDistributionError, Plan, both_compared, digesters, plan_of, refused_answer,
 };
-use json_canon::Sink;
+use json_values::Sink;
 use oci_link::{BodyError, LinkError, Request, Transport, read_body};
 use oci_protocol::{PourError, pour, reach};
 use std::alloc::Global;

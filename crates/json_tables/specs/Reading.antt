@@ -3,7 +3,7 @@ use Rattle.std.specs.Prelude.{ℕ, ◌^◌, List, [], ◌∷◌, Bool, true, nat
 use Rattle.std.specs.List.{list_any}
 use Rattle.std.specs.Str.{bytes_eq}
 use Rattle.std.specs.FinMap.{FinMap, empty, insert}
-use Rattle.json_canon.specs.Places.{by_bytes}
+use Rattle.json_values.specs.Places.{by_bytes}
 use Rattle.serde_json.specs.Data.{Data, null, Items, no_items, item, Members, no_members, member}
 use Rattle.serde_json.specs.Find.{get, as_bool, as_number, as_str, as_array, as_object, as_u64, as_i64}
 

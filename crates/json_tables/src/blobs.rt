@@ -13,7 +13,7 @@ use crate::objects::only;
 use crate::reads::Reads;
 use base64::DecodeAllocError;
 use base64::engine::general_purpose::STANDARD;
-use json_canon::Blob;
+use json_values::Blob;
 use serde_json::Value;
 use std::alloc::{AllocError, Global};
 

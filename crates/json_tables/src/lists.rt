@@ -5,7 +5,7 @@ ghost use Rattle.json_tables.specs.Reading.{list_of, items_by, pair_of, two_by, 
 use crate::error::ReadError;
 use crate::member::{Member, present};
 use crate::reads::Reads;
-use json_canon::List;
+use json_values::List;
 use serde_json::Value;
 use std::alloc::Global;
 

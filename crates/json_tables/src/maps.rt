@@ -6,7 +6,7 @@ ghost use Rattle.json_tables.specs.Reading.{map_of, members_by, present};
 use crate::error::ReadError;
 use crate::member::{Member, present};
 use crate::reads::Reads;
-use json_canon::{Text, TextMap};
+use json_values::{Text, TextMap};
 use serde_json::{Map, Value};
 use std::alloc::Global;
 

@@ -6,7 +6,7 @@ ghost use Rattle.json_tables.specs.Reading.{required, optional, unless_null, pre
 
 use crate::error::ReadError;
 use crate::reads::Reads;
-use json_canon::Json;
+use json_values::Json;
 use serde_json::Value;
 use std::alloc::{AllocError, Global};
 

@@ -2,7 +2,7 @@ use crate::{
     Member, ReadError, Reads, an_object, decode_base64, holds_float, only, optional, read_document,
     read_or_none, required, required_base64, row2, row3, row10, text_at,
 };
-use json_canon::{Blob, Json, List, Text, TextMap};
+use json_values::{Blob, Json, List, Text, TextMap};
 use serde_json::Value;
 use std::alloc::Global;
 use std::test::Fail;

@@ -5,7 +5,7 @@ ghost use Rattle.json_tables.specs.Reading.{text_of, present};
 use crate::error::ReadError;
 use crate::member::{Member, present};
 use crate::reads::Reads;
-use json_canon::{Json, Text};
+use json_values::{Json, Text};
 use serde_json::Value;
 use std::alloc::Global;
 

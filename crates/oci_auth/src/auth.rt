@@ -1,4 +1,4 @@
-use json_canon::Copied;
+use json_values::Copied;
 use std::alloc::{AllocError, Global};
 
 /// What a client shows a registry. Passwords and tokens come with the token exchanges.

@@ -4,7 +4,7 @@ ghost use Rattle.std.specs.FinMap as map;
 ghost use Rattle.oci_auth.specs.Memory.{stored};
 
 use crate::auth::RegistryAuth;
-use json_canon::{Copied, Text, TextMap};
+use json_values::{Copied, Text, TextMap};
 use std::alloc::{AllocError, Global};
 
 /// Stored credentials, by registry.

@@ -9,7 +9,7 @@ use crate::digest::Digest;
 use crate::digester::Algorithm;
 use crate::error::DigestError;
 use crate::names::{digest_text, sha256_digest};
-use json_canon::{Blob, Text};
+use json_values::{Blob, Text};
 use std::alloc::Global;
 
 fn algorithm_of(name: &str) -> Option<Algorithm>

@@ -3,7 +3,7 @@ ghost use Rattle.std.specs.Prelude.{◌≡◌, ℕ, List, [], ◌++◌, IfOk, On
 use crate::checks::named_algorithm;
 use crate::error::DigestError;
 use crate::names::text_of;
-use json_canon::Text;
+use json_values::Text;
 use sha2::{Digest, Sha256, Sha384, Sha512};
 use std::alloc::{AllocError, Global};
 

@@ -1,7 +1,7 @@
 ghost use Rattle.std.specs.Prelude.{◌≡◌};
 ghost use Rattle.oci_digests.specs.Checks.{is_memory};
 
-use json_canon::{Blob, Text};
+use json_values::{Blob, Text};
 use std::alloc::AllocError;
 use thiserror::Error;
 

@@ -3,7 +3,7 @@ ghost use Rattle.hex.specs.Hex.{encode_lower};
 ghost use Rattle.oci_digests.specs.Names.{digest_text, Names, names};
 
 use crate::digester::Algorithm;
-use json_canon::Text;
+use json_values::Text;
 use sha2::{Digest, Sha256, Sha384, Sha512};
 use std::alloc::{AllocError, Global};
 

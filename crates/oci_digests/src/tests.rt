@@ -2,7 +2,7 @@ use crate::{
     Algorithm, Digest, DigestError, Digester, Digesters, digest_header_value, digest_text,
     names_digest, sha256_digest, validate_digest,
 };
-use json_canon::Text;
+use json_values::Text;
 use std::alloc::Global;
 use std::test::Fail;
 

@@ -1,7 +1,7 @@
 -- What every manifest begins with: the schema version and the media type.
 use Rattle.std.specs.Prelude.{pos, Bool, true, false, IsTrue, ◌&&◌, Option, Some, option_map, unwrap_or, codes}
 use Rattle.std.specs.Ordering.{int_eq}
-use Rattle.json_canon.specs.JsonText.{is_plain}
+use Rattle.json_values.specs.JsonText.{is_plain}
 use Rattle.serde_json.specs.Data.{Data}
 use Rattle.json_tables.specs.Reading.{◌>>=◌, text_of, i32_of, required, optional}
 use Rattle.oci_docs.specs.Types.{is_manifest_type}

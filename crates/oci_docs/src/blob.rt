@@ -3,7 +3,7 @@ ghost use Rattle.std.specs.Prelude.{◌≡◌, IfOk};
 ghost use Rattle.oci_digests.specs.Names.{digest_text};
 ghost use Rattle.oci_digests.specs.declared.digester.Algorithm.TheVariants.{Sha256};
 
-use json_canon::{Annotations, Blob, Copied, Text, copies3};
+use json_values::{Annotations, Blob, Copied, Text, copies3};
 use std::alloc::{AllocError, Global};
 
 /// A layer: its bytes, their media type and its annotations.

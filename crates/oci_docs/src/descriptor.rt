@@ -1,8 +1,8 @@
 ghost use Rattle.serde_json.specs.View.{view};
 ghost use Rattle.json_tables.specs.Outcomes.{ReadsDocument};
 
-use json_canon::{Annotations, Copied, List, Text, copies5};
 use json_tables::{Member, ReadError, Reads, present, read_document, row6};
+use json_values::{Annotations, Copied, List, Text, copies5};
 use serde_json::Value;
 use std::alloc::{AllocError, Global};
 

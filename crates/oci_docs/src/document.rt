@@ -5,8 +5,8 @@ ghost use Rattle.oci_docs.specs.Document.{ReadsManifest, content_type_of};
 use crate::index::OciImageIndex;
 use crate::manifest::OciImageManifest;
 use crate::media_types::{IMAGE_MANIFEST_LIST_MEDIA_TYPE, OCI_IMAGE_MEDIA_TYPE};
-use json_canon::{Copied, Text};
 use json_tables::{ReadError, holds_float, read_or_none};
+use json_values::{Copied, Text};
 use serde_json::Value;
 use std::alloc::{AllocError, Global};
 

@@ -4,8 +4,8 @@ ghost use Rattle.json_tables.specs.Outcomes.{Gives, ReadsDocument};
 ghost use Rattle.oci_docs.specs.Envelope.{text_or_empty};
 
 use crate::error_code::OciErrorCode;
-use json_canon::{Copied, Json, List, Text, copies3};
 use json_tables::{ReadError, Reads, or_null, read_document, required};
+use json_values::{Copied, Json, List, Text, copies3};
 use serde_json::Value;
 use std::alloc::{AllocError, Global};
 

@@ -1,8 +1,8 @@
 ghost use Rattle.std.specs.Prelude.{◌≡◌};
 ghost use Rattle.oci_docs.specs.ErrorCode.{known_code};
 
-use json_canon::{Copied, Text};
 use json_tables::{Member, ReadError, Reads, present};
+use json_values::{Copied, Text};
 use serde_json::Value;
 use std::alloc::{AllocError, Global};
 

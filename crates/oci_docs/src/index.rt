@@ -2,8 +2,8 @@ ghost use Rattle.serde_json.specs.View.{view};
 ghost use Rattle.json_tables.specs.Outcomes.{ReadsDocument};
 
 use crate::index_entry::ImageIndexEntry;
-use json_canon::{Annotations, Copied, List, Text, copies4};
 use json_tables::{ReadError, Reads, read_document, row5};
+use json_values::{Annotations, Copied, List, Text, copies4};
 use serde_json::Value;
 use std::alloc::{AllocError, Global};
 

@@ -2,8 +2,8 @@ ghost use Rattle.serde_json.specs.View.{view};
 ghost use Rattle.json_tables.specs.Outcomes.{ReadsDocument};
 
 use crate::platform::Platform;
-use json_canon::{Annotations, Copied, Text, copies5};
 use json_tables::{Member, ReadError, Reads, present, read_document, row6};
+use json_values::{Annotations, Copied, Text, copies5};
 use serde_json::Value;
 use std::alloc::{AllocError, Global};
 

@@ -2,8 +2,8 @@ ghost use Rattle.serde_json.specs.View.{view};
 ghost use Rattle.json_tables.specs.Outcomes.{ReadsDocument};
 
 use crate::descriptor::OciDescriptor;
-use json_canon::{Annotations, Copied, List, Text, copies6};
 use json_tables::{ReadError, Reads, read_document, row7};
+use json_values::{Annotations, Copied, List, Text, copies6};
 use serde_json::Value;
 use std::alloc::{AllocError, Global};
 

@@ -2,7 +2,7 @@ use crate::{
     ImageLayer, OciEnvelope, OciErrorCode, OciImageManifest, OciManifest, ReadError,
     is_manifest_media_type,
 };
-use json_canon::{Blob, Text};
+use json_values::{Blob, Text};
 use serde_json::Value;
 use std::alloc::Global;
 use std::test::Fail;

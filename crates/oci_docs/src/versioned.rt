@@ -7,8 +7,8 @@ use crate::media_types::{
     IMAGE_MANIFEST_LIST_MEDIA_TYPE, IMAGE_MANIFEST_MEDIA_TYPE, OCI_IMAGE_INDEX_MEDIA_TYPE,
     OCI_IMAGE_MEDIA_TYPE,
 };
-use json_canon::{Copied, Text};
 use json_tables::{ReadError, Reads, read_document, row2};
+use json_values::{Copied, Text};
 use serde_json::Value;
 use std::alloc::{AllocError, Global};
 

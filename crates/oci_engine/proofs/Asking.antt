@@ -5,7 +5,7 @@ use Rattle.std.specs.FinMap as map
 use Rattle.std.specs.FinMap.{get-insert, get-empty}
 use Rattle.std.specs.Cmp.Lexicographic.{nat_list_cmp_total}
 use Rattle.url.specs.Parts.{Parts, serialize}
-use Rattle.json_canon.specs.Places.{by_bytes}
+use Rattle.json_values.specs.Places.{by_bytes}
 use Rattle.oci_link.specs.Headers.{Fields, values_of, first_of, added, held, is_header_value}
 use Rattle.oci_link.specs.Urls.{request_url}
 use Rattle.oci_link.specs.declared.message.Request.{Request}

@@ -3,7 +3,7 @@ use Rattle.std.proofs.Common.{◌≡◌, inl, inr, ℕ, Bool, true, false, List,
 use Rattle.std.specs.Prelude.{MatchBool, ◌&&◌, nat_lt, if◌then◌else◌}
 use Rattle.std.specs.FinMap as map
 use Rattle.url.specs.Parts.{Parts}
-use Rattle.json_canon.specs.Tray.{Tray}
+use Rattle.json_values.specs.Tray.{Tray}
 use Rattle.oci_link.specs.Headers.{Fields, added, held, is_header_value}
 use Rattle.oci_link.specs.Link.{Link}
 use Rattle.oci_link.specs.Urls.{request_url}

@@ -1,7 +1,7 @@
 -- Why the results of a client's calls are refusals.
 use Rattle.std.proofs.Common.{◌≡◌, ℕ, true, List, Result, Ok, Err, IfErr, refl}
-use Rattle.json_canon.specs.Counts.{Rose}
-use Rattle.json_canon.specs.Tray.{Tray}
+use Rattle.json_values.specs.Counts.{Rose}
+use Rattle.json_values.specs.Tray.{Tray}
 use Rattle.oci_link.specs.Link.{Link}
 use Rattle.oci_link.specs.declared.message.Answer.{Answer}
 use Rattle.oci_link.specs.declared.message.Exchange.{Exchange}

@@ -1,6 +1,6 @@
 -- What the results of a client's calls show.
 use Rattle.std.proofs.Common.{◌≡◌, ℕ, List, Some, Result, Ok, Err, IfOk}
-use Rattle.json_canon.specs.Tray.{Tray}
+use Rattle.json_values.specs.Tray.{Tray}
 use Rattle.oci_link.specs.Link.{Link}
 use Rattle.oci_link.specs.declared.message.Exchange.{Exchange}
 use Rattle.oci_names.specs.declared.reference.Reference.{Reference}

@@ -1,7 +1,7 @@
 -- What a conversation shows of the answers that a client gives.
 use Rattle.std.specs.Prelude.{◌≡◌, ◌⊎◌, ℕ, List, [], ◌∷◌, ◌++◌, Option, Some, None, Ok, codes, unwrap_or}
 use Rattle.url.specs.Parts.{Parts, serialize}
-use Rattle.json_canon.specs.Tray.{Tray, Adds}
+use Rattle.json_values.specs.Tray.{Tray, Adds}
 use Rattle.oci_link.specs.Link.{Link}
 use Rattle.oci_link.specs.Headers.{first_of}
 use Rattle.oci_link.specs.Urls.{request_url}

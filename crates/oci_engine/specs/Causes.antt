@@ -1,7 +1,7 @@
 -- Why a call was refused. A refusal that speaks of an answer speaks of the last one of the call.
 use Rattle.std.specs.Prelude.{◌≡◌, ◌≢◌, ◌<◌, ◌⊎◌, ℕ, true, false, List, [], ◌∷◌, ◌++◌, Some, None, Result, Ok, Err, codes, length}
 use Rattle.std.specs.List.{Contains}
-use Rattle.json_canon.specs.Counts.{Rose}
+use Rattle.json_values.specs.Counts.{Rose}
 use Rattle.oci_link.specs.Headers.{first_of, is_header_value}
 use Rattle.oci_link.specs.Urls.{request_url}
 use Rattle.oci_link.specs.declared.message.Request.{Request}

@@ -1,6 +1,6 @@
 ghost use Rattle.std.specs.Prelude.{◌≡◌, ℕ, List, Some, None, Err, IfOk, IfErr};
 ghost use Rattle.std.specs.FinMap as map;
-ghost use Rattle.json_canon.specs.Counts.{Rose};
+ghost use Rattle.json_values.specs.Counts.{Rose};
 ghost use Rattle.oci_digests.specs.Names.{Names};
 ghost use Rattle.oci_link.specs.Urls.{request_url};
 ghost use Rattle.oci_names.specs.References.{digest_of};
@@ -18,7 +18,7 @@ ghost use Rattle.oci_engine.specs.Clients.{settings_of};
 use crate::config::ClientConfig;
 use engine_pull::ImageData;
 use engine_requests::{OciDistributionError, Settings};
-use json_canon::{Blob, Sink, Text};
+use json_values::{Blob, Sink, Text};
 use oci_auth::{Memory, RegistryAuth};
 use oci_docs::OciManifest;
 use oci_link::Transport;

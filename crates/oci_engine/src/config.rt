@@ -2,7 +2,7 @@ ghost use Rattle.std.specs.Prelude.{◌≡◌, IfOk, codes};
 ghost use Rattle.engine_requests.specs.declared.settings.ClientProtocol.TheVariants.{Https};
 
 use engine_requests::ClientProtocol;
-use json_canon::Text;
+use json_values::Text;
 use std::alloc::{AllocError, Global};
 
 /// What a client is made of.

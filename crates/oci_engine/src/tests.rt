@@ -2,7 +2,7 @@ ghost use Rattle.std.specs.Prelude.{IfOk};
 ghost use Rattle.oci_link.specs.Pieces.{NoneEmpty};
 
 use crate::{Client, ClientConfig, ImageData};
-use json_canon::{Blob, List, PlainSink, Text};
+use json_values::{Blob, List, PlainSink, Text};
 use oci_auth::RegistryAuth;
 use oci_docs::OciManifest;
 use oci_link::{HeaderError, Headers, Recorded, Script};

@@ -13,7 +13,7 @@ use Rattle.std.specs.Ordering.{eq_by_cmp, is_eq}
 use Rattle.std.specs.Cmp.{eq_by_cmp_equiv}
 use Rattle.std.proofs.lemmas.Cmp.{alike_right}
 use Rattle.std.specs.Cmp.Lexicographic.{nat_list_cmp_total}
-use Rattle.json_canon.specs.Places.{by_bytes}
+use Rattle.json_values.specs.Places.{by_bytes}
 use Rattle.oci_link.specs.Headers.{Fields, is_text, is_text_byte, kept_fields, without}
 
 text_below : (b : ℕ) → is_text_byte b ≡ true → b < 128

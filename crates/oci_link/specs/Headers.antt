@@ -5,7 +5,7 @@ use Rattle.std.specs.FinMap as map
 use Rattle.std.specs.FinMap.{FinMap}
 use Rattle.std.specs.FinMap.Entries.{where_key}
 use Rattle.std.specs.Ordering.{eq_by_cmp}
-use Rattle.json_canon.specs.Places.{by_bytes}
+use Rattle.json_values.specs.Places.{by_bytes}
 
 -- the values of each name
 abbrev pub Fields : Type 0

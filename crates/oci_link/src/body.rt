@@ -1,10 +1,10 @@
 ghost use Rattle.std.specs.Prelude.{◌≡◌, ◌≤◌, ◌<◌, length, IfOk, IsErrOf};
-ghost use Rattle.json_canon.specs.Counts.{Rose};
+ghost use Rattle.json_values.specs.Counts.{Rose};
 ghost use Rattle.oci_link.specs.Link.{Steady};
 ghost use Rattle.oci_link.specs.declared.body.BodyError.TheVariants.{WantOfMemory as out_of_memory};
 
 use crate::transport::{LinkError, Transport};
-use json_canon::{Blob, Copied};
+use json_values::{Blob, Copied};
 use std::alloc::{AllocError, Global};
 
 /// Why a body was not read.

@@ -7,7 +7,7 @@ ghost use Rattle.oci_link.specs.Headers.{values_of, first_of, added, without, he
 ghost use Rattle.oci_link.specs.declared.headers.HeaderError.TheVariants.{WantOfMemory as out_of_memory};
 
 use http_header::{HeaderName, HeaderNameError};
-use json_canon::{Blob, Copied, List, Text, TextMap};
+use json_values::{Blob, Copied, List, Text, TextMap};
 use std::alloc::{AllocError, AllocFailed, Global};
 use std::cmp::Ordering;
 use std::marker::Model;
@@ -23,7 +23,7 @@ impl Model for Headers {
     ghost use Rattle.std.specs.Prelude.{ℕ, List};
     ghost use Rattle.std.specs.FinMap.{FinMap, code};
     ghost use Rattle.std.specs.Coded.{coded_ℕ, coded_list};
-    ghost use Rattle.json_canon.specs.Places.{by_bytes};
+    ghost use Rattle.json_values.specs.Places.{by_bytes};
 
     ghost Value = { FinMap by_bytes (List (List ℕ)) };
 

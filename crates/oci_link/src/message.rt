@@ -1,6 +1,6 @@
 // Requests, answers, and exchanges of both.
 use crate::headers::Headers;
-use json_canon::{Blob, Copied, List, Text, copies2, copies3, copies4};
+use json_values::{Blob, Copied, List, Text, copies2, copies3, copies4};
 use std::alloc::{AllocError, Global};
 
 /// The method of a request.

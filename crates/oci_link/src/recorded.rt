@@ -1,7 +1,7 @@
 ghost use Rattle.oci_link.specs.Pieces.{NoneEmpty};
 
 use crate::headers::Headers;
-use json_canon::{Blob, Copied, List, copies5};
+use json_values::{Blob, Copied, List, copies5};
 use std::alloc::{AllocError, Global};
 
 /// A recorded answer, or a send that fails.

@@ -5,7 +5,7 @@ ghost use Rattle.oci_link.specs.Redirects.{joined_text, may_follow, is_redirect_
 use crate::headers::{Headers, header_text};
 use crate::message::{AnswerHead, Method, Request};
 use crate::urls::{UrlError, request_url, same_origin};
-use json_canon::{Copied, Text};
+use json_values::{Copied, Text};
 use std::alloc::{AllocError, Global};
 use url::{ParseError, Url};
 

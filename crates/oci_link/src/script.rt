@@ -7,7 +7,7 @@ ghost use Rattle.oci_link.specs.Playback.{answering, recorded_answer, last_piece
 use crate::message::{Answer, AnswerHead, Conversation, Exchange, Request};
 use crate::recorded::Recorded;
 use crate::transport::{LinkError, Transport};
-use json_canon::{Blob, Copied, List, copies5};
+use json_values::{Blob, Copied, List, copies5};
 use std::alloc::{AllocError, Global};
 
 /// Gives its answers in order, whatever is asked, and fails after the last of them.
@@ -80,7 +80,7 @@ impl Copied for Script {
 
 impl Transport for Script {
     ghost use Rattle.std.specs.Prelude.{◌⊎◌};
-    ghost use Rattle.json_canon.specs.Counts.{Rose, raised};
+    ghost use Rattle.json_values.specs.Counts.{Rose, raised};
     ghost use Rattle.oci_link.specs.Link.{Answers, AddsUnanswered, AddsAtMost, Takes, Steady};
     ghost use Rattle.oci_link.specs.Script.{state_of, answers_of, given_of, stop_of, place_of};
     ghost use Rattle.oci_link.specs.Playback.{fails_before_of};

@@ -5,7 +5,7 @@ use crate::{
     Answer, AnswerHead, BodyError, HeaderError, Headers, Method, Recorded, Request, Script,
     Transport, UrlError, header_text, read_body, redirected, registry_url, request_url, targets,
 };
-use json_canon::{Blob, Copied, List, Text};
+use json_values::{Blob, Copied, List, Text};
 use std::alloc::{AllocError, Global};
 use std::test::Fail;
 

@@ -1,11 +1,11 @@
 // What carries requests to a registry, and its answers back.
 ghost use Rattle.std.specs.Prelude.{◌≡◌, ◌≤◌, IfOk, IsErrOf};
-ghost use Rattle.json_canon.specs.Counts.{Rose};
+ghost use Rattle.json_values.specs.Counts.{Rose};
 ghost use Rattle.oci_link.specs.Link.{Link, Steady, Answers, AddsUnanswered, AddsAtMost, Takes};
 ghost use Rattle.oci_link.specs.declared.transport.LinkError.TheVariants.{WantOfMemory as out_of_memory};
 
 use crate::message::{AnswerHead, Request};
-use json_canon::{Blob, Copied};
+use json_values::{Blob, Copied};
 use std::alloc::{AllocError, AllocFailed, Global};
 
 /// Why a transport did not answer.

@@ -2,7 +2,7 @@
 ghost use Rattle.std.specs.Prelude.{◌≡◌, IfOk, IsErrOf, Some, None, option_copied};
 ghost use Rattle.oci_link.specs.Urls.{is_web, request_url, registry_text, same_text, same_port, same_place, same_origin, targets};
 
-use json_canon::{Copied, Text};
+use json_values::{Copied, Text};
 use std::alloc::{AllocError, Global};
 use url::{ParseError, Url};
 

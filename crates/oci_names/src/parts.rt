@@ -6,7 +6,7 @@ ghost use Rattle.oci_names.specs.Seen.{seen};
 
 use crate::grammar::{cut, is_digest, is_domain, is_path, is_tag};
 use crate::parse_error::ParseError;
-use json_canon::Text;
+use json_values::Text;
 use std::alloc::{AllocError, Global};
 
 /// The registry that is meant where a reference names none.

@@ -1,6 +1,6 @@
 ghost use Rattle.std.specs.Prelude.{◌≡◌};
 
-use json_canon::{Copied, Text};
+use json_values::{Copied, Text};
 use std::alloc::{AllocError, Global};
 
 /// The architecture of a platform, by the name that Go has for it (OCI image index, `platform`).

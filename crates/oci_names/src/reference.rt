@@ -3,7 +3,7 @@ ghost use Rattle.oci_names.specs.Parts.{marked};
 
 use crate::parse_error::ParseError;
 use crate::parts::{DOCKER_HUB, parts_of};
-use json_canon::{Copied, Text, copies3, copies5};
+use json_values::{Copied, Text, copies3, copies5};
 use std::alloc::{AllocError, Global};
 
 /// A reference to an image: `registry/repository`, with a tag, a digest or both, and perhaps a mirror

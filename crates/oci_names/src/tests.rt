@@ -1,5 +1,5 @@
 use crate::{Arch, Os, ParseError, Reference};
-use json_canon::{Copied, Text};
+use json_values::{Copied, Text};
 use std::alloc::Global;
 use std::test::Fail;
 

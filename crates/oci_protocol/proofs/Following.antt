@@ -1,6 +1,6 @@
 use Rattle.std.proofs.Common.{◌≡◌, ◌≤◌, ◌<◌, ◌+◌, inl, inr, ℕ, suc, zero, Bool, true, List, [], ◌∷◌, ◌++◌, Option, Some, None, Result, Err, length, replicate, refl, ap, ◌∙◌, arith}
 use Rattle.std.proofs.lemmas.List.{length-replicate}
-use Rattle.json_canon.specs.Counts.{Rose}
+use Rattle.json_values.specs.Counts.{Rose}
 use Rattle.oci_link.specs.Link.{Link, Extends, AddsAtMost, Steady, answer_of}
 use Rattle.oci_link.specs.Redirects.{redirected}
 use Rattle.oci_link.specs.declared.message.Request.{Request}

@@ -2,8 +2,8 @@ use Rattle.std.proofs.Common.{◌≡◌, ◌<◌, ◌≤◌, ◌+◌, ◌-◌, �
 use Rattle.std.proofs.lemmas.List.{nil_from_length}
 use Rattle.oci_link.specs.Link.{Link, Steady, HasTaken, Takes}
 use Rattle.oci_protocol.proofs.Extending.{Steady-none, Steady-more}
-use Rattle.json_canon.specs.Tray.{Tray, Adds, AddsFront}
-use Rattle.json_canon.proofs.Sinks.{adds_none, adds_more}
+use Rattle.json_values.specs.Tray.{Tray, Adds, AddsFront}
+use Rattle.json_values.proofs.Sinks.{adds_none, adds_more}
 use Rattle.oci_digests.specs.declared.digester.Algorithm.{Algorithm}
 use Rattle.oci_digests.specs.declared.both.Digesters.{Digesters}
 use Rattle.oci_digests.specs.Both.{BothHold}

@@ -1,5 +1,5 @@
 use Rattle.std.proofs.Common.{◌≡◌, ◌≢◌, ◌≤◌, ◌-◌, inl, inr, ℕ, suc, zero, List, [], ◌∷◌, ◌++◌, Some, None, refl, sym, ap, arith}
-use Rattle.json_canon.specs.Counts.{Rose}
+use Rattle.json_values.specs.Counts.{Rose}
 use Rattle.oci_link.specs.Link.{Link, Answers, AddsUnanswered, AddsAtMost, answer_of}
 use Rattle.oci_link.specs.Redirects.{redirected}
 use Rattle.oci_link.specs.declared.message.Request.{Request}

@@ -1,5 +1,5 @@
 use Rattle.std.specs.Prelude.{◌≡◌, ◌≤◌, ◌⊎◌, ℕ, suc, zero, List, [], ◌∷◌, Option, Some, None}
-use Rattle.json_canon.specs.Counts.{Rose}
+use Rattle.json_values.specs.Counts.{Rose}
 use Rattle.oci_link.specs.Link.{Link, Extends, Answers, AddsUnanswered, AddsAtMost}
 use Rattle.oci_link.specs.Redirects.{redirected}
 use Rattle.oci_link.specs.declared.message.Request.{Request}

@@ -1,6 +1,6 @@
 use Rattle.std.specs.Prelude.{◌≡◌, ◌≤◌, ℕ, List, [], ◌++◌, Some, Option, length}
 use Rattle.oci_link.specs.Link.{Link, HasTaken}
-use Rattle.json_canon.specs.Tray.{Tray, Adds}
+use Rattle.json_values.specs.Tray.{Tray, Adds}
 use Rattle.oci_digests.specs.declared.digester.Algorithm.{Algorithm}
 use Rattle.oci_digests.specs.declared.both.Digesters.{Digesters}
 use Rattle.oci_digests.specs.Both.{BothHold}

@@ -1,5 +1,5 @@
 use Rattle.std.specs.Prelude.{◌≡◌, ◌<◌, ◌≤◌, ◌⊎◌, ℕ, Bool, List, [], ◌∷◌, Some, Result, Ok, Err, MatchBool, length}
-use Rattle.json_canon.specs.Counts.{Rose}
+use Rattle.json_values.specs.Counts.{Rose}
 use Rattle.oci_link.specs.Link.{Link, Extends, answer_of}
 use Rattle.oci_link.specs.declared.message.Request.{Request}
 use Rattle.oci_link.specs.declared.message.Answer.{Answer}

@@ -1,10 +1,10 @@
 // An answer's body, piece by piece into a sink.
 ghost use Rattle.std.specs.Prelude.{◌≡◌, ◌≤◌, ◌<◌, length, OnOk, OnErr, IsErrOf, Some};
-ghost use Rattle.json_canon.specs.Counts.{Rose};
+ghost use Rattle.json_values.specs.Counts.{Rose};
 ghost use Rattle.oci_link.specs.Link.{Steady};
 ghost use Rattle.oci_protocol.specs.Poured.{Pours, PoursFront};
 
-use json_canon::{Sink, SinkError, put_all};
+use json_values::{Sink, SinkError, put_all};
 use oci_digests::Digesters;
 use oci_link::{LinkError, Transport};
 use std::alloc::Global;

@@ -2,7 +2,7 @@
 use Rattle.std.specs.Prelude.{ℕ, nat_lt, List, [], ◌∷◌, Option, Some, None, is_ok, length, if◌then◌else◌, codes}
 use Rattle.std.specs.Str.{bytes_eq}
 use Rattle.serde_json.specs.Data.{Data}
-use Rattle.json_canon.specs.JsonText.{plain_json_of}
+use Rattle.json_values.specs.JsonText.{plain_json_of}
 use Rattle.json_tables.specs.Reading.{◌>>=◌, text_of, u64_of, list_of, required, at_name, only}
 use Rattle.json_tables.specs.Bytes.{bytes_of}
 use Rattle.oci_names.specs.References.{reference_of}

@@ -10,8 +10,8 @@ ghost use Rattle.pull_case.specs.Members.{unless_absent};
 
 use crate::entries::Entry;
 use crate::headers::read_headers;
-use json_canon::{Blob, List};
 use json_tables::{ReadError, Reads, only, required};
+use json_values::{Blob, List};
 use oci_link::{Headers, Recorded};
 use serde_json::Value;
 use std::alloc::Global;

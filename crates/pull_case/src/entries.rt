@@ -6,8 +6,8 @@ ghost use Rattle.json_tables.specs.Outcomes.{Gives};
 ghost use Rattle.json_tables.specs.Reading.{items_by, list_of, present};
 
 use cosign_layers::{AnnotationVerifier, SignedRow};
-use json_canon::List;
 use json_tables::{Member, ReadError, only, required, row3};
+use json_values::List;
 use serde_json::Value;
 use std::alloc::Global;
 use std::marker::Model;

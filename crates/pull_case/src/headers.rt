@@ -7,8 +7,8 @@ ghost use Rattle.json_tables.specs.Reading.{at_name};
 ghost use Rattle.pull_case.specs.Answer.{with_headers, headers_of, Adds};
 ghost use Rattle.pull_case.specs.Members.{unless_absent};
 
-use json_canon::{List, Text};
 use json_tables::{ReadError, Reads};
+use json_values::{List, Text};
 use oci_link::{HeaderError, Headers};
 use serde_json::Value;
 use std::alloc::Global;

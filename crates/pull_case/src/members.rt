@@ -7,8 +7,8 @@ ghost use Rattle.pull_case.specs.Case.{reference_text_of, protocol_named, protoc
 ghost use Rattle.pull_case.specs.Members.{unless_absent};
 
 use engine_requests::ClientProtocol;
-use json_canon::{List, Text};
 use json_tables::{Member, ReadError, present};
+use json_values::{List, Text};
 use oci_names::{ParseError, Reference};
 use serde_json::Value;
 use std::alloc::{AllocError, Global};

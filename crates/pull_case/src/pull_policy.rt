@@ -2,7 +2,7 @@ ghost use Rattle.std.specs.Prelude.{◌≡◌, IfOk};
 ghost use Rattle.pull_case.specs.Policy.{annotation_constraints};
 
 use cosign_layers::{AnnotationVerifier, Constraint, PullPolicy};
-use json_canon::{Blob, Copied, List};
+use json_values::{Blob, Copied, List};
 use std::alloc::{AllocError, Global};
 
 /// The policy of these keys and these constraints, in order.

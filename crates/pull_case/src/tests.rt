@@ -1,7 +1,7 @@
 use crate::{Case, policy, read_case};
 use cosign_layers::Constraint;
 use engine_requests::ClientProtocol;
-use json_canon::{Blob, Text};
+use json_values::{Blob, Text};
 use std::alloc::{AllocError, Global};
 use std::test::Fail;
 

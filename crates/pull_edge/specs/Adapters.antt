@@ -1,6 +1,6 @@
 -- What the adapters of std's readers and writers show.
 use Rattle.std.specs.Prelude.{ℕ, List, Option, None}
-use Rattle.json_canon.specs.Tray.{Tray}
+use Rattle.json_values.specs.Tray.{Tray}
 use Rattle.pull_edge.specs.declared.std_source.StdSource.{StdSource}
 use Rattle.pull_edge.specs.declared.std_sink.StdSink.{StdSink}
 use Rattle.pull_edge.specs.Spring.{Spring}

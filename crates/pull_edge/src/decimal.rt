@@ -1,6 +1,6 @@
 ghost use Rattle.std.specs.Prelude.{◌≡◌, IfOk, decimal};
 
-use json_canon::Text;
+use json_values::Text;
 use std::alloc::{AllocError, Global};
 
 /// The plain decimal of a number.

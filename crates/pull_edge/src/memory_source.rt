@@ -1,10 +1,10 @@
 ghost use Rattle.std.specs.Prelude.{◌≡◌, ◌≤◌, ◌<◌, length, take, Some, Contains, IfOk, OnErr};
 ghost use Rattle.std.specs.Io.KnownBytes.{Consumes, Keeps, IsAtEnd};
-ghost use Rattle.json_canon.specs.Counts.{Rose, raised};
+ghost use Rattle.json_values.specs.Counts.{Rose, raised};
 
 use crate::give::give;
 use crate::source::{Failed, Source};
-use json_canon::{Blob, List};
+use json_values::{Blob, List};
 
 /// Gives bytes that stand in memory, and fails at the calls whose numbers, counted from 0, it was given.
 #[derive(Drop)]

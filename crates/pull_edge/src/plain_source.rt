@@ -2,7 +2,7 @@ ghost use Rattle.std.specs.Prelude.{◌≡◌, ◌≤◌, length, Some};
 
 use crate::give::give;
 use crate::source::{Failed, Source};
-use json_canon::Blob;
+use json_values::Blob;
 
 /// Gives bytes that stand in memory, and never fails.
 #[derive(Drop)]

@@ -1,10 +1,10 @@
 ghost use Rattle.std.specs.Prelude.{◌≡◌, ◌≤◌, ◌<◌, ◌++◌, length, IfOk, OnOk, OnErr, IsErrOf, vec_len};
 ghost use Rattle.std.specs.Io.KnownBytes.{Consumes, Keeps, IsAtEnd};
-ghost use Rattle.json_canon.specs.Counts.{Rose};
+ghost use Rattle.json_values.specs.Counts.{Rose};
 ghost use Rattle.pull_edge.specs.Spring.{TakesFront, TakesPiece, IsAll, IsPast};
 
 use crate::source::Source;
-use json_canon::Blob;
+use json_values::Blob;
 use std::alloc::{AllocError, Global};
 
 const PIECE: usize = 65536;

@@ -1,7 +1,7 @@
 // Where bytes come from.
 ghost use Rattle.std.specs.Prelude.{◌≡◌, ◌≤◌, ◌<◌, length, take, IfOk, OnErr};
 ghost use Rattle.std.specs.Io.KnownBytes.{Consumes, Keeps, IsAtEnd};
-ghost use Rattle.json_canon.specs.Counts.{Rose};
+ghost use Rattle.json_values.specs.Counts.{Rose};
 ghost use Rattle.pull_edge.specs.Spring.{Spring};
 
 /// A source gave nothing, and what it has left stays as it was.

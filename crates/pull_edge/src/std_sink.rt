@@ -1,6 +1,6 @@
 ghost use Rattle.std.specs.Prelude.{◌≡◌};
 
-use json_canon::{Sink, SinkError};
+use json_values::{Sink, SinkError};
 use std::io::Write;
 
 /// Puts bytes where a writer of std puts them, as standard output. It does not tell them. Each error

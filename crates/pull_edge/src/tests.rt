@@ -2,7 +2,7 @@ use crate::{
     Failed, MemorySource, PlainSource, ReadRefusal, Source, StdSink, StdSource, read_all,
     write_decimal,
 };
-use json_canon::{Blob, List, Sink, SinkError, put_all};
+use json_values::{Blob, List, Sink, SinkError, put_all};
 use std::alloc::Global;
 use std::io::{Error, ErrorKind, Read, Write};
 use std::test::Fail;

@@ -1,8 +1,8 @@
 -- What each status of the program says.
 use Rattle.std.specs.Prelude.{◌≡◌, ◌≤◌, ℕ, Bool, true, false, List, length, Option, Some, None, Result, Ok, Err, IsOk}
 use Rattle.std.specs.Io.KnownBytes.{IsAtEnd}
-use Rattle.json_canon.specs.Counts.{Rose}
-use Rattle.json_canon.specs.Tray.{Tray, Adds, AddsFront}
+use Rattle.json_values.specs.Counts.{Rose}
+use Rattle.json_values.specs.Tray.{Tray, Adds, AddsFront}
 use Rattle.oci_names.specs.References.{reference_of}
 use Rattle.pull_edge.specs.Spring.{Spring, IsAll, IsPast}
 use Rattle.pull_case.specs.Case.{case_in}

@@ -9,7 +9,7 @@ mod status;
 mod tests;
 mod words;
 
-use json_canon::{List, Text};
+use json_values::{List, Text};
 use pull_edge::{StdSink, StdSource};
 use serving::run;
 use status::Status;

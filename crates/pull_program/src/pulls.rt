@@ -13,7 +13,7 @@ ghost use Rattle.pull_program.specs.Rounds.{row_by, is_wanting, Round, IsCalm, P
 use crate::report::Report;
 use cosign_client::{Client, PullRefusal, VerifiedImage};
 use cosign_layers::{NoCertificates, PullPolicy, TableVerifier};
-use json_canon::{Blob, List, Text};
+use json_values::{Blob, List, Text};
 use oci_engine::{ClientConfig, ClientProtocol};
 use oci_link::{Exchange, Recorded, Script};
 use pull_case::{Case, policy};

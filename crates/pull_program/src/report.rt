@@ -1,5 +1,5 @@
 // What was written for pulls.
-use json_canon::Blob;
+use json_values::Blob;
 
 /// What was written for some pulls, and whether one of them was refused.
 #[derive(Drop)]

@@ -8,7 +8,7 @@ use crate::pulls::pull_case;
 use crate::report::Report;
 use crate::status::Status;
 use crate::words::{Word, word_of};
-use json_canon::{Sink, SinkError, Text, put_all};
+use json_values::{Sink, SinkError, Text, put_all};
 use pull_case::{Case, read_case};
 use pull_edge::{ReadRefusal, Source, read_all};
 use std::alloc::Global;

@@ -1,5 +1,5 @@
 use crate::serving::run;
-use json_canon::{Blob, List, MemorySink, PlainSink, Text};
+use json_values::{Blob, List, MemorySink, PlainSink, Text};
 use pull_edge::{MemorySource, PlainSource};
 use std::alloc::Global;
 use std::test::Fail;

@@ -6,7 +6,7 @@ ghost use Rattle.pull_report.specs.Report.{method_name};
 use crate::printed::{Printed, print1, word};
 use cosign_client::Skipped;
 use cosign_layers::SignatureLayer;
-use json_canon::Blob;
+use json_values::Blob;
 use oci_docs::OciDescriptor;
 use oci_link::{Exchange, Method};
 use std::alloc::{AllocError, Global};

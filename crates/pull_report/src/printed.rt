@@ -2,7 +2,7 @@
 ghost use Rattle.std.specs.Prelude.{◌≡◌, [], ◌∷◌, ◌++◌, OnOk};
 ghost use Rattle.pull_report.specs.Words.{spaced};
 
-use json_canon::Blob;
+use json_values::Blob;
 use std::alloc::{AllocError, Global};
 
 /// What has a print. Where memory was wanting, what was added of it is left open.

@@ -1,7 +1,7 @@
 // The print of a pull's refusal.
 use crate::printed::{Printed, print1, print2, word};
 use cosign_client::PullRefusal;
-use json_canon::Blob;
+use json_values::Blob;
 use std::alloc::{AllocError, Global};
 
 impl Printed for PullRefusal {

@@ -1,7 +1,7 @@
 // Prints of the refusals of the registry's client.
 use crate::printed::{Printed, print1, print2, print3, word};
 use engine_requests::{GenericCause, OciDistributionError, SpecViolation};
-use json_canon::Blob;
+use json_values::Blob;
 use oci_digests::DigestError;
 use sig_registry::SigstoreError;
 use std::alloc::{AllocError, Global};

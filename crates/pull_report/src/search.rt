@@ -2,7 +2,7 @@
 use crate::printed::{Printed, print1, print2, print3, word};
 use cosign_client::{SkipCause, Skipped, SourceKind};
 use cosign_layers::{LayerPart, LayerRejection};
-use json_canon::Blob;
+use json_values::Blob;
 use std::alloc::{AllocError, Global};
 
 impl Printed for LayerPart {

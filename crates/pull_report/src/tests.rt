@@ -4,7 +4,7 @@ use crate::write_report;
 use cosign_client::{PullRefusal, SkipCause, Skipped, SourceKind, VerifiedImage};
 use cosign_layers::{LayerKind, LayerPart, LayerRejection, SignatureLayer};
 use engine_requests::{GenericCause, OciDistributionError, SpecViolation};
-use json_canon::{Annotations, Blob, Copied, List, Text, read_json};
+use json_values::{Annotations, Blob, Copied, List, Text, read_json};
 use oci_digests::DigestError;
 use oci_docs::blob::Config;
 use oci_docs::{OciDescriptor, OciEnvelope, OciImageManifest};

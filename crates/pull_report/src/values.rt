@@ -2,7 +2,7 @@
 ghost use Rattle.std.specs.Prelude.{◌≡◌, ◌++◌, OnOk, decimal};
 
 use crate::printed::{Printed, word};
-use json_canon::{Blob, Text, write_quoted};
+use json_values::{Blob, Text, write_quoted};
 use oci_docs::OciEnvelope;
 use pull_edge::write_decimal;
 use std::alloc::{AllocError, Global};
@@ -40,7 +40,7 @@ impl Printed for i32 {
 }
 
 impl Printed for Text {
-    ghost use Rattle.json_canon.specs.Canon.{quoted_text};
+    ghost use Rattle.json_values.specs.Canon.{quoted_text};
 
     ghost print = { quoted_text };
 

@@ -7,7 +7,7 @@ ghost use Rattle.sig_registry.specs.Clients.{Client, Made};
 ghost use Rattle.sig_registry.specs.Calls.{digest_call, manifest_call, image_call, document_call, blob_call};
 
 use crate::error::SigstoreError;
-use json_canon::{Blob, Text};
+use json_values::{Blob, Text};
 use oci_auth::RegistryAuth;
 use oci_docs::{OciDescriptor, OciManifest};
 use oci_engine::ImageData;

@@ -2,7 +2,7 @@
 ghost use Rattle.std.specs.Prelude.{◌≡◌};
 ghost use Rattle.sig_registry.specs.Errors.{is_memory};
 
-use json_canon::Text;
+use json_values::Text;
 use oci_engine::OciDistributionError;
 use std::alloc::{AllocError, AllocFailed};
 

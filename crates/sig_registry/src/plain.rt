@@ -9,7 +9,7 @@ ghost use Rattle.sig_registry.specs.Calls.{digest_call, manifest_call, image_cal
 use crate::capabilities::ClientCapabilities;
 use crate::error::SigstoreError;
 use crate::wording::{Called, worded};
-use json_canon::{Blob, Text};
+use json_values::{Blob, Text};
 use oci_auth::RegistryAuth;
 use oci_docs::{OciDescriptor, OciManifest};
 use oci_engine::{Client, ImageData};

@@ -3,7 +3,7 @@ ghost use Rattle.std.specs.Prelude.{◌≡◌, IfOk, IfErr, option_copied, None,
 ghost use Rattle.oci_names.specs.References.{registry_of, repository_of, tag_of, digest_of, mirror_of, resolved_registry, whole_text, reference_of};
 
 use crate::error::SigstoreError;
-use json_canon::Text;
+use json_values::Text;
 use oci_names::{ParseError, Reference};
 use std::alloc::{AllocError, Global};
 

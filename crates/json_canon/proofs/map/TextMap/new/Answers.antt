@@ -1,8 +1,0 @@
-use Rattle.std.proofs.Common.{◌∙◌, ap}
-use Rattle.std.specs.FinMap as map
-use Rattle.json_canon.specs.Places.{by_bytes}
-use Rattle.json_canon.proofs.Maps.{from_nothing}
-use Rattle.json_canon.proofs.map.TextMap.new.Goals as goal
-
-pub returns : goal.returns
-returns g c = ap (map.from_sorted {R = by_bytes}) c.new.ensures.items ∙ from_nothing

@@ -1,0 +1,11 @@
+use Rattle.json_values.proofs.Sinks.{put_next, put_front}
+use Rattle.json_values.proofs.sink.put_all.Goals as goal
+
+pub loop-at-preserved : goal.loop-at-preserved
+loop-at-preserved g c = put_next _ _ _ _ _ _ c.loop-at.invariant c.in-Ok.ensures.most c.in-Ok.ensures.count c.in-Ok.ensures.taken
+
+pub returns-in-Err-Failed-clause-front : goal.returns-in-Err-Failed-clause-front
+returns-in-Err-Failed-clause-front g c = put_front _ _ _ _ _ c.loop-at.invariant c.in-Err-Failed.ensures.refused
+
+pub returns-in-Err-WantOfMemory-clause-front : goal.returns-in-Err-WantOfMemory-clause-front
+returns-in-Err-WantOfMemory-clause-front g c = put_front _ _ _ _ _ c.loop-at.invariant c.in-Err-WantOfMemory.ensures.refused

@@ -1,0 +1,19 @@
+-- What the sinks in memory show.
+use Rattle.std.specs.Prelude.{ℕ, List, Some}
+use Rattle.json_values.specs.declared.memory_sink.MemorySink.{MemorySink}
+use Rattle.json_values.specs.declared.plain_sink.PlainSink.{PlainSink}
+use Rattle.json_values.specs.Tray.{Tray}
+
+abbrev pub memory_tray : MemorySink → Tray
+memory_tray s = record { taken = Some s.bytes.items; faults = s.faults }
+
+-- how often it was asked, up to the greatest count
+abbrev pub calls_of : MemorySink → ℕ
+calls_of s = s.calls
+
+-- the calls at which it fails
+abbrev pub failing_of : MemorySink → List ℕ
+failing_of s = s.failing
+
+abbrev pub plain_tray : PlainSink → Tray
+plain_tray s = record { taken = Some s.bytes.items; faults = 0 }

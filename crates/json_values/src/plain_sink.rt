@@ -1,0 +1,54 @@
+ghost use Rattle.std.specs.Prelude.{◌≡◌, Some, []};
+
+use crate::blob::Blob;
+use crate::sink::{Sink, SinkError};
+use std::alloc::Global;
+
+/// Keeps all bytes in memory, and never fails.
+#[derive(Drop)]
+pub struct PlainSink {
+    bytes: Vec<u8>,
+}
+
+impl PlainSink {
+    ghost use Rattle.json_values.specs.Sinks.{plain_tray};
+
+    pub fn new(alloc: Global) -> PlainSink
+        ensures { (plain_tray result).taken ≡ Some [] }
+    {
+        PlainSink {
+            bytes: Vec::new(alloc),
+        }
+    }
+
+    /// The bytes, with no copy.
+    pub fn into_blob(self) -> Blob
+        ensures { (plain_tray self).taken ≡ Some result }
+    {
+        Blob::from_vec(self.bytes)
+    }
+
+    /// The bytes so far.
+    pub fn taken(&self) -> &[u8]
+        ensures { (plain_tray self.now).taken ≡ Some result.now }
+    {
+        self.bytes.as_slice()
+    }
+}
+
+impl Sink for PlainSink {
+    ghost use Rattle.json_values.specs.Sinks.{plain_tray};
+
+    ghost state = { plain_tray };
+
+    fn put(&mut self, piece: &[u8]) -> Result<usize, SinkError> {
+        match self.bytes.extend_from_slice(piece) {
+            Ok(()) => Ok(piece.len()),
+            Err(_) => Err(SinkError::WantOfMemory),
+        }
+    }
+
+    fn faults(&self) -> u64 {
+        0
+    }
+}

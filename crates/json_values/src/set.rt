@@ -1,0 +1,65 @@
+ghost use Rattle.std.specs.Prelude.{◌≡◌, OnOk, OnErr, slice_get};
+ghost use Rattle.std.specs.Option.{option_copied};
+ghost use Rattle.std.specs.FinMap as map;
+
+use crate::copied::Copied;
+use crate::map::TextMap;
+use crate::text::Text;
+use std::alloc::{AllocError, Global};
+use std::marker::Model;
+
+/// A set of texts. A contract sees a finite map from lists of bytes to nothing.
+#[derive(Debug, Drop)]
+pub struct TextSet {
+    inner: TextMap<()>,
+}
+
+impl Model for TextSet {
+    ghost use Rattle.json_values.specs.Places.{by_bytes};
+    ghost use Rattle.std.specs.FinMap.{FinMap, code};
+    ghost use Rattle.std.specs.Coded.{coded_ℕ, coded_list};
+    ghost use base.Stored.{coded_unit};
+
+    ghost Value = { FinMap by_bytes (Unit {0}) };
+
+    ghost coded = { code (coded_list coded_ℕ) coded_unit };
+
+    ghost view = { λ s. s.inner };
+}
+
+impl TextSet {
+    pub fn new(alloc: Global) -> TextSet
+        ensures { result ≡ map.empty }
+    {
+        TextSet {
+            inner: TextMap::new(alloc),
+        }
+    }
+
+    pub fn insert(&mut self, name: Text) -> Result<(), AllocError>
+        ensures ok { OnOk result (self.new ≡ map.insert self.old name tt) }
+        ensures err { OnErr result (self.new ≡ self.old) }
+    {
+        self.inner.insert(name, ())
+    }
+
+    pub fn contains(&self, name: &str) -> bool
+        ensures { result ≡ map.contains_key self.now name.now }
+    {
+        self.inner.get(name).is_some()
+    }
+
+    pub fn name_at(&self, place: usize) -> Option<&Text>
+        ensures { option_copied result ≡ slice_get (map.keys self.now) place }
+    {
+        self.inner.name_at(place)
+    }
+}
+
+impl Copied for TextSet {
+    fn copy(&self, alloc: Global) -> Result<TextSet, AllocError> {
+        Ok(TextSet {
+            inner: self.inner.copy(alloc)?,
+        })
+    }
+}
