@@ -2,6 +2,8 @@
 #![tactic(auto)]
 
 mod pulls;
+#[cfg(test)]
+mod recorded;
 mod report;
 mod serving;
 mod status;

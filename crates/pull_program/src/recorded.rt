@@ -1,0 +1,179 @@
+// Pulls over recorded answers of which one is wrong, each with the whole report.
+use crate::serving::run;
+use json_values::{Blob, List, PlainSink, Text};
+use pull_edge::PlainSource;
+use std::alloc::Global;
+use std::process::Abort;
+use std::test::Fail;
+
+const CASE: &str =
+    r#"{"reference":"localhost:5000/app:v1","protocol":"http","accepted":[],"moments":[100],"keys":["k1"],"constraints":[{"annotations":{}}],"signatures":[],"answers":["#;
+
+/// The answer to a request for a token.
+const TOKEN: &str = r#"{"status":200}"#;
+
+/// The answer that names the image's digest.
+const NAMED: &str =
+    r#"{"status":200,"headers":[["docker-content-digest","sha256:517b86da29754bfa57e312c35d4cf22caa38dbce39ecd24684830c1f9777a635"]]}"#;
+
+const HEAD_LINES: &str =
+    "moment 100\nGET http://localhost:5000/v2/\nHEAD http://localhost:5000/v2/app/manifests/v1\n";
+
+const TAG_LINES: &str =
+    "GET http://localhost:5000/v2/\nGET http://localhost:5000/v2/app/manifests/sha256-517b86da29754bfa57e312c35d4cf22caa38dbce39ecd24684830c1f9777a635.sig\n";
+
+const UNSATISFIED: &str =
+    "refused Unsatisfied \"sha256:517b86da29754bfa57e312c35d4cf22caa38dbce39ecd24684830c1f9777a635\"\nskipped Source Tag Refused RegistryPullManifestError \"localhost:5000/app:sha256-517b86da29754bfa57e312c35d4cf22caa38dbce39ecd24684830c1f9777a635.sig\" ";
+
+/// Answers to the request for the digest of `localhost:5000/app:v1`, and how each is refused.
+const DIGEST_ANSWERS: &[(&str, &str)] = &[
+    (r#""fail""#, "TransportFault"),
+    (
+        r#"{"status":401,"headers":[["docker-content-digest","sha256:ab"]]}"#,
+        r#"UnauthorizedError "http://localhost:5000/v2/app/manifests/v1""#,
+    ),
+    (
+        r#"{"status":404,"headers":[["docker-content-digest","sha256:ab"]]}"#,
+        r#"ServerError 404 "http://localhost:5000/v2/app/manifests/v1" 0"#,
+    ),
+    (
+        r#"{"status":204,"headers":[["docker-content-digest","sha256:ab"]]}"#,
+        r#"SpecViolationError Status 200 204 "http://localhost:5000/v2/app/manifests/v1""#,
+    ),
+    (
+        r#"{"status":200,"headers":[["docker-content-digest","é"]]}"#,
+        "DigestError InvalidHeader 2",
+    ),
+    (
+        r#"{"status":200,"headers":[["docker-content-digest","sha256:ab"]],"pieces":["x"],"fault":0}"#,
+        "TransportFault",
+    ),
+];
+
+/// Answers to the request for the manifest of the image's signatures, and how each is refused. The address is left out,
+/// for which a star stands.
+const TAG_ANSWERS: &[(&str, &str)] = &[
+    (r#""fail""#, "TransportFault"),
+    (r#"{"status":401}"#, "UnauthorizedError *"),
+    (r#"{"status":404}"#, "ServerError 404 * 0"),
+    (
+        r#"{"status":404,"pieces":["{\"errors\":[{\"code\":\"MANIFEST_UNKNOWN\"}]}"]}"#,
+        "RegistryError 1 *",
+    ),
+    (
+        r#"{"status":502,"pieces":[{"base64":"//5vaw=="}]}"#,
+        "ServerError 502 * 4",
+    ),
+    (r#"{"status":204}"#, "SpecViolationError Status 200 204 *"),
+    (
+        r#"{"status":200,"headers":[["docker-content-digest","nocolon"]],"pieces":["x"]}"#,
+        "DigestError MissingAlgorithm",
+    ),
+    (
+        r#"{"status":200,"headers":[["docker-content-digest","md5:d41d8cd98f00b204e9800998ecf8427e"]],"pieces":["x"]}"#,
+        r#"DigestError UnsupportedAlgorithm "md5""#,
+    ),
+    (
+        r#"{"status":200,"headers":[["docker-content-digest","sha256:44136fa355b3678a1146ad16f7e8649e94fb4fc21fe77e8310c060f61caaff8a"]],"pieces":["x"]}"#,
+        r#"DigestError VerificationError "sha256:44136fa355b3678a1146ad16f7e8649e94fb4fc21fe77e8310c060f61caaff8a" "sha256:2d711642b726b04401627ca9fbac32f5c8530fb1903cc4db02258717921a4881""#,
+    ),
+    (
+        r#"{"status":200,"headers":[["docker-content-digest","é"]],"pieces":["x"]}"#,
+        "DigestError InvalidHeader 2",
+    ),
+    (
+        r#"{"status":200,"pieces":["x"]}"#,
+        "VersionedParsingError 1",
+    ),
+    (
+        r#"{"status":200,"pieces":["{\"schemaVersion\":1}"]}"#,
+        "UnsupportedSchemaVersionError 1",
+    ),
+    (
+        r#"{"status":200,"pieces":["{\"schemaVersion\":2,\"mediaType\":\"text/plain\"}"]}"#,
+        r#"UnsupportedMediaTypeError "text/plain""#,
+    ),
+    (
+        r#"{"status":200,"pieces":["{\"schemaVersion\":2}"]}"#,
+        "ManifestParsingError 19",
+    ),
+    (
+        r#"{"status":200,"pieces":["x","y"],"fault":1}"#,
+        "TransportFault",
+    ),
+];
+
+const ADDRESS: &str =
+    r#""http://localhost:5000/v2/app/manifests/sha256-517b86da29754bfa57e312c35d4cf22caa38dbce39ecd24684830c1f9777a635.sig""#;
+
+// The text of a case with these answers, one after another.
+fn case_of(alloc: Global, answers: &[&str]) -> Result<Text, Fail> {
+    let mut case = Text::new(alloc, CASE)?;
+    for (place, answer) in answers.iter().enumerate() {
+        if place > 0 {
+            case.push_str(",")?;
+        }
+        case.push_str(*answer)?;
+    }
+    case.push_str("]}")?;
+    Ok(case)
+}
+
+// A print with the address in the place of its star.
+fn addressed(alloc: Global, print: &str) -> Result<Text, Fail> {
+    let mut text = Text::new(alloc, "")?;
+    match print.split_once("*") {
+        Some((front, back)) => {
+            text.push_str(front)?;
+            text.push_str(ADDRESS)?;
+            text.push_str(back)?;
+        }
+        None => text.push_str(print)?,
+    }
+    Ok(text)
+}
+
+// The pull of this case is refused, and its report is these texts.
+fn assert_refused(
+    rt: &(impl Abort + AllocGlobal),
+    case: &str,
+    report: &[&str],
+) -> Result<(), Fail> {
+    let alloc = rt.alloc();
+    let mut words = List::new(alloc);
+    words.push(Text::new(alloc, "pull")?)?;
+    let mut source = PlainSource::new(Blob::new(alloc, case.as_bytes())?);
+    let mut sink = PlainSink::new(alloc);
+    let status = run(alloc, words.as_slice(), &mut source, &mut sink);
+    let mut want = Text::new(alloc, "")?;
+    for part in report {
+        want.push_str(*part)?;
+    }
+    assert_eq!(rt; sink.taken(), want.as_str().as_bytes(), "{case}");
+    assert_eq!(rt; status, 1);
+    Ok(())
+}
+
+#[test]
+fn a_refused_digest_ends_the_pull(rt: HostRuntime) -> Result<(), Fail> {
+    for (answer, print) in DIGEST_ANSWERS {
+        let case = case_of(rt.alloc(), &[TOKEN, *answer])?;
+        let refused = "refused RegistryFetchManifestError \"localhost:5000/app:v1\" ";
+        assert_refused(&rt, case.as_str(), &[HEAD_LINES, refused, *print, "\n"])?;
+    }
+    Ok(())
+}
+
+#[test]
+fn a_refused_manifest_of_signatures_is_skipped(rt: HostRuntime) -> Result<(), Fail> {
+    for (answer, print) in TAG_ANSWERS {
+        let case = case_of(rt.alloc(), &[TOKEN, NAMED, TOKEN, *answer])?;
+        let print = addressed(rt.alloc(), *print)?;
+        assert_refused(
+            &rt,
+            case.as_str(),
+            &[HEAD_LINES, TAG_LINES, UNSATISFIED, print.as_str(), "\n"],
+        )?;
+    }
+    Ok(())
+}
