@@ -1,3 +1,4 @@
 pub mod Layers
 pub mod NoSink
+pub mod Quiet
 pub mod Storing

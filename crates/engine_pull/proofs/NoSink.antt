@@ -1,23 +1,20 @@
 -- What comes before a blob's request is no fault of the sink.
-use Rattle.std.proofs.Common.{◌≡◌, ◌≤◌, ℕ, Bool, true, false, List, [], ◌++◌, Option, Some, None, Result, Ok, Err, refl, sym, ap, ◌∙◌, arith}
+use Rattle.std.proofs.Common.{◌≡◌, ℕ, Bool, true, false, List, [], Option, Some, None, Result, Ok, Err, refl, sym, ◌∙◌}
 use Rattle.std.specs.Prelude.{MatchBool, if◌then◌else◌, nat_lt, ◌&&◌}
 use Rattle.std.specs.Result.{IsErrAnd}
 use Rattle.std.proofs.lemmas.Result.{err_from_is_err_and}
 use Rattle.std.specs.FinMap as map
 use Rattle.url.specs.Parts.{Parts, serialize}
-use Rattle.json_values.specs.Counts.{Rose}
-use Rattle.json_values.specs.Tray.{Tray, Adds}
-use Rattle.json_values.proofs.Sinks.{adds_none}
+use Rattle.json_values.specs.Tray.{Tray}
 use Rattle.oci_link.specs.Link.{Link}
 use Rattle.oci_link.specs.Urls.{request_url}
 use Rattle.oci_link.specs.Headers.{Fields, added, held, is_header_value}
 use Rattle.oci_link.specs.declared.message.Method.{Method}
-use Rattle.oci_link.specs.declared.message.Request.{Request}
 use Rattle.oci_names.specs.declared.reference.Reference.{Reference}
 use Rattle.oci_names.specs.References.{resolved_registry}
 use Rattle.oci_auth.specs.declared.auth.RegistryAuth.{RegistryAuth}
 use Rattle.oci_auth.specs.declared.memory.Memory.{Memory}
-use Rattle.oci_protocol.specs.Proto.{Proto, Done, Recall, bind, unless_refused, ◌>>=◌}
+use Rattle.oci_protocol.specs.Proto.{Done, bind, unless_refused, ◌>>=◌}
 use Rattle.oci_protocol.specs.Runs.{Meets}
 use Rattle.oci_protocol.specs.Ends.{Ends}
 use Rattle.oci_protocol.proofs.Ends.{Ends-any, Ends-bind, Meets-ends}
@@ -27,9 +24,9 @@ use Rattle.engine_requests.specs.declared.error.OciDistributionError.TheVariants
 use Rattle.engine_requests.specs.declared.error.GenericCause.TheVariants.{HeaderText}
 use Rattle.engine_requests.specs.Errors.{is_memory, ◌>>=◌ as ◌into◌}
 use Rattle.engine_requests.specs.Addresses.{url_or, url_read, registry_text}
-use Rattle.engine_requests.specs.Requests.{with_header, with_accept, headers_of, request_of, bare_request}
+use Rattle.engine_requests.specs.Requests.{with_header, with_accept, headers_of, request_of}
 use Rattle.engine_steps.specs.Rows.{Row, passed_over, token_step, token_asked, token_by, token_for, goes_to, token_where, authorized, prepared}
-use Rattle.engine_steps.specs.Blobs.{IsFront, Spills}
+use Rattle.engine_steps.specs.Blobs.{Spills}
 use Rattle.engine_steps.proofs.Attempts.{spills_none}
 
 -- the refusal, if it is one, is no fault of the sink
@@ -44,7 +41,7 @@ url_calm text None = λ h. cc
 pub read_calm : (text : List ℕ) → Calm (url_read text)
 read_calm text = url_calm text (request_url text)
 
-into_calm : {A B : Type 0} (r : Result A OciDistributionError) (f : A → Result B OciDistributionError) → Calm r → ((a : A) → Calm (f a)) → Calm (r into f)
+pub into_calm : {A B : Type 0} (r : Result A OciDistributionError) (f : A → Result B OciDistributionError) → Calm r → ((a : A) → Calm (f a)) → Calm (r into f)
 into_calm (Ok a) f h each = each a
 into_calm (Err e) f h each = h
 

@@ -1,6 +1,6 @@
 -- The calls that pull documents and blobs, each as the requests that it makes and what it answers
 -- (OCI distribution specification, "Pull").
-use Rattle.std.specs.Prelude.{ℕ, List, Result, Ok, Err}
+use Rattle.std.specs.Prelude.{ℕ, List, Ok}
 use Rattle.url.specs.Parts.{Parts}
 use Rattle.oci_link.specs.declared.message.Method.TheVariants.{Get, Head}
 use Rattle.oci_names.specs.declared.reference.Reference.{Reference}

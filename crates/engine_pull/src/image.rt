@@ -1,5 +1,5 @@
 // Whole images.
-ghost use Rattle.std.specs.Prelude.{◌≡◌, IfOk};
+ghost use Rattle.std.specs.Prelude.{◌≡◌, ◌≢◌, Err, IfOk};
 ghost use Rattle.oci_auth.specs.declared.memory.Memory.{Memory};
 ghost use Rattle.oci_protocol.specs.Runs.{Meets};
 ghost use Rattle.engine_requests.specs.Errors.{is_memory, Says};
@@ -131,7 +131,8 @@ fn pull_layers<T: Transport>(
     descriptors: &[OciDescriptor],
     mut layers: List<ImageLayer>,
 ) -> Result<List<ImageLayer>, OciDistributionError>
-    ensures { Meets is_memory (pull_layers settings.now image.now descriptors.now layers) (T.state transport.old) (T.state transport.new) memory.now memory.now result }
+    ensures run { Meets is_memory (pull_layers settings.now image.now descriptors.now layers) (T.state transport.old) (T.state transport.new) memory.now memory.now result }
+    ensures no_sink { result ≢ Err OciDistributionError.SinkFault }
 {
     for descriptor in descriptors {
         let content = pulled_blob(
@@ -148,7 +149,7 @@ fn pull_layers<T: Transport>(
     Ok(layers)
 }
 
-/// An image whose layers are of these media types.
+/// An image whose layers are of these media types. No sink of the caller's takes part.
 pub fn pull<T: Transport>(
     alloc: Global,
     transport: &mut T,
@@ -158,7 +159,8 @@ pub fn pull<T: Transport>(
     auth: &RegistryAuth,
     accepted: &[Text],
 ) -> Result<ImageData, OciDistributionError>
-    ensures { Meets is_memory (pull settings.now image.now auth.now accepted.now) (T.state transport.old) (T.state transport.new) memory.old memory.new result }
+    ensures run { Meets is_memory (pull settings.now image.now auth.now accepted.now) (T.state transport.old) (T.state transport.new) memory.old memory.new result }
+    ensures no_sink { result ≢ Err OciDistributionError.SinkFault }
 {
     let found = pull_manifest(alloc, transport, settings, memory, image, auth)?;
     let (document, digest) = found;

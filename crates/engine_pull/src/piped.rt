@@ -1,5 +1,5 @@
 // Blobs, into a sink or into memory.
-ghost use Rattle.std.specs.Prelude.{◌≡◌};
+ghost use Rattle.std.specs.Prelude.{◌≡◌, ◌≢◌, Err};
 ghost use Rattle.oci_auth.specs.declared.memory.Memory.{Memory};
 ghost use Rattle.oci_protocol.specs.Runs.{Meets};
 ghost use Rattle.engine_requests.specs.Errors.{is_memory};
@@ -49,7 +49,7 @@ pub fn pull_blob<T: Transport, K: Sink>(
     Ok(())
 }
 
-/// The bytes of a blob.
+/// The bytes of a blob. No sink of the caller's takes part, so no refusal is a sink's fault.
 pub fn pulled_blob<T: Transport>(
     alloc: Global,
     transport: &mut T,
@@ -58,7 +58,8 @@ pub fn pulled_blob<T: Transport>(
     image: &Reference,
     digest: &str,
 ) -> Result<Blob, OciDistributionError>
-    ensures { Meets is_memory (pull_blob settings.now image.now digest.now) (T.state transport.old) (T.state transport.new) memory.now memory.now result }
+    ensures run { Meets is_memory (pull_blob settings.now image.now digest.now) (T.state transport.old) (T.state transport.new) memory.now memory.now result }
+    ensures no_sink { result ≢ Err OciDistributionError.SinkFault }
 {
     let mut out = PlainSink::new(alloc);
     pull_blob(alloc, transport, settings, memory, image, digest, &mut out)?;

@@ -34,7 +34,7 @@ use Rattle.engine_requests.specs.Blobs.{digest_expected, given_expected, pouring
 use Rattle.engine_steps.specs.Rows.{prepared}
 use Rattle.engine_steps.specs.Blobs.{reading_by, blob_reading, unread_by, read_by, blob_reply, attempt}
 use Rattle.engine_pull.specs.Pulls.{pull_blob}
-use Rattle.oci_engine.specs.Causes.{LastAnswer, Claimed, DigestCause, AnswerCause, Cause, AskedDigest, BlobCause}
+use Rattle.oci_engine.specs.Causes.{LastAnswer, Claimed, DigestCause, AnswerCause, Cause, AskedDigest, PouredCause}
 use Rattle.oci_engine.proofs.Asking.{accepts_of, Prepared}
 use Rattle.oci_engine.proofs.Digested.{name_cause, name_claimed, differs_claimed, header_cause}
 use Rattle.oci_engine.proofs.Early.{EarlyCause, prepared_causes}
@@ -105,18 +105,18 @@ plan_shape digest answer = by_header digest answer (digest_in (first_of (codes "
 
 -- ---- a blob's cause
 
-pub blob_cause : (s : Settings) (digest : List ℕ) (c : List Exchange) (now : ℕ) (e : OciDistributionError) → Cause (AnswerCause (AskedDigest digest)) s manifest_types c now e → BlobCause s digest c now e
+pub blob_cause : (s : Settings) (digest : List ℕ) (c : List Exchange) (now : ℕ) (e : OciDistributionError) → Cause (AnswerCause (AskedDigest digest)) s manifest_types c now e → PouredCause s digest c now e
 blob_cause s digest c now refusal.SinkFault h = tt
 blob_cause s digest c now e h = h
 
-shown : (s : Settings) (digest : List ℕ) (c : List Exchange) (now : ℕ) (address : List ℕ) (answer : Answer) (e : OciDistributionError) → LastAnswer c address answer → AnswerCause (AskedDigest digest) address answer e → BlobCause s digest c now e
+shown : (s : Settings) (digest : List ℕ) (c : List Exchange) (now : ℕ) (address : List ℕ) (answer : Answer) (e : OciDistributionError) → LastAnswer c address answer → AnswerCause (AskedDigest digest) address answer e → PouredCause s digest c now e
 shown s digest c now address answer e last h = blob_cause s digest c now e (answer_cause (AskedDigest digest) s manifest_types now c address answer e last h)
 
 abbrev Any : ℕ → List Exchange → ℕ → List ℕ → Type 0
 Any m c n bytes = Unit {0}
 
 abbrev Blob : Settings → List ℕ → ℕ → List Exchange → ℕ → OciDistributionError → Type 0
-Blob s digest m c n e = BlobCause s digest c n e
+Blob s digest m c n e = PouredCause s digest c n e
 
 unread_where : (s : Settings) (digest : List ℕ) (m after : ℕ) (c : List Exchange) (address : List ℕ) (answer : Answer) (p : Plan) → PlanShape digest answer p → LastAnswer c address answer → ByAnswer Any (Blob s digest) m c after (unread_by p)
 unread_where s digest m after c address answer (plan.Refuse e) shape last = shown s digest c after address answer (refusal.DigestError e) last shape
@@ -174,7 +174,7 @@ unfolding attempt
 attempt_causes s digest request accepts = Shows-follow (ByAnswer Any (Blob s digest)) 10 request (blob_reading s.max_body_bytes digest) (blob_reply digest) (blob_run s digest request accepts)
 
 -- after other exchanges
-pub blob_later : (s : Settings) (digest : List ℕ) (now : ℕ) (c d : List Exchange) (e : OciDistributionError) → BlobCause s digest d now e → BlobCause s digest (c ++ d) now e
+pub blob_later : (s : Settings) (digest : List ℕ) (now : ℕ) (c d : List Exchange) (e : OciDistributionError) → PouredCause s digest d now e → PouredCause s digest (c ++ d) now e
 blob_later s digest now c d refusal.SinkFault h = tt
 blob_later s digest now c d e h = cause_later (AnswerCause (AskedDigest digest)) (AnswerCause (AskedDigest digest)) s manifest_types now c d e (λ address answer h. h) h
 
@@ -187,7 +187,7 @@ early_where s digest P m n c (Ok a) h = h
 early_where s digest P m n c (Err e) h = blob_cause s digest c n e (early_cause (AnswerCause (AskedDigest digest)) s manifest_types n c e h)
 
 -- each refusal has its cause
-pub blob_causes : (s : Settings) (image : Reference) (digest : List ℕ) → Shows (ByAnswer (λ m c n bytes. Unit {0}) (λ m c n e. BlobCause s digest c n e)) (pull_blob s image digest)
+pub blob_causes : (s : Settings) (image : Reference) (digest : List ℕ) → Shows (ByAnswer (λ m c n bytes. Unit {0}) (λ m c n e. PouredCause s digest c n e)) (pull_blob s image digest)
 unfolding pull_blob
 blob_causes s image digest = Shows-step (ByAnswer Any (Blob s digest)) (url_read (blob_text s image digest)) (λ url. prepared s image Get url manifest_types >>= λ request. attempt s.max_body_bytes digest request)
     (λ url is. Shows-each (λ m c n request. Prepared s Get url manifest_types Get (serialize url) c request) Any (Blob s digest) (prepared s image Get url manifest_types) (λ request. attempt s.max_body_bytes digest request)

@@ -32,7 +32,7 @@ use Rattle.engine_requests.specs.Documents.{plain_of, type_checked, version_chec
 use Rattle.engine_pull.specs.Pulls.{pull_manifest_raw, pull_manifest, pull_blob}
 use Rattle.engine_pull.specs.Images.{image_manifest, is_accepted, all_accepted, layers_accepted, layer_of, config_of, pull_layers, pull}
 use Rattle.engine_pull.specs.declared.image.ImageData.{ImageData}
-use Rattle.oci_engine.specs.Causes.{Claimed, DigestCause, AnswerCause, Unread, DocumentCause, ByLast, Cause, OwnDigest, AskedDigest, BlobCause, ManifestRead, ReadDigest, ImageDigest, ImageCause}
+use Rattle.oci_engine.specs.Causes.{Claimed, DigestCause, AnswerCause, Unread, DocumentCause, ByLast, Cause, OwnDigest, AskedDigest, PouredCause, ManifestRead, ReadDigest, ImageDigest, ImageCause}
 use Rattle.oci_engine.proofs.Documents.{body_before}
 use Rattle.oci_engine.proofs.Causing.{cause_later, last_later, Accepted, OwnCause, raw_causes}
 use Rattle.oci_engine.proofs.BlobRefused.{blob_later, blob_causes}
@@ -167,7 +167,7 @@ contains_rest x y xs h = (suc h.0, omega (arith, h.1), h.2)
 record OneRefused (s : Settings) (xs : List OciDescriptor) (c : List Exchange) (now : ℕ) (e : OciDistributionError) : Type 0 where
   x : OciDescriptor
   contains : Contains xs x
-  cause : BlobCause s x.digest c now e
+  cause : PouredCause s x.digest c now e
 
 abbrev Layers : Settings → List OciDescriptor → ℕ → List Exchange → ℕ → OciDistributionError → Type 0
 Layers s xs m c n e = OneRefused s xs c n e
@@ -175,7 +175,7 @@ Layers s xs m c n e = OneRefused s xs c n e
 abbrev AnyLayers : ℕ → List Exchange → ℕ → List ImageLayer → Type 0
 AnyLayers m c n layers = Unit {0}
 
-first_where : (s : Settings) (x : OciDescriptor) (xs : List OciDescriptor) (m n : ℕ) (c : List Exchange) (r : Result (List ℕ) OciDistributionError) → ByAnswer (λ m c n bytes. Unit {0}) (λ m c n e. BlobCause s x.digest c n e) m c n r → ByAnswer (λ m c n bytes. Unit {0}) (Layers s (x ∷ xs)) m c n r
+first_where : (s : Settings) (x : OciDescriptor) (xs : List OciDescriptor) (m n : ℕ) (c : List Exchange) (r : Result (List ℕ) OciDistributionError) → ByAnswer (λ m c n bytes. Unit {0}) (λ m c n e. PouredCause s x.digest c n e) m c n r → ByAnswer (λ m c n bytes. Unit {0}) (Layers s (x ∷ xs)) m c n r
 first_where s x xs m n c (Ok bytes) h = tt
 first_where s x xs m n c (Err e) h = record { x = x; contains = contains_first x xs; cause = h }
 
@@ -187,7 +187,7 @@ layers_causes : (s : Settings) (image : Reference) (xs : List OciDescriptor) (la
 unfolding pull_layers
 layers_causes s image [] layers = Shows-done (ByAnswer AnyLayers (Layers s [])) (Ok layers) (λ m. tt)
 layers_causes s image (x ∷ xs) layers = Shows-each (λ m c n bytes. Unit {0}) AnyLayers (Layers s (x ∷ xs)) (pull_blob s image x.digest) (λ content. pull_layers s image xs (layers ++ layer_of x content ∷ []))
-    (Shows-more (ByAnswer (λ m c n bytes. Unit {0}) (λ m c n e. BlobCause s x.digest c n e)) (ByAnswer (λ m c n bytes. Unit {0}) (Layers s (x ∷ xs))) (pull_blob s image x.digest) (blob_causes s image x.digest) (first_where s x xs))
+    (Shows-more (ByAnswer (λ m c n bytes. Unit {0}) (λ m c n e. PouredCause s x.digest c n e)) (ByAnswer (λ m c n bytes. Unit {0}) (Layers s (x ∷ xs))) (pull_blob s image x.digest) (blob_causes s image x.digest) (first_where s x xs))
     (λ m n c content h. Shows-more (ByAnswer AnyLayers (Layers s xs)) (λ start d o r. ByAnswer AnyLayers (Layers s (x ∷ xs)) m (c ++ d) o r) (pull_layers s image xs (layers ++ layer_of x content ∷ [])) (layers_causes s image xs (layers ++ layer_of x content ∷ [])) (λ start o d r g. rest_where s x xs m start o c d r g))
 
 -- ---- media types
@@ -219,8 +219,14 @@ read_manifest c manifest h = record {
 read_before : {c : List Exchange} {manifest : OciImageManifest} (d : List Exchange) → ManifestRead c manifest → ManifestRead (c ++ d) manifest
 read_before d h = record { bytes = h.bytes; body = body_before d h.body; reads = h.reads }
 
+-- Why the row of an image ends with a refusal. It asks for blobs as a call that has a sink does, and a
+-- sink may fail.
+abbrev pub RowCause : Settings → Reference → List (List ℕ) → List Exchange → ℕ → OciDistributionError → Type 0
+RowCause s image accepted c now refusal.SinkFault = Unit {0}
+RowCause s image accepted c now e = ImageCause s image accepted c now e
+
 -- a blob of the manifest was refused
-blob_image : (s : Settings) (image : Reference) (accepted : List (List ℕ)) (c d : List Exchange) (digest : List ℕ) (now : ℕ) (e : OciDistributionError) → ReadDigest (c ++ d) digest → BlobCause s digest d now e → ImageCause s image accepted (c ++ d) now e
+blob_image : (s : Settings) (image : Reference) (accepted : List (List ℕ)) (c d : List Exchange) (digest : List ℕ) (now : ℕ) (e : OciDistributionError) → ReadDigest (c ++ d) digest → PouredCause s digest d now e → RowCause s image accepted (c ++ d) now e
 blob_image s image accepted c d digest now refusal.SinkFault has h = tt
 blob_image s image accepted c d digest now refusal.ImageIndexParsingNoPlatformResolverError has h = absurd h.holds
 blob_image s image accepted c d digest now refusal.PullNoLayersError has h = absurd h.holds
@@ -228,7 +234,7 @@ blob_image s image accepted c d digest now (refusal.IncompatibleLayerMediaTypeEr
 blob_image s image accepted c d digest now e has h = cause_later (AnswerCause (AskedDigest digest)) (DocumentCause (ImageDigest image (c ++ d))) s manifest_types now c d e (λ address answer g. answer_document (AskedDigest digest) (ImageDigest image (c ++ d)) address answer e (λ text is. inr (subst (ReadDigest (c ++ d)) (sym is) has)) g) h
 
 -- the manifest was
-manifest_image : (s : Settings) (image : Reference) (accepted : List (List ℕ)) (c : List Exchange) (now : ℕ) (e : OciDistributionError) → Cause (DocumentCause (OwnDigest image)) s manifest_types c now e → ImageCause s image accepted c now e
+manifest_image : (s : Settings) (image : Reference) (accepted : List (List ℕ)) (c : List Exchange) (now : ℕ) (e : OciDistributionError) → Cause (DocumentCause (OwnDigest image)) s manifest_types c now e → RowCause s image accepted c now e
 manifest_image s image accepted c now refusal.SinkFault h = tt
 manifest_image s image accepted c now refusal.ImageIndexParsingNoPlatformResolverError h = absurd h.holds
 manifest_image s image accepted c now refusal.PullNoLayersError h = absurd h.holds
@@ -236,28 +242,28 @@ manifest_image s image accepted c now (refusal.IncompatibleLayerMediaTypeError k
 manifest_image s image accepted c now e h = cause_later (DocumentCause (OwnDigest image)) (DocumentCause (ImageDigest image c)) s manifest_types now [] c e (λ address answer g. document_more (OwnDigest image) (ImageDigest image c) address answer e (λ text is. inl is) g) h
 
 abbrev Refused : Settings → Reference → List (List ℕ) → ℕ → List Exchange → ℕ → OciDistributionError → Type 0
-Refused s image accepted m c n e = ImageCause s image accepted c n e
+Refused s image accepted m c n e = RowCause s image accepted c n e
 
 abbrev AnyImage : ℕ → List Exchange → ℕ → ImageData → Type 0
 AnyImage m c n data_of = Unit {0}
 
-index_refused : (s : Settings) (image : Reference) (accepted : List (List ℕ)) (c : List Exchange) (now : ℕ) (document : OciManifest) (e : OciDistributionError) → ReadLast c document → image_manifest document ≡ Err e → ImageCause s image accepted c now e
+index_refused : (s : Settings) (image : Reference) (accepted : List (List ℕ)) (c : List Exchange) (now : ℕ) (document : OciManifest) (e : OciDistributionError) → ReadLast c document → image_manifest document ≡ Err e → RowCause s image accepted c now e
 index_refused s image accepted c now (Image manifest) e last is = absurd (cc is)
 index_refused s image accepted c now (ImageIndex index) e last is =
     let same : refusal.ImageIndexParsingNoPlatformResolverError ≡ e = cc is in
-    subst (ImageCause s image accepted c now) same (last_later (λ address answer. (index : OciImageIndex) × (document_read answer.body ≡ Ok (ImageIndex index))) [] (λ address answer h. (index, h)) last)
+    subst (RowCause s image accepted c now) same (last_later (λ address answer. (index : OciImageIndex) × (document_read answer.body ≡ Ok (ImageIndex index))) [] (λ address answer h. (index, h)) last)
 
 is_image : (document : OciManifest) (manifest : OciImageManifest) → image_manifest document ≡ Ok manifest → document ≡ Image manifest
 is_image (Image found) manifest is = ap Image (cc is)
 is_image (ImageIndex index) manifest is = absurd (cc is)
 
-layers_refused : (s : Settings) (image : Reference) (accepted : List (List ℕ)) (c : List Exchange) (now : ℕ) (manifest : OciImageManifest) (xs : List OciDescriptor) (e : OciDistributionError) → manifest.layers ≡ xs → ManifestRead c manifest → layers_accepted accepted xs ≡ Err e → ImageCause s image accepted c now e
-layers_refused s image accepted c now manifest [] e same read is = let here : refusal.PullNoLayersError ≡ e = cc is in subst (ImageCause s image accepted c now) here (manifest, read, same)
+layers_refused : (s : Settings) (image : Reference) (accepted : List (List ℕ)) (c : List Exchange) (now : ℕ) (manifest : OciImageManifest) (xs : List OciDescriptor) (e : OciDistributionError) → manifest.layers ≡ xs → ManifestRead c manifest → layers_accepted accepted xs ≡ Err e → RowCause s image accepted c now e
+layers_refused s image accepted c now manifest [] e same read is = let here : refusal.PullNoLayersError ≡ e = cc is in subst (RowCause s image accepted c now) here (manifest, read, same)
 layers_refused s image accepted c now manifest (x ∷ xs) e same read is =
     let other = one_other accepted (x ∷ xs) e is in
-    subst (ImageCause s image accepted c now) (sym other.refused) (record { manifest = manifest; read = read; layer = other.x; contains = subst (λ (xs : List OciDescriptor). Contains xs other.x) (sym same) other.contains; media_type = refl; other = other.other })
+    subst (RowCause s image accepted c now) (sym other.refused) (record { manifest = manifest; read = read; layer = other.x; contains = subst (λ (xs : List OciDescriptor). Contains xs other.x) (sym same) other.contains; media_type = refl; other = other.other })
 
-config_where : (s : Settings) (image : Reference) (accepted : List (List ℕ)) (manifest : OciImageManifest) (m start o : ℕ) (c d : List Exchange) (r : Result (List ℕ) OciDistributionError) → ManifestRead c manifest → ByAnswer (λ m c n bytes. Unit {0}) (λ m c n e. BlobCause s manifest.config.digest c n e) start d o r → ByAnswer (λ start d o bytes. Unit {0}) (λ start d o e. Refused s image accepted m (c ++ d) o e) start d o r
+config_where : (s : Settings) (image : Reference) (accepted : List (List ℕ)) (manifest : OciImageManifest) (m start o : ℕ) (c d : List Exchange) (r : Result (List ℕ) OciDistributionError) → ManifestRead c manifest → ByAnswer (λ m c n bytes. Unit {0}) (λ m c n e. PouredCause s manifest.config.digest c n e) start d o r → ByAnswer (λ start d o bytes. Unit {0}) (λ start d o e. Refused s image accepted m (c ++ d) o e) start d o r
 config_where s image accepted manifest m start o c d (Ok bytes) read h = tt
 config_where s image accepted manifest m start o c d (Err e) read h = blob_image s image accepted c d manifest.config.digest o e (record { manifest = manifest; read = read_before d read; digest = inl refl }) h
 
@@ -283,7 +289,7 @@ layers_part s image accepted manifest make m c read = Shows-step (λ start d o r
 config_part : (s : Settings) (image : Reference) (accepted : List (List ℕ)) (manifest : OciImageManifest) (make : List ℕ → List ImageLayer → ImageData) (m : ℕ) (c : List Exchange) → ManifestRead c manifest
     → Shows (λ start d o r. ByAnswer AnyImage (Refused s image accepted) m (c ++ d) o r) (pull_blob s image manifest.config.digest >>= λ config. Done (layers_accepted accepted manifest.layers) >> (pull_layers s image manifest.layers [] >>= λ layers. Done (Ok (make config layers))))
 config_part s image accepted manifest make m c read = Shows-each (λ start d o bytes. Unit {0}) (λ start d o x. Unit {0}) (λ start d o e. Refused s image accepted m (c ++ d) o e) (pull_blob s image manifest.config.digest) (λ config. Done (layers_accepted accepted manifest.layers) >> (pull_layers s image manifest.layers [] >>= λ layers. Done (Ok (make config layers))))
-    (Shows-more (ByAnswer (λ m c n bytes. Unit {0}) (λ m c n e. BlobCause s manifest.config.digest c n e)) (ByAnswer (λ start d o bytes. Unit {0}) (λ start d o e. Refused s image accepted m (c ++ d) o e)) (pull_blob s image manifest.config.digest) (blob_causes s image manifest.config.digest) (λ start o d r h. config_where s image accepted manifest m start o c d r read h))
+    (Shows-more (ByAnswer (λ m c n bytes. Unit {0}) (λ m c n e. PouredCause s manifest.config.digest c n e)) (ByAnswer (λ start d o bytes. Unit {0}) (λ start d o e. Refused s image accepted m (c ++ d) o e)) (pull_blob s image manifest.config.digest) (blob_causes s image manifest.config.digest) (λ start o d r h. config_where s image accepted manifest m start o c d r read h))
     (λ start n d config h. Shows-more (λ st f o r. ByAnswer AnyImage (Refused s image accepted) m ((c ++ d) ++ f) o r) (λ st f o r. ByAnswer (λ start d o x. Unit {0}) (λ start d o e. Refused s image accepted m (c ++ d) o e) start (d ++ f) o r) (Done (layers_accepted accepted manifest.layers) >> (pull_layers s image manifest.layers [] >>= λ layers. Done (Ok (make config layers))))
     (layers_part s image accepted manifest (make config) m (c ++ d) (read_before d read)) (λ st o f r g. assoc_where s image accepted m o c d f r g))
 
@@ -292,7 +298,7 @@ manifest_where s image accepted m n c (Ok found) h = h
 manifest_where s image accepted m n c (Err e) h = manifest_image s image accepted c n e h
 
 -- each refusal has its cause
-pub image_causes : (s : Settings) (image : Reference) (a : RegistryAuth) (accepted : List (List ℕ)) → Shows (ByAnswer (λ m c n found. Unit {0}) (λ m c n e. ImageCause s image accepted c n e)) (pull s image a accepted)
+pub image_causes : (s : Settings) (image : Reference) (a : RegistryAuth) (accepted : List (List ℕ)) → Shows (ByAnswer (λ m c n found. Unit {0}) (λ m c n e. RowCause s image accepted c n e)) (pull s image a accepted)
 unfolding pull image_of
 image_causes s image a accepted = Shows-each (λ m c n found. ReadLast c found.0) AnyImage (Refused s image accepted) (pull_manifest s image a)
     (λ found. Done (image_manifest found.0) >>= λ manifest. pull_blob s image manifest.config.digest >>= λ config. Done (layers_accepted accepted manifest.layers) >> (pull_layers s image manifest.layers [] >>= λ layers. Done (Ok (image_of manifest found.1 config layers))))

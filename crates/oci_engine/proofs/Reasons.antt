@@ -1,5 +1,5 @@
 -- Why the results of a client's calls are refusals.
-use Rattle.std.proofs.Common.{◌≡◌, ℕ, true, List, Result, Ok, Err, IfErr, refl}
+use Rattle.std.proofs.Common.{◌≡◌, ◌≢◌, ℕ, true, List, Result, Ok, Err, IfErr, refl, ap}
 use Rattle.json_values.specs.Counts.{Rose}
 use Rattle.json_values.specs.Tray.{Tray}
 use Rattle.oci_link.specs.Link.{Link}
@@ -21,11 +21,11 @@ use Rattle.engine_steps.specs.Blobs.{Spills}
 use Rattle.engine_pull.specs.Pulls.{fetch_manifest_digest, pull_manifest_raw, pull_manifest, pull_blob}
 use Rattle.engine_pull.specs.Images.{pull}
 use Rattle.engine_pull.specs.declared.image.ImageData.{ImageData}
-use Rattle.oci_engine.specs.Causes.{LastFailed, AnswerCause, DocumentCause, Cause, OwnDigest, BlobCause, ImageCause}
+use Rattle.oci_engine.specs.Causes.{LastFailed, AnswerCause, DocumentCause, Cause, OwnDigest, BlobCause, PouredCause, ImageCause}
 use Rattle.oci_engine.proofs.Causing.{Accepted, raw_causes}
 use Rattle.oci_engine.proofs.Refused.{digest_causes}
 use Rattle.oci_engine.proofs.BlobRefused.{blob_causes}
-use Rattle.oci_engine.proofs.ImageRefused.{ReadLast, manifest_causes, image_causes}
+use Rattle.oci_engine.proofs.ImageRefused.{ReadLast, RowCause, manifest_causes, image_causes}
 use Rattle.oci_engine.proofs.Counting.{fault_rose, refusal_told}
 
 -- want of memory has no cause
@@ -33,13 +33,18 @@ cause_free : (Of : List ℕ → Answer → OciDistributionError → Type 0) (s :
 cause_free Of s types now c refusal.WantOfMemory is = tt
 cause_free Of s types now c _ is = absurd (cc is)
 
-blob_free : (s : Settings) (digest : List ℕ) (now : ℕ) (c : List Exchange) (e : OciDistributionError) → is_memory e ≡ true → BlobCause s digest c now e
+blob_free : (s : Settings) (digest : List ℕ) (now : ℕ) (c : List Exchange) (e : OciDistributionError) → is_memory e ≡ true → PouredCause s digest c now e
 blob_free s digest now c refusal.WantOfMemory is = tt
 blob_free s digest now c _ is = absurd (cc is)
 
-image_free : (s : Settings) (image : Reference) (accepted : List (List ℕ)) (now : ℕ) (c : List Exchange) (e : OciDistributionError) → is_memory e ≡ true → ImageCause s image accepted c now e
-image_free s image accepted now c refusal.WantOfMemory is = tt
-image_free s image accepted now c _ is = absurd (cc is)
+row_free : (s : Settings) (image : Reference) (accepted : List (List ℕ)) (now : ℕ) (c : List Exchange) (e : OciDistributionError) → is_memory e ≡ true → RowCause s image accepted c now e
+row_free s image accepted now c refusal.WantOfMemory is = tt
+row_free s image accepted now c _ is = absurd (cc is)
+
+-- where no sink failed, another cause is left
+told_unsunk : {A : Type 0} (P Q : List Exchange → OciDistributionError → Type 0) (old new : Link) (r : Result A OciDistributionError) → ((c : List Exchange) (e : OciDistributionError) → e ≢ refusal.SinkFault → P c e → Q c e) → r ≢ Err refusal.SinkFault → IfErr r (λ e. Told (λ c. P c e) old new) → IfErr r (λ e. Told (λ c. Q c e) old new)
+told_unsunk P Q old new (Ok a) more calm h = tt
+told_unsunk P Q old new (Err e) more calm h = record { conversation = h.conversation; told = h.told; holds = more h.conversation e (λ is. calm (ap Err is)) h.holds }
 
 -- a fault of the transport, where a result is one
 faulted : {A : Type 0} (P : ℕ → List Exchange → ℕ → A → Type 0) (R : ℕ → List Exchange → ℕ → OciDistributionError → Type 0) (p : Row A) {old new : Link} {k l : Memory} {r : Result A OciDistributionError} → ((m n : ℕ) (c : List Exchange) → R m c n refusal.TransportFault → LastFailed c n) → Shows (ByAnswer P R) p → Meets is_memory p old new k l r → r ≡ Err refusal.TransportFault → Rose old.faults new.faults
@@ -75,26 +80,40 @@ manifest_fault s image a met is = faulted (λ m c n found. ReadLast c found.0) (
 
 -- ---- images
 
-pub image_reason : (s : Settings) (image : Reference) (a : RegistryAuth) (accepted : List (List ℕ)) {old new : Link} {k l : Memory} {r : Result ImageData OciDistributionError} → Meets is_memory (pull s image a accepted) old new k l r → IfErr r (λ e. Told (λ c. ImageCause s image accepted c new.faults e) old new)
-image_reason s image a accepted met = refusal_told (λ m c n found. Unit {0}) (λ m c n e. ImageCause s image accepted c n e) (pull s image a accepted) (λ m n c e is. image_free s image accepted n c e is) (image_causes s image a accepted) met
+row_reason : (s : Settings) (image : Reference) (a : RegistryAuth) (accepted : List (List ℕ)) {old new : Link} {k l : Memory} {r : Result ImageData OciDistributionError} → Meets is_memory (pull s image a accepted) old new k l r → IfErr r (λ e. Told (λ c. RowCause s image accepted c new.faults e) old new)
+row_reason s image a accepted met = refusal_told (λ m c n found. Unit {0}) (λ m c n e. RowCause s image accepted c n e) (pull s image a accepted) (λ m n c e is. row_free s image accepted n c e is) (image_causes s image a accepted) met
+
+row_unsunk : (s : Settings) (image : Reference) (accepted : List (List ℕ)) (now : ℕ) (c : List Exchange) (e : OciDistributionError) → e ≢ refusal.SinkFault → RowCause s image accepted c now e → ImageCause s image accepted c now e
+row_unsunk s image accepted now c refusal.SinkFault calm h = absurd (calm refl)
+row_unsunk s image accepted now c _ calm h = h
+
+pub image_reason : (s : Settings) (image : Reference) (a : RegistryAuth) (accepted : List (List ℕ)) {old new : Link} {k l : Memory} {r : Result ImageData OciDistributionError} → Meets is_memory (pull s image a accepted) old new k l r → r ≢ Err refusal.SinkFault → IfErr r (λ e. Told (λ c. ImageCause s image accepted c new.faults e) old new)
+image_reason s image a accepted {old = old} {new = new} {r = r} met calm = told_unsunk (λ c e. RowCause s image accepted c new.faults e) (λ c e. ImageCause s image accepted c new.faults e) old new r (λ c e. row_unsunk s image accepted new.faults c e) calm (row_reason s image a accepted met)
 
 pub image_fault : (s : Settings) (image : Reference) (a : RegistryAuth) (accepted : List (List ℕ)) {old new : Link} {k l : Memory} {r : Result ImageData OciDistributionError} → Meets is_memory (pull s image a accepted) old new k l r → r ≡ Err refusal.TransportFault → Rose old.faults new.faults
-image_fault s image a accepted met is = faulted (λ m c n found. Unit {0}) (λ m c n e. ImageCause s image accepted c n e) (pull s image a accepted) (λ m n c h. h) (image_causes s image a accepted) met is
+image_fault s image a accepted met is = faulted (λ m c n found. Unit {0}) (λ m c n e. RowCause s image accepted c n e) (pull s image a accepted) (λ m n c h. h) (image_causes s image a accepted) met is
 
 -- ---- blobs
 
-pub blob_reason : (s : Settings) (image : Reference) (digest : List ℕ) {old new : Link} {k l : Memory} {r : Result (List ℕ) OciDistributionError} → Meets is_memory (pull_blob s image digest) old new k l r → IfErr r (λ e. Told (λ c. BlobCause s digest c new.faults e) old new)
-blob_reason s image digest met = refusal_told (λ m c n bytes. Unit {0}) (λ m c n e. BlobCause s digest c n e) (pull_blob s image digest) (λ m n c e is. blob_free s digest n c e is) (blob_causes s image digest) met
+poured_reason : (s : Settings) (image : Reference) (digest : List ℕ) {old new : Link} {k l : Memory} {r : Result (List ℕ) OciDistributionError} → Meets is_memory (pull_blob s image digest) old new k l r → IfErr r (λ e. Told (λ c. PouredCause s digest c new.faults e) old new)
+poured_reason s image digest met = refusal_told (λ m c n bytes. Unit {0}) (λ m c n e. PouredCause s digest c n e) (pull_blob s image digest) (λ m n c e is. blob_free s digest n c e is) (blob_causes s image digest) met
+
+poured_unsunk : (s : Settings) (digest : List ℕ) (now : ℕ) (c : List Exchange) (e : OciDistributionError) → e ≢ refusal.SinkFault → PouredCause s digest c now e → BlobCause s digest c now e
+poured_unsunk s digest now c refusal.SinkFault calm h = absurd (calm refl)
+poured_unsunk s digest now c _ calm h = h
+
+pub blob_reason : (s : Settings) (image : Reference) (digest : List ℕ) {old new : Link} {k l : Memory} {r : Result (List ℕ) OciDistributionError} → Meets is_memory (pull_blob s image digest) old new k l r → r ≢ Err refusal.SinkFault → IfErr r (λ e. Told (λ c. BlobCause s digest c new.faults e) old new)
+blob_reason s image digest {old = old} {new = new} {r = r} met calm = told_unsunk (λ c e. PouredCause s digest c new.faults e) (λ c e. BlobCause s digest c new.faults e) old new r (λ c e. poured_unsunk s digest new.faults c e) calm (poured_reason s image digest met)
 
 pub blob_fault : (s : Settings) (image : Reference) (digest : List ℕ) {old new : Link} {k l : Memory} {r : Result (List ℕ) OciDistributionError} → Meets is_memory (pull_blob s image digest) old new k l r → r ≡ Err refusal.TransportFault → Rose old.faults new.faults
-blob_fault s image digest met is = faulted (λ m c n bytes. Unit {0}) (λ m c n e. BlobCause s digest c n e) (pull_blob s image digest) (λ m n c h. h) (blob_causes s image digest) met is
+blob_fault s image digest met is = faulted (λ m c n bytes. Unit {0}) (λ m c n e. PouredCause s digest c n e) (pull_blob s image digest) (λ m n c h. h) (blob_causes s image digest) met is
 
 -- into a sink
-pub spilled_reason : (s : Settings) (image : Reference) (digest : List ℕ) {old new : Link} {k l : Memory} {before after : Tray} {r : Result (Unit {0}) OciDistributionError} → Spills (pull_blob s image digest) old new k l before after r → IfErr r (λ e. Told (λ c. BlobCause s digest c new.faults e) old new)
+pub spilled_reason : (s : Settings) (image : Reference) (digest : List ℕ) {old new : Link} {k l : Memory} {before after : Tray} {r : Result (Unit {0}) OciDistributionError} → Spills (pull_blob s image digest) old new k l before after r → IfErr r (λ e. Told (λ c. PouredCause s digest c new.faults e) old new)
 spilled_reason s image digest {old} {new} {k} {l} {before} {after} {r} spills = by_result r spills where
-  by_result : (r : Result (Unit {0}) OciDistributionError) → Spills (pull_blob s image digest) old new k l before after r → IfErr r (λ e. Told (λ c. BlobCause s digest c new.faults e) old new)
+  by_result : (r : Result (Unit {0}) OciDistributionError) → Spills (pull_blob s image digest) old new k l before after r → IfErr r (λ e. Told (λ c. PouredCause s digest c new.faults e) old new)
   by_result (Ok u) spills = tt
-  by_result (Err e) spills = blob_reason s image digest spills.met
+  by_result (Err e) spills = poured_reason s image digest spills.met
 
 pub spilled_fault : (s : Settings) (image : Reference) (digest : List ℕ) {old new : Link} {k l : Memory} {before after : Tray} {r : Result (Unit {0}) OciDistributionError} → Spills (pull_blob s image digest) old new k l before after r → r ≡ Err refusal.TransportFault → Rose old.faults new.faults
 spilled_fault s image digest {old} {new} {k} {l} {before} {after} {r} spills is = failed (rw is at spills) where

@@ -156,10 +156,15 @@ OwnDigest image text = digest_of image ≡ Some text
 abbrev pub AskedDigest : List ℕ → List ℕ → Type 0
 AskedDigest digest text = text ≡ digest
 
--- of a blob: the count of the sink's faults is not told here
+-- of a blob that is answered: no sink of the caller's can fail
 abbrev pub BlobCause : Settings → List ℕ → List Exchange → ℕ → OciDistributionError → Type 0
-BlobCause s digest c now refusal.SinkFault = Unit {0}
+BlobCause s digest c now refusal.SinkFault = ⊥
 BlobCause s digest c now e = Cause (AnswerCause (AskedDigest digest)) s manifest_types c now e
+
+-- of a blob that goes into the caller's sink: the count of the sink's faults is not told here
+abbrev pub PouredCause : Settings → List ℕ → List Exchange → ℕ → OciDistributionError → Type 0
+PouredCause s digest c now refusal.SinkFault = Unit {0}
+PouredCause s digest c now e = BlobCause s digest c now e
 
 -- the manifest was read from an answer's body
 pub record ManifestRead (c : List Exchange) (manifest : OciImageManifest) : Type 0 where
@@ -186,12 +191,12 @@ pub record NotAccepted (accepted : List (List ℕ)) (c : List Exchange) (kind : 
   pub media_type : layer.media_type ≡ kind
   pub other : is_accepted accepted kind ≡ false
 
--- of a whole image
+-- of a whole image, whose blobs are answered too
 abbrev pub ImageCause : Settings → Reference → List (List ℕ) → List Exchange → ℕ → OciDistributionError → Type 0
 ImageCause s image accepted c now refusal.ImageIndexParsingNoPlatformResolverError = ByLast (λ address answer. (index : OciImageIndex) × (document_read answer.body ≡ Ok (ImageIndex index))) c
 ImageCause s image accepted c now refusal.PullNoLayersError = (manifest : OciImageManifest) × ManifestRead c manifest × (manifest.layers ≡ [])
 ImageCause s image accepted c now (refusal.IncompatibleLayerMediaTypeError kind) = NotAccepted accepted c kind
-ImageCause s image accepted c now refusal.SinkFault = Unit {0}
+ImageCause s image accepted c now refusal.SinkFault = ⊥
 ImageCause s image accepted c now e = Cause (DocumentCause (ImageDigest image c)) s manifest_types c now e
 
 -- ---- refusals that must come

@@ -12,7 +12,7 @@ ghost use Rattle.engine_steps.specs.Blobs.{Spills};
 ghost use Rattle.engine_pull.specs.Pulls.{fetch_manifest_digest, pull_manifest, pull_manifest_raw, pull_blob};
 ghost use Rattle.engine_pull.specs.Images.{pull};
 ghost use Rattle.oci_engine.specs.Answered.{Answered, Body, LastBody, TookBlob};
-ghost use Rattle.oci_engine.specs.Causes.{AnswerCause, DocumentCause, Cause, OwnDigest, BlobCause, ImageCause, HasBadHeader, IsEarly, IsRefusedAs};
+ghost use Rattle.oci_engine.specs.Causes.{AnswerCause, DocumentCause, Cause, OwnDigest, BlobCause, PouredCause, ImageCause, HasBadHeader, IsEarly, IsRefusedAs};
 ghost use Rattle.oci_engine.specs.Clients.{settings_of};
 
 use crate::config::ClientConfig;
@@ -180,7 +180,7 @@ impl Client {
         ensures spills { Spills (pull_blob self.old.settings image.now digest.now) (T.state transport.old) (T.state transport.new) self.old.memory self.new.memory (K.state out.old) (K.state out.new) result }
         ensures settings { self.new.settings ≡ self.old.settings }
         ensures took { IfOk result (λ u. TookBlob digest.now (T.state transport.old) (T.state transport.new) (K.state out.old) (K.state out.new)) }
-        ensures causes { IfErr result (λ e. Told (λ c. BlobCause self.old.settings digest.now c (T.state transport.new).faults e) (T.state transport.old) (T.state transport.new)) }
+        ensures causes { IfErr result (λ e. Told (λ c. PouredCause self.old.settings digest.now c (T.state transport.new).faults e) (T.state transport.old) (T.state transport.new)) }
         ensures fault { result ≡ Err OciDistributionError.TransportFault → Rose (T.state transport.old).faults (T.state transport.new).faults }
         ensures sink { result ≡ Err OciDistributionError.SinkFault → Rose (K.state out.old).faults (K.state out.new).faults }
         ensures no_url { request_url (blob_text self.old.settings image.now digest.now) ≡ None → IsRefusedAs (OciDistributionError.UrlParseError (blob_text self.old.settings image.now digest.now)) result }
