@@ -1,4 +1,5 @@
 pub mod Escapes
+pub mod Fronts
 pub mod Halves
 pub mod JsonTexts
 pub mod Maps

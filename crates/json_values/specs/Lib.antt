@@ -5,3 +5,4 @@ pub mod JsonText
 pub mod Places
 pub mod Sinks
 pub mod Tray
+pub mod Writing

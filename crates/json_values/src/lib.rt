@@ -15,6 +15,7 @@ mod read;
 mod set;
 mod sink;
 mod text;
+mod to_value;
 
 pub use blob::Blob;
 pub use copied::Copied;
@@ -29,6 +30,7 @@ pub use read::read_json;
 pub use set::TextSet;
 pub use sink::{Sink, SinkError, put_all};
 pub use text::Text;
+pub use to_value::ToValue;
 
 #[cfg(test)]
 mod tests;

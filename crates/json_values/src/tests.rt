@@ -1,6 +1,6 @@
 use crate::{
     Annotations, Blob, Copied, Json, List, MemorySink, PlainSink, Sink, SinkError, Text, TextSet,
-    put_all, read_json, write_quoted,
+    ToValue, put_all, read_json, write_quoted,
 };
 use serde_json::Value;
 use std::test::Fail;
@@ -94,6 +94,32 @@ fn json_is_read_from_bytes(rt: HostRuntime) -> Result<(), Fail> {
     let json = json.copy(rt.alloc())?;
     assert_eq!(rt; json.value().get("a").and_then(Value::as_u64), Some(2));
     assert!(rt; Json::new(Value::Null).value().is_null());
+    Ok(())
+}
+
+#[test]
+fn values_stand_for_json(rt: HostRuntime) -> Result<(), Fail> {
+    let text = Text::new(rt.alloc(), "a\"b")?;
+    let mut list = List::new(rt.alloc());
+    let mut map = Annotations::new(rt.alloc());
+    for (name, value) in [("b", "1"), ("a", "2")] {
+        list.push(Some(value == "1"))?;
+        map.insert(Text::new(rt.alloc(), name)?, Text::new(rt.alloc(), value)?)?;
+    }
+    list.push(None)?;
+    let json = read_json(rt.alloc(), b"[1.5]")?.ok_or("no json")?;
+    for (value, want) in [
+        (text.to_value(rt.alloc())?, "\"a\\\"b\""),
+        (true.to_value(rt.alloc())?, "true"),
+        (i64::MIN.to_value(rt.alloc())?, "-9223372036854775808"),
+        (u64::MAX.to_value(rt.alloc())?, "18446744073709551615"),
+        (list.to_value(rt.alloc())?, "[true,false,null]"),
+        (map.to_value(rt.alloc())?, "{\"a\":\"2\",\"b\":\"1\"}"),
+        (json.to_value(rt.alloc())?, "[1.5]"),
+        (json.value().to_value(rt.alloc())?, "[1.5]"),
+    ] {
+        assert_eq!(rt; value.to_string(rt.alloc())?.as_str(), want);
+    }
     Ok(())
 }
 
