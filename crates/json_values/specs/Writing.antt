@@ -21,3 +21,10 @@ members_list f (e ∷ es) = member e.0 (f e.1) (members_list f es)
 -- a map: its entries in the order of their names
 abbrev pub map_written : {V : Type 0} → (V → Data) → FinMap by_bytes V → Data
 map_written f m = object (members_list f (entries m))
+
+abbrev pub empty_object : Unit {0} → Data
+empty_object _ = object no_members
+
+-- a set: its names, each with an empty object
+abbrev pub set_written : FinMap by_bytes (Unit {0}) → Data
+set_written = map_written empty_object

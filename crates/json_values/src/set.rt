@@ -49,6 +49,13 @@ impl TextSet {
         self.inner.get(name).is_some()
     }
 
+    // The names in the order of their bytes, each with nothing.
+    pub(crate) fn entries(&self) -> &[(Text, ())]
+        ensures { result.now ≡ map.entries self.now }
+    {
+        self.inner.entries()
+    }
+
     pub fn name_at(&self, place: usize) -> Option<&Text>
         ensures { option_copied result ≡ slice_get (map.keys self.now) place }
     {

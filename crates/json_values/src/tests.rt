@@ -107,6 +107,8 @@ fn values_stand_for_json(rt: HostRuntime) -> Result<(), Fail> {
         map.insert(Text::new(rt.alloc(), name)?, Text::new(rt.alloc(), value)?)?;
     }
     list.push(None)?;
+    let mut set = TextSet::new(rt.alloc());
+    set.insert(Text::new(rt.alloc(), "8080/tcp")?)?;
     let json = read_json(rt.alloc(), b"[1.5]")?.ok_or("no json")?;
     for (value, want) in [
         (text.to_value(rt.alloc())?, "\"a\\\"b\""),
@@ -115,6 +117,7 @@ fn values_stand_for_json(rt: HostRuntime) -> Result<(), Fail> {
         (u64::MAX.to_value(rt.alloc())?, "18446744073709551615"),
         (list.to_value(rt.alloc())?, "[true,false,null]"),
         (map.to_value(rt.alloc())?, "{\"a\":\"2\",\"b\":\"1\"}"),
+        (set.to_value(rt.alloc())?, "{\"8080/tcp\":{}}"),
         (json.to_value(rt.alloc())?, "[1.5]"),
         (json.value().to_value(rt.alloc())?, "[1.5]"),
     ] {

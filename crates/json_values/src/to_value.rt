@@ -1,13 +1,14 @@
 ghost use Rattle.std.specs.Prelude.{◌≡◌, IfOk, map};
-ghost use Rattle.serde_json.specs.Data.{Data, string, number, unsigned, boolean};
+ghost use Rattle.serde_json.specs.Data.{Data, string, number, unsigned, boolean, object, no_members};
 ghost use Rattle.serde_json.specs.Find.{of_integer};
 ghost use Rattle.serde_json.specs.View.{view, items_of, items_view, members_view};
 ghost use Rattle.json_values.specs.Places.{Sorted};
-ghost use Rattle.json_values.specs.Writing.{null_or, listed, map_written, members_list};
+ghost use Rattle.json_values.specs.Writing.{null_or, listed, map_written, set_written, members_list, empty_object};
 
 use crate::json_value::Json;
 use crate::list::List;
 use crate::map::TextMap;
+use crate::set::TextSet;
 use crate::text::Text;
 use serde_json::{Map, Value, put};
 use std::alloc::{AllocError, Global};
@@ -97,6 +98,15 @@ impl<V: ToValue + Drop> ToValue for TextMap<V> {
     }
 }
 
+/// The names, each with an empty object.
+impl ToValue for TextSet {
+    ghost written = { set_written };
+
+    fn to_value(&self, alloc: Global) -> Result<Value, AllocError> {
+        Ok(Value::Object(names_to_members(alloc, self.entries())?))
+    }
+}
+
 fn items_to_values<T: ToValue>(alloc: Global, items: &[T]) -> Result<Vec<Value>, AllocError>
     ensures { IfOk result (λ v. items_view v.items ≡ items_of (map T.written items.now)) }
 {
@@ -120,4 +130,22 @@ fn entries_to_members<V: ToValue>(
         put(&mut members, alloc, entry.0.as_str(), value)?;
     }
     Ok(members)
+}
+
+fn names_to_members(alloc: Global, names: &[(Text, ())]) -> Result<Map<String, Value>, AllocError>
+    requires { Sorted names.now }
+    ensures { IfOk result (λ m. members_view m.entries ≡ members_list empty_object names.now) }
+{
+    let mut members = Map::new(alloc);
+    for entry in names {
+        let value = no_members(alloc);
+        put(&mut members, alloc, entry.0.as_str(), value)?;
+    }
+    Ok(members)
+}
+
+fn no_members(alloc: Global) -> Value
+    ensures { view result ≡ object no_members }
+{
+    Value::Object(Map::new(alloc))
 }
