@@ -1,3 +1,4 @@
+pub mod Equalities
 pub mod Grammar
 pub mod Parts
 pub mod Platforms

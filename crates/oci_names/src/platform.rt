@@ -1,10 +1,10 @@
-ghost use Rattle.std.specs.Prelude.{◌≡◌};
+ghost use Rattle.std.specs.Prelude.{◌≡◌, ◌↔◌, IsTrue};
 
 use json_values::{Copied, Text};
 use std::alloc::{AllocError, Global};
 
 /// The architecture of a platform, by the name that Go has for it (OCI image index, `platform`).
-#[derive(Debug, Drop, PartialEq, Eq)]
+#[derive(Debug, Drop)]
 pub struct Arch {
     name: Text,
 }
@@ -30,7 +30,7 @@ impl Arch {
 }
 
 /// The operating system of a platform, by the name that Go has for it (OCI image index, `platform`).
-#[derive(Debug, Drop, PartialEq, Eq)]
+#[derive(Debug, Drop)]
 pub struct Os {
     name: Text,
 }
@@ -67,4 +67,50 @@ impl Copied for Os {
         let name = self.name.copy(alloc)?;
         Ok(Os { name })
     }
+}
+
+impl PartialEq for Arch {
+    ghost use Rattle.std.specs.Cmp.{partial_equiv_from_equiv};
+    ghost use Rattle.oci_names.specs.Platforms.{is_same_architecture};
+    ghost use Rattle.oci_names.specs.Equalities.{architectures};
+
+    ghost eq = { is_same_architecture };
+
+    ghost laws = { partial_equiv_from_equiv architectures };
+
+    fn eq(&self, other: &Arch) -> bool
+        ensures value { result ≡ is_same_architecture self.now other.now }
+        ensures same { IsTrue result ↔ (self.now ≡ other.now) }
+    {
+        self.name == other.name
+    }
+}
+
+impl Eq for Arch {
+    ghost use Rattle.oci_names.specs.Equalities.{architectures};
+
+    ghost laws = { architectures };
+}
+
+impl PartialEq for Os {
+    ghost use Rattle.std.specs.Cmp.{partial_equiv_from_equiv};
+    ghost use Rattle.oci_names.specs.Platforms.{is_same_system};
+    ghost use Rattle.oci_names.specs.Equalities.{systems};
+
+    ghost eq = { is_same_system };
+
+    ghost laws = { partial_equiv_from_equiv systems };
+
+    fn eq(&self, other: &Os) -> bool
+        ensures value { result ≡ is_same_system self.now other.now }
+        ensures same { IsTrue result ↔ (self.now ≡ other.now) }
+    {
+        self.name == other.name
+    }
+}
+
+impl Eq for Os {
+    ghost use Rattle.oci_names.specs.Equalities.{systems};
+
+    ghost laws = { systems };
 }

@@ -8,7 +8,7 @@ use std::alloc::{AllocError, Global};
 
 /// A reference to an image: `registry/repository`, with a tag, a digest or both, and perhaps a mirror
 /// that is asked in the registry's place.
-#[derive(Debug, Drop, PartialEq, Eq)]
+#[derive(Debug, Drop)]
 pub struct Reference {
     registry: Text,
     mirror: Option<Text>,
@@ -239,4 +239,32 @@ impl Copied for Reference {
             digest,
         })
     }
+}
+
+/// Equality is that of all fields, the mirror among them.
+impl PartialEq for Reference {
+    ghost use Rattle.std.specs.Cmp.{partial_equiv_from_equiv};
+    ghost use Rattle.oci_names.specs.References.{is_same};
+    ghost use Rattle.oci_names.specs.Equalities.{references};
+
+    ghost eq = { is_same };
+
+    ghost laws = { partial_equiv_from_equiv references };
+
+    fn eq(&self, other: &Reference) -> bool
+        ensures value { result ≡ is_same self.now other.now }
+        ensures same { IsTrue result ↔ (self.now ≡ other.now) }
+    {
+        self.registry == other.registry
+            && self.mirror == other.mirror
+            && self.repository == other.repository
+            && self.tag == other.tag
+            && self.digest == other.digest
+    }
+}
+
+impl Eq for Reference {
+    ghost use Rattle.oci_names.specs.Equalities.{references};
+
+    ghost laws = { references };
 }
