@@ -3,4 +3,5 @@ pub mod Checks
 pub mod Holds
 pub mod Names
 pub mod Parts
+pub mod Printed
 pub mod Validates

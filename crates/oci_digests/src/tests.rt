@@ -17,6 +17,8 @@ const ABC_512: &str =
 
 const MD5: &str = "md5:d41d8cd98f00b204e9800998ecf8427e";
 
+const HELLO: &str = "sha256:b94d27b9934d3e08a52e52d7da7dabfac484efe37a5380ee9088f7ace2efcde9";
+
 const EMPTY_256: &str = "sha256:e3b0c44298fc1c149afbf4c8996fb92427ae41e4649b934ca495991b7852b855";
 
 #[test]
@@ -31,6 +33,7 @@ fn texts_are_those_of_the_standard_examples(rt: HostRuntime) -> Result<(), Fail>
         assert_eq!(rt; text.as_str(), expected);
         assert!(rt; names_digest(expected, b"abc"));
         assert!(rt; !names_digest(expected, b"abcd"));
+        assert!(rt; !names_digest(expected.to_ascii_uppercase(alloc)?.as_str(), b"abc"));
     }
     assert_eq!(rt; sha256_digest(alloc, b"")?.as_str(), EMPTY_256);
     Ok(())
@@ -81,6 +84,53 @@ fn a_digest_text_is_split_at_its_first_colon(rt: HostRuntime) -> Result<(), Fail
         };
         assert!(rt; !error.is_memory());
         assert_eq!(rt; refusal(alloc, error)?.as_str(), expected, "at {text}");
+    }
+    Ok(())
+}
+
+#[test]
+fn digests_are_ordered_by_algorithm_then_digest(rt: HostRuntime) -> Result<(), Fail> {
+    let texts = [
+        "sha256:",
+        "sha256:aa",
+        "sha256:ab",
+        "sha512:",
+        "sha512:00",
+        "shb:0",
+    ];
+    for (i, lower) in texts.iter().enumerate() {
+        for (j, upper) in texts.iter().enumerate() {
+            let (a, b) = (Digest::new(*lower)?, Digest::new(*upper)?);
+            assert_eq!(rt; a.cmp(&b), i.cmp(&j), "{lower} and {upper}");
+            assert_eq!(rt; a == b, i == j, "{lower} and {upper}");
+            assert_eq!(rt; a < b, i < j, "{lower} and {upper}");
+        }
+    }
+    Ok(())
+}
+
+#[test]
+fn the_digest_of_hello_world_is_checked(rt: HostRuntime) -> Result<(), Fail> {
+    let alloc = rt.alloc();
+    let body = b"hello world";
+    assert_eq!(rt; validate_digest(alloc, body, None, None)?.as_str(), HELLO);
+    for (header, reference, expected) in [
+        (Some(MD5), None, "the digest's algorithm is not supported"),
+        (Some("sha256:invalid"), None, "sha256:invalid"),
+        (Some(HELLO), Some("sha512:invalid"), "sha512:invalid"),
+    ] {
+        match validate_digest(alloc, body, header, reference) {
+            Err(
+                DigestError::VerificationError {
+                    expected: given,
+                    ..
+                },
+            ) => {
+                assert_eq!(rt; given.as_str(), expected);
+            }
+            Err(error) => assert_eq!(rt; refusal(alloc, error)?.as_str(), expected),
+            Ok(_) => return Err(Fail::from("a digest")),
+        }
     }
     Ok(())
 }
