@@ -60,10 +60,38 @@ fn texts_are_read_as_these_references(rt: HostRuntime) -> Result<(), Fail> {
             "r.io/a.b_c__d--e---f:_T.x-y",
             "r.io",
         ),
+        (
+            "test.com:tag",
+            "docker.io/library/test.com:tag",
+            "index.docker.io",
+        ),
+        ("test:5000/repo:tag", "test:5000/repo:tag", "test:5000"),
+        (
+            "b.gcr.io/test.example.com/my-app:test.example.com",
+            "b.gcr.io/test.example.com/my-app:test.example.com",
+            "b.gcr.io",
+        ),
+        (
+            "xn--n3h.com/myimage:xn--n3h.com",
+            "xn--n3h.com/myimage:xn--n3h.com",
+            "xn--n3h.com",
+        ),
+        (
+            "foo/foo_bar.com:8080",
+            "docker.io/foo/foo_bar.com:8080",
+            "index.docker.io",
+        ),
+        ("R.IO/app", "R.IO/app:latest", "R.IO"),
+        (
+            "localhost",
+            "docker.io/library/localhost:latest",
+            "index.docker.io",
+        ),
     ] {
         let reference = Reference::parse(rt.alloc(), text)?;
         assert_eq!(rt; reference.whole(rt.alloc())?.as_str(), whole, "at {text}");
         assert_eq!(rt; reference.resolve_registry(), resolved, "at {text}");
+        assert_eq!(rt; reference.namespace(), None, "at {text}");
         assert!(rt; reference.reads_back(rt.alloc())?, "at {text}");
     }
     Ok(())
@@ -87,6 +115,23 @@ fn texts_are_refused_for_these_causes(rt: HostRuntime) -> Result<(), Fail> {
         ("r.io:/app", ParseError::ReferenceInvalidFormat),
         ("[::1]:5000/app", ParseError::ReferenceInvalidFormat),
         ("käse", ParseError::ReferenceInvalidFormat),
+        (":justtag", ParseError::ReferenceInvalidFormat),
+        ("@sha256:ab", ParseError::ReferenceInvalidFormat),
+        (
+            "test:5000/Uppercase/lowercase:tag",
+            ParseError::ReferenceInvalidFormat,
+        ),
+        ("aa/asdf$$^/aa", ParseError::ReferenceInvalidFormat),
+        ("localhost:port/app", ParseError::ReferenceInvalidFormat),
+        ("a:t@sha256:xy", ParseError::ReferenceInvalidFormat),
+        (
+            "app@sha256:ab@sha256:ab",
+            ParseError::ReferenceInvalidFormat,
+        ),
+        ("app@sha++256:ab", ParseError::ReferenceInvalidFormat),
+        ("app@+sha256:ab", ParseError::ReferenceInvalidFormat),
+        ("app@sha256+b64:ab", ParseError::DigestUnsupported),
+        ("app@SHA256:ab", ParseError::DigestUnsupported),
         ("app@md5:ab", ParseError::DigestUnsupported),
         ("app@sha256:ab", ParseError::DigestInvalidLength),
     ] {
@@ -99,24 +144,75 @@ fn texts_are_refused_for_these_causes(rt: HostRuntime) -> Result<(), Fail> {
     Ok(())
 }
 
+// The text with the letter so many times behind it.
+fn lengthened(alloc: Global, front: &str, letter: &str, count: usize) -> Result<Text, Fail> {
+    let mut long = text(alloc, front)?;
+    for _ in 0..count {
+        long.push_str(letter)?;
+    }
+    Ok(long)
+}
+
 #[test]
 fn lengths_end_at_255_and_128_characters(rt: HostRuntime) -> Result<(), Fail> {
-    let mut longest = text(rt.alloc(), "r.io/")?;
-    for _ in 0..255 {
-        longest.push_str("a")?;
+    for (front, letter, count, refusal) in [
+        ("r.io/", "a", 255, ParseError::NameTooLong),
+        ("r.io/team/", "a", 250, ParseError::NameTooLong),
+        ("", "a", 247, ParseError::NameTooLong),
+        ("docker.io/", "a", 247, ParseError::NameTooLong),
+        ("library/", "a", 247, ParseError::NameTooLong),
+        ("team/", "a", 250, ParseError::NameTooLong),
+        ("app:", "t", 128, ParseError::ReferenceInvalidFormat),
+        ("r.io/app:_", "-", 127, ParseError::ReferenceInvalidFormat),
+    ] {
+        let longest = lengthened(rt.alloc(), front, letter, count)?;
+        Reference::parse(rt.alloc(), longest.as_str())?;
+        let longer = lengthened(rt.alloc(), front, letter, count + 1)?;
+        let answer = Reference::parse(rt.alloc(), longer.as_str()).err();
+        assert_eq!(rt; answer, Some(refusal), "at {front}");
     }
-    Reference::parse(rt.alloc(), longest.as_str())?;
-    longest.push_str("a")?;
-    let refusal = Reference::parse(rt.alloc(), longest.as_str()).err();
-    assert_eq!(rt; refusal, Some(ParseError::NameTooLong));
-    let mut tagged = text(rt.alloc(), "app:")?;
-    for _ in 0..128 {
-        tagged.push_str("t")?;
+    Ok(())
+}
+
+#[test]
+fn digests_have_the_digits_of_their_algorithm(rt: HostRuntime) -> Result<(), Fail> {
+    for (front, whole, count) in [
+        ("app@sha256:", "docker.io/library/app@sha256:", 64),
+        ("a:t@sha256:", "docker.io/library/a:t@sha256:", 64),
+        (
+            "test:5000/repo:tag@sha384:",
+            "test:5000/repo:tag@sha384:",
+            96,
+        ),
+        ("r.io/app@sha512:", "r.io/app@sha512:", 128),
+    ] {
+        let named = lengthened(rt.alloc(), front, "F", count)?;
+        let reference = Reference::parse(rt.alloc(), named.as_str())?;
+        let expected = lengthened(rt.alloc(), whole, "F", count)?;
+        assert_eq!(rt; reference.whole(rt.alloc())?.as_str(), expected.as_str());
+        assert!(rt; reference.reads_back(rt.alloc())?, "at {front}");
     }
-    Reference::parse(rt.alloc(), tagged.as_str())?;
-    tagged.push_str("t")?;
-    let refusal = Reference::parse(rt.alloc(), tagged.as_str()).err();
-    assert_eq!(rt; refusal, Some(ParseError::ReferenceInvalidFormat));
+    Ok(())
+}
+
+#[test]
+fn digests_of_other_lengths_are_refused(rt: HostRuntime) -> Result<(), Fail> {
+    for (front, count) in [
+        ("app@sha256:", 63),
+        ("app@sha256:", 65),
+        ("app@sha384:", 95),
+        ("app@sha384:", 64),
+        ("a:t@sha512:", 127),
+        ("a:t@sha512:", 129),
+    ] {
+        let text = lengthened(rt.alloc(), front, "F", count)?;
+        let refusal = Reference::parse(rt.alloc(), text.as_str()).err();
+        assert_eq!(rt;
+            refusal,
+            Some(ParseError::DigestInvalidLength),
+            "at {front}"
+        );
+    }
     Ok(())
 }
 
@@ -129,6 +225,7 @@ fn a_mirror_is_asked_for_the_registry(rt: HostRuntime) -> Result<(), Fail> {
     assert_eq!(rt; reference.resolve_registry(), "docker.mirror.io");
     assert_eq!(rt; reference.namespace(), Some("webassembly.azurecr.io"));
     assert!(rt; !reference.reads_back(alloc)?);
+    assert!(rt; reference != Reference::parse(alloc, "webassembly.azurecr.io/hello-wasm:v1")?);
     let named = reference.clone_with_digest(alloc, text(alloc, DIGEST)?)?;
     assert_eq!(rt; named.resolve_registry(), "docker.mirror.io");
     assert_eq!(rt; (named.tag(), named.digest()), (None, Some(DIGEST)));
@@ -161,6 +258,7 @@ fn platforms_are_named_by_texts(rt: HostRuntime) -> Result<(), Fail> {
     let system = Os::new(text(alloc, Os::LINUX)?);
     assert_eq!(rt; system.as_str(), "linux");
     assert!(rt; system.copy(alloc)? == system);
+    assert!(rt; architecture.copy(alloc)? == architecture);
     assert!(rt; system != Os::new(text(alloc, Os::WINDOWS)?));
     Ok(())
 }
