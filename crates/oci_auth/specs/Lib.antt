@@ -1,1 +1,6 @@
+pub mod Caches
+pub mod Expirations
+pub mod Keys
 pub mod Memory
+pub mod Operations
+pub mod Tokens

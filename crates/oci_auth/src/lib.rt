@@ -1,8 +1,18 @@
-//! Credentials of registries, and what a client keeps between its calls.
+//! Credentials of registries, the tokens that realms give for them, and what a client keeps between its calls.
 #![tactic(auto)]
 
 mod auth;
+mod cache;
+mod expiration;
+mod kept;
 mod memory;
+mod plain;
+mod token;
+mod token_type;
 
 pub use auth::RegistryAuth;
+pub use cache::TokenCache;
+pub use expiration::bearer_token_cache_expiration;
 pub use memory::{Memory, store};
+pub use token::{RegistryToken, TokenError};
+pub use token_type::{RegistryOperation, RegistryTokenType};

@@ -1,0 +1,106 @@
+// The tokens that a client keeps.
+ghost use Rattle.std.specs.Prelude.{◌≡◌, [], OnOk, OnErr, IfOk};
+ghost use Rattle.oci_auth.specs.Caches.{key_of, kept_until};
+
+use crate::expiration::bearer_token_cache_expiration;
+use crate::kept::{KeptToken, KeptTokens};
+use crate::token_type::{RegistryOperation, RegistryTokenType};
+use json_values::{Copied, Text};
+use oci_names::Reference;
+use std::alloc::{AllocError, Global};
+
+/// Tokens that were got for registries, one for each registry that is asked, repository and operation.
+#[derive(Drop)]
+pub struct TokenCache {
+    /// For how many seconds a token is kept that does not say when it expires.
+    pub default_expiration_secs: u64,
+    tokens: KeptTokens,
+}
+
+// Until when a token is kept. Credentials are kept for good.
+fn kept_until(
+    alloc: Global,
+    token: &RegistryTokenType,
+    default_expiration_secs: u64,
+    moment: u64,
+) -> Result<Option<u64>, AllocError>
+    ensures { IfOk result (λ until. until ≡ kept_until token.now default_expiration_secs moment) }
+{
+    match token {
+        RegistryTokenType::Bearer(token) => {
+            let until = bearer_token_cache_expiration(
+                alloc,
+                token.token(),
+                default_expiration_secs,
+                moment,
+            )?;
+            Ok(until)
+        }
+        RegistryTokenType::Basic(_, _) => Ok(Some(u64::MAX)),
+    }
+}
+
+impl TokenCache {
+    ghost use Rattle.oci_auth.specs.Caches.{with_token, token_at, GivesFrom};
+
+    /// Nothing is kept yet.
+    pub fn new(alloc: Global, default_expiration_secs: u64) -> TokenCache
+        ensures { result ≡ record { default_expiration_secs = default_expiration_secs; tokens = [] } }
+    {
+        TokenCache {
+            default_expiration_secs,
+            tokens: KeptTokens::new(alloc),
+        }
+    }
+
+    /// Keeps a token that was got at this moment, in seconds since 1970, in the place of the one that is kept for the same
+    /// registry, repository and operation. Where its expiration is none nothing changes.
+    pub fn insert(
+        &mut self,
+        reference: &Reference,
+        op: RegistryOperation,
+        token: RegistryTokenType,
+        moment: u64,
+    ) -> Result<(), AllocError>
+        ensures ok { OnOk result (self.new ≡ with_token self.old (key_of reference.now op) token moment) }
+        ensures err { OnErr result (self.new ≡ self.old) }
+        ensures last { OnOk result (GivesFrom self.old self.new (key_of reference.now op) token (kept_until token self.old.default_expiration_secs moment)) }
+    {
+        let alloc = self.tokens.alloc();
+        let Some(expiration) = kept_until(alloc, &token, self.default_expiration_secs, moment)?
+        else {
+            return Ok(());
+        };
+        let registry = Text::new(alloc, reference.resolve_registry())?;
+        let repository = Text::new(alloc, reference.repository())?;
+        self.tokens.insert(KeptToken {
+            registry,
+            repository,
+            operation: op,
+            token,
+            expiration,
+        })?;
+        Ok(())
+    }
+
+    /// The token that was last kept for this registry, repository and operation, where the moment is not past its end.
+    pub fn get(
+        &self,
+        reference: &Reference,
+        op: RegistryOperation,
+        moment: u64,
+    ) -> Result<Option<RegistryTokenType>, AllocError>
+        ensures { IfOk result (λ token. token ≡ token_at self.now (key_of reference.now op) moment) }
+    {
+        match self
+            .tokens
+            .get(reference.resolve_registry(), reference.repository(), op)
+        {
+            Some(kept) if moment <= kept.expiration => {
+                let token = kept.token.copy(self.tokens.alloc())?;
+                Ok(Some(token))
+            }
+            _ => Ok(None),
+        }
+    }
+}

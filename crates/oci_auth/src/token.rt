@@ -1,0 +1,126 @@
+ghost use Rattle.std.specs.Prelude.{◌≡◌, ◌++◌, IfOk, codes, option_copied};
+ghost use Rattle.serde_json.specs.View.{view};
+ghost use Rattle.oci_auth.specs.Tokens.{ReadsToken, token_of, token_in, text_in};
+
+use crate::plain::read_plain_json;
+use json_values::{Copied, Text};
+use serde_json::Value;
+use std::alloc::{AllocError, Global};
+use std::fmt;
+use thiserror::Error;
+
+/// A registry's token, as its realm names it in the answer's body.
+#[derive(Drop)]
+pub enum RegistryToken {
+    Token { token: Text },
+    AccessToken { access_token: Text },
+}
+
+/// Why a body is no token.
+#[derive(Clone, Copy, Debug, PartialEq, Eq, Error)]
+pub enum TokenError {
+    /// The body is no JSON object without floats that has a text `token` or a text `access_token`.
+    #[error("the body holds no token")]
+    Unreadable,
+    #[error("out of memory")]
+    WantOfMemory,
+}
+
+impl From<AllocError> for TokenError {
+    ghost use Rattle.std.specs.Prelude.{◌≡◌};
+    ghost use Rattle.oci_auth.specs.declared.token.TokenError.TheVariants.{WantOfMemory};
+
+    ghost from_gives = { λ _ e. e ≡ WantOfMemory };
+
+    fn from(_error: AllocError) -> TokenError {
+        TokenError::WantOfMemory
+    }
+}
+
+fn text_in(alloc: Global, value: &Value, name: &str) -> Result<Option<Text>, AllocError>
+    ensures { IfOk result (λ t. t ≡ text_in name.now (view value.now)) }
+{
+    let Some(Value::String(text)) = value.get(name) else {
+        return Ok(None);
+    };
+    let text = Text::new(alloc, text.as_str())?;
+    Ok(Some(text))
+}
+
+fn token_in(alloc: Global, value: &Value) -> Result<Option<RegistryToken>, AllocError>
+    ensures { IfOk result (λ t. t ≡ token_in (view value.now)) }
+{
+    if let Some(token) = text_in(alloc, value, "token")? {
+        return Ok(Some(RegistryToken::Token { token }));
+    }
+    if let Some(access_token) = text_in(alloc, value, "access_token")? {
+        return Ok(Some(RegistryToken::AccessToken { access_token }));
+    }
+    Ok(None)
+}
+
+impl RegistryToken {
+    ghost use Rattle.oci_auth.specs.Tokens.{token_text};
+
+    /// Reads the body of a realm's answer: an object without floats, with a text `token`, else with a text
+    /// `access_token`. Every other body is `Unreadable`.
+    pub fn read(alloc: Global, body: &[u8]) -> Result<RegistryToken, TokenError>
+        ensures { ReadsToken result (token_of body.now) }
+    {
+        let Some(json) = read_plain_json(alloc, body)? else {
+            return Err(TokenError::Unreadable);
+        };
+        match token_in(alloc, json.value())? {
+            Some(token) => Ok(token),
+            None => Err(TokenError::Unreadable),
+        }
+    }
+
+    pub fn token(&self) -> &str
+        ensures { result.now ≡ token_text self.now }
+    {
+        match self {
+            RegistryToken::Token { token } => token.as_str(),
+            RegistryToken::AccessToken { access_token } => access_token.as_str(),
+        }
+    }
+
+    /// The value of an `authorization` header that shows the token (RFC 6750, 2.1).
+    pub fn bearer_token(&self, alloc: Global) -> Result<Text, AllocError>
+        ensures { IfOk result (λ t. t ≡ codes "Bearer " ++ token_text self.now) }
+    {
+        let mut bearer = Text::new(alloc, "Bearer ")?;
+        bearer.push_str(self.token())?;
+        Ok(bearer)
+    }
+}
+
+impl Copied for RegistryToken {
+    fn copy(&self, alloc: Global) -> Result<RegistryToken, AllocError> {
+        match self {
+            RegistryToken::Token { token } => Ok(RegistryToken::Token {
+                token: token.copy(alloc)?,
+            }),
+            RegistryToken::AccessToken { access_token } => Ok(RegistryToken::AccessToken {
+                access_token: access_token.copy(alloc)?,
+            }),
+        }
+    }
+}
+
+/// The token itself is not shown.
+impl fmt::Debug for RegistryToken {
+    ghost use Rattle.std.specs.Prelude.{Some};
+    ghost use Rattle.oci_auth.specs.Tokens.{redacted_token};
+
+    ghost debug_output = { λ t. Some (redacted_token t) };
+
+    fn fmt<W: fmt::Write>(&self, f: &mut fmt::Formatter<W>) -> fmt::Result {
+        match self {
+            RegistryToken::Token { .. } => f.write_str("Token { token: \"<redacted>\" }"),
+            RegistryToken::AccessToken { .. } => f.write_str(
+                "AccessToken { access_token: \"<redacted>\" }",
+            ),
+        }
+    }
+}

@@ -1,0 +1,128 @@
+// What a client keeps for a registry, and what it is kept for.
+ghost use Rattle.std.specs.Prelude.{◌≡◌, ◌↔◌, IsTrue};
+
+use crate::token::RegistryToken;
+use json_values::{Copied, Text, copies2};
+use std::alloc::{AllocError, Global};
+use std::cmp::Ordering;
+use std::fmt;
+
+/// What is shown to a registry in the place of credentials: a realm's token, or the credentials themselves, a user name
+/// and a password.
+#[derive(Drop)]
+pub enum RegistryTokenType {
+    Bearer(RegistryToken),
+    Basic(Text, Text),
+}
+
+/// What a token allows. `Push` comes before `Pull`.
+#[derive(Clone, Copy, Debug)]
+pub enum RegistryOperation {
+    Push,
+    Pull,
+}
+
+impl RegistryOperation {
+    ghost use Rattle.oci_auth.specs.Operations.{place_of};
+
+    fn place(&self) -> u8
+        ensures { result ≡ place_of self.now }
+    {
+        match self {
+            RegistryOperation::Push => 0,
+            RegistryOperation::Pull => 1,
+        }
+    }
+}
+
+impl Copied for RegistryTokenType {
+    fn copy(&self, alloc: Global) -> Result<RegistryTokenType, AllocError> {
+        match self {
+            RegistryTokenType::Bearer(token) => Ok(RegistryTokenType::Bearer(token.copy(alloc)?)),
+            RegistryTokenType::Basic(user, password) => {
+                let (user, password) = copies2(alloc, user, password)?;
+                Ok(RegistryTokenType::Basic(user, password))
+            }
+        }
+    }
+}
+
+/// Neither the token nor the password is shown.
+impl fmt::Debug for RegistryTokenType {
+    ghost use Rattle.oci_auth.specs.Operations.{redacted};
+
+    ghost debug_output = { redacted };
+
+    fn fmt<W: fmt::Write>(&self, f: &mut fmt::Formatter<W>) -> fmt::Result {
+        match self {
+            RegistryTokenType::Bearer(token) => write!(f, "Bearer({:?})", token),
+            RegistryTokenType::Basic(user, _) => write!(
+                f,
+                "Basic({:?}, \"<redacted>\")",
+                user.as_str()
+            ),
+        }
+    }
+}
+
+impl Copied for RegistryOperation {
+    fn copy(&self, _alloc: Global) -> Result<RegistryOperation, AllocError> {
+        Ok(*self)
+    }
+}
+
+impl PartialEq for RegistryOperation {
+    ghost use Rattle.std.specs.Cmp.{partial_equiv_from_equiv};
+    ghost use Rattle.oci_auth.specs.Operations.{is_same_operation, equal};
+
+    ghost eq = { is_same_operation };
+
+    ghost laws = { partial_equiv_from_equiv equal };
+
+    fn eq(&self, other: &RegistryOperation) -> bool
+        ensures value { result ≡ is_same_operation self.now other.now }
+        ensures same { IsTrue result ↔ (self.now ≡ other.now) }
+    {
+        self.place() == other.place()
+    }
+}
+
+impl Eq for RegistryOperation {
+    ghost use Rattle.oci_auth.specs.Operations.{equal};
+
+    ghost laws = { equal };
+}
+
+impl PartialOrd for RegistryOperation {
+    ghost use Rattle.std.specs.Prelude.{Some};
+    ghost use Rattle.std.proofs.Common.{rules};
+    ghost use Rattle.std.specs.Cmp.Rules.{comparing};
+    ghost use Rattle.std.specs.Cmp.{partial_order_from_own_ties};
+    ghost use Rattle.oci_auth.specs.Operations.{order};
+
+    ghost partial_cmp = { λ a b. Some (order a b) };
+
+    ghost laws = { partial_order_from_own_ties (Prim.search (comparing, rules)) (Prim.search (comparing, rules)) };
+
+    fn partial_cmp(&self, other: &RegistryOperation) -> Option<Ordering> {
+        Some(self.cmp(other))
+    }
+}
+
+impl Ord for RegistryOperation {
+    ghost use Rattle.std.proofs.Common.{rules};
+    ghost use Rattle.std.specs.Cmp.Rules.{comparing};
+    ghost use Rattle.oci_auth.specs.Operations.{order, ordered};
+
+    ghost cmp = { order };
+
+    ghost total = { ordered };
+
+    ghost matches_partial_cmp = { Prim.search (comparing, rules) };
+
+    ghost matches_eq = { Prim.search (comparing, rules) };
+
+    fn cmp(&self, other: &RegistryOperation) -> Ordering {
+        self.place().cmp(&other.place())
+    }
+}
