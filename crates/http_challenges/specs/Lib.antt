@@ -1,0 +1,4 @@
+pub mod Bearer
+pub mod Classes
+pub mod Elements
+pub mod Grammar

@@ -1,0 +1,164 @@
+// What a challenge of the scheme Bearer asks for.
+ghost use Rattle.std.specs.Prelude.{◌≡◌, Some, None, Ok, Err, IfOk, IfErr, option_copied};
+ghost use Rattle.http_challenges.specs.Bearer.{is_named, last_value, bearer_of, first_bearer, is_text, text_of, in_header};
+ghost use Rattle.http_challenges.specs.Bearer.{IsRefusal};
+ghost use Rattle.http_challenges.specs.declared.bearer.ChallengeError.TheVariants.{WantOfMemory as out_of_memory};
+
+use crate::challenge::{Challenge, challenges};
+use json_values::{Copied, Text, copies2};
+use std::alloc::{AllocError, Global};
+use thiserror::Error;
+
+/// Where a token is to be asked for (RFC 6750, section 3).
+#[derive(Drop)]
+pub struct BearerChallenge {
+    /// The text of the URL to ask.
+    pub realm: Text,
+    pub service: Option<Text>,
+}
+
+/// Why no Bearer challenge was read.
+#[derive(Clone, Copy, Debug, PartialEq, Eq, Error)]
+pub enum ChallengeError {
+    /// The header has a byte that is neither a tab nor from 0x20 to 0x7E.
+    #[error("the header is not text")]
+    NotText,
+    /// No challenge of the header is of the scheme Bearer and has a realm.
+    #[error("no Bearer challenge with a realm")]
+    NoBearer,
+    #[error("the challenge is of another scheme than Bearer")]
+    OtherScheme,
+    #[error("the challenge has no realm")]
+    NoRealm,
+    #[error("out of memory")]
+    WantOfMemory,
+}
+
+impl Copied for BearerChallenge {
+    fn copy(&self, alloc: Global) -> Result<BearerChallenge, AllocError> {
+        let (realm, service) = copies2(alloc, &self.realm, &self.service)?;
+        Ok(BearerChallenge { realm, service })
+    }
+}
+
+impl Copied for ChallengeError {
+    fn copy(&self, _alloc: Global) -> Result<ChallengeError, AllocError> {
+        Ok(*self)
+    }
+}
+
+impl From<AllocError> for ChallengeError {
+    ghost from_gives = { λ _ e. e ≡ out_of_memory };
+
+    fn from(_: AllocError) -> Self {
+        ChallengeError::WantOfMemory
+    }
+}
+
+fn is_named(name: &str, text: &str) -> bool
+    ensures { result ≡ is_named name.now text.now }
+{
+    text.eq_ignore_ascii_case(name)
+}
+
+// The last value of this name.
+fn last_value<'a>(name: &str, params: &'a [(Text, Text)]) -> Option<&'a str>
+    ensures { option_copied result ≡ last_value name.now params.now }
+{
+    let mut value = None;
+    for parameter in params {
+        if is_named(name, parameter.0.as_str()) {
+            value = Some(parameter.1.as_str());
+        }
+    }
+    value
+}
+
+fn copied(alloc: Global, text: Option<&str>) -> Result<Option<Text>, AllocError>
+    ensures { IfOk result (λ copy. copy ≡ option_copied text.entry) }
+{
+    match text {
+        Some(text) => {
+            let copy = Text::new(alloc, text)?;
+            Ok(Some(copy))
+        }
+        None => Ok(None),
+    }
+}
+
+fn is_text(value: &[u8]) -> bool
+    ensures { result ≡ is_text value.now }
+{
+    value
+        .iter()
+        .all(|byte| *byte == 9 || (32 <= *byte && *byte <= 126))
+}
+
+// The first challenge of these that is of the scheme Bearer and has a realm.
+fn first_bearer(alloc: Global, challenges: &[Challenge]) -> Result<BearerChallenge, ChallengeError>
+    ensures ok { IfOk result (λ bearer. first_bearer challenges.now ≡ Ok bearer) }
+    ensures refused { IfErr result (IsRefusal (first_bearer challenges.now)) }
+{
+    for challenge in challenges {
+        match BearerChallenge::from_challenge(alloc, challenge) {
+            Ok(bearer) => return Ok(bearer),
+            Err(ChallengeError::WantOfMemory) => return Err(ChallengeError::WantOfMemory),
+            Err(_) => {}
+        }
+    }
+    Err(ChallengeError::NoBearer)
+}
+
+impl BearerChallenge {
+    /// The first challenge of the scheme Bearer that has a realm, in the value of a header `www-authenticate`.
+    ///
+    /// `NotText` where the value is not text, and else `NoBearer` where no challenge is such.
+    #[tactic(auto, unfolding(crate::specs::Bearer::in_header))]
+    pub fn from_header(alloc: Global, value: &[u8]) -> Result<BearerChallenge, ChallengeError>
+        ensures ok { IfOk result (λ bearer. in_header value.now ≡ Ok bearer) }
+        ensures refused { IfErr result (IsRefusal (in_header value.now)) }
+    {
+        let Some(text) = text_of(value) else {
+            return Err(ChallengeError::NotText);
+        };
+        let challenges = challenges(alloc, text)?;
+        let bearer = first_bearer(alloc, challenges.as_slice())?;
+        Ok(bearer)
+    }
+
+    /// The last realm and the last service of a challenge of the scheme Bearer. The case of the scheme and of the
+    /// parameters' names does not matter.
+    ///
+    /// `OtherScheme` where the scheme is another one, and else `NoRealm` where there is no realm.
+    #[tactic(auto, unfolding(crate::specs::Bearer::bearer_of))]
+    pub fn from_challenge(
+        alloc: Global,
+        challenge: &Challenge,
+    ) -> Result<BearerChallenge, ChallengeError>
+        ensures ok { IfOk result (λ bearer. bearer_of challenge.now ≡ Ok bearer) }
+        ensures refused { IfErr result (IsRefusal (bearer_of challenge.now)) }
+    {
+        if !is_named("bearer", challenge.scheme.as_str()) {
+            return Err(ChallengeError::OtherScheme);
+        }
+        let Some(realm) = last_value("realm", challenge.params.as_slice()) else {
+            return Err(ChallengeError::NoRealm);
+        };
+        let realm = Text::new(alloc, realm)?;
+        let service = copied(alloc, last_value("service", challenge.params.as_slice()))?;
+        Ok(BearerChallenge { realm, service })
+    }
+}
+
+// The value as text.
+fn text_of(value: &[u8]) -> Option<&str>
+    ensures { option_copied result ≡ text_of value.now }
+{
+    if !is_text(value) {
+        return None;
+    }
+    match std::str::from_utf8(value) {
+        Ok(text) => Some(text),
+        Err(_) => None,
+    }
+}

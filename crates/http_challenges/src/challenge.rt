@@ -1,0 +1,79 @@
+// Challenges.
+ghost use Rattle.std.specs.Prelude.{◌≡◌, ◌++◌, ◌∷◌, [], List, IfOk, if◌then◌else◌};
+ghost use Rattle.http_challenges.specs.Elements.{challenges_of, whole};
+ghost use Rattle.http_challenges.specs.declared.element.Element.{Element as OneElement};
+
+use crate::element::{Element, read_element};
+use crate::split::cut_element;
+use json_values::{Copied, List, Text, copies2};
+use std::alloc::{AllocError, Global};
+
+/// A challenge: its scheme, and its parameters by name, in their order.
+#[derive(Drop)]
+pub struct Challenge {
+    pub scheme: Text,
+    pub params: List<(Text, Text)>,
+}
+
+impl Copied for Challenge {
+    fn copy(&self, alloc: Global) -> Result<Challenge, AllocError> {
+        let (scheme, params) = copies2(alloc, &self.scheme, &self.params)?;
+        Ok(Challenge { scheme, params })
+    }
+}
+
+// Whether reading goes on behind the element.
+fn take(
+    found: &mut List<Challenge>,
+    last: &mut Option<Challenge>,
+    element: Element,
+) -> Result<bool, AllocError>
+    ensures { IfOk result (λ more. (elements : List OneElement) → found.old ++ whole last.old (element ∷ elements) ≡ (if more then found.new ++ whole last.new elements else found.new)) }
+{
+    match element {
+        Element::Empty => Ok(true),
+        Element::Parameter(parameter) => match last {
+            Some(challenge) => {
+                challenge.params.push(parameter)?;
+                Ok(true)
+            }
+            None => Ok(false),
+        },
+        Element::Begins(challenge) => {
+            if let Some(whole) = last.replace(challenge) {
+                found.push(whole)?;
+            }
+            Ok(true)
+        }
+        Element::BreaksOff => {
+            if let Some(whole) = last.take() {
+                found.push(whole)?;
+            }
+            Ok(false)
+        }
+        Element::Unreadable => Ok(false),
+    }
+}
+
+/// The challenges of a list (RFC 9110, section 11.6.1), up to the first place that does not read: a challenge is whole
+/// where the next one begins or the text ends.
+#[tactic(auto, unfolding(crate::specs::Elements::challenges_of))]
+pub fn challenges(alloc: Global, text: &str) -> Result<List<Challenge>, AllocError>
+    ensures { IfOk result (λ found. found ≡ challenges_of text.now) }
+{
+    let mut found = List::new(alloc);
+    let mut last = None;
+    let mut left = Some(text);
+    while let Some(rest) = left {
+        let (element, behind) = cut_element(rest);
+        let element = read_element(alloc, element)?;
+        if !take(&mut found, &mut last, element)? {
+            return Ok(found);
+        }
+        left = behind;
+    }
+    if let Some(whole) = last {
+        found.push(whole)?;
+    }
+    Ok(found)
+}

@@ -1,0 +1,14 @@
+//! Challenges of a registry, as the header `www-authenticate` lists them (RFC 9110, section 11.6.1).
+#![tactic(auto)]
+
+mod bearer;
+mod challenge;
+mod element;
+mod grammar;
+mod split;
+
+pub use bearer::{BearerChallenge, ChallengeError};
+pub use challenge::{Challenge, challenges};
+
+#[cfg(test)]
+mod tests;
