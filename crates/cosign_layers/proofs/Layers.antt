@@ -17,7 +17,7 @@ use Rattle.cosign_layers.specs.declared.rejection.LayerRejection.{LayerRejection
 use Rattle.cosign_layers.specs.declared.rejection.LayerRejection.TheVariants.{DigestMismatch, Unreadable, OtherDigest, NoSignature}
 
 -- the layer of these parts
-abbrev layer_with : Input → SimpleSigning → List ℕ → SignatureLayer
+abbrev pub layer_with : Input → SimpleSigning → List ℕ → SignatureLayer
 layer_with input signing signature = record { kind = Payload; content = input.content; oci_digest = input.oci_digest; annotations = input.annotations; simple_signing = Some signing; signature = signature; certificate_signature = None; bundle = None }
 
 pub joined : (d : List ℕ) (input : Input) (signing : SimpleSigning) (signature : List ℕ)

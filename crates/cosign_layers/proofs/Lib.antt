@@ -1,3 +1,4 @@
 pub mod Layers
 pub mod Loops
+pub mod Outcomes
 pub mod Supports

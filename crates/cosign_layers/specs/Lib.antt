@@ -1,4 +1,5 @@
 pub mod Accepts
+pub mod Checks
 pub mod Layer
 pub mod Payload
 pub mod Rejections

@@ -1,8 +1,11 @@
 //! Payload layers read from their bytes and annotations.
-ghost use Rattle.std.specs.Prelude.{◌≡◌, IfOk};
+ghost use Rattle.std.specs.Prelude.{◌≡◌, IfOk, IfErr};
 ghost use Rattle.std.specs.FinMap.{get};
+ghost use Rattle.cosign_layers.specs.Checks.{Rejected, RejectedUnlessMemory, HasOneOutcome};
 ghost use Rattle.cosign_layers.specs.Layer.{Gives, certificate_annotation, no_certificate, payload_about, payload_layer, signature_in};
 ghost use Rattle.cosign_layers.specs.Rejections.{Says};
+ghost use Rattle.cosign_layers.specs.declared.layer.SignatureLayer.{SignatureLayer};
+ghost use Rattle.cosign_layers.specs.declared.rejection.LayerRejection.{LayerRejection};
 
 use crate::layer::{LayerKind, SignatureLayer, SimpleSigning};
 use crate::payload::read_payload;
@@ -16,7 +19,8 @@ const SIGNATURE_ANNOTATION: &str = "dev.cosignproject.cosign/signature";
 
 const CERTIFICATE_ANNOTATION: &str = "dev.sigstore.cosign/certificate";
 
-/// Reads a payload layer that is about the image of `source_digest`, or says which check fails first.
+/// Reads a payload layer that is about the image of `source_digest`, or says which check fails first. Each input has
+/// exactly one of these two outcomes, and the call answers it, or want of memory.
 ///
 /// The checks come in this order.
 ///
@@ -39,6 +43,10 @@ pub fn read_payload_layer(
 ) -> Result<SignatureLayer, LayerRejection>
     ensures says { Says result (payload_layer source_digest.now (record { content = content.now; oci_digest = oci_digest.now; annotations = annotations.now })) }
     ensures gives { IfOk result (Gives source_digest.now (record { content = content.now; oci_digest = oci_digest.now; annotations = annotations.now })) }
+    ensures rejects { IfErr result (RejectedUnlessMemory source_digest.now (record { content = content.now; oci_digest = oci_digest.now; annotations = annotations.now })) }
+    ensures layer { (layer : SignatureLayer) → Gives source_digest.now (record { content = content.now; oci_digest = oci_digest.now; annotations = annotations.now }) layer → Says result (Ok layer) }
+    ensures rejection { (x : LayerRejection) → Rejected source_digest.now (record { content = content.now; oci_digest = oci_digest.now; annotations = annotations.now }) x → Says result (Err x) }
+    ensures law { HasOneOutcome source_digest.now (record { content = content.now; oci_digest = oci_digest.now; annotations = annotations.now }) }
 {
     read_layer(alloc, content, oci_digest, annotations, source_digest)
 }
