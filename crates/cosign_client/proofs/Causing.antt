@@ -158,7 +158,7 @@ abbrev BySearch : Settings → Reference → RegistryAuth → ℕ → List Excha
 BySearch s image a m c n r = OnRefusal (SearchCause s image a c) r
 
 -- a part that ran ran
-ran : {A : Type 0} (p : Row A) → Shows (λ m c n r. Ran p c r) p
+pub ran : {A : Type 0} (p : Row A) → Shows (λ m c n r. Ran p c r) p
 ran p = record { shows = λ k l m n c r run. record { before = k; after = l; start = m; end_count = n; runs = run } }
 
 both_shown : {K A : Type 0} (P Q : ℕ → List Exchange → ℕ → A → Type 0) (p : Proto K A) → Shows P p → Shows Q p → Shows (λ m c n a. P m c n a × Q m c n a) p

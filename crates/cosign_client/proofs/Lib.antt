@@ -1,6 +1,10 @@
 pub mod Causing
+pub mod Counts
+pub mod Deciding
 pub mod Exits
+pub mod Faults
 pub mod Leads
+pub mod Linking
 pub mod Loops
 pub mod Parts
 pub mod Reading

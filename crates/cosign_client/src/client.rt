@@ -1,6 +1,8 @@
 // The client that users hold.
-ghost use Rattle.std.specs.Prelude.{◌≡◌, IfOk, IfErr};
+ghost use Rattle.std.specs.Prelude.{◌≡◌, true, false, Err, IfOk, IfErr, IsTrue};
+ghost use Rattle.oci_names.specs.References.{whole_text, reads_back};
 ghost use Rattle.oci_protocol.specs.Runs.{Meets, Told};
+ghost use Rattle.oci_protocol.specs.Ends.{UnlessMemory};
 ghost use Rattle.cosign_layers.specs.Accepts.{has_no_item};
 ghost use Rattle.cosign_layers.specs.Standing.{meaning, stands};
 ghost use Rattle.sig_registry.specs.Conversions.{registry_auth};
@@ -9,8 +11,11 @@ ghost use Rattle.sig_registry.specs.Clients.{plain_state};
 ghost use Rattle.sig_registry.specs.Errors.{is_memory as of_memory};
 ghost use Rattle.cosign_client.specs.Causes.{SearchCause, PullCause};
 ghost use Rattle.cosign_client.specs.Chain.{Chain};
-ghost use Rattle.cosign_client.specs.Refusals.{is_memory};
+ghost use Rattle.cosign_client.specs.Exact.{IsRefusedAs, BeginsWithDigest, unchanged};
+ghost use Rattle.cosign_client.specs.Links.{Links};
+ghost use Rattle.cosign_client.specs.Refusals.{is_memory, refused_as};
 ghost use Rattle.cosign_client.specs.Search.{searched};
+ghost use Rattle.cosign_client.specs.Skips.{HoldsNoMemory, CountsFaults, OnSkipped};
 ghost use Rattle.cosign_client.specs.Sound.{Backed};
 ghost use Rattle.cosign_client.specs.Verified.{verified};
 
@@ -50,7 +55,10 @@ impl Client {
     ) -> Result<TrustedLayers, SigstoreError>
         ensures run { Meets of_memory (searched (client_state self.old).settings (reference_in source_image.now) (registry_auth auth.now)) (T.state transport.old) (T.state transport.new) (client_state self.old).kept (client_state self.new).kept result }
         ensures settings { (client_state self.new).settings ≡ (client_state self.old).settings }
+        ensures digest { UnlessMemory of_memory (λ r. Told (λ c. BeginsWithDigest unchanged (client_state self.old).settings (reference_in source_image.now) (registry_auth auth.now) c r) (T.state transport.old) (T.state transport.new)) result }
         ensures causes { IfErr result (λ e. Told (λ c. SearchCause (client_state self.old).settings (reference_in source_image.now) (registry_auth auth.now) c e) (T.state transport.old) (T.state transport.new)) }
+        ensures no_memory { IfOk result (λ found. HoldsNoMemory found.skipped) }
+        ensures faults { IfOk result (λ found. CountsFaults (T.state transport.old).faults (T.state transport.new).faults found.skipped) }
     {
         let auth = auth.to_registry(alloc)?;
         search(
@@ -82,18 +90,23 @@ impl Client {
     ) -> Result<VerifiedImage, PullRefusal>
         ensures run { Meets is_memory (verified (has_no_item policy.now.constraints) (stands (meaning policy.now (V.valid verifier.now) (λ b. accepts (b.vtable, b.value)))) (client_state self.old).settings (reference_in image.now) (registry_auth auth.now) accepted_media_types.now) (T.state transport.old) (T.state transport.new) (client_state self.old).kept (client_state self.new).kept result }
         ensures settings { (client_state self.new).settings ≡ (client_state self.old).settings }
+        ensures unconstrained { IsTrue (has_no_item policy.now.constraints) → (result ≡ Err PullRefusal.EmptyPolicy) × (T.state transport.new ≡ T.state transport.old) }
+        ensures unread { has_no_item policy.now.constraints ≡ false → reads_back (reference_in image.now) ≡ false → IsRefusedAs (PullRefusal.OciReferenceNotValidError (whole_text (reference_in image.now))) result × (T.state transport.new ≡ T.state transport.old) }
+        ensures digest { has_no_item policy.now.constraints ≡ false → reads_back (reference_in image.now) ≡ true → UnlessMemory is_memory (λ r. Told (λ c. BeginsWithDigest refused_as (client_state self.old).settings (reference_in image.now) (registry_auth auth.now) c r) (T.state transport.old) (T.state transport.new)) result }
         ensures chain { IfOk result (λ v. Chain (meaning policy.now (V.valid verifier.now) (λ b. accepts (b.vtable, b.value))) (reference_in image.now) accepted_media_types.now v) }
         ensures causes { IfErr result (λ e. Told (λ c. PullCause (has_no_item policy.now.constraints) (stands (meaning policy.now (V.valid verifier.now) (λ b. accepts (b.vtable, b.value)))) (client_state self.old).settings (reference_in image.now) (registry_auth auth.now) accepted_media_types.now c e) (T.state transport.old) (T.state transport.new)) }
         ensures backed { IfOk result (λ v. Told (λ c. Backed (client_state self.old).settings (reference_in image.now) c v) (T.state transport.old) (T.state transport.new)) }
+        ensures links { IfOk result (λ v. Links (reference_in image.now) accepted_media_types.now v) }
+        ensures no_memory { IfErr result (λ e. OnSkipped HoldsNoMemory e) }
+        ensures faults { IfErr result (λ e. OnSkipped (CountsFaults (T.state transport.old).faults (T.state transport.new).faults) e) }
     {
-        let auth = auth.to_registry(alloc)?;
         pull_verified(
             alloc,
             &mut self.registry_client,
             transport,
             moment,
             image.reference(),
-            &auth,
+            auth,
             accepted_media_types,
             policy,
             verifier,

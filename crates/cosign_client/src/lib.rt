@@ -3,6 +3,7 @@
 
 mod client;
 mod found;
+mod links;
 mod pull;
 mod search;
 mod standing;
@@ -10,4 +11,5 @@ mod verified;
 
 pub use client::Client;
 pub use found::{SkipCause, Skipped, SourceKind, TrustedLayers};
+pub use links::check_links;
 pub use verified::{PullRefusal, VerifiedImage};

@@ -1,7 +1,9 @@
 // The whole pull, whatever the client.
-ghost use Rattle.std.specs.Prelude.{◌≡◌, true, Some, IfOk, find};
+ghost use Rattle.std.specs.Prelude.{◌≡◌, true, false, Some, Err, IfOk, IsTrue, find};
+ghost use Rattle.oci_names.specs.References.{reads_back};
 ghost use Rattle.engine_requests.specs.declared.settings.Settings.{Settings};
 ghost use Rattle.sig_registry.specs.Clients.{Made};
+ghost use Rattle.sig_registry.specs.Conversions.{registry_auth};
 ghost use Rattle.cosign_layers.specs.Accepts.{has_no_item};
 ghost use Rattle.cosign_layers.specs.Standing.{meaning, stands};
 ghost use Rattle.cosign_client.specs.Refusals.{is_memory};
@@ -16,7 +18,7 @@ use json_values::{Copied, Text};
 use oci_auth::RegistryAuth;
 use oci_link::Transport;
 use oci_names::Reference;
-use sig_registry::ClientCapabilities;
+use sig_registry::{Auth, ClientCapabilities};
 use std::alloc::{AllocError, Global};
 
 // The first layer that stands.
@@ -152,15 +154,8 @@ fn pull_searched<C: ClientCapabilities, T: Transport, V: SignatureVerifier>(
     }
 }
 
-// Whether a policy has no constraint.
-fn is_unconstrained(policy: &PullPolicy) -> bool
-    ensures { result ≡ has_no_item policy.now.constraints }
-{
-    policy.constraints.as_slice().is_empty()
-}
-
-/// Pulls an image only where a layer stands for the digest that is answered for it.
-pub fn pull_verified<C: ClientCapabilities, T: Transport, V: SignatureVerifier>(
+// The image for a reference that reads back.
+fn pull_readable<C: ClientCapabilities, T: Transport, V: SignatureVerifier>(
     alloc: Global,
     client: &mut C,
     transport: &mut T,
@@ -171,12 +166,9 @@ pub fn pull_verified<C: ClientCapabilities, T: Transport, V: SignatureVerifier>(
     policy: &PullPolicy,
     verifier: &V,
 ) -> Result<VerifiedImage, PullRefusal>
-    ensures { (s : Settings) → Made is_memory s (verified (has_no_item policy.now.constraints) (stands (meaning policy.now (V.valid verifier.now) (λ b. accepts (b.vtable, b.value)))) s image.now auth.now accepted.now) (C.state client.old) (C.state client.new) (T.state transport.old) (T.state transport.new) result }
+    ensures run { (s : Settings) → Made is_memory s (by_reference (stands (meaning policy.now (V.valid verifier.now) (λ b. accepts (b.vtable, b.value)))) s image.now auth.now accepted.now (reads_back image.now)) (C.state client.old) (C.state client.new) (T.state transport.old) (T.state transport.new) result }
+    ensures unread { reads_back image.now ≡ false → T.state transport.new ≡ T.state transport.old }
 {
-    let unconstrained = is_unconstrained(policy);
-    if unconstrained {
-        return Err(PullRefusal::EmptyPolicy);
-    }
     let reads_back = image.reads_back(alloc)?;
     if reads_back {
         return pull_searched(
@@ -185,4 +177,38 @@ pub fn pull_verified<C: ClientCapabilities, T: Transport, V: SignatureVerifier>(
     }
     let reference = image.whole(alloc)?;
     Err(PullRefusal::OciReferenceNotValidError { reference })
+}
+
+// Whether a policy has no constraint.
+fn is_unconstrained(policy: &PullPolicy) -> bool
+    ensures { result ≡ has_no_item policy.now.constraints }
+{
+    policy.constraints.as_slice().is_empty()
+}
+
+/// Pulls an image only where a layer stands for the digest that is answered for it. A policy without a constraint is
+/// refused before memory is taken.
+pub fn pull_verified<C: ClientCapabilities, T: Transport, V: SignatureVerifier>(
+    alloc: Global,
+    client: &mut C,
+    transport: &mut T,
+    moment: u64,
+    image: &Reference,
+    auth: &Auth,
+    accepted: &[Text],
+    policy: &PullPolicy,
+    verifier: &V,
+) -> Result<VerifiedImage, PullRefusal>
+    ensures run { (s : Settings) → Made is_memory s (verified (has_no_item policy.now.constraints) (stands (meaning policy.now (V.valid verifier.now) (λ b. accepts (b.vtable, b.value)))) s image.now (registry_auth auth.now) accepted.now) (C.state client.old) (C.state client.new) (T.state transport.old) (T.state transport.new) result }
+    ensures unconstrained { IsTrue (has_no_item policy.now.constraints) → (result ≡ Err PullRefusal.EmptyPolicy) × (T.state transport.new ≡ T.state transport.old) }
+    ensures unread { reads_back image.now ≡ false → T.state transport.new ≡ T.state transport.old }
+{
+    let unconstrained = is_unconstrained(policy);
+    if unconstrained {
+        return Err(PullRefusal::EmptyPolicy);
+    }
+    let auth = auth.to_registry(alloc)?;
+    pull_readable(
+        alloc, client, transport, moment, image, &auth, accepted, policy, verifier,
+    )
 }
