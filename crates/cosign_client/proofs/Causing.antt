@@ -1,5 +1,5 @@
 -- Why a search or a pull was refused.
-use Rattle.std.proofs.Common.{◌≡◌, ℕ, Bool, true, false, inl, inr, List, [], ◌∷◌, ◌++◌, Option, Some, None, Result, Ok, Err, IfErr, refl, sym, ap, ◌∙◌, append-nil}
+use Rattle.std.proofs.Common.{◌≡◌, ℕ, Bool, true, false, inl, inr, List, [], ◌∷◌, ◌++◌, Option, Some, None, Result, Ok, Err, IfErr, refl, ap, append-nil}
 use Rattle.std.specs.Prelude.{if◌then◌else◌, find, MatchBool}
 use Rattle.oci_names.specs.declared.reference.Reference.{Reference}
 use Rattle.oci_names.specs.References.{whole_text, reads_back}
@@ -9,8 +9,8 @@ use Rattle.oci_docs.specs.declared.descriptor.OciDescriptor.{OciDescriptor}
 use Rattle.oci_docs.specs.declared.blob.ImageLayer.{ImageLayer}
 use Rattle.oci_link.specs.Link.{Link}
 use Rattle.oci_link.specs.declared.message.Exchange.{Exchange}
-use Rattle.oci_protocol.specs.Proto.{Proto, Done, bind, unless_refused, ◌>>=◌, ◌>>◌}
-use Rattle.oci_protocol.specs.Shows.{Shows, ByAnswer}
+use Rattle.oci_protocol.specs.Proto.{Proto, Done, unless_refused, ◌>>=◌}
+use Rattle.oci_protocol.specs.Shows.{Shows}
 use Rattle.oci_protocol.specs.Ends.{Ends}
 use Rattle.oci_protocol.specs.Runs.{Meets, Told, Performs, Breaks}
 use Rattle.oci_protocol.proofs.Ends.{Ends-any, Ends-bind, Runs-ends}
@@ -21,7 +21,7 @@ use Rattle.engine_requests.specs.Errors.{is_memory as engine_is_memory}
 use Rattle.engine_requests.specs.Requests.{manifest_types}
 use Rattle.engine_steps.specs.Rows.{Row as Engine}
 use Rattle.engine_pull.specs.Pulls.{fetch_manifest_digest, pull_manifest_raw, pull_blob}
-use Rattle.engine_pull.specs.Images.{layers_accepted, layer_of, config_of}
+use Rattle.engine_pull.specs.Images.{layers_accepted, layer_of}
 use Rattle.engine_pull.specs.declared.image.ImageData.{ImageData}
 use Rattle.sig_registry.specs.declared.error.SigstoreError.{SigstoreError}
 use Rattle.sig_registry.specs.declared.error.SigstoreError.TheVariants as sigstore
@@ -33,17 +33,17 @@ use Rattle.sig_registry.specs.Calls.{in_words, digest_call, manifest_call, image
 use Rattle.cosign_layers.specs.declared.layer.SignatureLayer.{SignatureLayer}
 use Rattle.cosign_client.specs.declared.found.TrustedLayers.{TrustedLayers}
 use Rattle.cosign_client.specs.declared.found.Skipped.TheVariants.{Source}
-use Rattle.cosign_client.specs.declared.found.SkipCause.TheVariants.{NotAReference, Refused}
+use Rattle.cosign_client.specs.declared.found.SkipCause.TheVariants.{Refused}
 use Rattle.cosign_client.specs.declared.found.SourceKind.TheVariants.{Tag}
 use Rattle.cosign_client.specs.declared.pull.Pulled.{Pulled}
 use Rattle.cosign_client.specs.declared.verified.VerifiedImage.{VerifiedImage}
 use Rattle.cosign_client.specs.declared.verified.PullRefusal.{PullRefusal}
 use Rattle.cosign_client.specs.declared.verified.PullRefusal.TheVariants as refusal
 use Rattle.cosign_client.specs.Refusals.{is_memory, refused_as}
-use Rattle.cosign_client.specs.Search.{payload_type, tag_reference, digest_reference, skipping, refused_source, by_document, by_image, search_image, by_manifest, search_by, search_tag, nothing_yet, or_not_valid, reading_back, searched}
+use Rattle.cosign_client.specs.Search.{payload_type, tag_reference, digest_reference, skipping, refused_source, by_image, by_manifest, search_by, search_tag, nothing_yet, or_not_valid, reading_back, searched}
 use Rattle.cosign_client.specs.Image.{manifest_in, layers_row, image_row}
-use Rattle.cosign_client.specs.Verified.{Whole, completed, by_layer, by_search, by_reference, by_policy, verified}
-use Rattle.cosign_client.specs.Causes.{Ran, NoReference, SearchCause, Unread, Found, ImageRefused, PullCause}
+use Rattle.cosign_client.specs.Verified.{completed, by_layer, by_search, by_reference, verified}
+use Rattle.cosign_client.specs.Causes.{Ran, SearchCause, Found, PullCause}
 
 -- ---- which refusals a part can answer
 

@@ -1,12 +1,11 @@
 -- What the policy, the reference and the digest step decide of a pull.
-use Rattle.std.proofs.Common.{◌≡◌, ℕ, Bool, true, false, List, [], ◌∷◌, ◌++◌, Option, Some, None, Result, Ok, Err, refl, sym, ap, ◌∙◌, subst, append_assoc, append-nil}
-use Rattle.std.specs.Prelude.{find}
+use Rattle.std.proofs.Common.{◌≡◌, ℕ, Bool, true, false, List, [], ◌++◌, Result, Ok, Err, refl, sym, ap, ◌∙◌, append_assoc, append-nil}
 use Rattle.oci_names.specs.declared.reference.Reference.{Reference}
 use Rattle.oci_names.specs.References.{whole_text, reads_back}
 use Rattle.oci_auth.specs.declared.auth.RegistryAuth.{RegistryAuth}
 use Rattle.oci_link.specs.Link.{Link}
 use Rattle.oci_link.specs.declared.message.Exchange.{Exchange}
-use Rattle.oci_protocol.specs.Proto.{Proto, Done, bind, unless_refused, ◌>>=◌}
+use Rattle.oci_protocol.specs.Proto.{Done, unless_refused, ◌>>=◌}
 use Rattle.oci_protocol.specs.Ends.{Ends, UnlessMemory}
 use Rattle.oci_protocol.specs.Runs.{Meets, Told}
 use Rattle.oci_protocol.specs.Shows.{Shows}
@@ -16,7 +15,7 @@ use Rattle.engine_requests.specs.declared.settings.Settings.{Settings}
 use Rattle.sig_registry.specs.declared.error.SigstoreError.{SigstoreError}
 use Rattle.sig_registry.specs.declared.error.SigstoreError.TheVariants as sigstore
 use Rattle.sig_registry.specs.Errors.{is_memory as of_memory}
-use Rattle.sig_registry.specs.Clients.{Kept, Row}
+use Rattle.sig_registry.specs.Clients.{Kept}
 use Rattle.sig_registry.specs.Calls.{digest_call}
 use Rattle.cosign_layers.specs.declared.layer.SignatureLayer.{SignatureLayer}
 use Rattle.cosign_client.specs.declared.found.TrustedLayers.{TrustedLayers}
@@ -27,7 +26,7 @@ use Rattle.cosign_client.specs.Causes.{Ran}
 use Rattle.cosign_client.specs.Exact.{IsRefusedAs, unchanged, Decides, BeginsWithDigest}
 use Rattle.cosign_client.specs.Refusals.{is_memory, refused_as}
 use Rattle.cosign_client.specs.Search.{digest_reference, search_tag, nothing_yet, or_not_valid, reading_back, searched}
-use Rattle.cosign_client.specs.Verified.{by_search, by_reference, by_policy, verified}
+use Rattle.cosign_client.specs.Verified.{by_search, by_reference, verified}
 use Rattle.cosign_client.proofs.Causing.{ran}
 
 -- ---- the policy and the reference

@@ -1,6 +1,6 @@
 -- The exits of a call that is a row of other calls.
 use Rattle.std.proofs.Common.{◌≡◌, Bool, true, false, ℕ, List, Result, Ok, Err, refl, sym, ap, ◌∙◌}
-use Rattle.std.specs.Prelude.{MatchBool, if◌then◌else◌}
+use Rattle.std.specs.Prelude.{MatchBool}
 use Rattle.std.specs.Result.{IsErrAnd}
 use Rattle.std.proofs.lemmas.Result.{err_from_is_err_and}
 use Rattle.oci_link.specs.Link.{Link}
@@ -15,7 +15,7 @@ use Rattle.engine_requests.specs.Errors.{is_memory as engine_is_memory, Says as 
 use Rattle.sig_registry.specs.declared.wording.Called.{Called}
 use Rattle.cosign_client.specs.declared.verified.PullRefusal.{PullRefusal}
 use Rattle.cosign_client.specs.Refusals.{is_memory as of_refusal, refused_as}
-use Rattle.sig_registry.specs.Errors.{is_memory, Says, worded, refusal}
+use Rattle.sig_registry.specs.Errors.{is_memory, Says, worded}
 use Rattle.sig_registry.specs.Clients.{Kept, Client, Made}
 
 -- a step that answered, and then what its answer leads to

@@ -1,6 +1,6 @@
 -- What is skipped holds no want of memory, and no more faults than the transport had.
-use Rattle.std.proofs.Common.{◌≡◌, ◌≤◌, ◌+◌, ◌-◌, ◌^◌, ℕ, Bool, true, false, cond, List, [], ◌∷◌, ◌++◌, Option, Some, None, Result, Ok, Err, IfOk, IfErr, All, refl, sym, ap, ◌∙◌, subst, arith, zero-add}
-use Rattle.std.specs.Prelude.{if◌then◌else◌, find, MatchBool, count_by, sum_by, min, unwrap_or}
+use Rattle.std.proofs.Common.{◌≡◌, ◌≤◌, ◌+◌, ℕ, Bool, true, false, cond, List, [], ◌∷◌, ◌++◌, Option, Some, None, Result, Ok, Err, IfOk, IfErr, refl, sym, ap, ◌∙◌, subst, arith, zero-add}
+use Rattle.std.specs.Prelude.{if◌then◌else◌, find, MatchBool, count_by, unwrap_or}
 use Rattle.std.specs.FinMap as map_of
 use Rattle.std.proofs.lemmas.List.Elements.{All-push}
 use Rattle.std.proofs.lemmas.List.Sums.{sum_by-append}
@@ -8,7 +8,6 @@ use Rattle.json_values.specs.Counts.{Rose}
 use Rattle.oci_names.specs.declared.reference.Reference.{Reference}
 use Rattle.oci_names.specs.References.{whole_text, reads_back}
 use Rattle.oci_auth.specs.declared.auth.RegistryAuth.{RegistryAuth}
-use Rattle.oci_digests.specs.declared.error.DigestError.{DigestError}
 use Rattle.oci_digests.specs.declared.error.DigestError.TheVariants as digest_refusal
 use Rattle.oci_docs.specs.declared.document.OciManifest.{OciManifest}
 use Rattle.oci_docs.specs.declared.document.OciManifest.TheVariants.{Image, ImageIndex}
@@ -16,8 +15,8 @@ use Rattle.oci_docs.specs.declared.descriptor.OciDescriptor.{OciDescriptor}
 use Rattle.oci_docs.specs.declared.blob.ImageLayer.{ImageLayer}
 use Rattle.oci_link.specs.Link.{Link}
 use Rattle.oci_link.specs.declared.message.Exchange.{Exchange}
-use Rattle.oci_protocol.specs.Proto.{Proto, Done, bind, unless_refused, ◌>>=◌}
-use Rattle.oci_protocol.specs.Ends.{OnAnswer, UnlessMemory}
+use Rattle.oci_protocol.specs.Proto.{Done, bind, unless_refused, ◌>>=◌}
+use Rattle.oci_protocol.specs.Ends.{OnAnswer}
 use Rattle.oci_protocol.specs.Runs.{Runs, Meets}
 use Rattle.oci_protocol.proofs.Laws.{Runs-count}
 use Rattle.engine_requests.specs.declared.settings.Settings.{Settings}
@@ -37,7 +36,7 @@ use Rattle.sig_registry.specs.declared.error.SigstoreError.TheVariants as sigsto
 use Rattle.sig_registry.specs.declared.wording.Called.{Called}
 use Rattle.sig_registry.specs.declared.wording.Called.TheVariants.{FetchManifest, Pull, PullManifest}
 use Rattle.sig_registry.specs.Errors.{is_memory, worded, refusal as call_refusal}
-use Rattle.sig_registry.specs.Clients.{Kept, Row}
+use Rattle.sig_registry.specs.Clients.{Kept}
 use Rattle.sig_registry.specs.Calls.{in_words, digest_call, manifest_call, image_call}
 use Rattle.cosign_layers.specs.Layer.{Input, payload_layer}
 use Rattle.cosign_layers.specs.Rejections.{is_memory as is_layer_memory}
@@ -57,8 +56,8 @@ use Rattle.cosign_client.specs.declared.verified.PullRefusal.TheVariants as refu
 use Rattle.cosign_client.specs.Refusals.{is_memory as of_refusal, refused_as}
 use Rattle.cosign_client.specs.Search.{payload_type, tag_reference, digest_reference, skipping, added, named_layer, read_layer, turned, collected, refused_source, by_document, by_image, by_manifest, search_by, search_tag, nothing_yet, reading_back, searched}
 use Rattle.cosign_client.specs.Image.{image_row}
-use Rattle.cosign_client.specs.Skips.{in_digest, in_engine, in_refusal, holds_memory, HoldsNoMemory, is_engine_fault, is_refused_fault, is_fault, CountsFaults, OnSkipped}
-use Rattle.cosign_client.specs.Verified.{completed, by_layer, by_search, by_reference, by_policy, verified}
+use Rattle.cosign_client.specs.Skips.{in_engine, in_refusal, holds_memory, HoldsNoMemory, is_engine_fault, is_refused_fault, is_fault, CountsFaults, OnSkipped}
+use Rattle.cosign_client.specs.Verified.{completed, by_layer, by_search, by_reference, verified}
 use Rattle.cosign_client.proofs.Counts.{Counts, Counts-any, Counts-done, Counts-more, Counts-bind, Meets-counts, silent, Runs-meets}
 
 -- ---- refusals of the engine

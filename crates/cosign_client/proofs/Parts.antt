@@ -1,5 +1,5 @@
 -- References of parts, and the first layer that stands.
-use Rattle.std.proofs.Common.{◌≡◌, ◌≤◌, ℕ, Bool, true, false, cond, nat_lt, length, List, Option, Some, None, refl, sym, ap, ◌∙◌}
+use Rattle.std.proofs.Common.{◌≡◌, ◌≤◌, ℕ, Bool, true, false, cond, nat_lt, length, List, Option, Some, None, refl, ap, ◌∙◌}
 use Rattle.std.specs.Prelude.{find, position}
 use Rattle.std.specs.List.{position_or_len, slice_get}
 use Rattle.std.proofs.lemmas.List.Folds.{find_at}

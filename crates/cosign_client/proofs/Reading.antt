@@ -1,11 +1,11 @@
 -- What a document says that was read.
-use Rattle.std.proofs.Common.{◌≡◌, ℕ, Bool, true, false, List, Option, Some, None, Result, Ok, Err, refl, sym, ap, ◌∙◌}
-use Rattle.std.specs.Prelude.{if◌then◌else◌, option_map, option_and_then, unwrap_or, is_some, ◌&&◌, pos}
+use Rattle.std.proofs.Common.{◌≡◌, ℕ, Bool, true, false, List, Option, Some, None, Result, Ok, Err, refl, ap, ◌∙◌}
+use Rattle.std.specs.Prelude.{if◌then◌else◌, option_map, option_and_then, unwrap_or, pos}
 use Rattle.std.specs.Ordering.{int_eq}
 use Rattle.serde_json.specs.Data.{Data}
 use Rattle.json_values.specs.JsonText.{json_of, is_plain}
 use Rattle.oci_docs.specs.Types.{is_manifest_type}
-use Rattle.oci_docs.specs.Versioned.{versioned_of, is_known_version, is_versioned, IsVersioned}
+use Rattle.oci_docs.specs.Versioned.{versioned_of, is_known_version, IsVersioned}
 use Rattle.oci_docs.specs.Document.{document_of}
 use Rattle.oci_docs.specs.declared.versioned.Versioned.{Versioned}
 use Rattle.oci_docs.specs.declared.document.OciManifest.{OciManifest}
@@ -13,8 +13,8 @@ use Rattle.oci_docs.specs.declared.document.OciManifest.TheVariants.{Image, Imag
 use Rattle.oci_docs.specs.declared.manifest.OciImageManifest.{OciImageManifest}
 use Rattle.engine_requests.specs.declared.error.OciDistributionError.{OciDistributionError}
 use Rattle.engine_requests.specs.declared.error.OciDistributionError.TheVariants as refusal
-use Rattle.engine_requests.specs.Errors.{◌>>=◌, ◌>>◌}
-use Rattle.engine_requests.specs.Documents.{plain_of, type_checked, version_checked, versioned_in, or_unread, reads_twice, tables_read, document_from, document_read}
+use Rattle.engine_requests.specs.Errors.{◌>>=◌}
+use Rattle.engine_requests.specs.Documents.{plain_of, type_checked, version_checked, versioned_in, or_unread, reads_twice, tables_read, document_read}
 use Rattle.engine_pull.specs.Images.{image_manifest}
 use Rattle.cosign_client.specs.Chain.{ReadsAs}
 

@@ -1,6 +1,6 @@
 -- What each whole run of the pull's parts shows.
-use Rattle.std.proofs.Common.{◌≡◌, ◌<◌, ℕ, Bool, true, false, cond, List, [], ◌∷◌, ◌++◌, Option, Some, None, Result, Ok, Err, Contains, length, refl, sym, ap, ◌∙◌, subst, arith, append_assoc, append-nil}
-use Rattle.std.specs.Prelude.{if◌then◌else◌, find, bytes_eq}
+use Rattle.std.proofs.Common.{◌≡◌, ◌<◌, ℕ, Bool, true, false, List, [], ◌∷◌, ◌++◌, Option, Some, None, Result, Ok, Err, Contains, length, refl, sym, ap, ◌∙◌, arith, append_assoc, append-nil}
+use Rattle.std.specs.Prelude.{if◌then◌else◌, bytes_eq}
 use Rattle.std.proofs.lemmas.Slice.Eq.{bytes_eq-Decides}
 use Rattle.std.proofs.lemmas.List.Elements.{Contains-append_right}
 use Rattle.oci_names.specs.declared.reference.Reference.{Reference}
@@ -15,11 +15,10 @@ use Rattle.oci_digests.specs.declared.error.DigestError.TheVariants as digest_re
 use Rattle.oci_docs.specs.declared.manifest.OciImageManifest.{OciImageManifest}
 use Rattle.oci_docs.specs.declared.descriptor.OciDescriptor.{OciDescriptor}
 use Rattle.oci_docs.specs.declared.blob.ImageLayer.{ImageLayer}
-use Rattle.oci_docs.specs.declared.blob.Config.{Config}
 use Rattle.oci_link.specs.declared.message.Exchange.{Exchange}
-use Rattle.oci_protocol.specs.Proto.{Proto, Done, bind, unless_refused, ◌>>=◌, ◌>>◌}
-use Rattle.oci_protocol.specs.Shows.{Shows, ByAnswer, WhereOk}
-use Rattle.oci_protocol.proofs.Showing.{Shows-done, Shows-more, Shows-bind, Shows-next, Shows-step, Shows-last}
+use Rattle.oci_protocol.specs.Proto.{Done, ◌>>=◌}
+use Rattle.oci_protocol.specs.Shows.{Shows, WhereOk}
+use Rattle.oci_protocol.proofs.Showing.{Shows-done, Shows-more, Shows-bind, Shows-next, Shows-step}
 use Rattle.engine_requests.specs.declared.settings.Settings.{Settings}
 use Rattle.engine_requests.specs.declared.error.OciDistributionError.{OciDistributionError}
 use Rattle.engine_requests.specs.declared.error.OciDistributionError.TheVariants as engine_refusal
@@ -43,7 +42,7 @@ use Rattle.sig_registry.specs.Clients.{Kept, Row}
 use Rattle.sig_registry.specs.Calls.{in_words, digest_call, document_call, blob_call}
 use Rattle.cosign_client.specs.declared.pull.Pulled.{Pulled}
 use Rattle.cosign_client.specs.Image.{named_by_reference, manifest_in, layers_row, image_row}
-use Rattle.cosign_client.specs.Chain.{ReadsAs, ConfigLinks, LayerLinks, LayersLink}
+use Rattle.cosign_client.specs.Chain.{ReadsAs, ConfigLinks, LayersLink}
 use Rattle.cosign_client.specs.Sound.{EachBody}
 use Rattle.cosign_client.proofs.Reading.{both, reads_as}
 

@@ -1,6 +1,5 @@
 -- Want of memory is no cause.
-use Rattle.std.proofs.Common.{◌≡◌, Bool, true, false, Ok, Err, refl}
-use Rattle.std.specs.Prelude.{if◌then◌else◌}
+use Rattle.std.proofs.Common.{◌≡◌, true, Err, refl}
 use Rattle.oci_docs.specs.declared.document.OciManifest.{OciManifest}
 use Rattle.sig_registry.specs.declared.error.SigstoreError.{SigstoreError}
 use Rattle.sig_registry.specs.Errors.{is_memory}

@@ -1,10 +1,10 @@
 -- What each whole run of the search and of the pull shows.
-use Rattle.std.proofs.Common.{◌≡◌, ◌<◌, inl, inr, ℕ, Bool, true, false, cond, List, [], ◌∷◌, ◌++◌, Option, Some, None, Result, Ok, Err, IfOk, length, refl, sym, ap, ◌∙◌, subst, arith, append_assoc, append-nil}
-use Rattle.std.specs.Prelude.{if◌then◌else◌, find, bytes_eq}
+use Rattle.std.proofs.Common.{◌≡◌, ◌<◌, inl, inr, ℕ, Bool, true, false, cond, List, [], ◌∷◌, ◌++◌, Option, Some, None, Result, Ok, Err, IfOk, length, refl, ap, ◌∙◌, subst, arith, append_assoc, append-nil}
+use Rattle.std.specs.Prelude.{if◌then◌else◌, find}
 use Rattle.std.specs.FinMap as map_of
 use Rattle.std.specs.Prelude.{unwrap_or}
 use Rattle.oci_names.specs.declared.reference.Reference.{Reference}
-use Rattle.oci_names.specs.References.{digest_of, whole_text, reads_back}
+use Rattle.oci_names.specs.References.{reads_back}
 use Rattle.oci_auth.specs.declared.auth.RegistryAuth.{RegistryAuth}
 use Rattle.oci_docs.specs.declared.document.OciManifest.{OciManifest}
 use Rattle.oci_docs.specs.declared.document.OciManifest.TheVariants.{Image, ImageIndex}
@@ -12,8 +12,8 @@ use Rattle.oci_docs.specs.declared.descriptor.OciDescriptor.{OciDescriptor}
 use Rattle.oci_docs.specs.declared.blob.ImageLayer.{ImageLayer}
 use Rattle.oci_link.specs.declared.message.Exchange.{Exchange}
 use Rattle.oci_link.specs.declared.message.Method.{Method}
-use Rattle.oci_protocol.specs.Proto.{Proto, Done, bind, unless_refused, ◌>>=◌, ◌>>◌}
-use Rattle.oci_protocol.specs.Shows.{Shows, ByAnswer, WhereOk}
+use Rattle.oci_protocol.specs.Proto.{Proto, Done, ◌>>◌}
+use Rattle.oci_protocol.specs.Shows.{Shows}
 use Rattle.oci_protocol.specs.Ends.{Ends, OnAnswer}
 use Rattle.oci_link.specs.Link.{Link}
 use Rattle.oci_protocol.specs.Runs.{Meets, Told}
@@ -25,9 +25,9 @@ use Rattle.oci_engine.specs.Answered.{FirstAsked, Answered}
 use Rattle.oci_engine.proofs.Documents.{body_after}
 use Rattle.sig_registry.specs.declared.error.SigstoreError.{SigstoreError}
 use Rattle.sig_registry.specs.Errors.{is_memory}
-use Rattle.sig_registry.specs.Clients.{Kept, Row}
+use Rattle.sig_registry.specs.Clients.{Kept}
 use Rattle.sig_registry.specs.Calls.{digest_call, manifest_call, image_call}
-use Rattle.cosign_layers.specs.Layer.{Input, LayerOf, Named, payload_layer, StandsFor}
+use Rattle.cosign_layers.specs.Layer.{LayerOf, Named, StandsFor}
 use Rattle.cosign_layers.specs.Standing.{Meaning, stands}
 use Rattle.cosign_layers.specs.Accepts.{has_no_item}
 use Rattle.cosign_layers.proofs.Layers.{gives}
@@ -48,7 +48,7 @@ use Rattle.cosign_client.specs.Chain.{Chain}
 use Rattle.cosign_client.specs.Sound.{EachBody, Backed, Sound}
 use Rattle.cosign_client.specs.Refusals.{is_memory as of_refusal}
 use Rattle.cosign_client.specs.Verified.{verified_image, completed, by_layer, by_search, by_reference, by_policy, verified}
-use Rattle.cosign_client.proofs.Showing.{Seen, digest_call_shows, next_seen, step_seen, done_seen, more_seen, Links, image_shows}
+use Rattle.cosign_client.proofs.Showing.{Seen, digest_call_shows, next_seen, step_seen, Links, image_shows}
 
 -- ---- an answered digest stays one as more is asked
 

@@ -1,5 +1,5 @@
 -- A chain of hashes that can be checked again with nothing else: no request stands in it.
-use Rattle.std.specs.Prelude.{◌≡◌, ◌<◌, ℕ, List, [], ◌∷◌, length, Option, Some, None, Contains}
+use Rattle.std.specs.Prelude.{◌≡◌, ◌<◌, ℕ, List, [], ◌∷◌, length, Some, None, Contains}
 use Rattle.serde_json.specs.Data.{Data}
 use Rattle.json_values.specs.JsonText.{json_of}
 use Rattle.oci_names.specs.declared.reference.Reference.{Reference}

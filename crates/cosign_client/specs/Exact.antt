@@ -1,5 +1,5 @@
 -- Which refusals have to come.
-use Rattle.std.specs.Prelude.{◌≡◌, ℕ, Bool, false, List, [], ◌++◌, Result, Ok, Err}
+use Rattle.std.specs.Prelude.{◌≡◌, ℕ, false, List, [], ◌++◌, Result, Ok, Err}
 use Rattle.oci_names.specs.declared.reference.Reference.{Reference}
 use Rattle.oci_names.specs.References.{whole_text, reads_back}
 use Rattle.oci_auth.specs.declared.auth.RegistryAuth.{RegistryAuth}

@@ -1,5 +1,5 @@
 -- The image of a digest for which a signature stands.
-use Rattle.std.specs.Prelude.{ℕ, List, [], ◌∷◌, ◌++◌, Option, Some, None, Result, Ok, Err}
+use Rattle.std.specs.Prelude.{ℕ, List, [], ◌∷◌, ◌++◌, Option, Some, None, Result, Ok}
 use Rattle.oci_names.specs.declared.reference.Reference.{Reference}
 use Rattle.oci_names.specs.References.{digest_of, whole_text}
 use Rattle.oci_auth.specs.declared.auth.RegistryAuth.{RegistryAuth}

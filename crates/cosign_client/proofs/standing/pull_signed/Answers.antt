@@ -1,5 +1,4 @@
 use Rattle.std.proofs.Common.{refl}
-use Rattle.cosign_client.specs.Verified.{completed}
 use Rattle.cosign_client.proofs.Exits.{wanting, caught, refused_whole, done}
 use Rattle.cosign_client.proofs.standing.pull_signed.Goals as goal
 
