@@ -7,6 +7,8 @@ mod links;
 mod pull;
 mod search;
 mod standing;
+#[cfg(test)]
+mod tests;
 mod verified;
 
 pub use client::Client;
