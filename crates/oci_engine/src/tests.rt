@@ -2,7 +2,7 @@ ghost use Rattle.std.specs.Prelude.{IfOk};
 ghost use Rattle.oci_link.specs.Pieces.{NoneEmpty};
 
 use crate::{Client, ClientConfig, ImageData};
-use json_values::{Blob, List, PlainSink, Text};
+use json_values::{Blob, List, MemorySink, PlainSink, Text};
 use oci_auth::RegistryAuth;
 use oci_docs::OciManifest;
 use oci_link::{HeaderError, Headers, Recorded, Script};
@@ -307,5 +307,55 @@ fn faults_and_long_bodies_are_told_apart(rt: HostRuntime) -> Result<(), Fail> {
     assert!(rt; ends_with(rt.alloc(), cut, 1000, "TransportFault")?);
     let long = answer(rt.alloc(), "", MANIFEST)?;
     assert!(rt; ends_with(rt.alloc(), long, 10, "BodyTooLong")?);
+    Ok(())
+}
+
+// The name of the refusal of the call for this image's manifest, where this type is accepted.
+fn unasked(alloc: Global, image: &str, kind: &str) -> Option<&'static str> {
+    let mut client = client(alloc).ok()?;
+    let image = Reference::parse(alloc, image).ok()?;
+    let mut types = List::new(alloc);
+    types.push(Text::new(alloc, kind).ok()?).ok()?;
+    let mut script = Script::new(alloc, List::new(alloc));
+    let refusal = client
+        .pull_manifest_raw(
+            alloc,
+            &mut script,
+            100,
+            &image,
+            &RegistryAuth::Anonymous,
+            types.as_slice(),
+        )
+        .err()?;
+    Some(refusal.name())
+}
+
+#[test]
+fn what_cannot_be_asked_is_refused_by_its_name(rt: HostRuntime) -> Result<(), Fail> {
+    let bad_type = unasked(rt.alloc(), "localhost:5000/app:v1", "text/plain\n");
+    assert_eq!(rt; bad_type, Some("GenericError"));
+    // No port is that high.
+    let bad_url = unasked(rt.alloc(), "localhost:65536/app:v1", LAYER_TYPE);
+    assert_eq!(rt; bad_url, Some("UrlParseError"));
+    Ok(())
+}
+
+// The name of the refusal of a blob that goes into a sink that fails at once.
+fn unpoured(alloc: Global, script: &mut Script) -> Option<&'static str> {
+    let mut client = client(alloc).ok()?;
+    let image = image(alloc)?;
+    let mut failing = List::new(alloc);
+    failing.push(0).ok()?;
+    let mut sink = MemorySink::new(alloc, failing);
+    let refusal = client
+        .pull_blob(alloc, script, 100, &image, LAYER_DIGEST, &mut sink)
+        .err()?;
+    Some(refusal.name())
+}
+
+#[test]
+fn a_sink_that_fails_ends_the_pull_of_a_blob(rt: HostRuntime) -> Result<(), Fail> {
+    let mut streamed = tokenless(rt.alloc(), "hello world")?;
+    assert_eq!(rt; unpoured(rt.alloc(), &mut streamed), Some("SinkFault"));
     Ok(())
 }
