@@ -1,5 +1,5 @@
 -- What each status of the program says.
-use Rattle.std.specs.Prelude.{◌≡◌, ◌≤◌, ℕ, Bool, true, false, List, length, Option, Some, None, Result, Ok, Err, IsOk}
+use Rattle.std.specs.Prelude.{◌≡◌, ◌≤◌, ◌⊎◌, ℕ, Bool, true, false, List, length, Option, Some, None, Result, Ok, Err, IsOk}
 use Rattle.std.specs.Io.KnownBytes.{IsAtEnd}
 use Rattle.json_values.specs.Counts.{Rose}
 use Rattle.json_values.specs.Tray.{Tray, Adds, AddsFront}
@@ -70,27 +70,22 @@ pub record Delivered (refused : Bool) (old new : Spring) (before after : Tray) :
   pub refused_is : made.refused ≡ refused
   pub put : Adds made.bytes before after
 
--- a front of it did, and the sink failed
-pub record Broken (old new : Spring) (before after : Tray) : Type 0 where
+-- a front of it did
+pub record Begun (old new : Spring) (before after : Tray) : Type 0 where
   pub made : Report
   pub served : Served old new made
   pub put : AddsFront made.bytes before after
-  pub fault : Rose before.faults after.faults
 
--- a front of some output went out
-pub record Cut (before after : Tray) : Type 0 where
-  pub out : List ℕ
-  pub put : AddsFront out before after
-
--- what a status says where the word is `pull`; nothing was written but where it says so
+-- What a status says where the word is `pull`; nothing was written but where it says so. Memory may be
+-- wanting before the writing begins, or while it goes on.
 abbrev pub SaysPull : Status → Spring → Spring → Tray → Tray → Type 0
 SaysPull status.Done old new before after = Delivered false old new before after
 SaysPull status.Refused old new before after = Delivered true old new before after
 SaysPull status.Usage old new before after = ⊥
 SaysPull status.NotACase old new before after = NoCase old new × (after ≡ before)
 SaysPull status.SourceFault old new before after = Rose old.faults new.faults × (after ≡ before)
-SaysPull status.SinkFault old new before after = Broken old new before after
-SaysPull status.WantOfMemory old new before after = Cut before after
+SaysPull status.SinkFault old new before after = Begun old new before after × Rose before.faults after.faults
+SaysPull status.WantOfMemory old new before after = (after ≡ before) ⊎ Begun old new before after
 SaysPull status.TooLong old new before after = IsPast input_limit old.left × (after ≡ before)
 
 -- where the words are no form that the program takes, nothing was read or written
