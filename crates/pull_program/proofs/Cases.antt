@@ -1,5 +1,5 @@
 -- The pulls of a case.
-use Rattle.std.proofs.Common.{◌≡◌, ℕ, Bool, true, false, ◌&&◌, List, [], ◌∷◌, map, Result, Ok, Err, refl, sym, ap, ◌∙◌, subst}
+use Rattle.std.proofs.Common.{◌≡◌, ℕ, Bool, false, ◌&&◌, List, [], ◌∷◌, Result, Ok, Err, refl, ap, ◌∙◌, subst}
 use mathlib.Core.Path.{fun_ext}
 use Rattle.std.specs.Prelude.{IfOk}
 use Rattle.std.specs.List.{list_all}
@@ -9,15 +9,14 @@ use Rattle.oci_names.specs.declared.reference.Reference.{Reference}
 use Rattle.oci_names.specs.References.{reference_of}
 use Rattle.oci_auth.specs.declared.auth.RegistryAuth.TheVariants.{Anonymous}
 use Rattle.oci_link.specs.declared.message.Exchange.{Exchange}
-use Rattle.oci_protocol.specs.Runs.{Runs}
 use Rattle.sig_registry.specs.Clients.{Kept, Client}
 use Rattle.cosign_layers.specs.Accepts.{has_no_item, has_annotations, accepts}
 use Rattle.cosign_layers.specs.Rows.{valid_in}
-use Rattle.cosign_layers.specs.Standing.{Meaning, meaning, is_signed, is_accepted, stands}
+use Rattle.cosign_layers.specs.Standing.{meaning, is_signed, stands}
 use Rattle.cosign_layers.specs.declared.constraint.AnnotationVerifier.{AnnotationVerifier}
 use Rattle.cosign_layers.specs.declared.layer.SignatureLayer.{SignatureLayer}
 use Rattle.cosign_layers.specs.declared.policy.PullPolicy.{PullPolicy}
-use Rattle.cosign_client.specs.Verified.{Whole, verified}
+use Rattle.cosign_client.specs.Verified.{verified}
 use Rattle.cosign_client.specs.declared.verified.VerifiedImage.{VerifiedImage}
 use Rattle.cosign_client.specs.declared.verified.PullRefusal.{PullRefusal}
 use Rattle.cosign_client.specs.Sound.{Sound}
@@ -26,7 +25,7 @@ use Rattle.cosign_client.proofs.Whole.{verified_shows}
 use Rattle.pull_case.specs.Policy.{annotation_constraints}
 use Rattle.pull_case.specs.declared.case.Case.{Case}
 use Rattle.pull_program.specs.declared.report.Report.{Report}
-use Rattle.pull_program.specs.Pulls.{Talk, InTurn, policy_of, meaning_of, settings_by, fresh, row_of, SoundResult, EachSound, Pulled, ReportsCase}
+use Rattle.pull_program.specs.Pulls.{Talk, InTurn, policy_of, meaning_of, settings_by, fresh, row_of, SoundResult, EachSound, ReportsCase}
 use Rattle.pull_program.specs.Rounds.{row_by, Played}
 
 no_item_same : (V W : Type 0) (H : V → Type 0) (I : W → Type 0) (verifiers : List AnnotationVerifier) → has_no_item (annotation_constraints {V = V} {H = H} verifiers) ≡ has_no_item (annotation_constraints {V = W} {H = I} verifiers)

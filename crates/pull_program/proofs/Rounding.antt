@@ -1,6 +1,6 @@
 -- Pulls one after another.
 use Rattle.std.proofs.Common.{◌≡◌, ℕ, Bool, true, false, not, ◌&&◌, ◌||◌, List, [], ◌∷◌, ◌++◌, map, Result, Ok, Err, refl, sym, ap, subst, ◌∙◌, append_assoc, append-nil}
-use Rattle.std.specs.Prelude.{MatchBool, IsTrue, OnOk, flat_map, Some, length, take, drop, get_or, ◌+◌, ◌-◌, ◌<◌, ◌≤◌}
+use Rattle.std.specs.Prelude.{MatchBool, IsTrue, OnOk, Some, length, take, drop, get_or, ◌+◌, ◌-◌, ◌<◌, ◌≤◌}
 use native.Mathlib.Numerals.{unary_clauses}
 use Rattle.std.proofs.lemmas.List.{length-append, take_rest}
 use Rattle.std.proofs.Math.Nat.{le-add_right}
@@ -21,7 +21,7 @@ use Rattle.cosign_client.specs.declared.verified.VerifiedImage.{VerifiedImage}
 use Rattle.cosign_client.specs.declared.verified.PullRefusal.{PullRefusal}
 use Rattle.pull_report.specs.Report.{report}
 use Rattle.pull_program.specs.declared.report.Report.{Report}
-use Rattle.pull_program.specs.Pulls.{Talk, moment_of, conversation_of, joined, report_of, reports, is_answered, all_answered, InTurn}
+use Rattle.pull_program.specs.Pulls.{Talk, moment_of, joined, report_of, reports, is_answered, all_answered, InTurn}
 use Rattle.pull_program.specs.Rounds.{is_wanting, Rounds, Round, IsCalm, Played}
 
 turn_more : (row : ℕ → Whole VerifiedImage) (k l j : Kept) (m n o : ℕ) (talks : List Talk) (talk : Talk) → InTurn row k m talks l n → Runs (row talk.moment) l n talk.conversation o j talk.result → InTurn row k m (talks ++ talk ∷ []) j o

@@ -1,5 +1,5 @@
 -- The pulls of a case: one at each of its moments, by one client, over the case's recorded answers.
-use Rattle.std.specs.Prelude.{◌≡◌, ℕ, Bool, true, false, not, IsTrue, ◌&&◌, List, [], ◌∷◌, ◌++◌, map, flat_map, Result, Ok, Err, codes}
+use Rattle.std.specs.Prelude.{◌≡◌, ℕ, Bool, true, false, not, IsTrue, ◌&&◌, List, [], ◌∷◌, map, flat_map, Result, Ok, Err, codes}
 use Rattle.std.specs.FinMap as map_of
 use Rattle.oci_link.specs.Link.{AnsweredBy}
 use Rattle.oci_link.specs.Calm.{calm}

@@ -1,5 +1,5 @@
 -- What each status of the program says.
-use Rattle.std.specs.Prelude.{◌≡◌, ◌≤◌, ◌⊎◌, ℕ, Bool, true, false, List, length, Option, Some, None, Result, Ok, Err, IsOk}
+use Rattle.std.specs.Prelude.{◌≡◌, ◌≤◌, ◌<◌, ◌⊎◌, ℕ, Bool, true, false, List, length, Option, Some, None, Result, Ok, Err, IsOk}
 use Rattle.std.specs.Io.KnownBytes.{IsAtEnd}
 use Rattle.json_values.specs.Counts.{Rose}
 use Rattle.json_values.specs.Tray.{Tray, Adds, AddsFront}
@@ -95,3 +95,13 @@ SaysWord None s old new before after = (s ≡ status.Usage) × (new ≡ old) × 
 
 abbrev pub Says : Status → List (List ℕ) → Spring → Spring → Tray → Tray → Type 0
 Says s words old new before after = SaysWord (word_of words) s old new before after
+
+-- ---- the other way round: with which status an input ends
+
+-- with this one, unless memory was wanting or the source failed
+abbrev pub EndsWith : ℕ → ℕ → Spring → Spring → Type 0
+EndsWith wanted code old new = (code ≡ wanted) ⊎ ((code ≡ 6) ⊎ ((code ≡ 4) × Rose old.faults new.faults))
+
+-- input that is no case ends with 3, and longer input with 7
+abbrev pub Ends : List (List ℕ) → ℕ → Spring → Spring → Type 0
+Ends words code old new = (bytes : List ℕ) → word_of words ≡ Some Pull → old.left ≡ Some bytes → (length bytes ≤ input_limit → case_in bytes ≡ None → EndsWith 3 code old new) × (input_limit < length bytes → EndsWith 7 code old new)

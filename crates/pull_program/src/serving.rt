@@ -1,8 +1,8 @@
 // From the words and the input to the status.
-ghost use Rattle.std.specs.Prelude.{◌≡◌};
+ghost use Rattle.std.specs.Prelude.{◌≡◌, ◌↔◌, None};
 ghost use Rattle.pull_program.specs.declared.status.Status.{Status};
-ghost use Rattle.pull_program.specs.Serving.{ReadsCase, Puts, SaysPull, Says};
-ghost use Rattle.pull_program.specs.Words.{code_of};
+ghost use Rattle.pull_program.specs.Serving.{ReadsCase, Puts, SaysPull, Says, Ends};
+ghost use Rattle.pull_program.specs.Words.{word_of, code_of};
 
 use crate::pulls::pull_case;
 use crate::report::Report;
@@ -80,7 +80,9 @@ pub fn serve<S: Source, K: Sink>(
 
 /// The program: does what the words ask for, and answers the status that the process ends with.
 pub fn run<S: Source, K: Sink>(alloc: Global, words: &[Text], source: &mut S, sink: &mut K) -> u8
-    ensures { (status : Status) × (result ≡ code_of status) × Says status words.now (S.state source.old) (S.state source.new) (K.state sink.old) (K.state sink.new) }
+    ensures says { (status : Status) × (result ≡ code_of status) × Says status words.now (S.state source.old) (S.state source.new) (K.state sink.old) (K.state sink.new) }
+    ensures other_words { word_of words.now ≡ None ↔ result ≡ 2 }
+    ensures other_input { Ends words.now result (S.state source.old) (S.state source.new) }
 {
     serve(alloc, words, source, sink).code()
 }
