@@ -5,3 +5,4 @@ pub mod Platforms
 pub mod References
 pub mod Refusals
 pub mod Seen
+pub mod Words

@@ -1,5 +1,8 @@
 ghost use Rattle.std.specs.Prelude.{◌≡◌, ◌++◌, Some, None, Ok, Err, IfOk, IfErr, OnOk, IsTrue, ◌↔◌, option_copied};
-ghost use Rattle.oci_names.specs.Parts.{marked};
+ghost use Rattle.oci_names.specs.Parts.{marked, parts_of};
+ghost use Rattle.oci_names.specs.References.{reference_of};
+ghost use Rattle.oci_names.specs.Refusals.{Refuses, OfGrammar};
+ghost use Rattle.oci_names.specs.Words.{InGrammar};
 
 use crate::parse_error::ParseError;
 use crate::parts::{DOCKER_HUB, parts_of};
@@ -26,9 +29,32 @@ fn optional_text(alloc: Global, text: Option<&str>) -> Result<Option<Text>, Allo
     }
 }
 
+fn read(alloc: Global, text: &str) -> Result<Reference, ParseError>
+    ensures ok { IfOk result (λ r. reference_of text.now ≡ Ok r) }
+    ensures err { IfErr result (λ e. Refuses e (reference_of text.now)) }
+{
+    if text.is_empty() {
+        return Err(ParseError::NameEmpty);
+    }
+    let parts = parts_of(text);
+    if let Some(refusal) = parts.refusal() {
+        return Err(refusal);
+    }
+    let registry = Text::new(alloc, parts.registry())?;
+    let repository = parts.repository(alloc)?;
+    let tag = optional_text(alloc, parts.tag())?;
+    let digest = optional_text(alloc, parts.digest)?;
+    Ok(Reference {
+        registry,
+        mirror: None,
+        repository,
+        tag,
+        digest,
+    })
+}
+
 impl Reference {
-    ghost use Rattle.oci_names.specs.References.{registry_of, mirror_of, repository_of, tag_of, digest_of, reference_of, whole_text, resolved_registry, namespace_of, is_read_as, reads_back};
-    ghost use Rattle.oci_names.specs.Refusals.{Refuses};
+    ghost use Rattle.oci_names.specs.References.{registry_of, mirror_of, repository_of, tag_of, digest_of, whole_text, resolved_registry, namespace_of, is_read_as, reads_back};
 
     /// Reads `[domain/]path[:tag][@digest]` (OCI distribution specification, "Pulling manifests", for the
     /// words of path, tag and digest). Without a domain the registry is `docker.io`, where a path without a
@@ -36,25 +62,9 @@ impl Reference {
     pub fn parse(alloc: Global, text: &str) -> Result<Reference, ParseError>
         ensures ok { IfOk result (λ r. reference_of text.now ≡ Ok r) }
         ensures err { IfErr result (λ e. Refuses e (reference_of text.now)) }
+        ensures grammar { OfGrammar result (InGrammar (parts_of text.now)) }
     {
-        if text.is_empty() {
-            return Err(ParseError::NameEmpty);
-        }
-        let parts = parts_of(text);
-        if let Some(refusal) = parts.refusal() {
-            return Err(refusal);
-        }
-        let registry = Text::new(alloc, parts.registry())?;
-        let repository = parts.repository(alloc)?;
-        let tag = optional_text(alloc, parts.tag())?;
-        let digest = optional_text(alloc, parts.digest)?;
-        Ok(Reference {
-            registry,
-            mirror: None,
-            repository,
-            tag,
-            digest,
-        })
+        read(alloc, text)
     }
 
     /// The reference of these parts as they are, in the grammar or not, with no mirror.
