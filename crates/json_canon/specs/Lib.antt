@@ -1,0 +1,15 @@
+pub mod Canonical
+pub mod Laws
+pub mod Members
+pub mod Outcomes
+pub mod Refused
+pub mod Serializers
+pub mod Units
+pub mod Values
+pub use Rattle.json_values.specs.Canon
+pub use Rattle.json_values.specs.Coding
+pub use Rattle.json_values.specs.Counts
+pub use Rattle.json_values.specs.JsonText
+pub use Rattle.json_values.specs.Places
+pub use Rattle.json_values.specs.Sinks
+pub use Rattle.json_values.specs.Tray

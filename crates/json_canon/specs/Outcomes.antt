@@ -1,0 +1,66 @@
+-- What the calls on whole values answer.
+use Rattle.std.specs.Prelude.{◌≡◌, ℕ, List, Some, None, Result, Ok, Err, ⊤, ◌⊎◌}
+use Rattle.serde_json.specs.Data.{Data}
+use Rattle.json_values.specs.Counts.{Rose}
+use Rattle.json_values.specs.JsonText.{json_of}
+use Rattle.json_values.specs.Tray.{Tray, Adds, AddsFront}
+use Rattle.json_canon.specs.declared.error.CanonError.{CanonError}
+use Rattle.json_canon.specs.declared.error.CanonError.TheVariants.{Float, IntegerOutOfRange, Unreadable, SinkFault, WantOfMemory}
+use Rattle.json_canon.specs.Canonical.{Canonical}
+use Rattle.json_canon.specs.Refused.{refused}
+
+-- the refusal is that of the first number with no text, unless memory ran out
+abbrev pub RefusesValue : CanonError → Data → Type 0
+RefusesValue Float d = refused d ≡ Some Float
+RefusesValue IntegerOutOfRange d = refused d ≡ Some IntegerOutOfRange
+RefusesValue WantOfMemory d = ⊤
+RefusesValue e d = ⊥
+
+-- the value's text, or its refusal
+abbrev pub GivesText : Result (List ℕ) CanonError → Data → Type 0
+GivesText (Ok t) d = Canonical d t
+GivesText (Err e) d = RefusesValue e d
+
+-- a text of the value, of which a front went out
+pub record PutsFront (d : Data) (old new : Tray) : Type 0 where
+  pub text : List ℕ
+  pub canonical : Canonical d text
+  pub front : AddsFront text old new
+
+-- the value's whole text went out
+pub record PutsText (d : Data) (old new : Tray) : Type 0 where
+  pub text : List ℕ
+  pub canonical : Canonical d text
+  pub whole : Adds text old new
+
+abbrev pub RefusesWriting : CanonError → Data → Tray → Tray → Type 0
+RefusesWriting Float d old new = (refused d ≡ Some Float) × (new ≡ old)
+RefusesWriting IntegerOutOfRange d old new = (refused d ≡ Some IntegerOutOfRange) × (new ≡ old)
+RefusesWriting SinkFault d old new = PutsFront d old new × Rose old.faults new.faults
+RefusesWriting WantOfMemory d old new = (new ≡ old) ⊎ PutsFront d old new
+RefusesWriting e d old new = ⊥
+
+-- the text went out, or nothing of it before a refused number, or a front before the sink failed or memory ran out
+abbrev pub WritesText : {X : Type 0} → Result X CanonError → Data → Tray → Tray → Type 0
+WritesText (Ok x) d old new = PutsText d old new
+WritesText (Err e) d old new = RefusesWriting e d old new
+
+-- the JSON that these bytes are has this text
+pub record Pipes (bytes text : List ℕ) : Type 0 where
+  pub value : Data
+  pub read : json_of bytes ≡ Some value
+  pub canonical : Canonical value text
+
+pub record PipeRefuses (e : CanonError) (bytes : List ℕ) : Type 0 where
+  pub value : Data
+  pub read : json_of bytes ≡ Some value
+  pub refuses : RefusesValue e value
+
+abbrev pub RefusesPipe : CanonError → List ℕ → Type 0
+RefusesPipe Unreadable bytes = json_of bytes ≡ None
+RefusesPipe WantOfMemory bytes = ⊤
+RefusesPipe e bytes = PipeRefuses e bytes
+
+abbrev pub PipesText : Result (List ℕ) CanonError → List ℕ → Type 0
+PipesText (Ok t) bytes = Pipes bytes t
+PipesText (Err e) bytes = RefusesPipe e bytes

@@ -1,0 +1,27 @@
+//! The canonical text of JSON (RFC 8785).
+#![tactic(auto)]
+
+mod error;
+mod laws;
+mod members;
+mod plain;
+mod property;
+mod scalars;
+mod serializer;
+mod units;
+mod walk;
+mod whole;
+
+pub use error::CanonError;
+pub use json_values::{
+    Annotations, Blob, Copied, Json, List, MemorySink, PlainSink, Sink, SinkError, Text, TextMap,
+    TextSet, ToValue, copies2, copies3, copies4, copies5, copies6, copies7, put_all, read_json,
+    write_quoted,
+};
+pub use laws::{one_text, order_of_names};
+pub use property::JsonProperty;
+pub use serializer::JcsSerializer;
+pub use whole::{pipe, to_string, to_vec, to_writer};
+
+#[cfg(test)]
+mod tests;

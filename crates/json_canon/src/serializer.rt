@@ -1,0 +1,39 @@
+ghost use Rattle.std.specs.Prelude.{◌≡◌, ◌≤◌};
+ghost use Rattle.json_canon.specs.Outcomes.{WritesText};
+
+use crate::error::CanonError;
+use crate::whole::to_writer;
+use json_values::{Sink, ToValue};
+use std::alloc::Global;
+
+/// Writes canonical texts one after another into its sink.
+#[derive(Drop)]
+pub struct JcsSerializer<K> {
+    alloc: Global,
+    sink: K,
+}
+
+impl<K: Sink> JcsSerializer<K> {
+    ghost use Rattle.json_canon.specs.Serializers.{sink_of};
+
+    pub fn new(alloc: Global, sink: K) -> JcsSerializer<K>
+        ensures { sink_of result ≡ sink }
+    {
+        JcsSerializer { alloc, sink }
+    }
+
+    /// As `to_writer`, whatever the calls before it answered.
+    pub fn serialize<V: ToValue>(&mut self, value: &V) -> Result<(), CanonError>
+        ensures text { WritesText result (V.written value.now) (K.state (sink_of self.old)) (K.state (sink_of self.new)) }
+        ensures count { (K.state (sink_of self.old)).faults ≤ (K.state (sink_of self.new)).faults }
+    {
+        to_writer(self.alloc, value, &mut self.sink)
+    }
+
+    pub fn into_inner(self) -> K
+        ensures { result ≡ sink_of self }
+    {
+        let JcsSerializer { alloc: _, sink } = self;
+        sink
+    }
+}

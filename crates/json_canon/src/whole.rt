@@ -1,0 +1,85 @@
+ghost use Rattle.std.specs.Prelude.{◌≡◌, ◌≤◌, IfOk, IsUtf8};
+ghost use Rattle.serde_json.specs.View.{view};
+ghost use Rattle.json_canon.specs.Outcomes.{GivesText, WritesText, PipesText};
+
+use crate::error::CanonError;
+use crate::plain::write_value;
+use crate::walk::refusal;
+use json_values::{Blob, Sink, SinkError, Text, ToValue, put_all, read_json};
+use serde_json::Value;
+use std::alloc::Global;
+
+/// The canonical text of a value (RFC 8785, 3.2). `Float` or `IntegerOutOfRange` is that of the first
+/// number that has no text: items by place, members by the bytes of their names.
+pub fn to_vec<V: ToValue>(alloc: Global, value: &V) -> Result<Blob, CanonError>
+    ensures { GivesText result (V.written value.now) }
+{
+    let value = value.to_value(alloc)?;
+    let text = text_of(alloc, &value)?;
+    Ok(text)
+}
+
+/// As `to_vec`.
+pub fn to_string<V: ToValue>(alloc: Global, value: &V) -> Result<Text, CanonError>
+    ensures { GivesText result (V.written value.now) }
+{
+    let value = value.to_value(alloc)?;
+    let text = string_of(alloc, &value)?;
+    Ok(text)
+}
+
+/// Puts the canonical text of a value. A refused number is found before anything is put. `SinkFault`
+/// comes only where the sink's count of faults rose, and then a front of the text was put.
+pub fn to_writer<V: ToValue, K: Sink>(
+    alloc: Global,
+    value: &V,
+    sink: &mut K,
+) -> Result<(), CanonError>
+    ensures text { WritesText result (V.written value.now) (K.state sink.old) (K.state sink.new) }
+    ensures count { (K.state sink.old).faults ≤ (K.state sink.new).faults }
+{
+    let value = value.to_value(alloc)?;
+    let text = text_of(alloc, &value)?;
+    match put_all(sink, text.as_slice()) {
+        Ok(()) => Ok(()),
+        Err(SinkError::Failed) => Err(CanonError::SinkFault),
+        Err(SinkError::WantOfMemory) => Err(CanonError::WantOfMemory),
+    }
+}
+
+/// The canonical text of a JSON text. `Unreadable` exactly where it is no JSON, or nests deeper than 127.
+pub fn pipe(alloc: Global, json: &str) -> Result<Text, CanonError>
+    ensures { PipesText result json.now }
+{
+    match read_json(alloc, json.as_bytes())? {
+        None => Err(CanonError::Unreadable),
+        Some(value) => {
+            let text = string_of(alloc, value.value())?;
+            Ok(text)
+        }
+    }
+}
+
+fn text_of(alloc: Global, value: &Value) -> Result<Blob, CanonError>
+    ensures text { GivesText result (view value.now) }
+    ensures utf8 { IfOk result (λ t. IsUtf8 t) }
+{
+    match refusal(value) {
+        Some(refused) => Err(refused),
+        None => {
+            let mut text = Blob::empty(alloc);
+            write_value(alloc, &mut text, value)?;
+            Ok(text)
+        }
+    }
+}
+
+fn string_of(alloc: Global, value: &Value) -> Result<Text, CanonError>
+    ensures { GivesText result (view value.now) }
+{
+    let bytes = text_of(alloc, value)?;
+    match std::str::from_utf8(bytes.as_slice()) {
+        Ok(text) => Ok(Text::new(alloc, text)?),
+        Err(_) => unreachable!(),
+    }
+}
