@@ -87,8 +87,7 @@ impl Ord for JsonProperty {
     ghost matches_eq = { λ p q. texts_ties p.sorting_key q.sorting_key };
 
     fn cmp(&self, other: &JsonProperty) -> Ordering {
-        self.sorting_key
-            .as_slice()
-            .cmp(other.sorting_key.as_slice())
+        let key = self.sorting_key.as_slice();
+        key.cmp(other.sorting_key.as_slice())
     }
 }
