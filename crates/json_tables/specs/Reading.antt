@@ -107,6 +107,10 @@ at_name f name d = f (get name d)
 abbrev pub an_object : Data → Option ⊤
 an_object d = as_object d >>= λ ms. Some tt
 
+-- an object whose values are objects: the set of its names
+abbrev pub set_of : Data → Option (Map ⊤)
+set_of = map_of an_object
+
 -- whether each member has one of the names
 abbrev pub names_within : List (List ℕ) → Members → Bool
 names_within names no_members = true

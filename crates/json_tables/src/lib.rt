@@ -14,6 +14,7 @@ mod objects;
 mod paths;
 mod reads;
 mod rows;
+mod sets;
 mod values;
 
 pub use blobs::{decode_base64, required_base64};

@@ -1,8 +1,10 @@
+ghost use Rattle.std.specs.Prelude.{◌≡◌, IfOk, Ok};
 ghost use Rattle.serde_json.specs.View.{view};
 ghost use Rattle.json_tables.specs.Outcomes.{ReadsDocument};
 
 use json_tables::{Member, ReadError, Reads, present, read_document, row6};
-use json_values::{Annotations, Copied, List, Text, copies5};
+use json_values::{Annotations, Copied, List, Text, ToValue, copies5};
+use json_writing::{Writes, object6};
 use serde_json::Value;
 use std::alloc::{AllocError, Global};
 
@@ -64,6 +66,48 @@ impl Member for OciDescriptor {
 
     fn read_member(alloc: Global, member: Option<&Value>) -> Result<OciDescriptor, ReadError> {
         present(alloc, member)
+    }
+}
+
+impl Writes for OciDescriptor {
+    ghost use Rattle.oci_docs.specs.Descriptor.{descriptor_written};
+
+    ghost written = { descriptor_written };
+
+    #[tactic(auto, unfolding(crate::specs::Descriptor::descriptor_written))]
+    fn write_value(&self, alloc: Global) -> Result<Value, AllocError> {
+        let value = object6(
+            alloc,
+            "mediaType",
+            &self.media_type,
+            "digest",
+            &self.digest,
+            "size",
+            &self.size,
+            "urls",
+            &self.urls,
+            "annotations",
+            &self.annotations,
+            "artifactType",
+            &self.artifact_type,
+        )?;
+        Ok(value)
+    }
+}
+
+impl ToValue for OciDescriptor {
+    ghost use Rattle.oci_docs.specs.Descriptor.{descriptor_of, descriptor_written};
+
+    ghost written = { descriptor_written };
+
+    /// What it gives reads back. None is not written.
+    #[tactic(auto, using(json_writing::proofs::Whole::document_again))]
+    fn to_value(&self, alloc: Global) -> Result<Value, AllocError>
+        ensures exact { IfOk result (λ v. view v ≡ descriptor_written self.now) }
+        ensures reads_back { IfOk result (λ v. ReadsDocument (Ok self.now) descriptor_of (view v)) }
+    {
+        let value = self.write_value(alloc)?;
+        Ok(value)
     }
 }
 

@@ -1,9 +1,11 @@
+ghost use Rattle.std.specs.Prelude.{◌≡◌, IfOk, Ok};
 ghost use Rattle.serde_json.specs.View.{view};
 ghost use Rattle.json_tables.specs.Outcomes.{ReadsDocument};
 
 use crate::index_entry::ImageIndexEntry;
 use json_tables::{ReadError, Reads, read_document, row5};
-use json_values::{Annotations, Copied, List, Text, copies4};
+use json_values::{Annotations, Copied, List, Text, ToValue, copies4};
+use json_writing::object5;
 use serde_json::Value;
 use std::alloc::{AllocError, Global};
 
@@ -51,6 +53,34 @@ impl Reads for OciImageIndex {
             artifact_type,
             annotations,
         })
+    }
+}
+
+impl ToValue for OciImageIndex {
+    ghost use Rattle.oci_docs.specs.Index.{index_of, index_written};
+
+    ghost written = { index_written };
+
+    /// What it gives reads back. None is not written.
+    #[tactic(auto, unfolding(crate::specs::Index::index_written))]
+    fn to_value(&self, alloc: Global) -> Result<Value, AllocError>
+        ensures exact { IfOk result (λ v. view v ≡ index_written self.now) }
+        ensures reads_back { IfOk result (λ v. ReadsDocument (Ok self.now) index_of (view v)) }
+    {
+        let value = object5(
+            alloc,
+            "schemaVersion",
+            &self.schema_version,
+            "mediaType",
+            &self.media_type,
+            "manifests",
+            &self.manifests,
+            "artifactType",
+            &self.artifact_type,
+            "annotations",
+            &self.annotations,
+        )?;
+        Ok(value)
     }
 }
 

@@ -1,9 +1,11 @@
+ghost use Rattle.std.specs.Prelude.{◌≡◌, IfOk, Ok};
 ghost use Rattle.serde_json.specs.View.{view};
 ghost use Rattle.json_tables.specs.Outcomes.{ReadsDocument};
 
 use crate::platform::Platform;
 use json_tables::{Member, ReadError, Reads, present, read_document, row6};
-use json_values::{Annotations, Copied, Text, copies5};
+use json_values::{Annotations, Copied, Text, ToValue, copies5};
+use json_writing::{Writes, object6};
 use serde_json::Value;
 use std::alloc::{AllocError, Global};
 
@@ -65,6 +67,48 @@ impl Member for ImageIndexEntry {
 
     fn read_member(alloc: Global, member: Option<&Value>) -> Result<ImageIndexEntry, ReadError> {
         present(alloc, member)
+    }
+}
+
+impl Writes for ImageIndexEntry {
+    ghost use Rattle.oci_docs.specs.IndexEntry.{entry_written};
+
+    ghost written = { entry_written };
+
+    #[tactic(auto, unfolding(crate::specs::IndexEntry::entry_written))]
+    fn write_value(&self, alloc: Global) -> Result<Value, AllocError> {
+        let value = object6(
+            alloc,
+            "mediaType",
+            &self.media_type,
+            "digest",
+            &self.digest,
+            "size",
+            &self.size,
+            "platform",
+            &self.platform,
+            "annotations",
+            &self.annotations,
+            "artifactType",
+            &self.artifact_type,
+        )?;
+        Ok(value)
+    }
+}
+
+impl ToValue for ImageIndexEntry {
+    ghost use Rattle.oci_docs.specs.IndexEntry.{entry_of, entry_written};
+
+    ghost written = { entry_written };
+
+    /// What it gives reads back. None is not written.
+    #[tactic(auto, using(json_writing::proofs::Whole::document_again))]
+    fn to_value(&self, alloc: Global) -> Result<Value, AllocError>
+        ensures exact { IfOk result (λ v. view v ≡ entry_written self.now) }
+        ensures reads_back { IfOk result (λ v. ReadsDocument (Ok self.now) entry_of (view v)) }
+    {
+        let value = self.write_value(alloc)?;
+        Ok(value)
     }
 }
 

@@ -1,9 +1,11 @@
+ghost use Rattle.std.specs.Prelude.{◌≡◌, IfOk, Ok};
 ghost use Rattle.serde_json.specs.View.{view};
 ghost use Rattle.json_tables.specs.Outcomes.{ReadsDocument};
 
 use crate::descriptor::OciDescriptor;
 use json_tables::{ReadError, Reads, read_document, row7};
-use json_values::{Annotations, Copied, List, Text, copies6};
+use json_values::{Annotations, Copied, List, Text, ToValue, copies6};
+use json_writing::{Required, object7};
 use serde_json::Value;
 use std::alloc::{AllocError, Global};
 
@@ -58,6 +60,38 @@ impl Reads for OciImageManifest {
             artifact_type,
             annotations,
         })
+    }
+}
+
+impl ToValue for OciImageManifest {
+    ghost use Rattle.oci_docs.specs.Manifest.{manifest_of, manifest_written};
+
+    ghost written = { manifest_written };
+
+    /// What it gives reads back. None is not written.
+    #[tactic(auto, unfolding(crate::specs::Manifest::manifest_written))]
+    fn to_value(&self, alloc: Global) -> Result<Value, AllocError>
+        ensures exact { IfOk result (λ v. view v ≡ manifest_written self.now) }
+        ensures reads_back { IfOk result (λ v. ReadsDocument (Ok self.now) manifest_of (view v)) }
+    {
+        let value = object7(
+            alloc,
+            "schemaVersion",
+            &self.schema_version,
+            "mediaType",
+            &self.media_type,
+            "config",
+            &Required(&self.config),
+            "layers",
+            &self.layers,
+            "subject",
+            &self.subject,
+            "artifactType",
+            &self.artifact_type,
+            "annotations",
+            &self.annotations,
+        )?;
+        Ok(value)
     }
 }
 

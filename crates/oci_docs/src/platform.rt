@@ -1,8 +1,10 @@
+ghost use Rattle.std.specs.Prelude.{◌≡◌, IfOk, Ok};
 ghost use Rattle.serde_json.specs.View.{view};
 ghost use Rattle.json_tables.specs.Outcomes.{ReadsDocument};
 
 use json_tables::{Member, ReadError, Reads, present, read_document, row6};
-use json_values::{Copied, List, Text, copies6};
+use json_values::{Copied, List, Text, ToValue, copies6};
+use json_writing::{Writes, object6};
 use serde_json::Value;
 use std::alloc::{AllocError, Global};
 
@@ -64,6 +66,48 @@ impl Member for Platform {
 
     fn read_member(alloc: Global, member: Option<&Value>) -> Result<Platform, ReadError> {
         present(alloc, member)
+    }
+}
+
+impl Writes for Platform {
+    ghost use Rattle.oci_docs.specs.Platform.{platform_written};
+
+    ghost written = { platform_written };
+
+    #[tactic(auto, unfolding(crate::specs::Platform::platform_written))]
+    fn write_value(&self, alloc: Global) -> Result<Value, AllocError> {
+        let value = object6(
+            alloc,
+            "architecture",
+            &self.architecture,
+            "os",
+            &self.os,
+            "os.version",
+            &self.os_version,
+            "os.features",
+            &self.os_features,
+            "variant",
+            &self.variant,
+            "features",
+            &self.features,
+        )?;
+        Ok(value)
+    }
+}
+
+impl ToValue for Platform {
+    ghost use Rattle.oci_docs.specs.Platform.{platform_of, platform_written};
+
+    ghost written = { platform_written };
+
+    /// What it gives reads back. None is not written.
+    #[tactic(auto, using(json_writing::proofs::Whole::document_again))]
+    fn to_value(&self, alloc: Global) -> Result<Value, AllocError>
+        ensures exact { IfOk result (λ v. view v ≡ platform_written self.now) }
+        ensures reads_back { IfOk result (λ v. ReadsDocument (Ok self.now) platform_of (view v)) }
+    {
+        let value = self.write_value(alloc)?;
+        Ok(value)
     }
 }
 
