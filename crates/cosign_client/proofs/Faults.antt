@@ -28,8 +28,8 @@ use Rattle.engine_steps.specs.Rows.{Row as Engine}
 use Rattle.engine_pull.specs.Pulls.{pull_manifest}
 use Rattle.engine_pull.specs.Images.{pull}
 use Rattle.engine_pull.specs.declared.image.ImageData.{ImageData}
-use Rattle.oci_engine.specs.Causes.{DocumentCause, Cause, OwnDigest, ImageCause}
-use Rattle.oci_engine.proofs.ImageRefused.{manifest_causes, image_causes}
+use Rattle.oci_engine.specs.Causes.{DocumentCause, Cause, OwnDigest}
+use Rattle.oci_engine.proofs.ImageRefused.{RowCause, manifest_causes, image_causes}
 use Rattle.oci_engine.proofs.Reasons.{manifest_fault, image_fault}
 use Rattle.sig_registry.specs.declared.error.SigstoreError.{SigstoreError}
 use Rattle.sig_registry.specs.declared.error.SigstoreError.TheVariants as sigstore
@@ -77,7 +77,7 @@ manifest_memory s image c n engine_refusal.WantOfMemory h other = absurd (cc oth
 manifest_memory s image c n (engine_refusal.DigestError digest_refusal.WantOfMemory) h other = absurd h.holds
 manifest_memory s image c n _ h other = refl
 
-image_memory : (s : Settings) (image : Reference) (accepted : List (List ℕ)) (c : List Exchange) (n : ℕ) (e : OciDistributionError) → ImageCause s image accepted c n e → engine_is_memory e ≡ false → in_engine e ≡ false
+image_memory : (s : Settings) (image : Reference) (accepted : List (List ℕ)) (c : List Exchange) (n : ℕ) (e : OciDistributionError) → RowCause s image accepted c n e → engine_is_memory e ≡ false → in_engine e ≡ false
 image_memory s image accepted c n engine_refusal.WantOfMemory h other = absurd (cc other)
 image_memory s image accepted c n (engine_refusal.DigestError digest_refusal.WantOfMemory) h other = absurd h.holds
 image_memory s image accepted c n _ h other = refl
