@@ -1,7 +1,7 @@
 -- A token in the place of the one under its key.
-use Rattle.std.proofs.Common.{◌≡◌, ◌≢◌, ◌&&◌, ◌<◌, ◌≤◌, ℕ, Bool, true, false, cond, List, [], ◌∷◌, ◌++◌, Option, Some, None, length, get_or, nat_eq, nat_lt, refl, sym, ap, ◌∙◌, true≢false, subst}
+use Rattle.std.proofs.Common.{◌≡◌, ◌≢◌, ◌&&◌, ◌≤◌, Bool, true, false, cond, List, [], ◌∷◌, ◌++◌, Option, Some, None, length, get_or, nat_lt, refl, sym, ap, ◌∙◌, true≢false, subst}
 use Rattle.std.specs.Prelude.{slice_set}
-use Rattle.std.specs.List.{find, position, position_or_len}
+use Rattle.std.specs.List.{find, position_or_len}
 use Rattle.std.specs.Option.{option_map_or, option_or}
 use Rattle.std.specs.Str.{bytes_eq}
 use Rattle.std.specs.Cmp.Lexicographic.{same_text, nat_list_eq_equiv}

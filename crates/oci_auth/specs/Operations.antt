@@ -1,5 +1,5 @@
 -- What tokens are kept for, and how they are shown.
-use Rattle.std.specs.Prelude.{ℕ, List, ◌++◌, ◌==◌, Bool, codes, Option, Some, option_map, nat_eq}
+use Rattle.std.specs.Prelude.{ℕ, List, ◌++◌, Bool, codes, Option, Some, option_map, nat_eq}
 use Rattle.std.specs.Ordering.{nat_cmp}
 use Rattle.std.specs.Cmp.{IsEquivalence, IsTotalOrder, on_equiv, on_total, nat_eq_equiv, nat_cmp_total}
 use Rattle.std.specs.Fmt.{debug_str}
