@@ -1,14 +1,15 @@
 // References without a mirror.
-ghost use Rattle.std.specs.Prelude.{◌≡◌, IfOk, IfErr, option_copied, None, Some, Ok};
+ghost use Rattle.std.specs.Prelude.{◌≡◌, ◌↔◌, IsTrue, IfOk, IfErr, option_copied, None, Some, Ok};
 ghost use Rattle.oci_names.specs.References.{registry_of, repository_of, tag_of, digest_of, mirror_of, resolved_registry, whole_text, reference_of};
 
 use crate::error::SigstoreError;
-use json_values::Text;
+use json_values::{Copied, Text};
 use oci_names::{ParseError, Reference};
 use std::alloc::{AllocError, Global};
+use std::fmt;
 
 /// A reference that has no mirror.
-#[derive(Drop)]
+#[derive(Debug, Drop)]
 pub struct OciReference {
     inner: Reference,
     ghost direct: { mirror_of inner ≡ None },
@@ -97,5 +98,83 @@ impl OciReference {
         ensures direct { mirror_of result.now ≡ None }
     {
         &self.inner
+    }
+}
+
+impl Copied for OciReference {
+    fn copy(&self, alloc: Global) -> Result<OciReference, AllocError> {
+        let inner = self.inner.copy(alloc)?;
+        Ok(OciReference { inner })
+    }
+}
+
+/// Equality is that of the references.
+impl PartialEq for OciReference {
+    ghost use Rattle.std.specs.Cmp.{partial_equiv_from_equiv};
+    ghost use Rattle.sig_registry.specs.Direct.{reference_in, is_same_reference, references};
+
+    ghost eq = { is_same_reference };
+
+    ghost laws = { partial_equiv_from_equiv references };
+
+    fn eq(&self, other: &OciReference) -> bool
+        ensures value { result ≡ is_same_reference self.now other.now }
+        ensures same { IsTrue result ↔ (reference_in self.now ≡ reference_in other.now) }
+    {
+        self.inner == other.inner
+    }
+}
+
+impl Eq for OciReference {
+    ghost use Rattle.sig_registry.specs.Direct.{references};
+
+    ghost laws = { references };
+}
+
+// A part of a reference behind its mark, where there is one.
+#[derive(Drop)]
+struct Marked<'a> {
+    mark: &'a str,
+    part: Option<&'a str>,
+}
+
+impl fmt::Display for Marked<'_> {
+    ghost use Rattle.std.specs.Prelude.{Some, option_copied};
+    ghost use Rattle.oci_names.specs.Parts.{marked};
+
+    ghost output = { λ m. Some (marked m.mark.now (option_copied m.part)) };
+
+    fn fmt<W: fmt::Write>(&self, f: &mut fmt::Formatter<W>) -> fmt::Result {
+        match self.part {
+            Some(part) => write!(f, "{}{}", self.mark, part),
+            None => Ok(()),
+        }
+    }
+}
+
+/// `registry/repository`, then `:tag` and `@digest` where they are there.
+impl fmt::Display for OciReference {
+    ghost use Rattle.std.specs.Prelude.{Some};
+    ghost use Rattle.sig_registry.specs.Direct.{reference_in};
+
+    ghost output = { λ r. Some (whole_text (reference_in r)) };
+
+    fn fmt<W: fmt::Write>(&self, f: &mut fmt::Formatter<W>) -> fmt::Result {
+        let tag = Marked {
+            mark: ":",
+            part: self.tag(),
+        };
+        let digest = Marked {
+            mark: "@",
+            part: self.digest(),
+        };
+        write!(
+            f,
+            "{}/{}{}{}",
+            self.registry(),
+            self.repository(),
+            tag,
+            digest
+        )
     }
 }
