@@ -1,4 +1,4 @@
-.PHONY: test run rows bench
+.PHONY: test run rows bench allocations
 
 # Proves every crate, runs the tests, and tries the edits that must be refused.
 test:
@@ -17,3 +17,8 @@ rows:
 bench:
 	cd crates/pull_program && rt run -- pull < stdin > /dev/null
 	python3 bench/run.py
+
+# Makes each allocation of the stored run fail in turn.
+allocations:
+	cd crates/pull_program && rt run -- pull < stdin > /dev/null
+	tests/allocations
