@@ -324,3 +324,99 @@ fn a_refused_source_is_skipped(rt: HostRuntime) -> Result<(), Fail> {
     assert_eq!(rt; script.faults(), 1);
     Ok(())
 }
+
+// Puts the text in the place of one that links two parts.
+fn put(image: &mut VerifiedImage, place: u8, text: Text) {
+    match place {
+        0 => image.digest = text,
+        1 => image.manifest_digest = text,
+        2 => image.list_digest = Some(text),
+        3 => image.manifest.config.digest = text,
+        4 => image.config.media_type = text,
+        _ => {}
+    }
+}
+
+fn put_into(found: &mut Result<VerifiedImage, PullRefusal>, place: u8, text: Text) {
+    if let Ok(image) = found {
+        put(image, place, text);
+    }
+}
+
+fn has_links(
+    found: &Result<VerifiedImage, PullRefusal>,
+    image: &Reference,
+    accepted: &[Text],
+) -> bool {
+    match found {
+        Ok(found) => check_links(image, accepted, found),
+        Err(_) => false,
+    }
+}
+
+// Whether the parts of a pulled image are linked for this reference and these types, with the text in one place.
+fn linked(
+    alloc: Global,
+    client: &mut Client,
+    script: &mut Script,
+    asked: &OciReference,
+    policy: &PullPolicy,
+    verifier: &TableVerifier,
+    accepted: &[Text],
+    place: u8,
+    text: Text,
+    image: &Reference,
+    kinds: &[Text],
+) -> bool {
+    let mut found = client.verified_pull(
+        alloc,
+        script,
+        100,
+        asked,
+        &Auth::Anonymous,
+        accepted,
+        policy,
+        verifier,
+        &NoCertificates,
+    );
+    put_into(&mut found, place, text);
+    has_links(&found, image, kinds)
+}
+
+fn is_linked(alloc: Global, place: u8, image: &str, kind: &str) -> Result<bool, Fail> {
+    let mut script = script(alloc, &SEARCH, &REST)?;
+    let asked = OciReference::parse(alloc, IMAGE)?;
+    let image = OciReference::parse(alloc, image)?;
+    let mut client = client(alloc)?;
+    let accepted = accepted(alloc)?;
+    let policy = policy(alloc, 1)?;
+    let verifier = verifier(alloc)?;
+    let mut kinds = List::new(alloc);
+    kinds.push(Text::new(alloc, kind)?)?;
+    let text = Text::new(alloc, PAYLOAD_DIGEST)?;
+    Ok(linked(
+        alloc,
+        &mut client,
+        &mut script,
+        &asked,
+        &policy,
+        &verifier,
+        accepted.as_slice(),
+        place,
+        text,
+        image.reference(),
+        kinds.as_slice(),
+    ))
+}
+
+#[test]
+fn each_link_is_checked(rt: HostRuntime) -> Result<(), Fail> {
+    let alloc = rt.alloc();
+    assert!(rt; is_linked(alloc, 5, IMAGE, LAYER_TYPE)?);
+    for place in 0..5 {
+        assert!(rt; !is_linked(alloc, place, IMAGE, LAYER_TYPE)?, "{place}");
+    }
+    assert!(rt; !is_linked(alloc, 5, OTHER, LAYER_TYPE)?);
+    assert!(rt; !is_linked(alloc, 5, IMAGE, "text/plain")?);
+    Ok(())
+}
