@@ -1,6 +1,8 @@
 //! Pulls the image of a recorded case only where a trusted signature stands for it, and writes a report.
 #![tactic(auto)]
 
+#[cfg(test)]
+mod faults;
 mod pulls;
 #[cfg(test)]
 mod recorded;

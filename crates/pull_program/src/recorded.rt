@@ -103,6 +103,35 @@ const TAG_ANSWERS: &[(&str, &str)] = &[
     ),
 ];
 
+const CONFIG_LINES: &str =
+    "GET http://localhost:5000/v2/\nGET http://localhost:5000/v2/app/blobs/sha256:44136fa355b3678a1146ad16f7e8649e94fb4fc21fe77e8310c060f61caaff8a\n";
+
+const UNPULLED: &str =
+    "refused Unsatisfied \"sha256:517b86da29754bfa57e312c35d4cf22caa38dbce39ecd24684830c1f9777a635\"\nskipped Source Tag Refused RegistryPullError \"localhost:5000/app:sha256-517b86da29754bfa57e312c35d4cf22caa38dbce39ecd24684830c1f9777a635.sig\" ";
+
+const NO_LAYERS: &str =
+    r#"{"status":200,"pieces":["{\"schemaVersion\":2,\"config\":{\"mediaType\":\"t\",\"digest\":\"sha256:44136fa355b3678a1146ad16f7e8649e94fb4fc21fe77e8310c060f61caaff8a\",\"size\":2},\"layers\":[]}"]}"#;
+
+const INDEX: &str = r#"{"status":200,"pieces":["{\"schemaVersion\":2,\"manifests\":[]}"]}"#;
+
+/// A manifest of signatures, the answer to the request for its configuration, that request where it is made, and how the
+/// image is refused.
+const IMAGE_ANSWERS: &[(&str, &str, &str, &str)] = &[
+    (
+        NO_LAYERS,
+        r#"{"status":200,"pieces":["{}"]}"#,
+        CONFIG_LINES,
+        "PullNoLayersError",
+    ),
+    (
+        NO_LAYERS,
+        r#"{"status":200,"pieces":["x"]}"#,
+        CONFIG_LINES,
+        r#"DigestError VerificationError "sha256:44136fa355b3678a1146ad16f7e8649e94fb4fc21fe77e8310c060f61caaff8a" "sha256:2d711642b726b04401627ca9fbac32f5c8530fb1903cc4db02258717921a4881""#,
+    ),
+    (INDEX, TOKEN, "", "ImageIndexParsingNoPlatformResolverError"),
+];
+
 const ADDRESS: &str =
     r#""http://localhost:5000/v2/app/manifests/sha256-517b86da29754bfa57e312c35d4cf22caa38dbce39ecd24684830c1f9777a635.sig""#;
 
@@ -173,6 +202,24 @@ fn a_refused_manifest_of_signatures_is_skipped(rt: HostRuntime) -> Result<(), Fa
             &rt,
             case.as_str(),
             &[HEAD_LINES, TAG_LINES, UNSATISFIED, print.as_str(), "\n"],
+        )?;
+    }
+    Ok(())
+}
+
+#[test]
+fn a_refused_image_of_signatures_is_skipped(rt: HostRuntime) -> Result<(), Fail> {
+    for (manifest, config, asked, print) in IMAGE_ANSWERS {
+        let answers = [
+            TOKEN, NAMED, TOKEN, *manifest, TOKEN, *manifest, TOKEN, *config,
+        ];
+        let case = case_of(rt.alloc(), &answers)?;
+        assert_refused(
+            &rt,
+            case.as_str(),
+            &[
+                HEAD_LINES, TAG_LINES, TAG_LINES, *asked, UNPULLED, *print, "\n",
+            ],
         )?;
     }
     Ok(())
