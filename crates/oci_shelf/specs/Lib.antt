@@ -1,0 +1,5 @@
+pub mod Leads
+pub mod Paths
+pub mod State
+pub mod Steps
+pub mod Table
