@@ -81,13 +81,14 @@ impl Transport for FaultyShelf {
         ensures memory { IsErrOf result LinkError.WantOfMemory → self.new ≡ self.old }
         ensures at_most { IsErrOf result LinkError.WantOfMemory → AddsAtMost request.now (faulty_state_of self.old) (faulty_state_of self.new) }
     {
+        let faults = self.faults;
         let number = self.served.told.as_slice().len() as u64;
         if is_among(number, self.sends.as_slice()) {
-            self.served.unanswered(alloc, request, self.faults)?;
-            self.faults = self.faults.saturating_add(1);
+            self.served.unanswered(alloc, request, faults)?;
+            self.faults = faults.saturating_add(1);
             return Err(LinkError::Failed);
         }
-        let head = self.served.answered(alloc, request, self.faults)?;
+        let head = self.served.answered(alloc, request, faults)?;
         Ok(head)
     }
 
