@@ -1,0 +1,2 @@
+pub mod Catalog
+pub mod Tags
