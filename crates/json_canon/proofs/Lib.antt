@@ -2,6 +2,7 @@ pub mod Commas
 pub mod Keeping
 pub mod Refusals
 pub mod Texts
+pub mod Turning
 pub mod Unique
 pub mod Utf16
 pub mod Walks

@@ -1,9 +1,14 @@
 pub mod Canonical
+pub mod Drafts
+pub mod Events
+pub mod Formatters
 pub mod Laws
 pub mod Members
 pub mod Outcomes
 pub mod Refused
 pub mod Serializers
+pub mod States
+pub mod Turns
 pub mod Units
 pub mod Values
 pub use Rattle.json_values.specs.Canon
