@@ -1,17 +1,18 @@
 -- Members in the order of their names' units, one inserted after another.
 use Rattle.std.proofs.Common.{◌≡◌, ℕ, List, [], ◌∷◌, ◌++◌, map, Bool, true, false, ◌||◌, refl, sym, ap, subst, ◌∙◌, IsUtf8, Ordering, Less, Equal, Greater}
 use Rattle.std.specs.BTreeSet.{insert_key}
-use Rattle.std.specs.Cmp.Lexicographic.{slice_cmp, texts_ties, same_text, nat_list_eq_equiv}
+use Rattle.std.specs.Cmp.Lexicographic.{slice_cmp, texts_ties, same_text, nat_list_cmp_total, nat_list_eq_equiv}
 use Rattle.std.specs.List.{AllByRecursion, list_any}
 use Rattle.std.specs.List.Sorted.{IsPermutation, IsStrictlySortedBy}
-use Rattle.std.specs.Ordering.{nat_cmp, is_eq, match_ordering}
+use Rattle.std.specs.Ordering.{nat_cmp, is_eq, match_ordering, ordering_reverse}
 use Rattle.std.specs.Str.{bytes_eq}
 use Rattle.std.proofs.lemmas.List.Sorted.{IsPermutation-refl, IsPermutation-cons, IsPermutation-trans, IsPermutation-to_front, IsPermutation-append, IsPermutation-map, list_any-IsPermutation}
 use Rattle.json_canon.specs.declared.property.JsonProperty.{JsonProperty}
 use Rattle.json_canon.specs.Canonical.{Entry, Rises}
 use Rattle.json_canon.specs.Members.{property, Keeps, has_name}
 use Rattle.json_canon.specs.Units.{units, by_units}
-use Rattle.std.specs.Cmp.{both_ways}
+use Rattle.std.specs.Cmp.{IsTotalOrder, both_ways}
+use Rattle.std.proofs.lemmas.Cmp.{on_total}
 use Rattle.json_canon.proofs.Utf16.{same_units}
 
 abbrev pub by_key : JsonProperty → JsonProperty → Ordering
@@ -108,3 +109,33 @@ keeps_more old new es name x text keeps absent is up =
       is = made;
       texts = all_more es (name, x) keeps.texts text;
     }
+
+by_key_total : IsTotalOrder by_key
+by_key_total = on_total (λ p. p.sorting_key) nat_list_cmp_total
+
+below_both : (p x : JsonProperty) (xs : List JsonProperty) → by_key p x ≡ Less → AllByRecursion (λ y. by_key x y ≡ Less) xs → AllByRecursion (λ y. by_key p y ≡ Less) xs
+below_both p x [] less all = tt
+below_both p x (y ∷ ys) less all = (by_key_total.trans p x y less all.0, below_both p x ys less all.1)
+
+below_insert_at : (o : Ordering) (x p y : JsonProperty) (ys : List JsonProperty) → by_key x p ≡ Less → by_key x y ≡ Less → AllByRecursion (λ z. by_key x z ≡ Less) ys → AllByRecursion (λ z. by_key x z ≡ Less) (insert_key by_key ys p)
+    → AllByRecursion (λ z. by_key x z ≡ Less) (match_ordering o (p ∷ y ∷ ys) (y ∷ ys) (y ∷ insert_key by_key ys p))
+below_insert_at Less x p y ys new first all rest = (new, (first, all))
+below_insert_at Equal x p y ys new first all rest = (first, all)
+below_insert_at Greater x p y ys new first all rest = (first, rest)
+
+below_insert : (x p : JsonProperty) (ys : List JsonProperty) → by_key x p ≡ Less → AllByRecursion (λ z. by_key x z ≡ Less) ys → AllByRecursion (λ z. by_key x z ≡ Less) (insert_key by_key ys p)
+below_insert x p [] new all = (new, tt)
+below_insert x p (y ∷ ys) new all = below_insert_at (by_key p y) x p y ys new all.0 all.1 (below_insert x p ys new all.1)
+
+insert_sorted_at : (o : Ordering) (p x : JsonProperty) (xs : List JsonProperty) → by_key p x ≡ o → is_eq o ≡ false → IsStrictlySortedBy by_key (x ∷ xs) → IsStrictlySortedBy by_key (insert_key by_key xs p)
+    → IsStrictlySortedBy by_key (match_ordering o (p ∷ x ∷ xs) (x ∷ xs) (x ∷ insert_key by_key xs p))
+unfolding IsStrictlySortedBy
+insert_sorted_at Less p x xs is apart up rest = ((is, below_both p x xs is up.0), up)
+insert_sorted_at Equal p x xs is apart up rest = cc
+insert_sorted_at Greater p x xs is apart up rest = (below_insert x p xs (by_key_total.antisymm x p ∙ ap ordering_reverse is) up.0, rest)
+
+-- a key that ties with none keeps the order
+pub insert_sorted : (xs : List JsonProperty) (p : JsonProperty) → list_any (λ q. is_eq (by_key p q)) xs ≡ false → IsStrictlySortedBy by_key xs → IsStrictlySortedBy by_key (insert_key by_key xs p)
+unfolding IsStrictlySortedBy
+insert_sorted [] p apart up = (tt, tt)
+insert_sorted (x ∷ xs) p apart up = let parts = either _ _ apart in insert_sorted_at (by_key p x) p x xs refl parts.0 up (insert_sorted xs p parts.1 up.1)

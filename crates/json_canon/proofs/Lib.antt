@@ -1,6 +1,8 @@
 pub mod Commas
+pub mod Holding
 pub mod Keeping
 pub mod Refusals
+pub mod Spelled
 pub mod Texts
 pub mod Turning
 pub mod Unique

@@ -1,5 +1,5 @@
 -- A value has at most one canonical text.
-use Rattle.std.proofs.Common.{◌≡◌, ◌≢◌, ℕ, List, [], ◌∷◌, map, refl, sym, ap, subst, ◌∙◌, Option, Some, Less, ◌⊎◌, inl, inr}
+use Rattle.std.proofs.Common.{◌≡◌, ◌≢◌, ℕ, List, [], ◌∷◌, map, refl, sym, ap, subst, ◌∙◌, Option, Some, None, Bool, true, if◌then◌else◌, Less, ◌⊎◌, inl, inr}
 use Rattle.std.specs.Fmt.{signed_decimal}
 use Rattle.std.specs.List.{AllByRecursion}
 use Rattle.std.specs.List.Sorted.{IsPermutation, IsStrictlySortedBy}
@@ -8,7 +8,10 @@ use Rattle.std.specs.Cmp.Lexicographic.{nat_list_cmp_total}
 use Rattle.std.proofs.lemmas.List.Elements.{All-from_recursion, recursion_from_All}
 use Rattle.std.proofs.lemmas.List.Sorted.{IsPermutation-sym, IsPermutation-trans, All-permutation}
 use Rattle.serde_json.specs.Data.{Data, null, boolean, number, string, array, object, Items, no_items, item, Members, no_members, member}
-use Rattle.json_canon.specs.Canonical.{Canonical, CanonicalItems, CanonicalMembers, Entry, Rises, IsObjectText, array_text, object_text}
+use Rattle.json_canon.specs.Canonical.{Canonical, CanonicalItems, CanonicalMembers, Entry, Rises, IsObjectText, array_text, object_text, in_range}
+use Rattle.json_canon.specs.Refused.{refused, refused_items, refused_members, refused_by, first_of_two}
+use Rattle.json_canon.specs.declared.error.CanonError.{CanonError}
+use Rattle.json_canon.specs.declared.error.CanonError.TheVariants.{IntegerOutOfRange}
 use Rattle.json_canon.specs.Units.{units, by_units}
 
 -- a name that is before all of a list is none of them
@@ -117,3 +120,29 @@ mutual
   unique_members (member k d ms) [] fs p q = absurd p
   unique_members (member k d ms) (e ∷ es) [] p q = absurd q
   unique_members (member k d ms) (e ∷ es) (f ∷ fs) p q = λ i. ((p.0 ∙ sym q.0) i, unique d e.1 f.1 p.1 q.1 i) ∷ unique_members ms es fs p.2 q.2 i
+
+in_range_is : (b : Bool) → b ≡ true → (if b then None else Some IntegerOutOfRange) ≡ None
+in_range_is b is = ap (λ c. if c then None else Some IntegerOutOfRange) is
+
+none_both : (a b : Option CanonError) → a ≡ None → b ≡ None → first_of_two a b ≡ None
+none_both a b p q = ap (λ o. first_of_two o b) p ∙ q
+
+-- a value that has a text is not refused
+mutual
+  pub plain : (d : Data) (t : List ℕ) → Canonical d t → refused d ≡ None
+  plain null t p = refl
+  plain (boolean b) t p = refl
+  plain (number n) t p = ap refused_by p.1 ∙ in_range_is (in_range p.0) p.2
+  plain (string s) t p = refl
+  plain (array ds) t p = plain_items ds p.0 p.1
+  plain (object ms) t p = plain_members ms p.0 p.1
+
+  plain_items : (ds : Items) (ts : List (List ℕ)) → CanonicalItems ds ts → refused_items ds ≡ None
+  plain_items no_items ts p = refl
+  plain_items (item d ds) [] p = absurd p
+  plain_items (item d ds) (t ∷ ts) p = none_both _ _ (plain d t p.0) (plain_items ds ts p.1)
+
+  plain_members : (ms : Members) (es : List Entry) → CanonicalMembers ms es → refused_members ms ≡ None
+  plain_members no_members es p = refl
+  plain_members (member k d ms) [] p = absurd p
+  plain_members (member k d ms) (e ∷ es) p = none_both _ _ (plain d e.1 p.1) (plain_members ms es p.2)

@@ -18,11 +18,11 @@ use Rattle.json_canon.specs.Refused.{refused, refused_items, refused_members, fi
 use Rattle.json_canon.specs.Values.{AreValues, AreMembers, IsOther}
 use Rattle.json_canon.proofs.Commas.{Joined, joined_more, joined_end}
 
-none_first : (a b : Option CanonError) → first_of_two a b ≡ None → a ≡ None
+pub none_first : (a b : Option CanonError) → first_of_two a b ≡ None → a ≡ None
 none_first None b e = refl
 none_first (Some x) b e = e
 
-none_later : (a b : Option CanonError) → first_of_two a b ≡ None → b ≡ None
+pub none_later : (a b : Option CanonError) → first_of_two a b ≡ None → b ≡ None
 none_later None b e = e
 none_later (Some x) b e = cc
 
@@ -78,7 +78,7 @@ members_begin kept all keeps plain values = record { entries = []; keeps = keeps
 pub members_plain : (kept : List JsonProperty) (all ms : Members) (k : List ℕ) (d : Data) → MembersKept kept all (member k d ms) → refused d ≡ None
 members_plain kept all ms k d so = none_first _ _ so.plain
 
-others_more : (es : List Entry) (k : List ℕ) (d : Data) (ms : Members) (t : List ℕ) → AllByRecursion (λ e. IsOther e.0 (member k d ms)) es → IsOther k ms → AllByRecursion (λ e. IsOther e.0 ms) (es ++ (k, t) ∷ [])
+pub others_more : (es : List Entry) (k : List ℕ) (d : Data) (ms : Members) (t : List ℕ) → AllByRecursion (λ e. IsOther e.0 (member k d ms)) es → IsOther k ms → AllByRecursion (λ e. IsOther e.0 ms) (es ++ (k, t) ∷ [])
 others_more [] k d ms t all one = (one, tt)
 others_more (e ∷ es) k d ms t all one = (all.0.1, others_more es k d ms t all.1 one)
 
@@ -86,7 +86,7 @@ unequal : (a b : List ℕ) (r : Bool) → bytes_eq a b ≡ r → b ≢ a → r �
 unequal a b false e other = refl
 unequal a b true e other = absurd (other (sym (same_text a b (sym e))))
 
-absent : (es : List Entry) (k : List ℕ) (d : Data) (ms : Members) → AllByRecursion (λ e. IsOther e.0 (member k d ms)) es → has_name k es ≡ false
+pub absent : (es : List Entry) (k : List ℕ) (d : Data) (ms : Members) → AllByRecursion (λ e. IsOther e.0 (member k d ms)) es → has_name k es ≡ false
 absent [] k d ms all = refl
 absent (e ∷ es) k d ms all = ap (λ b. b || has_name k es) (unequal k e.0 _ refl all.0.0) ∙ absent es k d ms all.1
 

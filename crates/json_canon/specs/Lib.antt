@@ -7,6 +7,7 @@ pub mod Members
 pub mod Outcomes
 pub mod Refused
 pub mod Serializers
+pub mod Spelling
 pub mod States
 pub mod Turns
 pub mod Units

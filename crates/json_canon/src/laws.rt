@@ -4,12 +4,13 @@ ghost use Rattle.std.specs.Cmp.{IsTotalOrder};
 ghost use Rattle.std.specs.Cmp.Lexicographic.{slice_cmp};
 ghost use Rattle.std.specs.Ordering.{nat_cmp};
 ghost use Rattle.std.specs.declared.cmp.Ordering.TheVariants.{Less, Greater};
-ghost use Rattle.json_canon.specs.Laws.{OneText, TiesEqualNames, dalet, grin};
+ghost use Rattle.json_canon.specs.Laws.{OneText, HasText, EventsWrite, HoldsFirst, HoldsNext, TiesEqualNames, dalet, grin};
 ghost use Rattle.json_canon.specs.Units.{by_units};
 
-/// A value has at most one canonical text.
+/// A value has at most one canonical text, and has one exactly where no number of it is refused.
 pub fn one_text()
-    ensures { OneText }
+    ensures one { OneText }
+    ensures has { HasText }
 {}
 
 /// Names are in one order, in which only equal names tie. It is not that of their bytes.
@@ -18,4 +19,12 @@ pub fn order_of_names()
     ensures ties { TiesEqualNames }
     ensures units { by_units dalet grin ≡ Greater }
     ensures bytes { slice_cmp nat_cmp dalet grin ≡ Less }
+{}
+
+/// The events of a value write its text, whatever order its members come in. A formatter holds what the
+/// events so far leave.
+pub fn events_write()
+    ensures values { EventsWrite }
+    ensures first { HoldsFirst }
+    ensures next { HoldsNext }
 {}

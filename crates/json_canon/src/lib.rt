@@ -27,7 +27,7 @@ pub use json_values::{
     TextSet, ToValue, copies2, copies3, copies4, copies5, copies6, copies7, put_all, read_json,
     write_quoted,
 };
-pub use laws::{one_text, order_of_names};
+pub use laws::{events_write, one_text, order_of_names};
 pub use property::JsonProperty;
 pub use serializer::JcsSerializer;
 pub use whole::{pipe, to_string, to_vec, to_writer};

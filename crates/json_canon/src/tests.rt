@@ -1,6 +1,6 @@
 use crate::{
     Annotations, Blob, CanonError, JcsSerializer, JsonProperty, List, MemorySink, PlainSink, Sink,
-    Text, one_text, order_of_names, pipe, to_string, to_vec, to_writer,
+    Text, events_write, one_text, order_of_names, pipe, to_string, to_vec, to_writer,
 };
 use serde_json::Value;
 use std::alloc::{AllocError, Global};
@@ -203,6 +203,7 @@ fn members_are_compared_by_their_sorting_keys(rt: HostRuntime) -> Result<(), Fai
     assert_eq!(rt; grin.partial_cmp(&dalet), Some(Ordering::Less));
     assert!(rt; grin == member(rt.alloc(), "\u{1f600}", b"3")?);
     assert!(rt; grin != dalet);
+    events_write();
     one_text();
     order_of_names();
     Ok(())
