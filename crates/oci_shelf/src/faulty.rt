@@ -5,9 +5,9 @@ ghost use Rattle.oci_shelf.specs.State.{is_among};
 
 use crate::served::Served;
 use crate::shelf::Shelf;
-use json_values::{Blob, List};
+use json_values::{Blob, Copied, List, copies5};
 use oci_link::{AnswerHead, Conversation, LinkError, Request, Transport};
-use std::alloc::Global;
+use std::alloc::{AllocError, Global};
 
 /// Answers as a `ShelfTransport`, but fails at the sends and at the calls for a piece whose numbers, counted from 0, it
 /// was given. Calls in which memory was wanting are not counted.
@@ -54,6 +54,26 @@ impl FaultyShelf {
         ensures { Some result.now ≡ (faulty_state_of self.now).told }
     {
         &self.served.told
+    }
+}
+
+impl Copied for FaultyShelf {
+    fn copy(&self, alloc: Global) -> Result<FaultyShelf, AllocError> {
+        let (served, sends, pieces, calls, faults) = copies5(
+            alloc,
+            &self.served,
+            &self.sends,
+            &self.pieces,
+            &self.calls,
+            &self.faults,
+        )?;
+        Ok(FaultyShelf {
+            served,
+            sends,
+            pieces,
+            calls,
+            faults,
+        })
     }
 }
 

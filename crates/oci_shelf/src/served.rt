@@ -4,7 +4,7 @@ ghost use Rattle.oci_shelf.specs.Leads.{redirects_lead};
 
 use crate::shelf::Shelf;
 use crate::table::answer;
-use json_values::{Blob, Copied, List};
+use json_values::{Blob, Copied, List, copies4};
 use oci_link::{AnswerHead, Conversation, Exchange, Request};
 use std::alloc::{AllocError, Global};
 
@@ -94,5 +94,23 @@ impl Served {
         let piece = Blob::new(alloc, left.split_at(count).0)?;
         self.given += count;
         Ok(piece)
+    }
+}
+
+impl Copied for Served {
+    fn copy(&self, alloc: Global) -> Result<Served, AllocError> {
+        let (shelf, told, body, given) = copies4(
+            alloc,
+            &self.shelf,
+            &self.told,
+            &self.body,
+            &self.given,
+        )?;
+        Ok(Served {
+            shelf,
+            told,
+            body,
+            given,
+        })
     }
 }

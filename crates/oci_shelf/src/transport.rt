@@ -4,9 +4,9 @@ ghost use Rattle.oci_shelf.specs.Leads.{redirects_lead};
 
 use crate::served::Served;
 use crate::shelf::Shelf;
-use json_values::Blob;
+use json_values::{Blob, Copied};
 use oci_link::{AnswerHead, Conversation, LinkError, Request, Transport};
-use std::alloc::Global;
+use std::alloc::{AllocError, Global};
 
 /// Answers by the table of its shelf, in pieces of at most 65536 bytes, tells all, and never fails.
 #[derive(Drop)]
@@ -35,6 +35,13 @@ impl ShelfTransport {
         ensures { Some result.now ≡ (state_of self.now).told }
     {
         &self.served.told
+    }
+}
+
+impl Copied for ShelfTransport {
+    fn copy(&self, alloc: Global) -> Result<ShelfTransport, AllocError> {
+        let served = self.served.copy(alloc)?;
+        Ok(ShelfTransport { served })
     }
 }
 
