@@ -46,7 +46,7 @@ or_else-none (Some x) = refl
 neither : (a b : Bool) → a ≡ false → b ≡ false → (a || b) ≡ false
 neither a b p q = ap (λ c. c || b) p ∙ q
 
-put_plain : (k : List ℕ) (d : Data) (ms : Members) → has_float d ≡ false → members_have_float ms ≡ false → members_have_float (put k d ms) ≡ false
+pub put_plain : (k : List ℕ) (d : Data) (ms : Members) → has_float d ≡ false → members_have_float ms ≡ false → members_have_float (put k d ms) ≡ false
 put_plain k d no_members p q = neither (has_float d) false p refl
 put_plain k d (member l e ms) p q =
     let parts = or_parts (has_float e) (members_have_float ms) q in

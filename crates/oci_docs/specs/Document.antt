@@ -9,8 +9,8 @@ use Rattle.oci_docs.specs.declared.manifest.OciImageManifest.{OciImageManifest}
 use Rattle.oci_docs.specs.declared.index.OciImageIndex.{OciImageIndex}
 use Rattle.oci_docs.specs.declared.document.OciManifest.{OciManifest}
 use Rattle.oci_docs.specs.declared.document.OciManifest.TheVariants.{Image, ImageIndex}
-use Rattle.oci_docs.specs.Manifest.{manifest_of}
-use Rattle.oci_docs.specs.Index.{index_of}
+use Rattle.oci_docs.specs.Manifest.{manifest_of, manifest_written}
+use Rattle.oci_docs.specs.Index.{index_of, index_written}
 
 -- the one that is there, and none where both or neither are
 abbrev pub one_of : Option OciImageManifest → Option OciImageIndex → Option OciManifest
@@ -38,3 +38,8 @@ ReadsManifest (Err e) d = RefusesManifest e d
 abbrev pub content_type_of : OciManifest → List ℕ
 content_type_of (Image manifest) = unwrap_or manifest.media_type OCI_IMAGE_MEDIA_TYPE.now
 content_type_of (ImageIndex index) = unwrap_or index.media_type IMAGE_MANIFEST_LIST_MEDIA_TYPE.now
+
+-- how the document is written
+abbrev pub document_written : OciManifest → Data
+document_written (Image manifest) = manifest_written manifest
+document_written (ImageIndex index) = index_written index

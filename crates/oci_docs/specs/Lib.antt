@@ -1,3 +1,4 @@
+pub mod Built
 pub mod Descriptor
 pub mod Document
 pub mod Envelope

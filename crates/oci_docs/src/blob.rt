@@ -3,6 +3,9 @@ ghost use Rattle.std.specs.Prelude.{◌≡◌, IfOk};
 ghost use Rattle.oci_digests.specs.Names.{digest_text};
 ghost use Rattle.oci_digests.specs.declared.digester.Algorithm.TheVariants.{Sha256};
 
+use crate::media_types::{
+    IMAGE_CONFIG_MEDIA_TYPE, IMAGE_LAYER_GZIP_MEDIA_TYPE, IMAGE_LAYER_MEDIA_TYPE,
+};
 use json_values::{Annotations, Blob, Copied, Text, copies3};
 use std::alloc::{AllocError, Global};
 
@@ -23,6 +26,32 @@ impl ImageLayer {
             media_type,
             annotations,
         }
+    }
+
+    /// A layer of OCI's plain type.
+    pub fn oci_v1(
+        alloc: Global,
+        content: Blob,
+        annotations: Option<Annotations>,
+    ) -> Result<ImageLayer, AllocError>
+        ensures { IfOk result (λ made. made
+            ≡ record { content = content; media_type = IMAGE_LAYER_MEDIA_TYPE.now; annotations = annotations }) }
+    {
+        let media_type = Text::new(alloc, IMAGE_LAYER_MEDIA_TYPE)?;
+        Ok(ImageLayer::new(content, media_type, annotations))
+    }
+
+    /// A layer of OCI's compressed type. The bytes are given compressed.
+    pub fn oci_v1_gzip(
+        alloc: Global,
+        content: Blob,
+        annotations: Option<Annotations>,
+    ) -> Result<ImageLayer, AllocError>
+        ensures { IfOk result (λ made. made
+            ≡ record { content = content; media_type = IMAGE_LAYER_GZIP_MEDIA_TYPE.now; annotations = annotations }) }
+    {
+        let media_type = Text::new(alloc, IMAGE_LAYER_GZIP_MEDIA_TYPE)?;
+        Ok(ImageLayer::new(content, media_type, annotations))
     }
 
     /// The SHA-256 text of the bytes.
@@ -66,6 +95,19 @@ impl Config {
             media_type,
             annotations,
         }
+    }
+
+    /// A configuration of OCI's type.
+    pub fn oci_v1(
+        alloc: Global,
+        content: Blob,
+        annotations: Option<Annotations>,
+    ) -> Result<Config, AllocError>
+        ensures { IfOk result (λ made. made
+            ≡ record { content = content; media_type = IMAGE_CONFIG_MEDIA_TYPE.now; annotations = annotations }) }
+    {
+        let media_type = Text::new(alloc, IMAGE_CONFIG_MEDIA_TYPE)?;
+        Ok(Config::new(content, media_type, annotations))
     }
 
     /// The SHA-256 text of the bytes.

@@ -1,4 +1,4 @@
-ghost use Rattle.std.specs.Prelude.{◌≡◌, unwrap_or};
+ghost use Rattle.std.specs.Prelude.{◌≡◌, unwrap_or, IfOk, Ok};
 ghost use Rattle.serde_json.specs.View.{view};
 ghost use Rattle.oci_docs.specs.Document.{ReadsManifest, content_type_of};
 
@@ -6,7 +6,7 @@ use crate::index::OciImageIndex;
 use crate::manifest::OciImageManifest;
 use crate::media_types::{IMAGE_MANIFEST_LIST_MEDIA_TYPE, OCI_IMAGE_MEDIA_TYPE};
 use json_tables::{ReadError, holds_float, read_or_none};
-use json_values::{Copied, Text};
+use json_values::{Copied, Text, ToValue};
 use serde_json::Value;
 use std::alloc::{AllocError, Global};
 
@@ -57,6 +57,30 @@ fn text_or<'a>(text: &'a Option<Text>, other: &'a str) -> &'a str
     match text {
         Some(text) => text.as_str(),
         None => other,
+    }
+}
+
+impl ToValue for OciManifest {
+    ghost use Rattle.oci_docs.specs.Document.{document_written};
+
+    ghost written = { document_written };
+
+    /// What it gives reads back as this document and as no other. None is not written.
+    #[tactic(auto, using(crate::proofs::Meanings::image_again, crate::proofs::Meanings::image_index_again))]
+    fn to_value(&self, alloc: Global) -> Result<Value, AllocError>
+        ensures exact { IfOk result (λ v. view v ≡ document_written self.now) }
+        ensures reads_back { IfOk result (λ v. ReadsManifest (Ok self.now) (view v)) }
+    {
+        match self {
+            OciManifest::Image(manifest) => {
+                let value = manifest.to_value(alloc)?;
+                Ok(value)
+            }
+            OciManifest::ImageIndex(index) => {
+                let value = index.to_value(alloc)?;
+                Ok(value)
+            }
+        }
     }
 }
 

@@ -1,8 +1,11 @@
-ghost use Rattle.std.specs.Prelude.{◌≡◌};
-ghost use Rattle.oci_docs.specs.ErrorCode.{known_code};
+ghost use Rattle.std.specs.Prelude.{◌≡◌, IfOk, Ok, false};
+ghost use Rattle.serde_json.specs.View.{view};
+ghost use Rattle.json_tables.specs.Outcomes.{ReadsDocument};
+ghost use Rattle.oci_docs.specs.ErrorCode.{known_code, code_text};
 
-use json_tables::{Member, ReadError, Reads, present};
-use json_values::{Copied, Text};
+use json_tables::{Member, ReadError, Reads, present, read_document};
+use json_values::{Copied, Text, ToValue};
+use json_writing::Writes;
 use serde_json::Value;
 use std::alloc::{AllocError, Global};
 
@@ -58,6 +61,44 @@ fn known_code(text: &str) -> Option<OciErrorCode>
     Some(code)
 }
 
+// The text of a code.
+#[tactic(auto, unfolding(crate::specs::ErrorCode::code_text))]
+fn code_text(code: &OciErrorCode) -> &str
+    ensures { result.now ≡ code_text code.now }
+{
+    match code {
+        OciErrorCode::BlobUnknown => "BLOB_UNKNOWN",
+        OciErrorCode::BlobUploadInvalid => "BLOB_UPLOAD_INVALID",
+        OciErrorCode::BlobUploadUnknown => "BLOB_UPLOAD_UNKNOWN",
+        OciErrorCode::DigestInvalid => "DIGEST_INVALID",
+        OciErrorCode::ManifestBlobUnknown => "MANIFEST_BLOB_UNKNOWN",
+        OciErrorCode::ManifestInvalid => "MANIFEST_INVALID",
+        OciErrorCode::ManifestUnknown => "MANIFEST_UNKNOWN",
+        OciErrorCode::ManifestUnverified => "MANIFEST_UNVERIFIED",
+        OciErrorCode::NameInvalid => "NAME_INVALID",
+        OciErrorCode::NameUnknown => "NAME_UNKNOWN",
+        OciErrorCode::NotFound => "NOT_FOUND",
+        OciErrorCode::SizeInvalid => "SIZE_INVALID",
+        OciErrorCode::TagInvalid => "TAG_INVALID",
+        OciErrorCode::Unauthorized => "UNAUTHORIZED",
+        OciErrorCode::Denied => "DENIED",
+        OciErrorCode::Unsupported => "UNSUPPORTED",
+        OciErrorCode::Toomanyrequests => "TOOMANYREQUESTS",
+        OciErrorCode::Other(text) => text.as_str(),
+    }
+}
+
+impl OciErrorCode {
+    ghost use Rattle.oci_docs.specs.ErrorCode.{code_of};
+
+    /// `Float` exactly where a float stands anywhere, else `Shape` exactly where the value is no text.
+    pub fn read(alloc: Global, value: &Value) -> Result<OciErrorCode, ReadError>
+        ensures { ReadsDocument result code_of (view value.now) }
+    {
+        read_document(alloc, value)
+    }
+}
+
 impl Reads for OciErrorCode {
     ghost use Rattle.oci_docs.specs.ErrorCode.{code_of};
 
@@ -83,6 +124,36 @@ impl Member for OciErrorCode {
 
     fn read_member(alloc: Global, member: Option<&Value>) -> Result<OciErrorCode, ReadError> {
         present(alloc, member)
+    }
+}
+
+impl Writes for OciErrorCode {
+    ghost use Rattle.oci_docs.specs.ErrorCode.{code_written, normal_code};
+
+    ghost written = { code_written };
+
+    ghost normal = { normal_code };
+
+    #[tactic(auto, unfolding(crate::specs::ErrorCode::code_written))]
+    fn write_value(&self, alloc: Global) -> Result<Value, AllocError> {
+        let text = String::from_str(alloc, code_text(self))?;
+        Ok(Value::String(text))
+    }
+}
+
+impl ToValue for OciErrorCode {
+    ghost use Rattle.oci_docs.specs.ErrorCode.{code_of, code_written, normal_code};
+
+    ghost written = { code_written };
+
+    /// What it gives reads back as the normal form: an `Other` whose text is one of the table is that code.
+    #[tactic(auto, using(json_writing::proofs::Whole::document_again))]
+    fn to_value(&self, alloc: Global) -> Result<Value, AllocError>
+        ensures exact { IfOk result (λ v. view v ≡ code_written self.now) }
+        ensures reads_back { IfOk result (λ v. ReadsDocument (Ok (normal_code self.now)) code_of (view v)) }
+    {
+        let value = self.write_value(alloc)?;
+        Ok(value)
     }
 }
 

@@ -4,6 +4,7 @@
 
 pub mod annotations;
 pub mod blob;
+mod build;
 mod descriptor;
 mod document;
 mod envelope;

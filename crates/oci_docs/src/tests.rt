@@ -1,8 +1,9 @@
+use crate::blob::Config;
 use crate::{
-    ImageLayer, OciEnvelope, OciErrorCode, OciImageManifest, OciManifest, ReadError,
-    is_manifest_media_type,
+    ImageLayer, OciDescriptor, OciEnvelope, OciError, OciErrorCode, OciImageManifest, OciManifest,
+    Platform, ReadError, is_manifest_media_type,
 };
-use json_values::{Blob, Text};
+use json_values::{Blob, Text, ToValue};
 use serde_json::Value;
 use std::alloc::Global;
 use std::test::Fail;
@@ -21,6 +22,17 @@ const MODULE: &str =
 
 const INDEX: &str =
     r#"{"schemaVersion":2,"manifests":[{"mediaType":"application/vnd.oci.image.manifest.v1+json","digest":"sha256:44136fa355b3678a1146ad16f7e8649e94fb4fc21fe77e8310c060f61caaff8a","size":7143,"platform":{"architecture":"arm","os":"linux","os.version":"1","os.features":["a"],"variant":"v7"}}],"annotations":{"a":"b"}}"#;
+
+// The examples of the OCI image specification, manifest.md and image-index.md.
+const EXAMPLE: &str =
+    r#"{"schemaVersion":2,"mediaType":"application/vnd.oci.image.manifest.v1+json","config":{"mediaType":"application/vnd.oci.image.config.v1+json","digest":"sha256:b5b2b2c507a0944348e0303114d8d93aaaa081732b86451d9bce1f432a537bc7","size":7023},"layers":[{"mediaType":"application/vnd.oci.image.layer.v1.tar+gzip","digest":"sha256:9834876dcfb05cb167a5c24953eba58c4ac89b1adf57f28f2f9d09af107ee8f0","size":32654},{"mediaType":"application/vnd.oci.image.layer.v1.tar+gzip","digest":"sha256:3c3a4604a545cdc127456d94e421cd355bca5b528f4a9c1905b15da2eb4a4c6b","size":16724},{"mediaType":"application/vnd.oci.image.layer.v1.tar+gzip","digest":"sha256:ec4b8955958665577945c89419d1af06b5f7636b4ac3da7f12184802ad867736","size":73109}],"subject":{"mediaType":"application/vnd.oci.image.manifest.v1+json","digest":"sha256:5b0bcabd1ed22e9fb1310cf6c2dec7cdef19f0ad69efa1f392e94a4333501270","size":7682},"annotations":{"com.example.key1":"value1","com.example.key2":"value2"}}"#;
+
+const EXAMPLE_INDEX: &str =
+    r#"{"schemaVersion":2,"mediaType":"application/vnd.oci.image.index.v1+json","manifests":[{"mediaType":"application/vnd.oci.image.manifest.v1+json","size":7143,"digest":"sha256:e692418e4cbaf90ca69d05a66403747baa33ee08806650b51fab815ad7fc331f","platform":{"architecture":"ppc64le","os":"linux"}},{"mediaType":"application/vnd.oci.image.manifest.v1+json","size":7682,"digest":"sha256:5b0bcabd1ed22e9fb1310cf6c2dec7cdef19f0ad69efa1f392e94a4333501270","platform":{"architecture":"amd64","os":"linux"}}],"annotations":{"com.example.key1":"value1","com.example.key2":"value2"}}"#;
+
+// The example of Docker's image manifest V2, schema 2.
+const DOCKER_LIST: &str =
+    r#"{"schemaVersion":2,"mediaType":"application/vnd.docker.distribution.manifest.list.v2+json","manifests":[{"mediaType":"application/vnd.docker.distribution.manifest.v2+json","digest":"sha256:e692418e4cbaf90ca69d05a66403747baa33ee08806650b51fab815ad7fc331f","size":7143,"platform":{"architecture":"ppc64le","os":"linux"}},{"mediaType":"application/vnd.docker.distribution.manifest.v2+json","digest":"sha256:5b0bcabd1ed22e9fb1310cf6c2dec7cdef19f0ad69efa1f392e94a4333501270","size":7682,"platform":{"architecture":"amd64","os":"linux","features":["sse4"]}}]}"#;
 
 fn image_in(alloc: Global, text: &str) -> Result<OciImageManifest, Fail> {
     let value = Value::from_str(alloc, text)?;
@@ -64,7 +76,10 @@ fn a_document_has_one_meaning(rt: HostRuntime) -> Result<(), Fail> {
     for (text, want) in [
         (IMAGE, Ok(true)),
         (SIGNATURE, Ok(true)),
+        (EXAMPLE, Ok(true)),
         (INDEX, Ok(false)),
+        (EXAMPLE_INDEX, Ok(false)),
+        (DOCKER_LIST, Ok(false)),
         (r#"{"schemaVersion":2.5}"#, Err(ReadError::Float)),
         ("[]", Err(ReadError::Shape)),
         (
@@ -78,6 +93,102 @@ fn a_document_has_one_meaning(rt: HostRuntime) -> Result<(), Fail> {
     ] {
         assert_eq!(rt; is_image(rt.alloc(), text)?, want, "at {text}");
     }
+    Ok(())
+}
+
+#[test]
+fn a_document_is_written_as_it_was_read(rt: HostRuntime) -> Result<(), Fail> {
+    for text in [
+        IMAGE,
+        SIGNATURE,
+        MODULE,
+        INDEX,
+        EXAMPLE,
+        EXAMPLE_INDEX,
+        DOCKER_LIST,
+    ] {
+        let value = Value::from_str(rt.alloc(), text)?;
+        let written = OciManifest::read(rt.alloc(), &value)?.to_value(rt.alloc())?;
+        assert_eq!(rt;
+            written.to_string(rt.alloc())?.as_str(),
+            value.to_string(rt.alloc())?.as_str()
+        );
+    }
+    Ok(())
+}
+
+#[test]
+fn parts_of_documents_are_written(rt: HostRuntime) -> Result<(), Fail> {
+    let text =
+        r#"{"architecture":"arm","features":[],"os":"linux","os.features":["a"],"os.version":"1","variant":"v7"}"#;
+    let value = Value::from_str(rt.alloc(), text)?;
+    let written = Platform::read(rt.alloc(), &value)?.to_value(rt.alloc())?;
+    assert_eq!(rt; written.to_string(rt.alloc())?.as_str(), text);
+    let default = OciDescriptor::default(rt.alloc())?.to_value(rt.alloc())?;
+    assert_eq!(rt;
+        default.to_string(rt.alloc())?.as_str(),
+        r#"{"digest":"","mediaType":"application/vnd.oci.image.config.v1+json","size":0}"#
+    );
+    Ok(())
+}
+
+#[test]
+fn errors_are_written_with_all_members(rt: HostRuntime) -> Result<(), Fail> {
+    for (text, want) in [
+        (
+            r#"{"code":"ARTIFACT_LOCKED","message":"artifact is locked"}"#,
+            r#"{"code":"ARTIFACT_LOCKED","detail":null,"message":"artifact is locked"}"#,
+        ),
+        (
+            r#"{"code":"TOOMANYREQUESTS","detail":[1]}"#,
+            r#"{"code":"TOOMANYREQUESTS","detail":[1],"message":""}"#,
+        ),
+    ] {
+        let value = Value::from_str(rt.alloc(), text)?;
+        let error = OciError::read(rt.alloc(), &value)?.to_value(rt.alloc())?;
+        assert_eq!(rt; error.to_string(rt.alloc())?.as_str(), want);
+    }
+    let text = r#"{"errors":[{"code":"DENIED","detail":null,"message":""}]}"#;
+    let envelope = envelope_in(rt.alloc(), text)?.to_value(rt.alloc())?;
+    assert_eq!(rt; envelope.to_string(rt.alloc())?.as_str(), text);
+    Ok(())
+}
+
+#[test]
+fn a_known_code_reads_back_as_itself(rt: HostRuntime) -> Result<(), Fail> {
+    let code = OciErrorCode::Other(Text::new(rt.alloc(), "DENIED")?);
+    let again = OciErrorCode::read(rt.alloc(), &code.to_value(rt.alloc())?)?;
+    assert!(rt; matches!(again, OciErrorCode::Denied));
+    Ok(())
+}
+
+#[test]
+fn a_manifest_is_built_of_its_parts(rt: HostRuntime) -> Result<(), Fail> {
+    let layer = ImageLayer::oci_v1(rt.alloc(), Blob::new(rt.alloc(), b"hello world")?, None)?;
+    let config = Config::oci_v1(rt.alloc(), Blob::new(rt.alloc(), b"{}")?, None)?;
+    let mut manifest = OciImageManifest::build(rt.alloc(), &[layer], &config, None)?;
+    manifest.media_type = Some(Text::new(
+        rt.alloc(),
+        "application/vnd.oci.image.manifest.v1+json",
+    )?);
+    let value = Value::from_str(rt.alloc(), IMAGE)?;
+    assert_eq!(rt;
+        manifest
+            .to_value(rt.alloc())?
+            .to_string(rt.alloc())?
+            .as_str(),
+        value.to_string(rt.alloc())?.as_str()
+    );
+    assert_eq!(rt;
+        config.sha256_digest(rt.alloc())?.as_str(),
+        "sha256:44136fa355b3678a1146ad16f7e8649e94fb4fc21fe77e8310c060f61caaff8a"
+    );
+    assert_eq!(rt; OciImageManifest::default(rt.alloc())?.schema_version, 2);
+    let zipped = ImageLayer::oci_v1_gzip(rt.alloc(), Blob::empty(rt.alloc()), None)?;
+    assert_eq!(rt;
+        zipped.media_type.as_str(),
+        "application/vnd.oci.image.layer.v1.tar+gzip"
+    );
     Ok(())
 }
 
