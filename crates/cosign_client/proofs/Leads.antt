@@ -1,6 +1,6 @@
 -- What a loop over calls knows of its row.
 use Rattle.std.proofs.Common.{Result}
-use Rattle.oci_link.specs.Link.{Link}
+use Rattle.oci_transport.specs.Link.{Link}
 use Rattle.engine_requests.specs.declared.settings.Settings.{Settings}
 use Rattle.sig_registry.specs.declared.error.SigstoreError.{SigstoreError}
 use Rattle.sig_registry.specs.Errors.{is_memory}

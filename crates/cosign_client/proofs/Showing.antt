@@ -12,10 +12,10 @@ use Rattle.oci_digests.specs.Parts.{named_algorithm}
 use Rattle.oci_digests.specs.declared.digester.Algorithm.{Algorithm}
 use Rattle.oci_digests.specs.declared.error.DigestError.{DigestError}
 use Rattle.oci_digests.specs.declared.error.DigestError.TheVariants as digest_refusal
-use Rattle.oci_docs.specs.declared.manifest.OciImageManifest.{OciImageManifest}
-use Rattle.oci_docs.specs.declared.descriptor.OciDescriptor.{OciDescriptor}
-use Rattle.oci_docs.specs.declared.blob.ImageLayer.{ImageLayer}
-use Rattle.oci_link.specs.declared.message.Exchange.{Exchange}
+use Rattle.oci_manifests.specs.declared.manifest.OciImageManifest.{OciImageManifest}
+use Rattle.oci_manifests.specs.declared.descriptor.OciDescriptor.{OciDescriptor}
+use Rattle.oci_manifests.specs.declared.blob.ImageLayer.{ImageLayer}
+use Rattle.oci_transport.specs.declared.message.Exchange.{Exchange}
 use Rattle.oci_protocol.specs.Proto.{Done, ◌>>=◌}
 use Rattle.oci_protocol.specs.Shows.{Shows, WhereOk}
 use Rattle.oci_protocol.proofs.Showing.{Shows-done, Shows-more, Shows-bind, Shows-next, Shows-step}

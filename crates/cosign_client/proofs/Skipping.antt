@@ -1,6 +1,6 @@
 -- Want of memory is no cause.
 use Rattle.std.proofs.Common.{◌≡◌, true, Err, refl}
-use Rattle.oci_docs.specs.declared.document.OciManifest.{OciManifest}
+use Rattle.oci_manifests.specs.declared.document.OciManifest.{OciManifest}
 use Rattle.sig_registry.specs.declared.error.SigstoreError.{SigstoreError}
 use Rattle.sig_registry.specs.Errors.{is_memory}
 use Rattle.cosign_client.specs.declared.found.TrustedLayers.{TrustedLayers}

@@ -6,16 +6,16 @@ use Rattle.std.specs.Prelude.{unwrap_or}
 use Rattle.oci_names.specs.declared.reference.Reference.{Reference}
 use Rattle.oci_names.specs.References.{reads_back}
 use Rattle.oci_auth.specs.declared.auth.RegistryAuth.{RegistryAuth}
-use Rattle.oci_docs.specs.declared.document.OciManifest.{OciManifest}
-use Rattle.oci_docs.specs.declared.document.OciManifest.TheVariants.{Image, ImageIndex}
-use Rattle.oci_docs.specs.declared.descriptor.OciDescriptor.{OciDescriptor}
-use Rattle.oci_docs.specs.declared.blob.ImageLayer.{ImageLayer}
-use Rattle.oci_link.specs.declared.message.Exchange.{Exchange}
-use Rattle.oci_link.specs.declared.message.Method.{Method}
+use Rattle.oci_manifests.specs.declared.document.OciManifest.{OciManifest}
+use Rattle.oci_manifests.specs.declared.document.OciManifest.TheVariants.{Image, ImageIndex}
+use Rattle.oci_manifests.specs.declared.descriptor.OciDescriptor.{OciDescriptor}
+use Rattle.oci_manifests.specs.declared.blob.ImageLayer.{ImageLayer}
+use Rattle.oci_transport.specs.declared.message.Exchange.{Exchange}
+use Rattle.oci_transport.specs.declared.message.Method.{Method}
 use Rattle.oci_protocol.specs.Proto.{Proto, Done, ◌>>◌}
 use Rattle.oci_protocol.specs.Shows.{Shows}
 use Rattle.oci_protocol.specs.Ends.{Ends, OnAnswer}
-use Rattle.oci_link.specs.Link.{Link}
+use Rattle.oci_transport.specs.Link.{Link}
 use Rattle.oci_protocol.specs.Runs.{Meets, Told}
 use Rattle.oci_protocol.proofs.Ends.{Ends-any, Ends-bind, Runs-ends}
 use Rattle.oci_protocol.proofs.Showing.{Shows-done, Shows-more, Shows-bind, Meets-shows-ok}

@@ -7,10 +7,10 @@ use Rattle.json_values.specs.Places.{by_bytes}
 use Rattle.oci_names.specs.declared.reference.Reference.{Reference}
 use Rattle.oci_names.specs.References.{digest_of}
 use Rattle.oci_digests.specs.Names.{names}
-use Rattle.oci_docs.specs.declared.manifest.OciImageManifest.{OciImageManifest}
-use Rattle.oci_docs.specs.declared.descriptor.OciDescriptor.{OciDescriptor}
-use Rattle.oci_docs.specs.declared.blob.ImageLayer.{ImageLayer}
-use Rattle.oci_docs.specs.declared.blob.Config.{Config}
+use Rattle.oci_manifests.specs.declared.manifest.OciImageManifest.{OciImageManifest}
+use Rattle.oci_manifests.specs.declared.descriptor.OciDescriptor.{OciDescriptor}
+use Rattle.oci_manifests.specs.declared.blob.ImageLayer.{ImageLayer}
+use Rattle.oci_manifests.specs.declared.blob.Config.{Config}
 use Rattle.cosign_client.specs.declared.verified.VerifiedImage.{VerifiedImage}
 
 -- a digest, where there is one, names the bytes

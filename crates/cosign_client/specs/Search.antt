@@ -6,10 +6,10 @@ use Rattle.oci_names.specs.declared.reference.Reference.{Reference}
 use Rattle.oci_names.specs.References.{registry_of, repository_of, whole_text, reads_back}
 use Rattle.oci_auth.specs.declared.auth.RegistryAuth.{RegistryAuth}
 use Rattle.oci_digests.specs.Names.{names}
-use Rattle.oci_docs.specs.declared.document.OciManifest.{OciManifest}
-use Rattle.oci_docs.specs.declared.document.OciManifest.TheVariants.{Image, ImageIndex}
-use Rattle.oci_docs.specs.declared.descriptor.OciDescriptor.{OciDescriptor}
-use Rattle.oci_docs.specs.declared.blob.ImageLayer.{ImageLayer}
+use Rattle.oci_manifests.specs.declared.document.OciManifest.{OciManifest}
+use Rattle.oci_manifests.specs.declared.document.OciManifest.TheVariants.{Image, ImageIndex}
+use Rattle.oci_manifests.specs.declared.descriptor.OciDescriptor.{OciDescriptor}
+use Rattle.oci_manifests.specs.declared.blob.ImageLayer.{ImageLayer}
 use Rattle.oci_protocol.specs.Proto.{Done, bind, ◌>>=◌, ◌>>◌}
 use Rattle.engine_requests.specs.declared.settings.Settings.{Settings}
 use Rattle.engine_pull.specs.declared.image.ImageData.{ImageData}

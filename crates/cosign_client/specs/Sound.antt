@@ -1,8 +1,8 @@
 -- What an image that was pulled has to do with the policy and with what registries answered.
 use Rattle.std.specs.Prelude.{ℕ, List, [], ◌∷◌}
 use Rattle.oci_names.specs.declared.reference.Reference.{Reference}
-use Rattle.oci_link.specs.declared.message.Exchange.{Exchange}
-use Rattle.oci_docs.specs.declared.blob.ImageLayer.{ImageLayer}
+use Rattle.oci_transport.specs.declared.message.Exchange.{Exchange}
+use Rattle.oci_manifests.specs.declared.blob.ImageLayer.{ImageLayer}
 use Rattle.engine_requests.specs.declared.settings.Settings.{Settings}
 use Rattle.oci_engine.specs.Answered.{Answered, Body}
 use Rattle.cosign_layers.specs.Standing.{Meaning}

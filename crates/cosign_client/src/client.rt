@@ -25,7 +25,7 @@ use crate::standing::pull_verified;
 use crate::verified::{PullRefusal, VerifiedImage};
 use cosign_layers::{Offline, PullPolicy, SignatureVerifier};
 use json_values::Text;
-use oci_link::Transport;
+use oci_transport::Transport;
 use sig_registry::{Auth, OciClient, OciReference, SigstoreError};
 use std::alloc::Global;
 

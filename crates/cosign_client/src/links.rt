@@ -8,8 +8,8 @@ ghost use Rattle.cosign_client.specs.LinkTests.{named_by, same_annotations, has_
 use crate::verified::VerifiedImage;
 use json_values::{Annotations, Text};
 use oci_digests::names_digest;
-use oci_docs::blob::Config;
-use oci_docs::{ImageLayer, OciDescriptor, OciImageManifest};
+use oci_manifests::blob::Config;
+use oci_manifests::{ImageLayer, OciDescriptor, OciImageManifest};
 use oci_names::Reference;
 
 /// Whether the parts of an image hang together by their digests, without a look into any document: no JSON is read, no

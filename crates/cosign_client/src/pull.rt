@@ -13,14 +13,14 @@ use engine_requests::read_document;
 use json_values::{Blob, Copied, List, Text};
 use oci_auth::RegistryAuth;
 use oci_digests::{DigestError, validate_digest};
-use oci_docs::blob::Config;
-use oci_docs::{
+use oci_engine::OciDistributionError;
+use oci_manifests::blob::Config;
+use oci_manifests::{
     IMAGE_MANIFEST_LIST_MEDIA_TYPE, IMAGE_MANIFEST_MEDIA_TYPE, ImageLayer,
     OCI_IMAGE_INDEX_MEDIA_TYPE, OCI_IMAGE_MEDIA_TYPE, OciDescriptor, OciImageManifest,
 };
-use oci_engine::OciDistributionError;
-use oci_link::Transport;
 use oci_names::Reference;
+use oci_transport::Transport;
 use sig_registry::{Called, ClientCapabilities, SigstoreError, worded};
 use std::alloc::{AllocError, Global};
 

@@ -11,10 +11,10 @@ use cosign_layers::{LayerRejection, SignatureLayer, read_payload_layer};
 use json_values::{Annotations, Copied, List, Text};
 use oci_auth::RegistryAuth;
 use oci_digests::names_digest;
-use oci_docs::{ImageLayer, OciDescriptor, OciManifest};
 use oci_engine::ImageData;
-use oci_link::Transport;
+use oci_manifests::{ImageLayer, OciDescriptor, OciManifest};
 use oci_names::Reference;
+use oci_transport::Transport;
 use sig_registry::{ClientCapabilities, SigstoreError};
 use std::alloc::{AllocError, Global};
 

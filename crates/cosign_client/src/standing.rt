@@ -16,8 +16,8 @@ use crate::verified::{PullRefusal, VerifiedImage};
 use cosign_layers::{PullPolicy, SignatureLayer, SignatureVerifier, first_standing};
 use json_values::{Copied, Text};
 use oci_auth::RegistryAuth;
-use oci_link::Transport;
 use oci_names::Reference;
+use oci_transport::Transport;
 use sig_registry::{Auth, ClientCapabilities};
 use std::alloc::{AllocError, Global};
 

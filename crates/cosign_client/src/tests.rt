@@ -1,5 +1,5 @@
 ghost use Rattle.std.specs.Prelude.{IfOk};
-ghost use Rattle.oci_link.specs.Pieces.{NoneEmpty};
+ghost use Rattle.oci_transport.specs.Pieces.{NoneEmpty};
 
 use crate::{Client, PullRefusal, TrustedLayers, VerifiedImage, check_links};
 use cosign_layers::{
@@ -7,8 +7,8 @@ use cosign_layers::{
 };
 use json_values::{Annotations, Blob, List, Text};
 use oci_engine::ClientConfig;
-use oci_link::{HeaderError, Headers, Recorded, Script, Transport};
 use oci_names::Reference;
+use oci_transport::{HeaderError, Headers, Recorded, Script, Transport};
 use sig_registry::{Auth, OciClient, OciReference};
 use std::alloc::{AllocError, Global};
 use std::test::Fail;

@@ -2,9 +2,9 @@
 use crate::found::Skipped;
 use cosign_layers::SignatureLayer;
 use json_values::{Blob, List, Text};
-use oci_docs::blob::Config;
-use oci_docs::{ImageLayer, OciImageManifest};
 use oci_engine::OciDistributionError;
+use oci_manifests::blob::Config;
+use oci_manifests::{ImageLayer, OciImageManifest};
 use sig_registry::SigstoreError;
 use std::alloc::{AllocError, AllocFailed};
 

@@ -6,10 +6,10 @@ use Rattle.std.proofs.lemmas.Result.{err_from_is_err_and}
 use Rattle.std.specs.FinMap as map
 use Rattle.url.specs.Parts.{Parts, serialize}
 use Rattle.json_values.specs.Tray.{Tray}
-use Rattle.oci_link.specs.Link.{Link}
-use Rattle.oci_link.specs.Urls.{request_url}
-use Rattle.oci_link.specs.Headers.{Fields, added, held, is_header_value}
-use Rattle.oci_link.specs.declared.message.Method.{Method}
+use Rattle.oci_transport.specs.Link.{Link}
+use Rattle.oci_transport.specs.Urls.{request_url}
+use Rattle.oci_transport.specs.Headers.{Fields, added, held, is_header_value}
+use Rattle.oci_transport.specs.declared.message.Method.{Method}
 use Rattle.oci_names.specs.declared.reference.Reference.{Reference}
 use Rattle.oci_names.specs.References.{resolved_registry}
 use Rattle.oci_auth.specs.declared.auth.RegistryAuth.{RegistryAuth}

@@ -6,17 +6,17 @@ use Rattle.std.specs.Result.{IsErrAnd}
 use Rattle.std.proofs.lemmas.Result.{err_from_is_err_and}
 use Rattle.json_values.specs.Counts.{Rose}
 use Rattle.json_values.specs.JsonText.{json_of}
-use Rattle.oci_docs.specs.Types.{is_manifest_type}
-use Rattle.oci_docs.specs.Document.{document_of}
-use Rattle.oci_docs.specs.declared.versioned.Versioned.{Versioned}
-use Rattle.oci_docs.specs.declared.document.OciManifest.{OciManifest}
-use Rattle.oci_docs.specs.declared.envelope.OciEnvelope.{OciEnvelope}
-use Rattle.oci_link.specs.Link.{Link}
-use Rattle.oci_link.specs.declared.message.Request.{Request}
-use Rattle.oci_link.specs.declared.message.Answer.{Answer}
-use Rattle.oci_link.specs.declared.message.AnswerHead.{AnswerHead}
-use Rattle.oci_link.specs.declared.message.Exchange.{Exchange}
-use Rattle.oci_link.specs.declared.message.Method.TheVariants.{Get}
+use Rattle.oci_manifests.specs.Types.{is_manifest_type}
+use Rattle.oci_manifests.specs.Document.{document_of}
+use Rattle.oci_manifests.specs.declared.versioned.Versioned.{Versioned}
+use Rattle.oci_manifests.specs.declared.document.OciManifest.{OciManifest}
+use Rattle.oci_manifests.specs.declared.envelope.OciEnvelope.{OciEnvelope}
+use Rattle.oci_transport.specs.Link.{Link}
+use Rattle.oci_transport.specs.declared.message.Request.{Request}
+use Rattle.oci_transport.specs.declared.message.Answer.{Answer}
+use Rattle.oci_transport.specs.declared.message.AnswerHead.{AnswerHead}
+use Rattle.oci_transport.specs.declared.message.Exchange.{Exchange}
+use Rattle.oci_transport.specs.declared.message.Method.TheVariants.{Get}
 use Rattle.oci_names.specs.declared.reference.Reference.{Reference}
 use Rattle.oci_auth.specs.declared.auth.RegistryAuth.{RegistryAuth}
 use Rattle.oci_auth.specs.declared.memory.Memory.{Memory}
@@ -39,9 +39,9 @@ use Rattle.engine_requests.specs.Requests.{manifest_types}
 use Rattle.engine_steps.specs.Rows.{Row, store, whole, whole_reply, prepared}
 use Rattle.engine_pull.specs.Pulls.{document, pull_manifest_raw, pull_manifest}
 use Rattle.engine_pull.specs.Images.{image_manifest, is_accepted, all_accepted, layers_accepted}
-use Rattle.oci_docs.specs.declared.descriptor.OciDescriptor.{OciDescriptor}
-use Rattle.oci_docs.specs.declared.document.OciManifest.TheVariants.{Image, ImageIndex}
-use Rattle.oci_docs.specs.declared.manifest.OciImageManifest.{OciImageManifest}
+use Rattle.oci_manifests.specs.declared.descriptor.OciDescriptor.{OciDescriptor}
+use Rattle.oci_manifests.specs.declared.document.OciManifest.TheVariants.{Image, ImageIndex}
+use Rattle.oci_manifests.specs.declared.manifest.OciImageManifest.{OciImageManifest}
 use Rattle.engine_pull.proofs.NoSink.{Calm, read_calm, into_calm, done_calm, prepared_calm}
 
 -- ---- rows

@@ -1,6 +1,6 @@
 -- Credentials that are stored.
 use Rattle.std.proofs.Common.{◌≡◌, ℕ, List, Ok}
-use Rattle.oci_link.specs.Link.{Link}
+use Rattle.oci_transport.specs.Link.{Link}
 use Rattle.oci_auth.specs.declared.auth.RegistryAuth.{RegistryAuth}
 use Rattle.oci_auth.specs.declared.memory.Memory.{Memory}
 use Rattle.oci_auth.specs.Memory.{stored}

@@ -2,11 +2,11 @@
 -- (OCI distribution specification, "Pull").
 use Rattle.std.specs.Prelude.{ℕ, List, Ok}
 use Rattle.url.specs.Parts.{Parts}
-use Rattle.oci_link.specs.declared.message.Method.TheVariants.{Get, Head}
+use Rattle.oci_transport.specs.declared.message.Method.TheVariants.{Get, Head}
 use Rattle.oci_names.specs.declared.reference.Reference.{Reference}
 use Rattle.oci_names.specs.References.{digest_of}
 use Rattle.oci_auth.specs.declared.auth.RegistryAuth.{RegistryAuth}
-use Rattle.oci_docs.specs.declared.document.OciManifest.{OciManifest}
+use Rattle.oci_manifests.specs.declared.document.OciManifest.{OciManifest}
 use Rattle.oci_protocol.specs.Proto.{Done, ◌>>=◌, ◌>>◌}
 use Rattle.engine_requests.specs.declared.settings.Settings.{Settings}
 use Rattle.engine_requests.specs.Addresses.{manifest_text, blob_text, url_read}

@@ -12,9 +12,9 @@ use engine_requests::{
 use engine_steps::{Named, named_after, prepared, whole};
 use json_values::{Blob, Text};
 use oci_auth::{Memory, RegistryAuth, store};
-use oci_docs::OciManifest;
-use oci_link::{Method, Transport};
+use oci_manifests::OciManifest;
 use oci_names::Reference;
+use oci_transport::{Method, Transport};
 use std::alloc::Global;
 use url::Url;
 

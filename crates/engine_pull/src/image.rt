@@ -10,10 +10,10 @@ use crate::piped::pulled_blob;
 use engine_requests::{OciDistributionError, Settings};
 use json_values::{Blob, Copied, List, Text, copies2};
 use oci_auth::{Memory, RegistryAuth};
-use oci_docs::blob::Config;
-use oci_docs::{ImageLayer, OciDescriptor, OciImageManifest, OciManifest};
-use oci_link::Transport;
+use oci_manifests::blob::Config;
+use oci_manifests::{ImageLayer, OciDescriptor, OciImageManifest, OciManifest};
 use oci_names::Reference;
+use oci_transport::Transport;
 use std::alloc::{AllocError, Global};
 
 /// What a pull of an image answers.

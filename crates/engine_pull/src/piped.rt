@@ -10,8 +10,8 @@ use engine_requests::{MANIFEST_TYPES, OciDistributionError, Settings, blob_url};
 use engine_steps::{attempt, prepared};
 use json_values::{Blob, PlainSink, Sink};
 use oci_auth::Memory;
-use oci_link::{Method, Transport};
 use oci_names::Reference;
+use oci_transport::{Method, Transport};
 use std::alloc::Global;
 
 /// Puts the bytes of a blob, piece by piece as they come. After a refusal the sink has taken a front of the

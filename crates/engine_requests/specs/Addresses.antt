@@ -1,7 +1,7 @@
 -- The URLs of requests (OCI distribution specification, "Endpoints").
 use Rattle.std.specs.Prelude.{ℕ, Bool, true, false, List, [], ◌∷◌, ◌++◌, Option, Some, None, Result, Ok, Err, codes, bytes_eq, if◌then◌else◌}
 use Rattle.url.specs.Parts.{Parts}
-use Rattle.oci_link.specs.Urls.{request_url}
+use Rattle.oci_transport.specs.Urls.{request_url}
 use Rattle.oci_names.specs.declared.reference.Reference.{Reference}
 use Rattle.oci_names.specs.References.{repository_of, tag_of, digest_of, namespace_of, resolved_registry}
 use Rattle.engine_requests.specs.declared.settings.ClientProtocol.{ClientProtocol}

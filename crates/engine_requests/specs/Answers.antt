@@ -5,12 +5,12 @@ use Rattle.oci_digests.specs.Checks.{header_digest as digest_in, validated}
 use Rattle.oci_digests.specs.Parts.{parts_of}
 use Rattle.oci_digests.specs.declared.error.DigestError.{DigestError}
 use Rattle.oci_digests.specs.declared.error.DigestError.TheVariants as digest_refusal
-use Rattle.oci_docs.specs.Envelope.{envelope_of}
-use Rattle.oci_docs.specs.declared.envelope.OciEnvelope.{OciEnvelope}
+use Rattle.oci_manifests.specs.Envelope.{envelope_of}
+use Rattle.oci_manifests.specs.declared.envelope.OciEnvelope.{OciEnvelope}
 use Rattle.oci_names.specs.declared.reference.Reference.{Reference}
 use Rattle.oci_names.specs.References.{digest_of}
-use Rattle.oci_link.specs.Headers.{Fields, first_of}
-use Rattle.oci_link.specs.declared.message.Answer.{Answer}
+use Rattle.oci_transport.specs.Headers.{Fields, first_of}
+use Rattle.oci_transport.specs.declared.message.Answer.{Answer}
 use Rattle.engine_requests.specs.declared.answers.Got.{Got}
 use Rattle.engine_requests.specs.declared.error.SpecViolation.TheVariants.{Status}
 use Rattle.engine_requests.specs.declared.error.OciDistributionError.{OciDistributionError}

@@ -3,11 +3,11 @@ use Rattle.std.specs.Prelude.{ℕ, Bool, true, false, List, Option, Some, None, 
 use Rattle.oci_digests.specs.Names.{digest_text}
 use Rattle.oci_digests.specs.Checks.{header_digest as digest_in, and_then}
 use Rattle.oci_digests.specs.Parts.{named_algorithm}
-use Rattle.oci_link.specs.Headers.{first_of}
+use Rattle.oci_transport.specs.Headers.{first_of}
 use Rattle.oci_digests.specs.declared.digester.Algorithm.{Algorithm}
 use Rattle.oci_digests.specs.declared.error.DigestError.{DigestError}
 use Rattle.oci_digests.specs.declared.error.DigestError.TheVariants.{VerificationError}
-use Rattle.oci_link.specs.declared.message.AnswerHead.{AnswerHead}
+use Rattle.oci_transport.specs.declared.message.AnswerHead.{AnswerHead}
 use Rattle.engine_requests.specs.declared.blobs.Expected.{Expected}
 use Rattle.engine_requests.specs.declared.blobs.Plan.{Plan}
 use Rattle.engine_requests.specs.declared.blobs.Plan.TheVariants.{Refuse, Judge, Pour}

@@ -3,13 +3,13 @@ use Rattle.std.specs.Prelude.{ℕ, pos, Bool, true, false, List, Option, Some, N
 use Rattle.std.specs.Ordering.{int_eq}
 use Rattle.serde_json.specs.Data.{Data}
 use Rattle.json_values.specs.JsonText.{json_of, is_plain}
-use Rattle.oci_docs.specs.Types.{is_manifest_type}
-use Rattle.oci_docs.specs.Versioned.{versioned_of}
-use Rattle.oci_docs.specs.Manifest.{manifest_of}
-use Rattle.oci_docs.specs.Index.{index_of}
-use Rattle.oci_docs.specs.Document.{document_of}
-use Rattle.oci_docs.specs.declared.versioned.Versioned.{Versioned}
-use Rattle.oci_docs.specs.declared.document.OciManifest.{OciManifest}
+use Rattle.oci_manifests.specs.Types.{is_manifest_type}
+use Rattle.oci_manifests.specs.Versioned.{versioned_of}
+use Rattle.oci_manifests.specs.Manifest.{manifest_of}
+use Rattle.oci_manifests.specs.Index.{index_of}
+use Rattle.oci_manifests.specs.Document.{document_of}
+use Rattle.oci_manifests.specs.declared.versioned.Versioned.{Versioned}
+use Rattle.oci_manifests.specs.declared.document.OciManifest.{OciManifest}
 use Rattle.engine_requests.specs.declared.error.OciDistributionError.{OciDistributionError}
 use Rattle.engine_requests.specs.declared.error.OciDistributionError.TheVariants as refusal
 use Rattle.engine_requests.specs.Errors.{◌>>◌}

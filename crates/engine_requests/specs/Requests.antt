@@ -1,10 +1,10 @@
 -- What a request carries (OCI distribution specification, "Pull").
 use Rattle.std.specs.Prelude.{ℕ, flat_map, List, [], ◌∷◌, ◌++◌, Option, Some, None, Result, Ok, Err, codes, nat_lt, ◌&&◌, if◌then◌else◌}
 use Rattle.url.specs.Parts.{Parts, serialize}
-use Rattle.oci_link.specs.Headers.{Fields, added, held, is_header_value}
+use Rattle.oci_transport.specs.Headers.{Fields, added, held, is_header_value}
 use Rattle.std.specs.FinMap as map
-use Rattle.oci_link.specs.declared.message.Request.{Request}
-use Rattle.oci_link.specs.declared.message.Method.{Method}
+use Rattle.oci_transport.specs.declared.message.Request.{Request}
+use Rattle.oci_transport.specs.declared.message.Method.{Method}
 use Rattle.engine_requests.specs.declared.settings.Settings.{Settings}
 use Rattle.engine_requests.specs.declared.error.GenericCause.TheVariants.{HeaderText}
 use Rattle.engine_requests.specs.declared.error.OciDistributionError.{OciDistributionError}

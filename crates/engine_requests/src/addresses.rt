@@ -6,8 +6,8 @@ ghost use Rattle.oci_names.specs.References.{tag_of, digest_of, namespace_of};
 
 use crate::{OciDistributionError, Settings};
 use json_values::Text;
-use oci_link::{UrlError, request_url};
 use oci_names::Reference;
+use oci_transport::{UrlError, request_url};
 use std::alloc::{AllocError, Global};
 use url::Url;
 

@@ -2,7 +2,7 @@
 ghost use Rattle.std.specs.Prelude.{◌≡◌, IfOk, Result, Some, option_copied, codes};
 ghost use Rattle.oci_digests.specs.Checks.{Says as DigestSays, header_digest as digest_in};
 ghost use Rattle.oci_digests.specs.declared.error.DigestError.{DigestError};
-ghost use Rattle.oci_link.specs.Headers.{first_of};
+ghost use Rattle.oci_transport.specs.Headers.{first_of};
 ghost use Rattle.oci_digests.specs.Parts.{parts_of};
 ghost use Rattle.oci_names.specs.References.{digest_of};
 ghost use Rattle.engine_requests.specs.Errors.{Says, SaysError};
@@ -11,9 +11,9 @@ ghost use Rattle.engine_requests.specs.Answers.{is_success, is_client_error, env
 use crate::{OciDistributionError, SpecViolation};
 use json_values::{Blob, Text, read_json};
 use oci_digests::{Digest, DigestError, digest_header_value, validate_digest};
-use oci_docs::{OciEnvelope, ReadError};
-use oci_link::{Answer, Headers};
+use oci_manifests::{OciEnvelope, ReadError};
 use oci_names::Reference;
+use oci_transport::{Answer, Headers};
 use std::alloc::{AllocError, Global};
 
 /// A whole answer, and the URL that it came from.

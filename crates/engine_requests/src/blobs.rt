@@ -10,7 +10,7 @@ use crate::OciDistributionError;
 use crate::answers::{header_in, is_success};
 use json_values::{Copied, Text};
 use oci_digests::{Algorithm, DigestError, Digester, Digesters, named_algorithm};
-use oci_link::AnswerHead;
+use oci_transport::AnswerHead;
 use std::alloc::{AllocError, Global};
 
 /// A digest text that has to name the bytes, with its algorithm.

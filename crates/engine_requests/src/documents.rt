@@ -6,7 +6,7 @@ ghost use Rattle.engine_requests.specs.Documents.{plain_of, type_checked, versio
 
 use crate::OciDistributionError;
 use json_values::{Blob, Copied, Json, Text, read_json};
-use oci_docs::{OciManifest, ReadError, Versioned, is_manifest_media_type};
+use oci_manifests::{OciManifest, ReadError, Versioned, is_manifest_media_type};
 use std::alloc::{AllocError, Global};
 
 // The schema version and the media type, where the data has them.

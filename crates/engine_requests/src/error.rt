@@ -4,7 +4,7 @@ ghost use Rattle.engine_requests.specs.Errors.{is_memory};
 
 use json_values::{Blob, Text};
 use oci_digests::DigestError;
-use oci_docs::OciEnvelope;
+use oci_manifests::OciEnvelope;
 use std::alloc::{AllocError, AllocFailed};
 use std::error::Error;
 use std::fmt::{self, Display, Formatter};

@@ -6,7 +6,7 @@ ghost use Rattle.engine_requests.specs.Requests.{behind, listed, with_header, wi
 
 use crate::{GenericCause, OciDistributionError, Settings};
 use json_values::{Blob, Copied, Text};
-use oci_link::{HeaderError, Headers, Method, Request};
+use oci_transport::{HeaderError, Headers, Method, Request};
 use std::alloc::{AllocError, Global};
 use url::Url;
 

@@ -3,7 +3,7 @@ use Rattle.std.proofs.Common.{◌≡◌, Result, Ok, Err, Option, Some, None, re
 use Rattle.std.specs.Prelude.{MatchBool}
 use Rattle.std.specs.Result.{IsErrAnd}
 use Rattle.std.proofs.lemmas.Result.{err_from_is_err_and}
-use Rattle.oci_link.specs.Link.{Link}
+use Rattle.oci_transport.specs.Link.{Link}
 use Rattle.oci_protocol.specs.Proto.{Done, Recall, Keep, bind, ◌>>=◌}
 use Rattle.oci_protocol.specs.Runs.{Meets, Breaks, Performs}
 use Rattle.oci_protocol.proofs.Laws.{Meets-next, Meets-refused, Meets-ok, Meets-memory, Meets-recall, Meets-keep, Breaks-start, Breaks-first, Performs-done, Meets-caught}

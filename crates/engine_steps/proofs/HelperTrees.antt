@@ -1,9 +1,9 @@
 -- The ways to ask, each outcome of them.
 use Rattle.std.proofs.Common.{◌≡◌, ◌≤◌, ◌<◌, ℕ, List, Some, None, Ok, Err, length, refl}
-use Rattle.oci_link.specs.Link.{Link, Steady, answer_of}
+use Rattle.oci_transport.specs.Link.{Link, Steady, answer_of}
 use Rattle.json_values.specs.Counts.{Rose}
-use Rattle.oci_link.specs.declared.message.Request.{Request}
-use Rattle.oci_link.specs.declared.message.AnswerHead.{AnswerHead}
+use Rattle.oci_transport.specs.declared.message.Request.{Request}
+use Rattle.oci_transport.specs.declared.message.AnswerHead.{AnswerHead}
 use Rattle.oci_protocol.specs.Proto.{Unread, limit_of, read_within, read_none}
 use Rattle.oci_protocol.specs.Follow.{Reaches, Misses, Cuts}
 use Rattle.oci_protocol.specs.Runs.{Meets}

@@ -1,15 +1,15 @@
 // The ways to ask, as steps of a row.
 ghost use Rattle.std.specs.Prelude.{◌≡◌};
 ghost use Rattle.oci_auth.specs.declared.memory.Memory.{Memory};
-ghost use Rattle.oci_link.specs.Link.{answer_of};
+ghost use Rattle.oci_transport.specs.Link.{answer_of};
 ghost use Rattle.oci_protocol.specs.Runs.{Meets};
 ghost use Rattle.engine_requests.specs.Errors.{is_memory};
 ghost use Rattle.engine_steps.specs.Rows.{whole, head_after, named_after};
 
 use engine_requests::{Got, OciDistributionError, header_digest};
 use json_values::{Blob, Text};
-use oci_link::{Answer, AnswerHead, BodyError, LinkError, Request, Transport, read_body};
 use oci_protocol::{Reached, reach};
+use oci_transport::{Answer, AnswerHead, BodyError, LinkError, Request, Transport, read_body};
 use std::alloc::Global;
 
 /// Whether an answer's header names a digest; where it does, the whole answer.

@@ -9,8 +9,8 @@ use engine_requests::{
     OciDistributionError, Plan, both_compared, digesters, plan_of, refused_answer,
 };
 use json_values::Sink;
-use oci_link::{BodyError, LinkError, Request, Transport, read_body};
 use oci_protocol::{PourError, pour, reach};
+use oci_transport::{BodyError, LinkError, Request, Transport, read_body};
 use std::alloc::Global;
 
 /// One request for a blob, whose bytes are put as they come. After a refusal the sink has taken a front of the last

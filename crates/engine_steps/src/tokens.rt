@@ -2,7 +2,7 @@
 ghost use Rattle.std.specs.Prelude.{◌≡◌, IfOk, Some};
 ghost use Rattle.url.specs.Parts.{serialize};
 ghost use Rattle.oci_auth.specs.declared.memory.Memory.{Memory};
-ghost use Rattle.oci_link.specs.Urls.{request_url};
+ghost use Rattle.oci_transport.specs.Urls.{request_url};
 ghost use Rattle.oci_protocol.specs.Runs.{Meets};
 ghost use Rattle.engine_requests.specs.Errors.{is_memory};
 ghost use Rattle.engine_steps.specs.Rows.{token_step, token_asked, token_for, authorized, goes_to, prepared};
@@ -10,8 +10,8 @@ ghost use Rattle.engine_steps.specs.Rows.{token_step, token_asked, token_for, au
 use crate::asking::head_after;
 use engine_requests::{OciDistributionError, Settings, base_url, registry_address, request_of};
 use oci_auth::Memory;
-use oci_link::{Method, Request, Transport, UrlError, request_url, targets};
 use oci_names::Reference;
+use oci_transport::{Method, Request, Transport, UrlError, request_url, targets};
 use std::alloc::{AllocError, Global};
 use url::Url;
 

@@ -3,12 +3,12 @@ use Rattle.std.proofs.Common.{◌≡◌, ℕ, Bool, true, false, List, [], ◌�
 use Rattle.std.specs.Prelude.{if◌then◌else◌}
 use Rattle.std.proofs.lemmas.Slice.Eq.{bytes_eq-Decides}
 use Rattle.url.specs.Parts.{serialize}
-use Rattle.oci_link.specs.Headers.{first_of}
-use Rattle.oci_link.specs.declared.message.Request.{Request}
-use Rattle.oci_link.specs.declared.message.Answer.{Answer}
-use Rattle.oci_link.specs.declared.message.AnswerHead.{AnswerHead}
-use Rattle.oci_link.specs.declared.message.Exchange.{Exchange}
-use Rattle.oci_link.specs.declared.message.Method.TheVariants.{Get}
+use Rattle.oci_transport.specs.Headers.{first_of}
+use Rattle.oci_transport.specs.declared.message.Request.{Request}
+use Rattle.oci_transport.specs.declared.message.Answer.{Answer}
+use Rattle.oci_transport.specs.declared.message.AnswerHead.{AnswerHead}
+use Rattle.oci_transport.specs.declared.message.Exchange.{Exchange}
+use Rattle.oci_transport.specs.declared.message.Method.TheVariants.{Get}
 use Rattle.oci_names.specs.declared.reference.Reference.{Reference}
 use Rattle.oci_digests.specs.Names.{Names, digest_text}
 use Rattle.oci_digests.specs.Parts.{named_algorithm}

@@ -3,17 +3,17 @@ use Rattle.std.proofs.Common.{◌≡◌, ◌≢◌, ◌⊎◌, inl, inr, ℕ, Bo
 use Rattle.std.specs.Prelude.{nat_eq, if◌then◌else◌}
 use Rattle.std.proofs.lemmas.Bool.Decides.{nat_tests}
 use Rattle.url.specs.Parts.{Parts, serialize}
-use Rattle.oci_link.specs.Headers.{first_of}
-use Rattle.oci_link.specs.declared.message.Request.{Request}
-use Rattle.oci_link.specs.declared.message.Answer.{Answer}
-use Rattle.oci_link.specs.declared.message.AnswerHead.{AnswerHead}
-use Rattle.oci_link.specs.declared.message.Exchange.{Exchange}
-use Rattle.oci_link.specs.declared.message.Method.TheVariants.{Get}
+use Rattle.oci_transport.specs.Headers.{first_of}
+use Rattle.oci_transport.specs.declared.message.Request.{Request}
+use Rattle.oci_transport.specs.declared.message.Answer.{Answer}
+use Rattle.oci_transport.specs.declared.message.AnswerHead.{AnswerHead}
+use Rattle.oci_transport.specs.declared.message.Exchange.{Exchange}
+use Rattle.oci_transport.specs.declared.message.Method.TheVariants.{Get}
 use Rattle.oci_names.specs.declared.reference.Reference.{Reference}
 use Rattle.oci_names.specs.References.{digest_of}
 use Rattle.oci_digests.specs.Checks.{header_digest as digest_in, validated}
 use Rattle.oci_digests.specs.declared.error.DigestError.{DigestError}
-use Rattle.oci_docs.specs.declared.envelope.OciEnvelope.{OciEnvelope}
+use Rattle.oci_manifests.specs.declared.envelope.OciEnvelope.{OciEnvelope}
 use Rattle.oci_auth.specs.declared.auth.RegistryAuth.{RegistryAuth}
 use Rattle.oci_auth.specs.declared.memory.Memory.{Memory}
 use Rattle.oci_protocol.specs.Proto.{Reading, Unread as NotRead, Piped, limit_of, Reply, Headed, Answered, Failed, TooLong, SinkFailed, read_within, Done, ◌>>=◌}

@@ -2,8 +2,8 @@
 use Rattle.std.proofs.Common.{◌≡◌, ◌≢◌, inl, inr, ℕ, Bool, true, false, List, [], ◌∷◌, Option, Some, None, Result, Ok, Err, bytes_eq, refl, sym, ap, subst, ◌∙◌}
 use Rattle.std.specs.Prelude.{if◌then◌else◌, ok_or, not, ◌&&◌, codes}
 use Rattle.std.proofs.lemmas.Slice.Eq.{bytes_eq-Decides}
-use Rattle.oci_link.specs.Headers.{first_of}
-use Rattle.oci_link.specs.declared.message.Answer.{Answer}
+use Rattle.oci_transport.specs.Headers.{first_of}
+use Rattle.oci_transport.specs.declared.message.Answer.{Answer}
 use Rattle.oci_digests.specs.Names.{digest_text}
 use Rattle.oci_digests.specs.Parts.{parts_of, algorithm_of, named_by, named_algorithm}
 use Rattle.oci_digests.specs.Checks.{is_header_text, header_digest as digest_in, and_then, checked_by, checked, both_checked, both_validated, validated}

@@ -7,10 +7,10 @@ use Rattle.std.specs.FinMap.{entries-insert, len-entries, len-empty, get-empty, 
 use Rattle.std.specs.Cmp.Lexicographic.{nat_list_cmp_total}
 use Rattle.url.specs.Parts.{Parts, serialize}
 use Rattle.json_values.specs.Places.{by_bytes}
-use Rattle.oci_link.specs.Headers.{Fields, values_of, added, held, is_header_value}
-use Rattle.oci_link.specs.Urls.{request_url}
-use Rattle.oci_link.specs.declared.message.Exchange.{Exchange}
-use Rattle.oci_link.specs.declared.message.Method.{Method}
+use Rattle.oci_transport.specs.Headers.{Fields, values_of, added, held, is_header_value}
+use Rattle.oci_transport.specs.Urls.{request_url}
+use Rattle.oci_transport.specs.declared.message.Exchange.{Exchange}
+use Rattle.oci_transport.specs.declared.message.Method.{Method}
 use Rattle.oci_names.specs.declared.reference.Reference.{Reference}
 use Rattle.oci_names.specs.References.{resolved_registry}
 use Rattle.oci_auth.specs.declared.auth.RegistryAuth.{RegistryAuth}

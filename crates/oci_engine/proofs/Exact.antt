@@ -4,12 +4,12 @@ use Rattle.std.specs.Prelude.{MatchBool, ◌&&◌, nat_lt, if◌then◌else◌}
 use Rattle.std.specs.FinMap as map
 use Rattle.url.specs.Parts.{Parts}
 use Rattle.json_values.specs.Tray.{Tray}
-use Rattle.oci_link.specs.Headers.{Fields, added, held, is_header_value}
-use Rattle.oci_link.specs.Link.{Link}
-use Rattle.oci_link.specs.Urls.{request_url}
-use Rattle.oci_link.specs.declared.message.Request.{Request}
-use Rattle.oci_link.specs.declared.message.Method.{Method}
-use Rattle.oci_link.specs.declared.message.Method.TheVariants.{Get, Head}
+use Rattle.oci_transport.specs.Headers.{Fields, added, held, is_header_value}
+use Rattle.oci_transport.specs.Link.{Link}
+use Rattle.oci_transport.specs.Urls.{request_url}
+use Rattle.oci_transport.specs.declared.message.Request.{Request}
+use Rattle.oci_transport.specs.declared.message.Method.{Method}
+use Rattle.oci_transport.specs.declared.message.Method.TheVariants.{Get, Head}
 use Rattle.oci_names.specs.declared.reference.Reference.{Reference}
 use Rattle.oci_auth.specs.declared.auth.RegistryAuth.{RegistryAuth}
 use Rattle.oci_auth.specs.declared.memory.Memory.{Memory}

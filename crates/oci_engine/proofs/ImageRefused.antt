@@ -4,20 +4,20 @@ use Rattle.std.specs.Prelude.{pos, if◌then◌else◌}
 use Rattle.std.specs.List.{Contains}
 use Rattle.std.specs.Ordering.{int_eq}
 use Rattle.json_values.specs.JsonText.{json_of}
-use Rattle.oci_link.specs.declared.message.Answer.{Answer}
-use Rattle.oci_link.specs.declared.message.Exchange.{Exchange}
+use Rattle.oci_transport.specs.declared.message.Answer.{Answer}
+use Rattle.oci_transport.specs.declared.message.Exchange.{Exchange}
 use Rattle.oci_names.specs.declared.reference.Reference.{Reference}
 use Rattle.oci_digests.specs.declared.error.DigestError.{DigestError}
 use Rattle.oci_digests.specs.declared.error.DigestError.TheVariants as digest_refusal
-use Rattle.oci_docs.specs.Types.{is_manifest_type}
-use Rattle.oci_docs.specs.Document.{document_of}
-use Rattle.oci_docs.specs.declared.versioned.Versioned.{Versioned}
-use Rattle.oci_docs.specs.declared.document.OciManifest.{OciManifest}
-use Rattle.oci_docs.specs.declared.document.OciManifest.TheVariants.{Image, ImageIndex}
-use Rattle.oci_docs.specs.declared.manifest.OciImageManifest.{OciImageManifest}
-use Rattle.oci_docs.specs.declared.index.OciImageIndex.{OciImageIndex}
-use Rattle.oci_docs.specs.declared.descriptor.OciDescriptor.{OciDescriptor}
-use Rattle.oci_docs.specs.declared.blob.ImageLayer.{ImageLayer}
+use Rattle.oci_manifests.specs.Types.{is_manifest_type}
+use Rattle.oci_manifests.specs.Document.{document_of}
+use Rattle.oci_manifests.specs.declared.versioned.Versioned.{Versioned}
+use Rattle.oci_manifests.specs.declared.document.OciManifest.{OciManifest}
+use Rattle.oci_manifests.specs.declared.document.OciManifest.TheVariants.{Image, ImageIndex}
+use Rattle.oci_manifests.specs.declared.manifest.OciImageManifest.{OciImageManifest}
+use Rattle.oci_manifests.specs.declared.index.OciImageIndex.{OciImageIndex}
+use Rattle.oci_manifests.specs.declared.descriptor.OciDescriptor.{OciDescriptor}
+use Rattle.oci_manifests.specs.declared.blob.ImageLayer.{ImageLayer}
 use Rattle.oci_auth.specs.declared.auth.RegistryAuth.{RegistryAuth}
 use Rattle.oci_protocol.specs.Proto.{Done, ◌>>=◌, ◌>>◌}
 use Rattle.oci_protocol.specs.Shows.{Shows, ByAnswer}

@@ -1,12 +1,12 @@
 -- Why the call for a digest was refused.
 use Rattle.std.proofs.Common.{◌≡◌, ℕ, List, [], ◌++◌, Option, Some, None, Result, Ok, Err, codes, refl, sym, subst, append-nil}
 use Rattle.url.specs.Parts.{Parts, serialize}
-use Rattle.oci_link.specs.Link.{answer_of}
-use Rattle.oci_link.specs.Headers.{first_of}
-use Rattle.oci_link.specs.declared.message.Request.{Request}
-use Rattle.oci_link.specs.declared.message.Answer.{Answer}
-use Rattle.oci_link.specs.declared.message.Exchange.{Exchange}
-use Rattle.oci_link.specs.declared.message.Method.TheVariants.{Head}
+use Rattle.oci_transport.specs.Link.{answer_of}
+use Rattle.oci_transport.specs.Headers.{first_of}
+use Rattle.oci_transport.specs.declared.message.Request.{Request}
+use Rattle.oci_transport.specs.declared.message.Answer.{Answer}
+use Rattle.oci_transport.specs.declared.message.Exchange.{Exchange}
+use Rattle.oci_transport.specs.declared.message.Method.TheVariants.{Head}
 use Rattle.oci_names.specs.declared.reference.Reference.{Reference}
 use Rattle.oci_names.specs.References.{digest_of}
 use Rattle.oci_digests.specs.Parts.{parts_of}

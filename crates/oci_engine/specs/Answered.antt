@@ -2,14 +2,14 @@
 use Rattle.std.specs.Prelude.{◌≡◌, ◌⊎◌, ℕ, List, [], ◌∷◌, ◌++◌, Option, Some, None, Ok, codes, unwrap_or}
 use Rattle.url.specs.Parts.{Parts, serialize}
 use Rattle.json_values.specs.Tray.{Tray, Adds}
-use Rattle.oci_link.specs.Link.{Link}
-use Rattle.oci_link.specs.Headers.{first_of}
-use Rattle.oci_link.specs.Urls.{request_url}
-use Rattle.oci_link.specs.declared.message.Request.{Request}
-use Rattle.oci_link.specs.declared.message.Answer.{Answer}
-use Rattle.oci_link.specs.declared.message.Exchange.{Exchange}
-use Rattle.oci_link.specs.declared.message.Method.{Method}
-use Rattle.oci_link.specs.declared.message.Method.TheVariants.{Get, Head}
+use Rattle.oci_transport.specs.Link.{Link}
+use Rattle.oci_transport.specs.Headers.{first_of}
+use Rattle.oci_transport.specs.Urls.{request_url}
+use Rattle.oci_transport.specs.declared.message.Request.{Request}
+use Rattle.oci_transport.specs.declared.message.Answer.{Answer}
+use Rattle.oci_transport.specs.declared.message.Exchange.{Exchange}
+use Rattle.oci_transport.specs.declared.message.Method.{Method}
+use Rattle.oci_transport.specs.declared.message.Method.TheVariants.{Get, Head}
 use Rattle.oci_names.specs.declared.reference.Reference.{Reference}
 use Rattle.oci_names.specs.References.{digest_of}
 use Rattle.oci_digests.specs.Names.{Names, digest_text}

@@ -2,11 +2,11 @@
 use Rattle.std.specs.Prelude.{◌≡◌, ◌≢◌, ◌<◌, ◌⊎◌, ℕ, true, false, List, [], ◌∷◌, ◌++◌, Some, None, Result, Ok, Err, codes, length}
 use Rattle.std.specs.List.{Contains}
 use Rattle.json_values.specs.Counts.{Rose}
-use Rattle.oci_link.specs.Headers.{first_of, is_header_value}
-use Rattle.oci_link.specs.Urls.{request_url}
-use Rattle.oci_link.specs.declared.message.Request.{Request}
-use Rattle.oci_link.specs.declared.message.Answer.{Answer}
-use Rattle.oci_link.specs.declared.message.Exchange.{Exchange}
+use Rattle.oci_transport.specs.Headers.{first_of, is_header_value}
+use Rattle.oci_transport.specs.Urls.{request_url}
+use Rattle.oci_transport.specs.declared.message.Request.{Request}
+use Rattle.oci_transport.specs.declared.message.Answer.{Answer}
+use Rattle.oci_transport.specs.declared.message.Exchange.{Exchange}
 use Rattle.oci_names.specs.declared.reference.Reference.{Reference}
 use Rattle.oci_names.specs.References.{digest_of}
 use Rattle.oci_digests.specs.Names.{digest_text}
@@ -15,10 +15,10 @@ use Rattle.oci_digests.specs.Parts.{parts_of, algorithm_of, named_algorithm}
 use Rattle.oci_digests.specs.declared.digester.Algorithm.{Algorithm}
 use Rattle.oci_digests.specs.declared.error.DigestError.{DigestError}
 use Rattle.oci_digests.specs.declared.error.DigestError.TheVariants as digest_refusal
-use Rattle.oci_docs.specs.declared.document.OciManifest.TheVariants.{Image, ImageIndex}
-use Rattle.oci_docs.specs.declared.manifest.OciImageManifest.{OciImageManifest}
-use Rattle.oci_docs.specs.declared.index.OciImageIndex.{OciImageIndex}
-use Rattle.oci_docs.specs.declared.descriptor.OciDescriptor.{OciDescriptor}
+use Rattle.oci_manifests.specs.declared.document.OciManifest.TheVariants.{Image, ImageIndex}
+use Rattle.oci_manifests.specs.declared.manifest.OciImageManifest.{OciImageManifest}
+use Rattle.oci_manifests.specs.declared.index.OciImageIndex.{OciImageIndex}
+use Rattle.oci_manifests.specs.declared.descriptor.OciDescriptor.{OciDescriptor}
 use Rattle.oci_protocol.specs.Runs.{head_part}
 use Rattle.oci_protocol.specs.Ends.{UnlessMemory}
 use Rattle.oci_protocol.specs.Follow.{Trail, IsFinal}

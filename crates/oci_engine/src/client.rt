@@ -2,7 +2,7 @@ ghost use Rattle.std.specs.Prelude.{◌≡◌, ℕ, List, Some, None, Err, IfOk,
 ghost use Rattle.std.specs.FinMap as map;
 ghost use Rattle.json_values.specs.Counts.{Rose};
 ghost use Rattle.oci_digests.specs.Names.{Names};
-ghost use Rattle.oci_link.specs.Urls.{request_url};
+ghost use Rattle.oci_transport.specs.Urls.{request_url};
 ghost use Rattle.oci_names.specs.References.{digest_of};
 ghost use Rattle.oci_protocol.specs.Runs.{Meets, Told};
 ghost use Rattle.engine_requests.specs.Addresses.{manifest_text, blob_text};
@@ -20,9 +20,9 @@ use engine_pull::ImageData;
 use engine_requests::{OciDistributionError, Settings};
 use json_values::{Blob, Sink, Text};
 use oci_auth::{Memory, RegistryAuth};
-use oci_docs::OciManifest;
-use oci_link::Transport;
+use oci_manifests::OciManifest;
 use oci_names::Reference;
+use oci_transport::Transport;
 use std::alloc::Global;
 
 /// A client of registries. Each call makes the requests of its row over the transport that it is handed.

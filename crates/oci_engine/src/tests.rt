@@ -1,12 +1,12 @@
 ghost use Rattle.std.specs.Prelude.{IfOk};
-ghost use Rattle.oci_link.specs.Pieces.{NoneEmpty};
+ghost use Rattle.oci_transport.specs.Pieces.{NoneEmpty};
 
 use crate::{Client, ClientConfig, ImageData};
 use json_values::{Blob, List, MemorySink, PlainSink, Text};
 use oci_auth::RegistryAuth;
-use oci_docs::OciManifest;
-use oci_link::{HeaderError, Headers, Recorded, Script};
+use oci_manifests::OciManifest;
 use oci_names::Reference;
+use oci_transport::{HeaderError, Headers, Recorded, Script};
 use std::alloc::{AllocError, Global};
 use std::test::Fail;
 

@@ -1,8 +1,8 @@
 -- A call over a transport that answers by a table, and where nothing fails, comes to what the table says.
 use Rattle.std.proofs.Common.{◌≡◌, ◌≢◌, ◌<◌, ◌^◌, ◌-◌, ℕ, Bool, true, false, List, Some, Result, Ok, Err, length, sym, ap, ◌∙◌, arith}
 use Rattle.std.specs.Prelude.{MatchBool}
-use Rattle.oci_link.specs.Link.{Link, Answering, NeverFails}
-use Rattle.oci_link.specs.declared.message.Exchange.{Exchange}
+use Rattle.oci_transport.specs.Link.{Link, Answering, NeverFails}
+use Rattle.oci_transport.specs.declared.message.Exchange.{Exchange}
 use Rattle.oci_protocol.specs.Proto.{Proto}
 use Rattle.oci_protocol.specs.Runs.{Performs, Breaks, Outcome, Meets}
 use Rattle.oci_protocol.specs.Ends.{UnlessMemory}

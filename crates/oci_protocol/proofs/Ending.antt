@@ -1,8 +1,8 @@
 -- What holds where a safe protocol has ended, or was cut off.
 use Rattle.std.proofs.Common.{◌≡◌, inl, inr, ℕ, Bool, false, List, [], ◌∷◌, ◌++◌, Result, Ok, Err, sym, ap, subst, ◌∙◌, append_assoc, append-nil}
-use Rattle.oci_link.specs.Link.{Link}
-use Rattle.oci_link.specs.declared.message.Request.{Request}
-use Rattle.oci_link.specs.declared.message.Exchange.{Exchange}
+use Rattle.oci_transport.specs.Link.{Link}
+use Rattle.oci_transport.specs.declared.message.Request.{Request}
+use Rattle.oci_transport.specs.declared.message.Exchange.{Exchange}
 use Rattle.oci_protocol.specs.Proto.{Proto, Done, Ask, Recall, Keep}
 use Rattle.oci_protocol.specs.Runs.{Runs, Stops, Performs, Meets, Told}
 use Rattle.oci_protocol.specs.Safe.{Safe}

@@ -1,7 +1,7 @@
 -- Conversations one after another.
 use Rattle.std.proofs.Common.{◌≡◌, ◌+◌, ℕ, suc, List, [], ◌∷◌, ◌++◌, Some, None, length, length-append, refl, sym, ◌∙◌, ap, subst, append_assoc, append-nil, arith}
-use Rattle.oci_link.specs.Link.{Link, Answering, AnsweredBy, Steady, Extends}
-use Rattle.oci_link.specs.declared.message.Exchange.{Exchange}
+use Rattle.oci_transport.specs.Link.{Link, Answering, AnsweredBy, Steady, Extends}
+use Rattle.oci_transport.specs.declared.message.Exchange.{Exchange}
 
 -- what stays as it is is steady
 pub Steady-none : (link : Link) → Steady link link

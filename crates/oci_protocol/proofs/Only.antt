@@ -1,8 +1,8 @@
 use Rattle.std.proofs.Common.{◌≡◌, ◌⊎◌, inl, inr, ℕ, Bool, false, List, [], ◌∷◌, Result, Ok, Err, arith}
 use Rattle.json_values.specs.Counts.{Rose}
-use Rattle.oci_link.specs.Link.{Link}
-use Rattle.oci_link.specs.declared.message.AnswerHead.{AnswerHead}
-use Rattle.oci_link.specs.declared.message.Exchange.{Exchange}
+use Rattle.oci_transport.specs.Link.{Link}
+use Rattle.oci_transport.specs.declared.message.AnswerHead.{AnswerHead}
+use Rattle.oci_transport.specs.declared.message.Exchange.{Exchange}
 use Rattle.oci_protocol.specs.Proto.{Reading, Reply, Failed, Proto, Done, Ask, Recall, Keep, bind, ◌>>=◌}
 use Rattle.oci_protocol.specs.Runs.{IsReply, Runs, Performs, Meets}
 use Rattle.oci_protocol.specs.Safe.{OnlyAfter}

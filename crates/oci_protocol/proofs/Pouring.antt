@@ -1,6 +1,6 @@
 use Rattle.std.proofs.Common.{◌≡◌, ◌<◌, ◌≤◌, ◌+◌, ◌-◌, ℕ, List, [], ◌++◌, Option, Some, length, length-append, refl, sym, ap, subst, ◌∙◌, append-nil, append_assoc, arith}
 use Rattle.std.proofs.lemmas.List.{nil_from_length}
-use Rattle.oci_link.specs.Link.{Link, Steady, HasTaken, Takes}
+use Rattle.oci_transport.specs.Link.{Link, Steady, HasTaken, Takes}
 use Rattle.oci_protocol.proofs.Extending.{Steady-none, Steady-more}
 use Rattle.json_values.specs.Tray.{Tray, Adds, AddsFront}
 use Rattle.json_values.proofs.Sinks.{adds_none, adds_more}

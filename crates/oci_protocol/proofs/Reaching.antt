@@ -1,10 +1,10 @@
 use Rattle.std.proofs.Common.{◌≡◌, ◌≢◌, ◌≤◌, ◌-◌, inl, inr, ℕ, suc, zero, List, [], ◌∷◌, ◌++◌, Some, None, refl, sym, ap, arith}
 use Rattle.json_values.specs.Counts.{Rose}
-use Rattle.oci_link.specs.Link.{Link, Answers, AddsUnanswered, AddsAtMost, answer_of}
-use Rattle.oci_link.specs.Redirects.{redirected}
-use Rattle.oci_link.specs.declared.message.Request.{Request}
-use Rattle.oci_link.specs.declared.message.AnswerHead.{AnswerHead}
-use Rattle.oci_link.specs.declared.message.Exchange.{Exchange}
+use Rattle.oci_transport.specs.Link.{Link, Answers, AddsUnanswered, AddsAtMost, answer_of}
+use Rattle.oci_transport.specs.Redirects.{redirected}
+use Rattle.oci_transport.specs.declared.message.Request.{Request}
+use Rattle.oci_transport.specs.declared.message.AnswerHead.{AnswerHead}
+use Rattle.oci_transport.specs.declared.message.Exchange.{Exchange}
 use Rattle.oci_protocol.specs.Proto.{read_none, Headed}
 use Rattle.oci_protocol.specs.Runs.{Replies}
 use Rattle.oci_protocol.specs.Follow.{Trail, Follows, IsFinal, Reaches, Misses, Cuts}

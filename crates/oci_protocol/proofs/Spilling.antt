@@ -1,7 +1,7 @@
 -- Where the sink fails, a protocol refuses for it.
 use Rattle.std.proofs.Common.{◌≡◌, ℕ, suc, zero, Result, Ok, Err, refl, sym, subst}
-use Rattle.oci_link.specs.declared.message.Request.{Request}
-use Rattle.oci_link.specs.declared.message.AnswerHead.{AnswerHead}
+use Rattle.oci_transport.specs.declared.message.Request.{Request}
+use Rattle.oci_transport.specs.declared.message.AnswerHead.{AnswerHead}
 use Rattle.oci_protocol.specs.Proto.{Reading, Reply, SinkFailed, Proto, Done, Ask, Recall, Keep, bind, unless_refused, ◌>>=◌}
 use Rattle.oci_protocol.specs.Ends.{Ends}
 use Rattle.oci_protocol.specs.Follow.{follow}

@@ -1,10 +1,10 @@
 -- Each run of a request that is followed is a trail of redirects and a run of what follows the last reply.
 use Rattle.std.proofs.Common.{◌≡◌, inl, inr, ℕ, suc, zero, List, [], ◌∷◌, Option, Some, None, refl, sym, ap, ◌∙◌}
-use Rattle.oci_link.specs.Redirects.{redirected}
-use Rattle.oci_link.specs.declared.message.Request.{Request}
-use Rattle.oci_link.specs.declared.message.Answer.{Answer}
-use Rattle.oci_link.specs.declared.message.AnswerHead.{AnswerHead}
-use Rattle.oci_link.specs.declared.message.Exchange.{Exchange}
+use Rattle.oci_transport.specs.Redirects.{redirected}
+use Rattle.oci_transport.specs.declared.message.Request.{Request}
+use Rattle.oci_transport.specs.declared.message.Answer.{Answer}
+use Rattle.oci_transport.specs.declared.message.AnswerHead.{AnswerHead}
+use Rattle.oci_transport.specs.declared.message.Exchange.{Exchange}
 use Rattle.oci_protocol.specs.Proto.{Reading, Piped, limit_of, read_none, Reply, Headed, Answered, Failed, TooLong, SinkFailed, Proto}
 use Rattle.oci_protocol.specs.Runs.{head_part, Replies, Runs}
 use Rattle.oci_protocol.specs.Follow.{unread_if, turned, go_if, turn, follow, Trail, IsFinal}

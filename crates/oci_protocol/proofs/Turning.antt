@@ -1,8 +1,8 @@
 -- What is so of each protocol that a reply may lead to.
 use Rattle.std.proofs.Common.{ℕ, zero, suc, Option, Some, None, inr, ◌⊎◌, ◌≡◌}
-use Rattle.oci_link.specs.Redirects.{redirected}
-use Rattle.oci_link.specs.declared.message.Request.{Request}
-use Rattle.oci_link.specs.declared.message.AnswerHead.{AnswerHead}
+use Rattle.oci_transport.specs.Redirects.{redirected}
+use Rattle.oci_transport.specs.declared.message.Request.{Request}
+use Rattle.oci_transport.specs.declared.message.AnswerHead.{AnswerHead}
 use Rattle.oci_protocol.specs.Proto.{Reading, Reply, Headed, Answered, Failed, TooLong, SinkFailed, Proto}
 use Rattle.oci_protocol.specs.Follow.{go_if, turn, follow}
 use Rattle.oci_protocol.specs.Ends.{Ends}

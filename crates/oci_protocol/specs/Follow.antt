@@ -1,10 +1,10 @@
 use Rattle.std.specs.Prelude.{◌≡◌, ◌≤◌, ◌⊎◌, ℕ, suc, zero, List, [], ◌∷◌, Option, Some, None}
 use Rattle.json_values.specs.Counts.{Rose}
-use Rattle.oci_link.specs.Link.{Link, Extends, Answers, AddsUnanswered, AddsAtMost}
-use Rattle.oci_link.specs.Redirects.{redirected}
-use Rattle.oci_link.specs.declared.message.Request.{Request}
-use Rattle.oci_link.specs.declared.message.AnswerHead.{AnswerHead}
-use Rattle.oci_link.specs.declared.message.Exchange.{Exchange}
+use Rattle.oci_transport.specs.Link.{Link, Extends, Answers, AddsUnanswered, AddsAtMost}
+use Rattle.oci_transport.specs.Redirects.{redirected}
+use Rattle.oci_transport.specs.declared.message.Request.{Request}
+use Rattle.oci_transport.specs.declared.message.AnswerHead.{AnswerHead}
+use Rattle.oci_transport.specs.declared.message.Exchange.{Exchange}
 use Rattle.oci_protocol.specs.Proto.{Reading, Unread, read_none, Reply, Headed, Proto, Ask}
 use Rattle.oci_protocol.specs.Runs.{Replies}
 

@@ -1,5 +1,5 @@
 use Rattle.std.specs.Prelude.{◌≡◌, ◌≤◌, ℕ, List, [], ◌++◌, Some, Option, length}
-use Rattle.oci_link.specs.Link.{Link, HasTaken}
+use Rattle.oci_transport.specs.Link.{Link, HasTaken}
 use Rattle.json_values.specs.Tray.{Tray, Adds}
 use Rattle.oci_digests.specs.declared.digester.Algorithm.{Algorithm}
 use Rattle.oci_digests.specs.declared.both.Digesters.{Digesters}

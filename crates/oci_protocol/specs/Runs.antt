@@ -1,10 +1,10 @@
 use Rattle.std.specs.Prelude.{◌≡◌, ◌<◌, ◌≤◌, ◌⊎◌, ℕ, Bool, List, [], ◌∷◌, Some, Result, Ok, Err, MatchBool, length}
 use Rattle.json_values.specs.Counts.{Rose}
-use Rattle.oci_link.specs.Link.{Link, Extends, answer_of}
-use Rattle.oci_link.specs.declared.message.Request.{Request}
-use Rattle.oci_link.specs.declared.message.Answer.{Answer}
-use Rattle.oci_link.specs.declared.message.AnswerHead.{AnswerHead}
-use Rattle.oci_link.specs.declared.message.Exchange.{Exchange}
+use Rattle.oci_transport.specs.Link.{Link, Extends, answer_of}
+use Rattle.oci_transport.specs.declared.message.Request.{Request}
+use Rattle.oci_transport.specs.declared.message.Answer.{Answer}
+use Rattle.oci_transport.specs.declared.message.AnswerHead.{AnswerHead}
+use Rattle.oci_transport.specs.declared.message.Exchange.{Exchange}
 use Rattle.oci_protocol.specs.Proto.{Reading, Unread, Piped, limit_of, Reply, Headed, Answered, Failed, TooLong, SinkFailed, Proto, Done, Ask, Recall, Keep}
 
 abbrev pub head_part : Answer → AnswerHead

@@ -3,7 +3,7 @@ ghost use Rattle.std.specs.Prelude.{◌≡◌, ◌≤◌, IfOk, IsErrOf};
 ghost use Rattle.oci_protocol.specs.Follow.{Reaches, Misses, Cuts};
 
 use json_values::Copied;
-use oci_link::{AnswerHead, LinkError, Request, Transport, redirected};
+use oci_transport::{AnswerHead, LinkError, Request, Transport, redirected};
 use std::alloc::Global;
 
 /// The last request, and the head of its answer.

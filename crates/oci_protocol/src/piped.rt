@@ -1,12 +1,12 @@
 // An answer's body, piece by piece into a sink.
 ghost use Rattle.std.specs.Prelude.{◌≡◌, ◌≤◌, ◌<◌, length, OnOk, OnErr, IsErrOf, Some};
 ghost use Rattle.json_values.specs.Counts.{Rose};
-ghost use Rattle.oci_link.specs.Link.{Steady};
+ghost use Rattle.oci_transport.specs.Link.{Steady};
 ghost use Rattle.oci_protocol.specs.Poured.{Pours, PoursFront};
 
 use json_values::{Sink, SinkError, put_all};
 use oci_digests::Digesters;
-use oci_link::{LinkError, Transport};
+use oci_transport::{LinkError, Transport};
 use std::alloc::Global;
 
 /// Why a body did not go into a sink whole.

@@ -1,10 +1,10 @@
 ghost use Rattle.std.specs.Prelude.{◌≡◌, IfOk};
-ghost use Rattle.oci_link.specs.Pieces.{NoneEmpty};
+ghost use Rattle.oci_transport.specs.Pieces.{NoneEmpty};
 
 use crate::{PourError, pour, reach};
 use json_values::{Blob, List, PlainSink, Text};
 use oci_digests::{Algorithm, Digester, Digesters};
-use oci_link::{HeaderError, Headers, Method, Recorded, Request, Script};
+use oci_transport::{HeaderError, Headers, Method, Recorded, Request, Script};
 use std::alloc::{AllocError, Global};
 use std::test::Fail;
 

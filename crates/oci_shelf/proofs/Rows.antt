@@ -7,9 +7,9 @@ use Rattle.std.proofs.lemmas.Bool.{eq-eqb}
 use Rattle.std.proofs.lemmas.Bool.Decides.{nat_tests}
 use Rattle.std.proofs.lemmas.List.{take_all, length-append}
 use Rattle.std.proofs.Math.Seq.{drop-append-add}
-use Rattle.oci_link.specs.declared.message.Method.{Method}
+use Rattle.oci_transport.specs.declared.message.Method.{Method}
 use Rattle.std.specs.FinMap as map
-use Rattle.oci_link.specs.declared.message.Request.{Request}
+use Rattle.oci_transport.specs.declared.message.Request.{Request}
 use Rattle.oci_shelf.specs.declared.shelf.Shelf.{Shelf}
 use Rattle.oci_shelf.specs.Paths.{after, past_mark, past_slash, path_of, is_slash, is_question_mark}
 use Rattle.oci_shelf.specs.Table.{answer, at_path, in_registry, in_repository, or_manifest, or_blob, or_referrers, manifest_answer, blob_answer, referrers_answer, unless_redirected, is_get_or_head, is_get, found, not_found}

@@ -3,11 +3,11 @@ use Rattle.std.proofs.Common.{◌≡◌, ℕ, zero, suc, ◌+◌, ◌-◌, ◌<�
 use Rattle.std.specs.Prelude.{min, nat_lt}
 use Rattle.std.proofs.lemmas.Bool.Decides.{nat_tests}
 use Rattle.std.proofs.lemmas.List.{take_all, drop-drop}
-use Rattle.oci_link.specs.Link.{Link, Answering, NeverFails, Steady, Extends, Answers, AddsUnanswered, AddsAtMost, Takes, answer_of}
-use Rattle.oci_link.specs.declared.message.Request.{Request}
-use Rattle.oci_link.specs.declared.message.Answer.{Answer}
-use Rattle.oci_link.specs.declared.message.AnswerHead.{AnswerHead}
-use Rattle.oci_link.specs.declared.message.Exchange.{Exchange}
+use Rattle.oci_transport.specs.Link.{Link, Answering, NeverFails, Steady, Extends, Answers, AddsUnanswered, AddsAtMost, Takes, answer_of}
+use Rattle.oci_transport.specs.declared.message.Request.{Request}
+use Rattle.oci_transport.specs.declared.message.Answer.{Answer}
+use Rattle.oci_transport.specs.declared.message.AnswerHead.{AnswerHead}
+use Rattle.oci_transport.specs.declared.message.Exchange.{Exchange}
 
 some_is : {A : Type 0} (x y : A) → Some x ≡ Some y → x ≡ y
 some_is x y h = cc h

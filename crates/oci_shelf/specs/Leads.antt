@@ -6,7 +6,7 @@ use Rattle.std.specs.FinMap as map
 use Rattle.std.specs.FinMap.{FinMap}
 use Rattle.json_values.specs.Places.{by_bytes}
 use Rattle.url.specs.Parts.{Parts, serialize}
-use Rattle.oci_link.specs.Urls.{request_url}
+use Rattle.oci_transport.specs.Urls.{request_url}
 use Rattle.oci_shelf.specs.Paths.{path_of}
 use Rattle.oci_shelf.specs.declared.shelf.Shelf.{Shelf}
 

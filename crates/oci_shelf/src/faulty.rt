@@ -6,7 +6,7 @@ ghost use Rattle.oci_shelf.specs.State.{is_among};
 use crate::served::Served;
 use crate::shelf::Shelf;
 use json_values::{Blob, Copied, List, copies5};
-use oci_link::{AnswerHead, Conversation, LinkError, Request, Transport};
+use oci_transport::{AnswerHead, Conversation, LinkError, Request, Transport};
 use std::alloc::{AllocError, Global};
 
 /// Answers as a `ShelfTransport`, but fails at the sends and at the calls for a piece whose numbers, counted from 0, it
@@ -80,7 +80,7 @@ impl Copied for FaultyShelf {
 impl Transport for FaultyShelf {
     ghost use Rattle.std.specs.Prelude.{ℕ, List, true, false, IfOk, OnOk, OnErr, IsErrOf, take, length, ◌+◌};
     ghost use Rattle.json_values.specs.Counts.{Rose, raised};
-    ghost use Rattle.oci_link.specs.Link.{Answers, AddsUnanswered, AddsAtMost, Takes, Steady};
+    ghost use Rattle.oci_transport.specs.Link.{Answers, AddsUnanswered, AddsAtMost, Takes, Steady};
     ghost use Rattle.oci_shelf.specs.State.{faulty_shelf_of, failing_sends, failing_pieces, next_send, next_piece, faulty_state_of};
 
     ghost state = { faulty_state_of };

@@ -2,13 +2,13 @@
 ghost use Rattle.std.specs.Prelude.{◌≡◌, IfOk};
 ghost use Rattle.std.specs.List.{list_all};
 ghost use Rattle.std.specs.Option.{option_copied};
-ghost use Rattle.oci_link.specs.Urls.{request_url};
+ghost use Rattle.oci_transport.specs.Urls.{request_url};
 ghost use Rattle.oci_shelf.specs.Leads as words;
 
 use crate::paths::path_of;
 use crate::shelf::Shelf;
 use json_values::{Annotations, Text};
-use oci_link::{UrlError, request_url};
+use oci_transport::{UrlError, request_url};
 use std::alloc::{AllocError, Global};
 
 fn is_own_text(alloc: Global, text: &str) -> Result<bool, AllocError>

@@ -5,7 +5,7 @@ ghost use Rattle.oci_shelf.specs.Leads.{redirects_lead};
 use crate::shelf::Shelf;
 use crate::table::answer;
 use json_values::{Blob, Copied, List, copies4};
-use oci_link::{AnswerHead, Conversation, Exchange, Request};
+use oci_transport::{AnswerHead, Conversation, Exchange, Request};
 use std::alloc::{AllocError, Global};
 
 /// The greatest number of bytes that a piece of a body has.

@@ -8,7 +8,7 @@ ghost use Rattle.oci_shelf.specs.Table as rows;
 use crate::paths::{after, path_of};
 use crate::shelf::{Shelf, ShelfDocument};
 use json_values::{Blob, Copied, Text};
-use oci_link::{Answer, HeaderError, Headers, Method, Request};
+use oci_transport::{Answer, HeaderError, Headers, Method, Request};
 use std::alloc::{AllocError, Global};
 
 fn is_get(method: Method) -> bool

@@ -5,7 +5,7 @@ ghost use Rattle.oci_shelf.specs.Leads.{redirects_lead};
 use crate::served::Served;
 use crate::shelf::Shelf;
 use json_values::{Blob, Copied};
-use oci_link::{AnswerHead, Conversation, LinkError, Request, Transport};
+use oci_transport::{AnswerHead, Conversation, LinkError, Request, Transport};
 use std::alloc::{AllocError, Global};
 
 /// Answers by the table of its shelf, in pieces of at most 65536 bytes, tells all, and never fails.
@@ -48,7 +48,7 @@ impl Copied for ShelfTransport {
 impl Transport for ShelfTransport {
     ghost use Rattle.std.specs.Prelude.{ℕ, List, IfOk, OnErr, IsErrOf, take, length};
     ghost use Rattle.json_values.specs.Counts.{Rose};
-    ghost use Rattle.oci_link.specs.Link.{Answers, AddsUnanswered, AddsAtMost, Takes, Steady};
+    ghost use Rattle.oci_transport.specs.Link.{Answers, AddsUnanswered, AddsAtMost, Takes, Steady};
     ghost use Rattle.oci_shelf.specs.State.{shelf_of, state_of};
 
     ghost state = { state_of };

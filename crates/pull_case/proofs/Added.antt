@@ -6,7 +6,7 @@ use Rattle.std.proofs.lemmas.Bool.Decides.{nat_tests}
 use Rattle.http_header.specs.FieldName.{IsFieldName, is_field_name}
 use Rattle.http_header.specs.Token.{is_token_byte, token_test, lowercase}
 use Rattle.http_header.proofs.TokenLemmas.{IsFieldName-from_test}
-use Rattle.oci_link.specs.Headers.{Fields, added, held, is_header_value}
+use Rattle.oci_transport.specs.Headers.{Fields, added, held, is_header_value}
 use Rattle.pull_case.specs.Answer.{with_header}
 
 -- three tests before a value

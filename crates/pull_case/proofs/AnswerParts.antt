@@ -5,8 +5,8 @@ use Rattle.std.specs.FinMap.{empty}
 use Rattle.serde_json.specs.Data.{Data}
 use Rattle.json_tables.specs.Reading.{list_of, required, at_name, only}
 use Rattle.json_tables.specs.Bytes.{bytes_of}
-use Rattle.oci_link.specs.Headers.{Fields}
-use Rattle.oci_link.specs.Pieces.{NoneEmpty}
+use Rattle.oci_transport.specs.Headers.{Fields}
+use Rattle.oci_transport.specs.Pieces.{NoneEmpty}
 use Rattle.pull_case.specs.Answer.{answering, status_of, headers_of, fault_of}
 use Rattle.pull_case.specs.Members.{unless_absent}
 use Rattle.pull_case.proofs.Full.{none_empty-given, none_empty-not}

@@ -10,7 +10,7 @@ use Rattle.cosign_layers.specs.declared.constraint.AnnotationVerifier.{Annotatio
 use Rattle.cosign_layers.specs.declared.verifier.SignedRow.{SignedRow}
 use Rattle.engine_requests.specs.declared.settings.ClientProtocol.{ClientProtocol}
 use Rattle.engine_requests.specs.declared.settings.ClientProtocol.TheVariants.{Https}
-use Rattle.oci_link.specs.declared.recorded.Recorded.{Recorded}
+use Rattle.oci_transport.specs.declared.recorded.Recorded.{Recorded}
 use Rattle.oci_names.specs.References.{reference_of}
 use Rattle.pull_case.specs.declared.case.Case.{Case}
 use Rattle.pull_case.specs.Members.{passing, unless_absent}

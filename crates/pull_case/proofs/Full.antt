@@ -3,7 +3,7 @@ use Rattle.std.proofs.Common.{◌≡◌, ◌∙◌, ℕ, ◌<◌, List, [], ◌�
 use Rattle.std.proofs.Math.Nat.{zero-lt-suc}
 use Rattle.std.proofs.Props.{props}
 use Rattle.std.proofs.lemmas.List.Elements.{All-nil, All-cons, All-head, All-tail}
-use Rattle.oci_link.specs.Pieces.{NoneEmpty}
+use Rattle.oci_transport.specs.Pieces.{NoneEmpty}
 use Rattle.pull_case.specs.Answer.{none_empty}
 
 abbrev IsFull : List ℕ → Type 0

@@ -11,9 +11,9 @@ use Rattle.json_tables.specs.Reading.{◌>>=◌, text_of, u16_of, u64_of, list_o
 use Rattle.json_tables.specs.Bytes.{bytes_of}
 use Rattle.json_tables.specs.Outcomes.{Refuses}
 use Rattle.json_tables.specs.declared.error.ReadError.{ReadError}
-use Rattle.oci_link.specs.Headers.{Fields, added, held, is_header_value}
-use Rattle.oci_link.specs.Pieces.{NoneEmpty}
-use Rattle.oci_link.specs.declared.recorded.Recorded.{Recorded}
+use Rattle.oci_transport.specs.Headers.{Fields, added, held, is_header_value}
+use Rattle.oci_transport.specs.Pieces.{NoneEmpty}
+use Rattle.oci_transport.specs.declared.recorded.Recorded.{Recorded}
 use Rattle.pull_case.specs.Members.{unless_absent, passing}
 
 -- from 100 to 999

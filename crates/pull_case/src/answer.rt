@@ -4,7 +4,7 @@ ghost use Rattle.serde_json.specs.View.{view};
 ghost use Rattle.json_tables.specs.Outcomes.{Gives};
 ghost use Rattle.json_tables.specs.Bytes.{bytes_of};
 ghost use Rattle.json_tables.specs.Reading.{at_name, list_of, required};
-ghost use Rattle.oci_link.specs.Pieces.{NoneEmpty};
+ghost use Rattle.oci_transport.specs.Pieces.{NoneEmpty};
 ghost use Rattle.pull_case.specs.Answer.{status_of, fault_of, failing, answering};
 ghost use Rattle.pull_case.specs.Members.{unless_absent};
 
@@ -12,7 +12,7 @@ use crate::entries::Entry;
 use crate::headers::read_headers;
 use json_tables::{ReadError, Reads, only, required};
 use json_values::{Blob, List};
-use oci_link::{Headers, Recorded};
+use oci_transport::{Headers, Recorded};
 use serde_json::Value;
 use std::alloc::Global;
 

@@ -8,7 +8,7 @@ use cosign_layers::{AnnotationVerifier, SignedRow};
 use engine_requests::ClientProtocol;
 use json_tables::{ReadError, Reads, holds_float, only, read_or_none, row8};
 use json_values::{Blob, List, Text, read_json};
-use oci_link::Recorded;
+use oci_transport::Recorded;
 use serde_json::Value;
 use std::alloc::{AllocError, Global};
 

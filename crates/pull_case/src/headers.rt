@@ -9,7 +9,7 @@ ghost use Rattle.pull_case.specs.Members.{unless_absent};
 
 use json_tables::{ReadError, Reads};
 use json_values::{List, Text};
-use oci_link::{HeaderError, Headers};
+use oci_transport::{HeaderError, Headers};
 use serde_json::Value;
 use std::alloc::Global;
 

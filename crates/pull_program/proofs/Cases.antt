@@ -8,7 +8,7 @@ use Rattle.std.specs.declared.dyn_box.DynBox.{DynBox}
 use Rattle.oci_names.specs.declared.reference.Reference.{Reference}
 use Rattle.oci_names.specs.References.{reference_of}
 use Rattle.oci_auth.specs.declared.auth.RegistryAuth.TheVariants.{Anonymous}
-use Rattle.oci_link.specs.declared.message.Exchange.{Exchange}
+use Rattle.oci_transport.specs.declared.message.Exchange.{Exchange}
 use Rattle.sig_registry.specs.Clients.{Kept, Client}
 use Rattle.cosign_layers.specs.Accepts.{has_no_item, has_annotations, accepts}
 use Rattle.cosign_layers.specs.Rows.{valid_in}

@@ -5,13 +5,13 @@ use native.Mathlib.Numerals.{unary_clauses}
 use Rattle.std.proofs.lemmas.List.{length-append, take_rest}
 use Rattle.std.proofs.Math.Nat.{le-add_right}
 use Rattle.std.proofs.Math.Seq.{drop-append_seam, take-suc}
-use Rattle.oci_link.specs.Link.{Link, Extends, Answering}
-use Rattle.oci_link.specs.Calm.{calm}
-use Rattle.oci_link.specs.Playback.{answering}
-use Rattle.oci_link.specs.Script.{state_of, answers_of}
-use Rattle.oci_link.specs.declared.recorded.Recorded.{Recorded}
-use Rattle.oci_link.specs.declared.script.Script.{Script}
-use Rattle.oci_link.specs.declared.message.Exchange.{Exchange}
+use Rattle.oci_transport.specs.Link.{Link, Extends, Answering}
+use Rattle.oci_transport.specs.Calm.{calm}
+use Rattle.oci_transport.specs.Playback.{answering}
+use Rattle.oci_transport.specs.Script.{state_of, answers_of}
+use Rattle.oci_transport.specs.declared.recorded.Recorded.{Recorded}
+use Rattle.oci_transport.specs.declared.script.Script.{Script}
+use Rattle.oci_transport.specs.declared.message.Exchange.{Exchange}
 use Rattle.oci_protocol.specs.Runs.{Runs, Performs, Breaks, Meets}
 use Rattle.oci_protocol.proofs.Extending.{Extends-more}
 use Rattle.sig_registry.specs.Clients.{Kept}

@@ -1,10 +1,10 @@
 -- The pulls of a case: one at each of its moments, by one client, over the case's recorded answers.
 use Rattle.std.specs.Prelude.{◌≡◌, ℕ, Bool, true, false, not, IsTrue, ◌&&◌, List, [], ◌∷◌, map, flat_map, Result, Ok, Err, codes}
 use Rattle.std.specs.FinMap as map_of
-use Rattle.oci_link.specs.Link.{AnsweredBy}
-use Rattle.oci_link.specs.Calm.{calm}
-use Rattle.oci_link.specs.Playback.{answering}
-use Rattle.oci_link.specs.declared.message.Exchange.{Exchange}
+use Rattle.oci_transport.specs.Link.{AnsweredBy}
+use Rattle.oci_transport.specs.Calm.{calm}
+use Rattle.oci_transport.specs.Playback.{answering}
+use Rattle.oci_transport.specs.declared.message.Exchange.{Exchange}
 use Rattle.oci_names.specs.declared.reference.Reference.{Reference}
 use Rattle.oci_names.specs.References.{reference_of}
 use Rattle.oci_auth.specs.declared.auth.RegistryAuth.TheVariants.{Anonymous}

@@ -1,12 +1,12 @@
 -- The pulls so far, and what the client and the script came to.
 use Rattle.std.specs.Prelude.{◌≡◌, ℕ, Bool, not, IsTrue, List, ◌∷◌, [], ◌++◌, map, Some, Result, Ok, Err, false}
-use Rattle.oci_link.specs.Link.{Link, Extends, AnsweredBy}
-use Rattle.oci_link.specs.Calm.{calm}
-use Rattle.oci_link.specs.Playback.{answering}
-use Rattle.oci_link.specs.Script.{state_of, answers_of}
-use Rattle.oci_link.specs.declared.message.Exchange.{Exchange}
-use Rattle.oci_link.specs.declared.recorded.Recorded.{Recorded}
-use Rattle.oci_link.specs.declared.script.Script.{Script}
+use Rattle.oci_transport.specs.Link.{Link, Extends, AnsweredBy}
+use Rattle.oci_transport.specs.Calm.{calm}
+use Rattle.oci_transport.specs.Playback.{answering}
+use Rattle.oci_transport.specs.Script.{state_of, answers_of}
+use Rattle.oci_transport.specs.declared.message.Exchange.{Exchange}
+use Rattle.oci_transport.specs.declared.recorded.Recorded.{Recorded}
+use Rattle.oci_transport.specs.declared.script.Script.{Script}
 use Rattle.oci_names.specs.declared.reference.Reference.{Reference}
 use Rattle.oci_auth.specs.declared.auth.RegistryAuth.TheVariants.{Anonymous}
 use Rattle.engine_requests.specs.declared.settings.Settings.{Settings}

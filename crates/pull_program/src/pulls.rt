@@ -1,6 +1,6 @@
 // The pulls of a case.
 ghost use Rattle.std.specs.Prelude.{◌≡◌, ◌++◌, ◌||◌, false, not, Ok, IsOk, IfOk, OnOk};
-ghost use Rattle.oci_link.specs.Script.{state_of};
+ghost use Rattle.oci_transport.specs.Script.{state_of};
 ghost use Rattle.oci_names.specs.References.{reference_of};
 ghost use Rattle.sig_registry.specs.Direct.{reference_in};
 ghost use Rattle.cosign_layers.specs.Rows.{valid_in};
@@ -15,7 +15,7 @@ use cosign_client::{Client, PullRefusal, VerifiedImage};
 use cosign_layers::{NoCertificates, PullPolicy, TableVerifier};
 use json_values::{Blob, List, Text};
 use oci_engine::{ClientConfig, ClientProtocol};
-use oci_link::{Exchange, Recorded, Script};
+use oci_transport::{Exchange, Recorded, Script};
 use pull_case::{Case, policy};
 use pull_report::write_report;
 use sig_registry::{Auth, OciClient, OciReference, SigstoreError};

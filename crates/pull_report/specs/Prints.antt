@@ -4,7 +4,7 @@
 use Rattle.std.specs.Prelude.{ℕ, List, [], ◌∷◌, length, codes, decimal}
 use Rattle.std.specs.Fmt.{signed_decimal}
 use Rattle.json_values.specs.Canon.{quoted_text}
-use Rattle.oci_docs.specs.declared.envelope.OciEnvelope.{OciEnvelope}
+use Rattle.oci_manifests.specs.declared.envelope.OciEnvelope.{OciEnvelope}
 use Rattle.oci_digests.specs.declared.error.DigestError.{DigestError}
 use Rattle.oci_digests.specs.declared.error.DigestError.TheVariants as digest
 use Rattle.engine_requests.specs.declared.error.GenericCause.{GenericCause}

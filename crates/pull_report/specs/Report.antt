@@ -1,9 +1,9 @@
 -- The report of a pull.
 use Rattle.std.specs.Prelude.{ℕ, List, [], ◌∷◌, ◌++◌, Result, Ok, Err, codes, decimal, flat_map}
-use Rattle.oci_link.specs.declared.message.Method.{Method}
-use Rattle.oci_link.specs.declared.message.Method.TheVariants.{Get, Head, Post, Put, Patch}
-use Rattle.oci_link.specs.declared.message.Exchange.{Exchange}
-use Rattle.oci_docs.specs.declared.descriptor.OciDescriptor.{OciDescriptor}
+use Rattle.oci_transport.specs.declared.message.Method.{Method}
+use Rattle.oci_transport.specs.declared.message.Method.TheVariants.{Get, Head, Post, Put, Patch}
+use Rattle.oci_transport.specs.declared.message.Exchange.{Exchange}
+use Rattle.oci_manifests.specs.declared.descriptor.OciDescriptor.{OciDescriptor}
 use Rattle.cosign_layers.specs.declared.layer.SignatureLayer.{SignatureLayer}
 use Rattle.cosign_client.specs.declared.found.Skipped.{Skipped}
 use Rattle.cosign_client.specs.declared.verified.VerifiedImage.{VerifiedImage}

@@ -7,8 +7,8 @@ use crate::printed::{Printed, print1, word};
 use cosign_client::Skipped;
 use cosign_layers::SignatureLayer;
 use json_values::Blob;
-use oci_docs::OciDescriptor;
-use oci_link::{Exchange, Method};
+use oci_manifests::OciDescriptor;
+use oci_transport::{Exchange, Method};
 use std::alloc::{AllocError, Global};
 
 /// What has a line of its own in a report. Where memory was wanting, what was added of it is left open.

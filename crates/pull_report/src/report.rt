@@ -5,7 +5,7 @@ ghost use Rattle.pull_report.specs.Report.{image_lines, search_lines, refusal_li
 use crate::lines::{print_line, text_line, write_lines};
 use cosign_client::{PullRefusal, VerifiedImage};
 use json_values::Blob;
-use oci_link::Exchange;
+use oci_transport::Exchange;
 use pull_edge::write_decimal;
 use std::alloc::{AllocError, Global};
 

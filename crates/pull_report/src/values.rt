@@ -3,7 +3,7 @@ ghost use Rattle.std.specs.Prelude.{◌≡◌, ◌++◌, OnOk, decimal};
 
 use crate::printed::{Printed, word};
 use json_values::{Blob, Text, write_quoted};
-use oci_docs::OciEnvelope;
+use oci_manifests::OciEnvelope;
 use pull_edge::write_decimal;
 use std::alloc::{AllocError, Global};
 

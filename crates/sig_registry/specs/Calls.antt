@@ -3,7 +3,7 @@ use Rattle.std.specs.Prelude.{ℕ, List, Result, Ok, Err}
 use Rattle.oci_names.specs.declared.reference.Reference.{Reference}
 use Rattle.oci_names.specs.References.{whole_text}
 use Rattle.oci_auth.specs.declared.auth.RegistryAuth.{RegistryAuth}
-use Rattle.oci_docs.specs.declared.document.OciManifest.{OciManifest}
+use Rattle.oci_manifests.specs.declared.document.OciManifest.{OciManifest}
 use Rattle.oci_protocol.specs.Proto.{Done, bind}
 use Rattle.engine_requests.specs.declared.settings.Settings.{Settings}
 use Rattle.engine_steps.specs.Rows.{Row as Engine}

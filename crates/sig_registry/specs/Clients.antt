@@ -1,6 +1,6 @@
 -- What a client of a registry is, whatever keeps it.
 use Rattle.std.specs.Prelude.{◌≡◌, Bool, Result}
-use Rattle.oci_link.specs.Link.{Link}
+use Rattle.oci_transport.specs.Link.{Link}
 use Rattle.oci_auth.specs.declared.memory.Memory.{Memory}
 use Rattle.oci_protocol.specs.Proto.{Proto}
 use Rattle.oci_protocol.specs.Runs.{Meets}

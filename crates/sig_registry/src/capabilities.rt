@@ -9,10 +9,10 @@ ghost use Rattle.sig_registry.specs.Calls.{digest_call, manifest_call, image_cal
 use crate::error::SigstoreError;
 use json_values::{Blob, Text};
 use oci_auth::RegistryAuth;
-use oci_docs::{OciDescriptor, OciManifest};
 use oci_engine::ImageData;
-use oci_link::Transport;
+use oci_manifests::{OciDescriptor, OciManifest};
 use oci_names::Reference;
+use oci_transport::Transport;
 use std::alloc::Global;
 
 /// The calls of a registry's client. Each is one row of requests with a result, whatever is kept.

@@ -11,10 +11,10 @@ use crate::error::SigstoreError;
 use crate::wording::{Called, worded};
 use json_values::{Blob, Text};
 use oci_auth::RegistryAuth;
-use oci_docs::{OciDescriptor, OciManifest};
 use oci_engine::{Client, ImageData};
-use oci_link::Transport;
+use oci_manifests::{OciDescriptor, OciManifest};
 use oci_names::Reference;
+use oci_transport::Transport;
 use std::alloc::Global;
 
 /// A client that keeps no answers between its calls.

@@ -1,4 +1,4 @@
-use Rattle.oci_link.specs.Script.{state_of}
+use Rattle.oci_transport.specs.Script.{state_of}
 use Rattle.sig_registry.specs.Direct.{reference_in}
 use Rattle.cosign_layers.specs.Rows.{valid_in}
 use Rattle.cosign_layers.specs.Standing.{meaning}

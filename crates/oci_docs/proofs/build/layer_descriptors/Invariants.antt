@@ -1,6 +1,0 @@
-use Rattle.std.proofs.Common.{◌≡◌, map, take}
-use Rattle.oci_docs.specs.Built.{layer_descriptor}
-use Rattle.oci_docs.proofs.build.layer_descriptors.Given as goal
-
-abbrev pub invariant-loop-layer : goal.invariant-loop-layer
-invariant-loop-layer l = l.descriptors ≡ map layer_descriptor (take l.layer-index l.layers)

@@ -1,7 +1,0 @@
-use Rattle.std.proofs.Common.{◌∙◌, ap}
-use Rattle.oci_link.specs.Headers.{kept_fields, without}
-use Rattle.oci_link.proofs.Fields.{kept_is_without}
-use Rattle.oci_link.proofs.headers.Headers.without.Goals as goal
-
-pub returns : goal.returns
-returns c = c.in_ok-fields.ensures ∙ ap (kept_fields c.args.name.now) c.entries.ensures ∙ kept_is_without c.args.name.now _ ∙ ap (without c.args.name.now) c.self.view_is

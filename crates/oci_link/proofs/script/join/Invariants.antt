@@ -1,6 +1,0 @@
-use Rattle.std.proofs.Common.{◌≡◌, take}
-use Rattle.oci_link.specs.Pieces.{joined}
-use Rattle.oci_link.proofs.script.join.Given as goal
-
-abbrev pub invariant-loop-piece : goal.invariant-loop-piece
-invariant-loop-piece l = l.body ≡ joined (take l.piece-index l.pieces)

@@ -1,0 +1,16 @@
+use Rattle.std.proofs.Common.{refl}
+use Rattle.json_tables.specs.Reading.{text_of, map_of}
+use Rattle.json_writing.proofs.Whole.{list_member, option_member, document_again}
+use Rattle.oci_manifests.specs.IndexEntry.{entry_of}
+use Rattle.oci_manifests.specs.Index.{index_of, index_written}
+use Rattle.oci_manifests.proofs.Again.{index_again}
+use Rattle.oci_manifests.proofs.index.OciImageIndexToValue.to_value.Goals as goal
+
+pub returns-clause-reads_back : goal.returns-clause-reads_back
+unfolding index_written
+returns-clause-reads_back c =
+    let x = c.args.self.now in
+    let each = c.in_ok-value.ensures.each in
+    document_again index_of _ _ x _
+    (index_again x each.0 (option_member text_of x.media_type each.1) (list_member entry_of x.manifests each.2) (option_member text_of x.artifact_type each.3) (option_member (map_of text_of) x.annotations each.4))
+    refl c.in_ok-value.ensures.exact

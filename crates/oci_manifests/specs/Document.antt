@@ -1,0 +1,45 @@
+-- An image manifest or an image index.
+use Rattle.std.specs.Prelude.{◌≡◌, ℕ, List, true, false, Option, Some, None, IsSome, Result, Ok, Err, ⊤, unwrap_or}
+use Rattle.serde_json.specs.Data.{Data}
+use Rattle.serde_json.specs.Written.{has_float}
+use Rattle.json_tables.specs.declared.error.ReadError.{ReadError}
+use Rattle.json_tables.specs.declared.error.ReadError.TheVariants.{Float, Shape, Ambiguous, WantOfMemory}
+use Rattle.oci_manifests.specs.declared.media_types.TheConstants.{OCI_IMAGE_MEDIA_TYPE, IMAGE_MANIFEST_LIST_MEDIA_TYPE}
+use Rattle.oci_manifests.specs.declared.manifest.OciImageManifest.{OciImageManifest}
+use Rattle.oci_manifests.specs.declared.index.OciImageIndex.{OciImageIndex}
+use Rattle.oci_manifests.specs.declared.document.OciManifest.{OciManifest}
+use Rattle.oci_manifests.specs.declared.document.OciManifest.TheVariants.{Image, ImageIndex}
+use Rattle.oci_manifests.specs.Manifest.{manifest_of, manifest_written}
+use Rattle.oci_manifests.specs.Index.{index_of, index_written}
+
+-- the one that is there, and none where both or neither are
+abbrev pub one_of : Option OciImageManifest → Option OciImageIndex → Option OciManifest
+one_of (Some manifest) None = Some (Image manifest)
+one_of None (Some index) = Some (ImageIndex index)
+one_of manifest index = None
+
+-- what the value reads as, by exactly one of the two tables
+unfoldable pub document_of : Data → Option OciManifest
+document_of d = one_of (manifest_of d) (index_of d)
+
+-- `Float` exactly where a float stands, else `Ambiguous` exactly where both tables read, else `Shape` exactly where neither does, unless memory runs out
+abbrev pub RefusesManifest : ReadError → Data → Type 0
+RefusesManifest Float d = has_float d ≡ true
+RefusesManifest Ambiguous d = (has_float d ≡ false) × IsSome (manifest_of d) × IsSome (index_of d)
+RefusesManifest Shape d = (has_float d ≡ false) × (manifest_of d ≡ None) × (index_of d ≡ None)
+RefusesManifest WantOfMemory d = ⊤
+
+-- the one document of a value with no float, or its refusal
+abbrev pub ReadsManifest : Result OciManifest ReadError → Data → Type 0
+ReadsManifest (Ok document) d = (has_float d ≡ false) × (document_of d ≡ Some document)
+ReadsManifest (Err e) d = RefusesManifest e d
+
+-- the media type, else OCI's for a manifest and Docker's for an index
+abbrev pub content_type_of : OciManifest → List ℕ
+content_type_of (Image manifest) = unwrap_or manifest.media_type OCI_IMAGE_MEDIA_TYPE.now
+content_type_of (ImageIndex index) = unwrap_or index.media_type IMAGE_MANIFEST_LIST_MEDIA_TYPE.now
+
+-- how the document is written
+abbrev pub document_written : OciManifest → Data
+document_written (Image manifest) = manifest_written manifest
+document_written (ImageIndex index) = index_written index

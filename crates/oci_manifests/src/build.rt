@@ -1,0 +1,111 @@
+//! Manifests that are made of layers and a configuration.
+ghost use Rattle.std.specs.Prelude.{◌≡◌, [], None, IfOk, map};
+ghost use Rattle.oci_manifests.specs.Built.{descriptor_for, empty_descriptor, manifest_with, layer_descriptor, built};
+
+use crate::blob::{Config, ImageLayer};
+use crate::descriptor::OciDescriptor;
+use crate::manifest::OciImageManifest;
+use crate::media_types::IMAGE_CONFIG_MEDIA_TYPE;
+use json_values::{Annotations, Blob, Copied, List, Text};
+use std::alloc::{AllocError, Global};
+
+impl OciDescriptor {
+    /// The descriptor of nothing, of the type of OCI's configurations.
+    pub fn default(alloc: Global) -> Result<OciDescriptor, AllocError>
+        ensures { IfOk result (λ descriptor. descriptor ≡ empty_descriptor) }
+    {
+        let media_type = Text::new(alloc, IMAGE_CONFIG_MEDIA_TYPE)?;
+        let digest = Text::new(alloc, "")?;
+        Ok(OciDescriptor {
+            media_type,
+            digest,
+            size: 0,
+            urls: None,
+            annotations: None,
+            artifact_type: None,
+        })
+    }
+}
+
+impl OciImageManifest {
+    /// Schema version 2, the default descriptor as configuration, and nothing else.
+    pub fn default(alloc: Global) -> Result<OciImageManifest, AllocError>
+        ensures { IfOk result (λ manifest. manifest ≡ manifest_with empty_descriptor [] None) }
+    {
+        let config = OciDescriptor::default(alloc)?;
+        Ok(manifest_of_parts(config, List::new(alloc), None))
+    }
+
+    /// The manifest of these layers and this configuration: their lengths, SHA-256 digests and media types, the
+    /// annotations of each layer, and these annotations of the manifest.
+    pub fn build(
+        alloc: Global,
+        layers: &[ImageLayer],
+        config: &Config,
+        annotations: Option<Annotations>,
+    ) -> Result<OciImageManifest, AllocError>
+        ensures { IfOk result (λ manifest. manifest ≡ built layers.now config.now annotations) }
+    {
+        let config = descriptor_for(alloc, &config.content, &config.media_type, &None)?;
+        let layers = layer_descriptors(alloc, layers)?;
+        Ok(manifest_of_parts(config, layers, annotations))
+    }
+}
+
+fn manifest_of_parts(
+    config: OciDescriptor,
+    layers: List<OciDescriptor>,
+    annotations: Option<Annotations>,
+) -> OciImageManifest
+    ensures { result ≡ manifest_with config layers annotations }
+{
+    OciImageManifest {
+        schema_version: 2,
+        media_type: None,
+        config,
+        layers,
+        subject: None,
+        artifact_type: None,
+        annotations,
+    }
+}
+
+fn layer_descriptors(
+    alloc: Global,
+    layers: &[ImageLayer],
+) -> Result<List<OciDescriptor>, AllocError>
+    ensures { IfOk result (λ descriptors. descriptors ≡ map layer_descriptor layers.now) }
+{
+    let mut descriptors = List::new(alloc);
+    for layer in layers {
+        let descriptor = descriptor_for(
+            alloc,
+            &layer.content,
+            &layer.media_type,
+            &layer.annotations,
+        )?;
+        descriptors.push(descriptor)?;
+    }
+    Ok(descriptors)
+}
+
+fn descriptor_for(
+    alloc: Global,
+    content: &Blob,
+    media_type: &Text,
+    annotations: &Option<Annotations>,
+) -> Result<OciDescriptor, AllocError>
+    ensures { IfOk result (λ descriptor. descriptor ≡ descriptor_for content.now media_type.now annotations.now) }
+{
+    let digest = oci_digests::sha256_digest(alloc, content.as_slice())?;
+    let media_type = media_type.copy(alloc)?;
+    let annotations = annotations.copy(alloc)?;
+    Ok(OciDescriptor {
+        media_type,
+        digest,
+        size: content.as_slice().len() as i64,
+        urls: None,
+        annotations,
+        artifact_type: None,
+    })
+}

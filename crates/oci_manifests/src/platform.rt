@@ -1,0 +1,134 @@
+ghost use Rattle.std.specs.Prelude.{◌≡◌, IfOk, Ok};
+ghost use Rattle.serde_json.specs.View.{view};
+ghost use Rattle.json_tables.specs.Outcomes.{ReadsDocument};
+
+use json_tables::{Member, ReadError, Reads, present, read_document, row6};
+use json_values::{Copied, List, Text, ToValue, copies6};
+use json_writing::{Writes, object6};
+use serde_json::Value;
+use std::alloc::{AllocError, Global};
+
+/// The platform that an image runs on (OCI image specification, image-index.md).
+#[derive(Debug, Drop)]
+pub struct Platform {
+    pub architecture: Text,
+    pub os: Text,
+    pub os_version: Option<Text>,
+    pub os_features: Option<List<Text>>,
+    pub variant: Option<Text>,
+    pub features: Option<List<Text>>,
+}
+
+impl Platform {
+    ghost use Rattle.oci_manifests.specs.Platform.{platform_of};
+
+    /// `Float` exactly where a float stands anywhere, else `Shape` exactly where the table does not read it.
+    pub fn read(alloc: Global, value: &Value) -> Result<Platform, ReadError>
+        ensures { ReadsDocument result platform_of (view value.now) }
+    {
+        read_document(alloc, value)
+    }
+}
+
+impl Reads for Platform {
+    ghost use Rattle.oci_manifests.specs.Platform.{platform_of};
+
+    ghost reading = { platform_of };
+
+    #[tactic(auto, unfolding(crate::specs::Platform::platform_of))]
+    fn read_value(alloc: Global, value: &Value) -> Result<Platform, ReadError> {
+        let (architecture, os, os_version, os_features, variant, features) = row6(
+            alloc,
+            value,
+            "architecture",
+            "os",
+            "os.version",
+            "os.features",
+            "variant",
+            "features",
+        )?;
+        Ok(Platform {
+            architecture,
+            os,
+            os_version,
+            os_features,
+            variant,
+            features,
+        })
+    }
+}
+
+impl Member for Platform {
+    ghost use Rattle.json_tables.specs.Reading.{present};
+    ghost use Rattle.oci_manifests.specs.Platform.{platform_of};
+
+    ghost found = { present platform_of };
+
+    fn read_member(alloc: Global, member: Option<&Value>) -> Result<Platform, ReadError> {
+        present(alloc, member)
+    }
+}
+
+impl Writes for Platform {
+    ghost use Rattle.oci_manifests.specs.Platform.{platform_written};
+
+    ghost written = { platform_written };
+
+    #[tactic(auto, unfolding(crate::specs::Platform::platform_written))]
+    fn write_value(&self, alloc: Global) -> Result<Value, AllocError> {
+        let value = object6(
+            alloc,
+            "architecture",
+            &self.architecture,
+            "os",
+            &self.os,
+            "os.version",
+            &self.os_version,
+            "os.features",
+            &self.os_features,
+            "variant",
+            &self.variant,
+            "features",
+            &self.features,
+        )?;
+        Ok(value)
+    }
+}
+
+impl ToValue for Platform {
+    ghost use Rattle.oci_manifests.specs.Platform.{platform_of, platform_written};
+
+    ghost written = { platform_written };
+
+    /// What it gives reads back. None is not written.
+    #[tactic(auto, using(json_writing::proofs::Whole::document_again))]
+    fn to_value(&self, alloc: Global) -> Result<Value, AllocError>
+        ensures exact { IfOk result (λ v. view v ≡ platform_written self.now) }
+        ensures reads_back { IfOk result (λ v. ReadsDocument (Ok self.now) platform_of (view v)) }
+    {
+        let value = self.write_value(alloc)?;
+        Ok(value)
+    }
+}
+
+impl Copied for Platform {
+    fn copy(&self, alloc: Global) -> Result<Platform, AllocError> {
+        let (architecture, os, os_version, os_features, variant, features) = copies6(
+            alloc,
+            &self.architecture,
+            &self.os,
+            &self.os_version,
+            &self.os_features,
+            &self.variant,
+            &self.features,
+        )?;
+        Ok(Platform {
+            architecture,
+            os,
+            os_version,
+            os_features,
+            variant,
+            features,
+        })
+    }
+}

@@ -1,0 +1,66 @@
+ghost use Rattle.std.specs.Prelude.{◌≡◌};
+ghost use Rattle.serde_json.specs.View.{view};
+ghost use Rattle.json_tables.specs.Outcomes.{ReadsDocument};
+ghost use Rattle.oci_manifests.specs.Types.{is_manifest_type};
+
+use crate::media_types::{
+    IMAGE_MANIFEST_LIST_MEDIA_TYPE, IMAGE_MANIFEST_MEDIA_TYPE, OCI_IMAGE_INDEX_MEDIA_TYPE,
+    OCI_IMAGE_MEDIA_TYPE,
+};
+use json_tables::{ReadError, Reads, read_document, row2};
+use json_values::{Copied, Text};
+use serde_json::Value;
+use std::alloc::{AllocError, Global};
+
+/// What every manifest begins with: the schema version and the media type.
+#[derive(Debug, Drop)]
+pub struct Versioned {
+    pub schema_version: i32,
+    pub media_type: Option<Text>,
+}
+
+impl Versioned {
+    ghost use Rattle.oci_manifests.specs.Versioned.{versioned_of};
+
+    /// `Float` exactly where a float stands anywhere, else `Shape` exactly where the table does not read it.
+    pub fn read(alloc: Global, value: &Value) -> Result<Versioned, ReadError>
+        ensures { ReadsDocument result versioned_of (view value.now) }
+    {
+        read_document(alloc, value)
+    }
+}
+
+impl Reads for Versioned {
+    ghost use Rattle.oci_manifests.specs.Versioned.{versioned_of};
+
+    ghost reading = { versioned_of };
+
+    #[tactic(auto, unfolding(crate::specs::Versioned::versioned_of))]
+    fn read_value(alloc: Global, value: &Value) -> Result<Versioned, ReadError> {
+        let (schema_version, media_type) = row2(alloc, value, "schemaVersion", "mediaType")?;
+        Ok(Versioned {
+            schema_version,
+            media_type,
+        })
+    }
+}
+
+impl Copied for Versioned {
+    fn copy(&self, alloc: Global) -> Result<Versioned, AllocError> {
+        let media_type = self.media_type.copy(alloc)?;
+        Ok(Versioned {
+            schema_version: self.schema_version,
+            media_type,
+        })
+    }
+}
+
+/// Whether a media type is one of the four of image manifests and image indexes (own).
+pub fn is_manifest_media_type(text: &str) -> bool
+    ensures { result ≡ is_manifest_type text.now }
+{
+    text == IMAGE_MANIFEST_MEDIA_TYPE
+        || text == IMAGE_MANIFEST_LIST_MEDIA_TYPE
+        || text == OCI_IMAGE_MEDIA_TYPE
+        || text == OCI_IMAGE_INDEX_MEDIA_TYPE
+}

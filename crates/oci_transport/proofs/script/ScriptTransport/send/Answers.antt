@@ -1,0 +1,27 @@
+use Rattle.std.proofs.Common.{◌≡◌, ◌++◌, ◌∷◌, [], Some, None, refl, sym, ap, subst, IsTrue, ◌∙◌, length, drop, slice_get}
+use Rattle.oci_transport.specs.Playback.{answering, recorded_answer, last_pieces}
+use Rattle.oci_transport.specs.declared.message.Request.{Request}
+use Rattle.oci_transport.specs.Calm.{calm}
+use Rattle.oci_transport.specs.Pieces.{joined}
+use Rattle.oci_transport.proofs.Calming.{calm_push, calm_failed}
+use Rattle.oci_transport.proofs.Playing.{told_next, answered_next, rest_next}
+use Rattle.oci_transport.proofs.script.ScriptTransport.send.Goals as goal
+
+pub returns-in_ok-push-in-Some-clause-answered : goal.returns-in_ok-push-in-Some-clause-answered
+returns-in_ok-push-in-Some-clause-answered c =
+    let items = c.args.self.now.answers in
+    let is : recorded_answer (slice_get items (length c.args.self.now.told)) ≡ Some c.in-Some.answer = sym (c.in_ok-answer.ensures ∙ (λ i. recorded_answer (slice_get (c.as_slice.ensures i) (length (c.as_slice-place.ensures i))))) ∙ c.in-Some.is in
+    answered_next items _ _ c.args.self.now.told c.args.request.now _ c.in-Some.answer refl refl refl (ap Some c.in_ok-push-in-Some.ensures.ok ∙ ap (λ (r : Request). Some (c.args.self.now.told ++ record { request = r; answer = Some c.in-Some.answer; faults = c.args.self.now.faults } ∷ [])) c.in_ok-request.ensures) is refl c.in_ok-headers-in-Some.ensures (ap Some (ap (λ told. joined (drop 0 (last_pieces items (length told)))) c.in_ok-push-in-Some.ensures.ok ∙ rest_next items c.args.self.now.told _ c.in-Some.answer is))
+
+pub returns-in_ok-push-in-None-clause-unanswered :
+    goal.returns-in_ok-push-in-None-clause-unanswered
+returns-in_ok-push-in-None-clause-unanswered c _ = told_next c.args.self.now.answers _ _ c.args.self.now.told (record { request = c.args.request.now; answer = None; faults = c.args.self.now.faults }) refl refl refl (ap Some c.in_ok-push-in-None.ensures.ok ∙ ap (λ (r : Request). Some (c.args.self.now.told ++ record { request = r; answer = None; faults = c.args.self.now.faults } ∷ [])) c.in_ok-request.ensures) (sym c.in-None.is ∙ c.in_ok-answer.ensures ∙ (λ i. recorded_answer (slice_get (c.as_slice.ensures i) (length (c.as_slice-place.ensures i)))))
+
+pub invariant_of-self-in-Some : goal.invariant_of-self-in-Some
+invariant_of-self-in-Some c = record { calm = subst (λ told. IsTrue (calm (answering c.args.self.now.answers).fails 0 told c.args.self.now.faults)) (sym c.in_ok-push-in-Some.ensures.ok) (calm_push (answering c.args.self.now.answers).fails c.args.self.now.told _ c.args.self.now.faults refl c.args.self.now.calm) }
+
+pub invariant_of-self-in-None : goal.invariant_of-self-in-None
+invariant_of-self-in-None c = record {
+  calm = subst (λ told. IsTrue (calm (answering c.args.self.now.answers).fails 0 told c.saturating_add-self.result)) (sym c.in_ok-push-in-None.ensures.ok)
+      (calm_failed c.args.self.now.answers c.args.self.now.told _ c.args.self.now.faults c.saturating_add-self.result refl (sym (c.in_ok-answer.ensures ∙ (λ i. recorded_answer (slice_get (c.as_slice.ensures i) (length (c.as_slice-place.ensures i))))) ∙ c.in-None.is) c.args.self.now.calm);
+}

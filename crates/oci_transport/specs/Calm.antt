@@ -1,0 +1,13 @@
+-- Where a transport may have failed.
+use Rattle.std.specs.Prelude.{ℕ, suc, Bool, true, ◌||◌, ◌&&◌, nat_eq, List, [], ◌∷◌}
+use Rattle.oci_transport.specs.declared.message.Exchange.{Exchange}
+
+-- the count as the first of these exchanges was sent, or the last count where there is none
+abbrev pub next_count : List Exchange → ℕ → ℕ
+next_count [] count = count
+next_count (e ∷ c) count = e.faults
+
+-- each exchange, from this place on, stands where something may fail, or the count after it is the one before it
+abbrev pub calm : (ℕ → Bool) → ℕ → List Exchange → ℕ → Bool
+calm fails place [] count = true
+calm fails place (e ∷ c) count = (fails place || nat_eq (next_count c count) e.faults) && calm fails (suc place) c count

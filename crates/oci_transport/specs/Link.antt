@@ -1,0 +1,73 @@
+-- What a transport shows, and what a step of it may change.
+use Rattle.std.specs.Prelude.{◌≡◌, ℕ, suc, ◌≤◌, Bool, false, List, [], ◌∷◌, ◌++◌, length, Option, Some, None}
+use Rattle.oci_transport.specs.declared.message.Request.{Request}
+use Rattle.oci_transport.specs.declared.message.Answer.{Answer}
+use Rattle.oci_transport.specs.declared.message.AnswerHead.{AnswerHead}
+use Rattle.oci_transport.specs.declared.message.Exchange.{Exchange}
+
+-- what a transport answers by: the answer to a request at a place of its whole conversation, none where the send fails; and whether anything may fail at that place
+pub record Answering : Type 0 where
+  pub answer : ℕ → Request → Option Answer
+  pub fails : ℕ → Bool
+
+-- what a transport shows: its exchanges where it tells them, what is left of the answer's body where it tells that, how many faults it had, and what it answers by, where that is known
+pub record Link : Type 0 where
+  pub told : Option (List Exchange)
+  pub rest : Option (List ℕ)
+  pub faults : ℕ
+  pub answers : Option Answering
+
+-- each exchange, from this place on, was answered so
+abbrev pub AnsweredBy : Answering → ℕ → List Exchange → Type 0
+AnsweredBy a place [] = Unit {0}
+AnsweredBy a place (e ∷ c) = (e.answer ≡ a.answer place e.request) × AnsweredBy a (suc place) c
+
+-- nothing may fail anywhere
+abbrev pub NeverFails : Answering → Type 0
+NeverFails a = (place : ℕ) → a.fails place ≡ false
+
+-- what it answers by stays, and where nothing may fail it had no fault
+pub record Steady (old new : Link) : Type 0 where
+  pub steady : (a : Answering) → old.answers ≡ Some a → new.answers ≡ Some a
+  pub quiet : (a : Answering) → old.answers ≡ Some a → NeverFails a → new.faults ≡ old.faults
+
+-- where exchanges are told, these came after those, answered by what it answers by
+pub record Extends (old new : Link) (added : List Exchange) : Type 0 where
+  pub told : (before : List Exchange) → old.told ≡ Some before → new.told ≡ Some (before ++ added)
+  pub table : (a : Answering) (before : List Exchange) → old.answers ≡ Some a → old.told ≡ Some before → AnsweredBy a (length before) added
+  pub stays : Steady old new
+
+abbrev pub answer_of : AnswerHead → List ℕ → Answer
+answer_of head body = record { status = head.status; headers = head.headers; body = body }
+
+-- an exchange with this request and an answer of this head, whose body is what can be taken now
+pub record Answers (request : Request) (head : AnswerHead) (old new : Link) : Type 0 where
+  pub body : List ℕ
+  pub added : Extends old new (record { request = request; answer = Some (answer_of head body); faults = old.faults } ∷ [])
+  pub rest : (before : List Exchange) → old.told ≡ Some before → new.rest ≡ Some body
+
+-- an exchange with this request and no answer
+abbrev pub AddsUnanswered : Request → Link → Link → Type 0
+AddsUnanswered request old new = Extends old new (record { request = request; answer = None; faults = old.faults } ∷ [])
+
+-- at most one exchange, and it has this request
+abbrev pub IsAtMost : Request → ℕ → List Exchange → Type 0
+IsAtMost request faults [] = Unit {0}
+IsAtMost request faults (e ∷ []) = (e.request ≡ request) × (e.faults ≡ faults)
+IsAtMost request faults (e ∷ f ∷ c) = ⊥
+
+pub record AddsAtMost (request : Request) (old new : Link) : Type 0 where
+  pub conversation : List Exchange
+  pub added : Extends old new conversation
+  pub most : IsAtMost request old.faults conversation
+
+-- the piece is the front of what was left, and an empty one means that nothing was left
+pub record Takes (piece : List ℕ) (old new : Link) : Type 0 where
+  pub front : (rest : List ℕ) → old.rest ≡ Some rest → (left : List ℕ) × (rest ≡ piece ++ left) × (new.rest ≡ Some left) × (piece ≡ [] → rest ≡ [])
+
+-- these bytes were taken so far, and nothing was sent
+pub record HasTaken (bytes : List ℕ) (old new : Link) : Type 0 where
+  pub told : new.told ≡ old.told
+  pub count : old.faults ≤ new.faults
+  pub stays : Steady old new
+  pub front : (rest : List ℕ) → old.rest ≡ Some rest → (left : List ℕ) × (rest ≡ bytes ++ left) × (new.rest ≡ Some left)

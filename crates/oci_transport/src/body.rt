@@ -1,0 +1,64 @@
+ghost use Rattle.std.specs.Prelude.{◌≡◌, ◌≤◌, ◌<◌, length, IfOk, IsErrOf};
+ghost use Rattle.json_values.specs.Counts.{Rose};
+ghost use Rattle.oci_transport.specs.Link.{Steady};
+ghost use Rattle.oci_transport.specs.declared.body.BodyError.TheVariants.{WantOfMemory as out_of_memory};
+
+use crate::transport::{LinkError, Transport};
+use json_values::{Blob, Copied};
+use std::alloc::{AllocError, Global};
+
+/// Why a body was not read.
+#[derive(Clone, Copy, Debug, PartialEq, Eq)]
+pub enum BodyError {
+    /// The transport failed.
+    TransportFault,
+    /// More bytes came than the limit.
+    BodyTooLong,
+    WantOfMemory,
+}
+
+impl Copied for BodyError {
+    fn copy(&self, _alloc: Global) -> Result<BodyError, AllocError> {
+        Ok(*self)
+    }
+}
+
+impl From<AllocError> for BodyError {
+    ghost from_gives = { λ _ e. e ≡ out_of_memory };
+
+    fn from(_: AllocError) -> Self {
+        BodyError::WantOfMemory
+    }
+}
+
+/// The whole body of the last answer, where it has no more than `limit` bytes.
+pub fn read_body<T: Transport>(
+    alloc: Global,
+    transport: &mut T,
+    limit: u64,
+) -> Result<Blob, BodyError>
+    ensures told { (T.state transport.new).told ≡ (T.state transport.old).told }
+    ensures steady { Steady (T.state transport.old) (T.state transport.new) }
+    ensures count { (T.state transport.old).faults ≤ (T.state transport.new).faults }
+    ensures within { IfOk result (λ body. length body ≤ limit) }
+    ensures whole { IfOk result (λ body. (rest : _) → (T.state transport.old).rest ≡ Some rest → body ≡ rest) }
+    ensures long { IsErrOf result BodyError.BodyTooLong → (rest : _) → (T.state transport.old).rest ≡ Some rest → limit < length rest }
+    ensures fault { IsErrOf result BodyError.TransportFault → Rose (T.state transport.old).faults (T.state transport.new).faults }
+{
+    let mut body = Blob::empty(alloc);
+    loop {
+        let piece = match transport.piece(alloc) {
+            Ok(piece) => piece,
+            Err(LinkError::Failed) => return Err(BodyError::TransportFault),
+            Err(LinkError::WantOfMemory) => return Err(BodyError::WantOfMemory),
+        };
+        let more = piece.as_slice().len();
+        if more == 0 {
+            return Ok(body);
+        }
+        if more as u64 > limit - body.as_slice().len() as u64 {
+            return Err(BodyError::BodyTooLong);
+        }
+        body.append(piece.as_slice())?;
+    }
+}

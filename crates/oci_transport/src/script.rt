@@ -1,0 +1,248 @@
+// A transport of recorded answers.
+ghost use Rattle.std.specs.Prelude.{◌≡◌, IsTrue, ℕ, ◌+◌, ◌<◌, ◌≤◌, [], length, slice_get, All, IfOk, OnOk, OnErr, IsErrOf, Some, None};
+ghost use Rattle.oci_transport.specs.Calm.{calm};
+ghost use Rattle.oci_transport.specs.Pieces.{NoneEmpty, joined};
+ghost use Rattle.oci_transport.specs.Playback.{answering, recorded_answer, last_pieces, last_stop, stop_within};
+
+use crate::message::{Answer, AnswerHead, Conversation, Exchange, Request};
+use crate::recorded::Recorded;
+use crate::transport::{LinkError, Transport};
+use json_values::{Blob, Copied, List, copies5};
+use std::alloc::{AllocError, Global};
+
+/// Gives its answers in order, whatever is asked, and fails after the last of them.
+#[derive(Drop)]
+pub struct Script {
+    answers: List<Recorded>,
+    told: Conversation,
+    given: usize,
+    stopped: bool,
+    faults: u64,
+    ghost calm: { IsTrue (calm (answering answers).fails 0 told faults) },
+}
+
+impl Script {
+    ghost use Rattle.oci_transport.specs.Script.{state_of, answers_of, stop_of};
+
+    pub fn new(alloc: Global, answers: List<Recorded>) -> Script
+        ensures told { (state_of result).told ≡ Some [] }
+        ensures faults { (state_of result).faults ≡ 0 }
+        ensures table { (state_of result).answers ≡ Some (answering answers) }
+        ensures answers { answers_of result ≡ answers }
+    {
+        Script {
+            answers,
+            told: List::new(alloc),
+            given: 0,
+            stopped: false,
+            faults: 0,
+        }
+    }
+
+    // Before how many pieces of the last answer a call will fail.
+    fn stop(&self) -> Option<u64>
+        ensures { result ≡ stop_of self.now }
+    {
+        if self.stopped {
+            return None;
+        }
+        last_stop(self.answers.as_slice(), self.told.as_slice().len())
+    }
+
+    /// All exchanges so far.
+    pub fn conversation(&self) -> &Conversation
+        ensures told { Some result.now ≡ (state_of self.now).told }
+        ensures calm { IsTrue (calm (answering (answers_of self.now)).fails 0 result.now (state_of self.now).faults) }
+    {
+        &self.told
+    }
+}
+
+impl Copied for Script {
+    fn copy(&self, alloc: Global) -> Result<Script, AllocError> {
+        let (answers, told, given, stopped, faults) = copies5(
+            alloc,
+            &self.answers,
+            &self.told,
+            &self.given,
+            &self.stopped,
+            &self.faults,
+        )?;
+        Ok(Script {
+            answers,
+            told,
+            given,
+            stopped,
+            faults,
+        })
+    }
+}
+
+impl Transport for Script {
+    ghost use Rattle.std.specs.Prelude.{◌⊎◌};
+    ghost use Rattle.json_values.specs.Counts.{Rose, raised};
+    ghost use Rattle.oci_transport.specs.Link.{Answers, AddsUnanswered, AddsAtMost, Takes, Steady};
+    ghost use Rattle.oci_transport.specs.Script.{state_of, answers_of, given_of, stop_of, place_of};
+    ghost use Rattle.oci_transport.specs.Playback.{fails_before_of};
+
+    ghost state = { state_of };
+
+    fn send(&mut self, alloc: Global, request: &Request) -> Result<AnswerHead, LinkError>
+        ensures count { (state_of self.old).faults ≤ (state_of self.new).faults }
+        ensures answered { IfOk result (λ head. Answers request.now head (state_of self.old) (state_of self.new)) }
+        ensures unanswered { IsErrOf result LinkError.Failed → AddsUnanswered request.now (state_of self.old) (state_of self.new) }
+        ensures fault { IsErrOf result LinkError.Failed → (state_of self.new).faults ≡ raised (state_of self.old).faults }
+        ensures rose { IsErrOf result LinkError.Failed → Rose (state_of self.old).faults (state_of self.new).faults }
+        ensures memory { IsErrOf result LinkError.WantOfMemory → self.new ≡ self.old }
+        ensures answers { answers_of self.new ≡ answers_of self.old }
+        ensures given { OnOk result (given_of self.new ≡ 0) }
+        ensures stop { OnOk result (stop_of self.new ≡ fails_before_of (slice_get (answers_of self.old) (place_of self.old))) }
+    {
+        let faults = self.faults;
+        let place = self.told.as_slice().len();
+        let request = request.copy(alloc)?;
+        match recorded_answer(alloc, self.answers.as_slice(), place)? {
+            Some(answer) => {
+                let headers = answer.headers.copy(alloc)?;
+                let head = AnswerHead {
+                    status: answer.status,
+                    headers,
+                };
+                self.told.push(Exchange {
+                    request,
+                    answer: Some(answer),
+                    faults,
+                })?;
+                self.given = 0;
+                self.stopped = false;
+                Ok(head)
+            }
+            None => {
+                self.told.push(Exchange {
+                    request,
+                    answer: None,
+                    faults,
+                })?;
+                self.given = 0;
+                self.stopped = false;
+                self.faults = faults.saturating_add(1);
+                Err(LinkError::Failed)
+            }
+        }
+    }
+
+    fn piece(&mut self, alloc: Global) -> Result<Blob, LinkError>
+        ensures told { (state_of self.new).told ≡ (state_of self.old).told }
+        ensures steady { Steady (state_of self.old) (state_of self.new) }
+        ensures count { (state_of self.old).faults ≤ (state_of self.new).faults }
+        ensures taken { IfOk result (λ piece. Takes piece (state_of self.old) (state_of self.new)) }
+        ensures fault { IsErrOf result LinkError.Failed → (state_of self.new).faults ≡ raised (state_of self.old).faults }
+        ensures rose { IsErrOf result LinkError.Failed → Rose (state_of self.old).faults (state_of self.new).faults }
+        ensures quiet { OnOk result ((state_of self.new).faults ≡ (state_of self.old).faults) }
+        ensures memory { IsErrOf result LinkError.WantOfMemory → self.new ≡ self.old }
+        ensures answers { answers_of self.new ≡ answers_of self.old }
+        ensures stops { IsErrOf result LinkError.Failed → (stop_of self.old ≡ Some (given_of self.old)) × (stop_of self.new ≡ None) × (given_of self.new ≡ given_of self.old) }
+        ensures serves { OnOk result ((stop_of self.old ≡ Some (given_of self.old) → ⊥) × (stop_of self.new ≡ stop_of self.old)) }
+        ensures given { IfOk result (λ piece. 0 < length piece → given_of self.new ≡ given_of self.old + 1) }
+    {
+        if self.stop() == Some(self.given as u64) {
+            self.stopped = true;
+            self.faults = self.faults.saturating_add(1);
+            return Err(LinkError::Failed);
+        }
+        let pieces = last_pieces(self.answers.as_slice(), self.told.as_slice().len());
+        if self.given < pieces.len() {
+            let piece = pieces[self.given].copy(alloc)?;
+            self.given += 1;
+            return Ok(piece);
+        }
+        Ok(Blob::empty(alloc))
+    }
+
+    fn faults(&self) -> u64 {
+        self.faults
+    }
+}
+
+// The answer at this place, its body whole. None where the send fails or the list has ended.
+fn recorded_answer(
+    alloc: Global,
+    answers: &[Recorded],
+    place: usize,
+) -> Result<Option<Answer>, AllocError>
+    ensures { IfOk result (λ answer. answer ≡ recorded_answer (slice_get answers.now place)) }
+{
+    match answers.get(place) {
+        Some(recorded) => {
+            if recorded.fails {
+                return Ok(None);
+            }
+            let headers = recorded.headers.copy(alloc)?;
+            let body = join(alloc, recorded.pieces.as_slice())?;
+            Ok(Some(Answer {
+                status: recorded.status,
+                headers,
+                body,
+            }))
+        }
+        None => Ok(None),
+    }
+}
+
+// The pieces as one.
+fn join(alloc: Global, pieces: &[Blob]) -> Result<Blob, AllocError>
+    ensures { IfOk result (λ body. body ≡ joined pieces.now) }
+{
+    let mut body = Blob::empty(alloc);
+    for piece in pieces {
+        body.append(piece.as_slice())?;
+    }
+    Ok(body)
+}
+
+// The pieces of the last answer, where so many requests were sent.
+fn last_pieces(answers: &[Recorded], sent: usize) -> &[Blob]
+    ensures pieces { result.now ≡ last_pieces answers.now sent }
+    ensures none_empty { NoneEmpty result.now }
+{
+    if sent == 0 {
+        return &[];
+    }
+    match answers.get(sent - 1) {
+        Some(recorded) => {
+            if recorded.fails {
+                return &[];
+            }
+            recorded.pieces.as_slice()
+        }
+        None => &[],
+    }
+}
+
+// Before how many pieces of the last answer a call fails.
+fn last_stop(answers: &[Recorded], sent: usize) -> Option<u64>
+    ensures { result ≡ last_stop answers.now sent }
+{
+    if sent == 0 {
+        return None;
+    }
+    match answers.get(sent - 1) {
+        Some(recorded) => {
+            if recorded.fails {
+                return None;
+            }
+            stop_within(recorded.fails_before, recorded.pieces.as_slice().len())
+        }
+        None => None,
+    }
+}
+
+// A number of pieces, where there are so many.
+fn stop_within(fails_before: Option<u64>, pieces: usize) -> Option<u64>
+    ensures { result ≡ stop_within fails_before pieces }
+{
+    match fails_before {
+        Some(count) if count <= pieces as u64 => Some(count),
+        _ => None,
+    }
+}

@@ -1,0 +1,65 @@
+// What carries requests to a registry, and its answers back.
+ghost use Rattle.std.specs.Prelude.{◌≡◌, ◌≤◌, IfOk, IsErrOf};
+ghost use Rattle.json_values.specs.Counts.{Rose};
+ghost use Rattle.oci_transport.specs.Link.{Link, Steady, Answers, AddsUnanswered, AddsAtMost, Takes};
+ghost use Rattle.oci_transport.specs.declared.transport.LinkError.TheVariants.{WantOfMemory as out_of_memory};
+
+use crate::message::{AnswerHead, Request};
+use json_values::{Blob, Copied};
+use std::alloc::{AllocError, AllocFailed, Global};
+
+/// Why a transport did not answer.
+#[derive(Clone, Copy, Debug, PartialEq, Eq)]
+pub enum LinkError {
+    /// The count of faults rose.
+    Failed,
+    WantOfMemory,
+}
+
+impl Copied for LinkError {
+    fn copy(&self, _alloc: Global) -> Result<LinkError, AllocError> {
+        Ok(*self)
+    }
+}
+
+impl From<AllocError> for LinkError {
+    ghost from_gives = { λ _ e. e ≡ out_of_memory };
+
+    fn from(_: AllocError) -> Self {
+        LinkError::WantOfMemory
+    }
+}
+
+impl<T: Drop> From<AllocFailed<T>> for LinkError {
+    ghost from_gives = { λ _ e. e ≡ out_of_memory };
+
+    fn from(_: AllocFailed<T>) -> Self {
+        LinkError::WantOfMemory
+    }
+}
+
+/// Carries requests, one after another, and the bodies of their answers piece by piece.
+pub trait Transport {
+    /// The exchanges so far, the rest of the last answer's body, the count of faults, and what it answers by.
+    ghost state: { Self → Link };
+
+    /// Sends a request, and answers the head of its answer. `Failed` where no answer came.
+    fn send(&mut self, alloc: Global, request: &Request) -> Result<AnswerHead, LinkError>
+        ensures count { (state self.old).faults ≤ (state self.new).faults }
+        ensures answered { IfOk result (λ head. Answers request.now head (state self.old) (state self.new)) }
+        ensures unanswered { IsErrOf result LinkError.Failed → AddsUnanswered request.now (state self.old) (state self.new) }
+        ensures fault { IsErrOf result LinkError.Failed → Rose (state self.old).faults (state self.new).faults }
+        ensures memory { IsErrOf result LinkError.WantOfMemory → AddsAtMost request.now (state self.old) (state self.new) };
+
+    /// The next piece of the last answer's body. An empty one ends it.
+    fn piece(&mut self, alloc: Global) -> Result<Blob, LinkError>
+        ensures told { (state self.new).told ≡ (state self.old).told }
+        ensures steady { Steady (state self.old) (state self.new) }
+        ensures count { (state self.old).faults ≤ (state self.new).faults }
+        ensures taken { IfOk result (λ piece. Takes piece (state self.old) (state self.new)) }
+        ensures fault { IsErrOf result LinkError.Failed → Rose (state self.old).faults (state self.new).faults };
+
+    /// How often it failed, up to the greatest count.
+    fn faults(&self) -> u64
+        ensures { result ≡ (state self.now).faults };
+}
