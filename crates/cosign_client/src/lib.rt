@@ -7,8 +7,6 @@ mod links;
 mod pull;
 mod search;
 mod standing;
-#[cfg(test)]
-mod tests;
 mod verified;
 
 pub use client::Client;

@@ -3,8 +3,6 @@
 
 mod client;
 mod config;
-#[cfg(test)]
-mod tests;
 
 pub use client::Client;
 pub use config::ClientConfig;

@@ -1,7 +1,8 @@
-ghost use Rattle.std.specs.Prelude.{IfOk};
-ghost use Rattle.oci_transport.specs.Pieces.{NoneEmpty};
-
-use crate::{Client, PullRefusal, TrustedLayers, VerifiedImage, check_links};
+// The search for signatures, and the verified pull.
+use crate::recorded::{
+    CONFIG_DIGEST, LAYER_DIGEST, LAYER_TYPE, MANIFEST, MANIFEST_DIGEST, answer_of,
+};
+use cosign_client::{Client, PullRefusal, TrustedLayers, VerifiedImage, check_links};
 use cosign_layers::{
     AnnotationVerifier, Constraint, NoCertificates, PullPolicy, SignedRow, TableVerifier,
 };
@@ -13,13 +14,10 @@ use sig_registry::{Auth, OciClient, OciReference};
 use std::alloc::{AllocError, Global};
 use std::test::Fail;
 
+/// The status of an answer, the digest that it names, and its body.
+type Given = (u16, &'static str, &'static str);
+
 const IMAGE: &str = "localhost:5000/app:v1";
-
-const MANIFEST: &str =
-    r#"{"schemaVersion":2,"mediaType":"application/vnd.oci.image.manifest.v1+json","config":{"mediaType":"application/vnd.oci.image.config.v1+json","digest":"sha256:44136fa355b3678a1146ad16f7e8649e94fb4fc21fe77e8310c060f61caaff8a","size":2},"layers":[{"mediaType":"application/vnd.oci.image.layer.v1.tar","digest":"sha256:b94d27b9934d3e08a52e52d7da7dabfac484efe37a5380ee9088f7ace2efcde9","size":11}]}"#;
-
-const MANIFEST_DIGEST: &str =
-    "sha256:517b86da29754bfa57e312c35d4cf22caa38dbce39ecd24684830c1f9777a635";
 
 const PAYLOAD: &str =
     r#"{"critical":{"identity":{"docker-reference":"localhost:5000/app"},"image":{"docker-manifest-digest":"sha256:517b86da29754bfa57e312c35d4cf22caa38dbce39ecd24684830c1f9777a635"},"type":"cosign container image signature"},"optional":null}"#;
@@ -33,20 +31,9 @@ const SIGNATURES: &str =
 const SIGNATURES_DIGEST: &str =
     "sha256:352d647271ccfc459018f388cb2644fbd32245e9370879879ec72ddc20ee8327";
 
-const CONFIG_DIGEST: &str =
-    "sha256:44136fa355b3678a1146ad16f7e8649e94fb4fc21fe77e8310c060f61caaff8a";
-
-const LAYER_DIGEST: &str =
-    "sha256:b94d27b9934d3e08a52e52d7da7dabfac484efe37a5380ee9088f7ace2efcde9";
-
-const LAYER_TYPE: &str = "application/vnd.oci.image.layer.v1.tar";
-
 /// The image by another digest than its own.
 const OTHER: &str =
     "localhost:5000/app@sha256:bec3f566a399bddd277a387434dcaf295311323236c6b1e2b5dd93ccd6795098";
-
-/// The status of an answer, the digest that it names, and its body.
-type Given = (u16, &'static str, &'static str);
 
 /// What the search is answered where one layer signs the image.
 const SEARCH: [Given; 5] = [
@@ -64,37 +51,13 @@ const REST: [Given; 3] = [
     (200, LAYER_DIGEST, "hello world"),
 ];
 
-// The body in one piece, where it has any byte.
-fn pieces(alloc: Global, body: &str) -> Result<List<Blob>, AllocError>
-    ensures { IfOk result (λ pieces. NoneEmpty pieces) }
-{
-    let mut pieces = List::new(alloc);
-    if !body.is_empty() {
-        pieces.push(Blob::new(alloc, body.as_bytes())?)?;
-    }
-    Ok(pieces)
-}
-
-fn answer(alloc: Global, given: Given) -> Result<Recorded, HeaderError> {
-    let (status, digest, body) = given;
-    let mut headers = Headers::new(alloc);
-    headers.add("docker-content-digest", digest.as_bytes())?;
-    let pieces = pieces(alloc, body)?;
-    Ok(Recorded {
-        fails: status == 0,
-        status,
-        headers,
-        pieces,
-        fails_before: None,
-    })
-}
-
 // These answers, each after that to the request for a token. One with the status 0 fails.
 fn script(alloc: Global, front: &[Given], back: &[Given]) -> Result<Script, HeaderError> {
     let mut answers = List::new(alloc);
     for given in front.iter().chain(back) {
-        answers.push(answer(alloc, (200, "", ""))?)?;
-        answers.push(answer(alloc, *given)?)?;
+        let (status, digest, body) = *given;
+        answers.push(answer_of(alloc, 200, "", "")?)?;
+        answers.push(answer_of(alloc, status, digest, body)?)?;
     }
     Ok(Script::new(alloc, answers))
 }
