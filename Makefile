@@ -1,4 +1,4 @@
-.PHONY: test run rows bench allocations
+.PHONY: test run rows bench allocations hostile
 
 # Proves every crate, runs the tests, and tries the edits that must be refused.
 test:
@@ -22,3 +22,8 @@ bench:
 allocations:
 	cd crates/pull_program && rt run -- pull < stdin > /dev/null
 	tests/allocations
+
+# Builds the program, and runs it over registries that answer badly.
+hostile:
+	cd crates/pull_program && rt run -- pull < stdin > /dev/null
+	tests/hostile
