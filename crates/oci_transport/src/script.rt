@@ -91,8 +91,11 @@ impl Transport for Script {
         ensures count { (state_of self.old).faults ≤ (state_of self.new).faults }
         ensures answered { IfOk result (λ head. Answers request.now head (state_of self.old) (state_of self.new)) }
         ensures unanswered { IsErrOf result LinkError.Failed → AddsUnanswered request.now (state_of self.old) (state_of self.new) }
+        ensures fails { IsErrOf result LinkError.Failed → recorded_answer (slice_get (answers_of self.old) (place_of self.old)) ≡ None }
+        ensures serves { OnOk result (recorded_answer (slice_get (answers_of self.old) (place_of self.old)) ≡ None → ⊥) }
         ensures fault { IsErrOf result LinkError.Failed → (state_of self.new).faults ≡ raised (state_of self.old).faults }
         ensures rose { IsErrOf result LinkError.Failed → Rose (state_of self.old).faults (state_of self.new).faults }
+        ensures quiet { OnOk result ((state_of self.new).faults ≡ (state_of self.old).faults) }
         ensures memory { IsErrOf result LinkError.WantOfMemory → self.new ≡ self.old }
         ensures answers { answers_of self.new ≡ answers_of self.old }
         ensures given { OnOk result (given_of self.new ≡ 0) }
@@ -144,6 +147,7 @@ impl Transport for Script {
         ensures stops { IsErrOf result LinkError.Failed → (stop_of self.old ≡ Some (given_of self.old)) × (stop_of self.new ≡ None) × (given_of self.new ≡ given_of self.old) }
         ensures serves { OnOk result ((stop_of self.old ≡ Some (given_of self.old) → ⊥) × (stop_of self.new ≡ stop_of self.old)) }
         ensures given { IfOk result (λ piece. 0 < length piece → given_of self.new ≡ given_of self.old + 1) }
+        ensures ended { IfOk result (λ piece. length piece ≡ 0 → self.new ≡ self.old) }
     {
         if self.stop() == Some(self.given as u64) {
             self.stopped = true;

@@ -78,10 +78,15 @@ fn headers_refuse_what_cannot_stand_in_a_field(rt: HostRuntime) {
 #[test]
 fn headers_hold_a_thousand_values(rt: HostRuntime) -> Result<(), Fail> {
     let mut headers = Headers::new(rt.alloc());
-    for place in 0..1000u64 {
+    for place in 0..999u64 {
         headers.add(if place % 2 == 0 { "even" } else { "odd" }, b"")?;
     }
+    assert_eq!(rt; headers.add("odd", b"last"), Ok(()));
     assert_eq!(rt; headers.add("more", b""), Err(HeaderError::TooMany));
+    assert_eq!(rt; headers.add("more", b"\n"), Err(HeaderError::BadValue));
+    assert_eq!(rt; headers.add("mo re", b""), Err(HeaderError::BadName));
+    assert!(rt; holds(&headers, "odd", 499, b"last"));
+    assert!(rt; headers.first("more").is_none());
     Ok(())
 }
 
@@ -162,6 +167,49 @@ fn a_body_is_read_up_to_its_limit(rt: HostRuntime) -> Result<(), Fail> {
     Ok(())
 }
 
+// So many pieces of one byte.
+fn bytes(alloc: Global, count: u64) -> Result<List<Blob>, AllocError>
+    ensures { IfOk result (λ pieces. NoneEmpty pieces) }
+{
+    let mut pieces = List::new(alloc);
+    for _place in 0..count {
+        pieces.push(Blob::new(alloc, b"a")?)?;
+    }
+    Ok(pieces)
+}
+
+// How a body of so many bytes is read within five, where a call may fail.
+fn read_five(alloc: Global, count: u64, fails_before: Option<u64>) -> Result<usize, BodyError> {
+    let mut answers = List::new(alloc);
+    let headers = Headers::new(alloc);
+    let pieces = bytes(alloc, count)?;
+    answers.push(Recorded {
+        fails: false,
+        status: 200,
+        headers,
+        pieces,
+        fails_before,
+    })?;
+    let mut script = Script::new(alloc, answers);
+    if send(alloc, &mut script).is_none() {
+        return Err(BodyError::WantOfMemory);
+    }
+    read(alloc, &mut script, 5)
+}
+
+#[test]
+fn a_body_of_one_byte_pieces_is_read_up_to_its_limit(rt: HostRuntime) {
+    for (count, fails_before, want) in [
+        (5, None, Ok(5)),
+        (6, None, Err(BodyError::BodyTooLong)),
+        (5, Some(2), Err(BodyError::TransportFault)),
+        (6, Some(6), Err(BodyError::BodyTooLong)),
+        (0, None, Ok(0)),
+    ] {
+        assert_eq!(rt; read_five(rt.alloc(), count, fails_before), want);
+    }
+}
+
 #[test]
 fn a_script_fails_where_it_was_recorded(rt: HostRuntime) -> Result<(), Fail> {
     let mut script = script(rt.alloc())?;
@@ -229,6 +277,11 @@ fn a_url_targets_the_registry_of_its_host_port_and_scheme(rt: HostRuntime) {
         ("https://a:80/x", "http://a/", true),
         ("http://a:81/x", "http://a/", false),
         ("http://b/x", "http://a/", false),
+        ("https://w.azurecr.io:443/x", "https://w.azurecr.io", true),
+        ("https://w.azurecr.io:8443/x", "https://w.azurecr.io", false),
+        ("https://azurecr.io/x", "https://w.azurecr.io", false),
+        ("https://x.w.azurecr.io/x", "https://w.azurecr.io", false),
+        ("http://w.azurecr.io/x", "https://w.azurecr.io", false),
     ] {
         assert_eq!(rt;
             goes(rt.alloc(), url, registry),
