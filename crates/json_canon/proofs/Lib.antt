@@ -1,11 +1,5 @@
-pub mod Commas
-pub mod Holding
-pub mod Keeping
+pub mod Feeds
+pub mod Puts
 pub mod Refusals
-pub mod Spelled
 pub mod Texts
-pub mod Turning
-pub mod Unique
-pub mod Utf16
 pub mod Walks
-pub mod Written

@@ -3,11 +3,11 @@ use Rattle.std.proofs.Common.{◌≡◌, ℤ, Bool, true, false, Option, Some, N
 use Rattle.std.specs.Bool.{⊤}
 use Rattle.serde_json.specs.Data.{Data, null, boolean, number, string, array, object, Items, no_items, item, Members, no_members, member}
 use Rattle.serde_json.specs.Find.{as_integer}
-use Rattle.json_canon.specs.declared.error.CanonError.{CanonError}
-use Rattle.json_canon.specs.declared.error.CanonError.TheVariants.{Float, IntegerOutOfRange, DuplicateKey, RawFragment, NotWellNested, Unreadable, SinkFault, WantOfMemory}
-use Rattle.json_canon.specs.Canonical.{in_range}
+use Rattle.json_events.specs.declared.error.CanonError.{CanonError}
+use Rattle.json_events.specs.declared.error.CanonError.TheVariants.{Float, IntegerOutOfRange, DuplicateKey, RawFragment, NotWellNested, Unreadable, SinkFault, WantOfMemory}
+use Rattle.json_events.specs.Canonical.{in_range}
 use Rattle.json_canon.specs.Outcomes.{RefusesValue}
-use Rattle.json_canon.specs.Refused.{refused, refused_items, refused_members, refused_by, first_of_two}
+use Rattle.json_events.specs.Refused.{refused, refused_items, refused_members, refused_by, first_of_two}
 
 abbrev OfNumber : Option CanonError → Type 0
 OfNumber None = ⊤

@@ -13,8 +13,8 @@ use Rattle.json_values.specs.Canon.{quoted_text}
 use Rattle.std.proofs.lemmas.List.Elements.{recursion_from_All}
 use Rattle.std.proofs.lemmas.Fmt.{IsAscii-signed}
 use Rattle.serde_json.specs.Data.{Data, null, boolean, number, string, array, object, Items, no_items, item, Members, no_members, member}
-use Rattle.json_canon.specs.Canonical.{Canonical, CanonicalItems, CanonicalMembers, Entry, in_range, entry_text, truth_text, IsObjectText}
-use Rattle.json_canon.specs.Values.{IsValue, AreValues, AreMembers}
+use Rattle.json_events.specs.Canonical.{Canonical, CanonicalItems, CanonicalMembers, Entry, in_range, entry_text, truth_text, IsObjectText}
+use Rattle.json_events.specs.Values.{IsValue, AreValues, AreMembers}
 
 pub string_utf8 : (s : List ℕ) → IsUtf8 s → IsUtf8 (quoted_text s)
 string_utf8 s text = subst IsUtf8 (quoted-same s) (IsUtf8-quoted s text)

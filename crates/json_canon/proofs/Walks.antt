@@ -1,5 +1,7 @@
 -- A walk through what is left of a list or an object.
-use Rattle.std.proofs.Common.{◌≡◌, ◌≢◌, ℕ, List, [], ◌∷◌, map, Some, None, ap, ◌∙◌, Less, string_bytes, String}
+use Rattle.std.proofs.Common.{◌≡◌, ◌≢◌, ℕ, List, [], ◌∷◌, map, Some, None, sym, ap, ◌∙◌, Less, string_bytes, String, ◌+◌, suc, ◌<◌, ◌≤◌, length, get_or, drop, add-one}
+use Rattle.std.proofs.Math.Seq.{drop-cons}
+use Rattle.std.proofs.Math.ListN.{drop_of_length-le}
 use Rattle.std.specs.declared.alloc.Global.{Global}
 use Rattle.std.specs.List.{AllByRecursion}
 use Rattle.std.specs.List.Sorted.{IsStrictlySortedBy}
@@ -8,12 +10,12 @@ use Rattle.std.specs.Cmp.{tied_itself}
 use Rattle.std.specs.Ordering.{nat_cmp}
 use Rattle.std.specs.String.{string_cmp}
 use Rattle.std.proofs.lemmas.Str.{IsUtf8-string_bytes}
-use Rattle.serde_json.specs.Data.{Data, Items, item}
-use Rattle.serde_json.specs.View.{view, members_view}
+use Rattle.serde_json.specs.Data.{Data, Items, no_items, item}
+use Rattle.serde_json.specs.View.{view, items_view, members_view}
 use Rattle.serde_json.specs.declared.value.Value.{Value}
-use Rattle.json_canon.specs.declared.error.CanonError.{CanonError}
-use Rattle.json_canon.specs.Refused.{refused, refused_items, refused_members, first_of_two}
-use Rattle.json_canon.specs.Values.{IsValue, AreValues, AreMembers, IsOther}
+use Rattle.json_events.specs.declared.error.CanonError.{CanonError}
+use Rattle.json_events.specs.Refused.{refused, refused_items, refused_members, first_of_two}
+use Rattle.json_events.specs.Values.{IsValue, AreValues, AreMembers, IsOther}
 
 -- nothing was refused before what is left
 pub record ItemsLeft (all left : Items) : Type 0 where
@@ -51,3 +53,9 @@ members_next all es e left plain value = record {
 
 pub members_refused : (all es : List (String Global × Value)) (e : String Global × Value) (r : CanonError) → MembersLeft all (e ∷ es) → refused (view e.1) ≡ Some r → refused_members (members_view all) ≡ Some r
 members_refused all es e r left is = left.first ∙ ap (λ o. first_of_two o (refused_members (members_view es))) is
+
+pub items_step : (xs : List Value) (i : ℕ) (x : Value) → i < length xs → x ≡ get_or xs i x → items_view (drop i xs) ≡ item (view x) (items_view (drop (i + 1) xs))
+items_step xs i x within is = ap items_view (drop-cons xs i x within) ∙ ap (λ y. item (view y) (items_view (drop (suc i) xs))) (sym is) ∙ ap (λ n. item (view x) (items_view (drop n xs))) (sym (add-one i))
+
+pub items_over : (xs : List Value) (i : ℕ) → length xs ≤ i → items_view (drop i xs) ≡ no_items
+items_over xs i past = ap items_view (drop_of_length-le xs past)

@@ -4,10 +4,10 @@ use Rattle.serde_json.specs.Data.{Data}
 use Rattle.json_values.specs.Counts.{Rose}
 use Rattle.json_values.specs.JsonText.{json_of}
 use Rattle.json_values.specs.Tray.{Tray, Adds, AddsFront}
-use Rattle.json_canon.specs.declared.error.CanonError.{CanonError}
-use Rattle.json_canon.specs.declared.error.CanonError.TheVariants.{Float, IntegerOutOfRange, Unreadable, SinkFault, WantOfMemory}
-use Rattle.json_canon.specs.Canonical.{Canonical}
-use Rattle.json_canon.specs.Refused.{refused}
+use Rattle.json_events.specs.declared.error.CanonError.{CanonError}
+use Rattle.json_events.specs.declared.error.CanonError.TheVariants.{Float, IntegerOutOfRange, Unreadable, SinkFault, WantOfMemory}
+use Rattle.json_events.specs.Canonical.{Canonical}
+use Rattle.json_events.specs.Refused.{refused}
 
 -- the refusal is that of the first number with no text, unless memory ran out
 abbrev pub RefusesValue : CanonError → Data → Type 0

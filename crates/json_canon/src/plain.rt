@@ -1,67 +1,35 @@
-// The plain program of the definition: a value's text by recursion.
-ghost use Rattle.std.specs.Prelude.{◌≡◌, None, OnOk};
-ghost use Rattle.serde_json.specs.Data.{number, array, object};
-ghost use Rattle.serde_json.specs.View.{view, number_view, items_view, members_view};
-ghost use Rattle.json_canon.specs.Refused.{refused, refused_items, refused_members};
-ghost use Rattle.json_canon.specs.Values.{IsValue, AreValues, AreMembers};
-ghost use Rattle.json_canon.specs.Canonical.{Appends};
-
-use crate::members::{Members, append_comma, append_object, insert_member};
-use crate::scalars::{integer_text, string_text, truth_word};
-use json_values::Blob;
-use serde_json::{Map, Number, Value};
+// The plain program of the definition: a value's text by recursion, with no formatter.
+use json_events::JsonProperty;
+use json_values::{Blob, write_quoted};
+use serde_json::{Map, Value};
 use std::alloc::{AllocError, Global};
+use std::collections::BTreeSet;
 
 #[cycle(plain)]
-pub(crate) fn write_value(alloc: Global, out: &mut Blob, value: &Value) -> Result<(), AllocError>
-    requires plain { refused (view value.now) ≡ None }
-    requires value { IsValue (view value.now) }
-    ensures { OnOk result (Appends (view value.now) out.old out.new) }
-{
+pub(crate) fn write_value(alloc: Global, out: &mut Blob, value: &Value) -> Result<(), AllocError> {
     match value {
-        Value::Null => {
-            out.append(b"null")?;
-            Ok(())
+        Value::Null | Value::Bool(_) | Value::Number(_) | Value::String(_) => {
+            let text = value.to_string(alloc)?;
+            out.append(text.as_bytes())
         }
-        Value::Bool(truth) => {
-            out.append(truth_word(*truth))?;
-            Ok(())
-        }
-        Value::Number(number) => {
-            write_number(alloc, out, number)?;
-            Ok(())
-        }
-        Value::String(text) => {
-            let quoted = string_text(alloc, text.as_str())?;
-            out.append(quoted.as_slice())?;
-            Ok(())
-        }
-        Value::Array(items) => {
-            write_items(alloc, out, items)?;
-            Ok(())
-        }
-        Value::Object(members) => {
-            write_members(alloc, out, members)?;
-            Ok(())
-        }
+        Value::Array(items) => write_items(alloc, out, items),
+        Value::Object(members) => write_members(alloc, out, members),
     }
 }
 
 #[cycle(plain)]
-fn write_items(alloc: Global, out: &mut Blob, items: &Vec<Value>) -> Result<(), AllocError>
-    requires plain { refused_items (items_view items.now.items) ≡ None }
-    requires value { AreValues (items_view items.now.items) }
-    ensures { OnOk result (Appends (array (items_view items.now.items)) out.old out.new) }
-{
-    out.append(b"[")?;
-    let mut later = false;
+fn write_items(alloc: Global, out: &mut Blob, items: &Vec<Value>) -> Result<(), AllocError> {
+    let mut before = b"[".as_slice();
     for item in items {
-        append_comma(out, later)?;
+        out.append(before)?;
         write_value(alloc, out, item)?;
-        later = true;
+        before = b",".as_slice();
     }
-    out.append(b"]")?;
-    Ok(())
+    out.append(if items.is_empty() {
+        b"[]".as_slice()
+    } else {
+        b"]".as_slice()
+    })
 }
 
 #[cycle(plain)]
@@ -69,31 +37,30 @@ fn write_members(
     alloc: Global,
     out: &mut Blob,
     members: &Map<String, Value>,
-) -> Result<(), AllocError>
-    requires plain { refused_members (members_view members.now.entries) ≡ None }
-    requires value { AreMembers (members_view members.now.entries) }
-    ensures { OnOk result (Appends (object (members_view members.now.entries)) out.old out.new) }
-{
-    let mut kept = Members::new(alloc);
+) -> Result<(), AllocError> {
+    let mut sorted = BTreeSet::new(alloc);
     for (name, member) in members.iter() {
         let mut text = Blob::empty(alloc);
         write_value(alloc, &mut text, member)?;
-        insert_member(alloc, &mut kept, name.as_str(), text)?;
+        let quoted = write_quoted(alloc, name.as_str())?;
+        let key = Blob::new(alloc, quoted.as_str().as_bytes())?;
+        sorted.insert(JsonProperty::new(alloc, name.as_str(), key, text)?)?;
     }
-    append_object(out, &kept)?;
-    Ok(())
+    write_sorted(out, &sorted)
 }
 
-fn write_number(alloc: Global, out: &mut Blob, whole: &Number) -> Result<(), AllocError>
-    requires { refused (number (number_view whole.now)) ≡ None }
-    ensures { OnOk result (Appends (number (number_view whole.now)) out.old out.new) }
-{
-    match whole.as_i128() {
-        Some(value) => {
-            let text = integer_text(alloc, value)?;
-            out.append(text.as_slice())?;
-            Ok(())
-        }
-        None => unreachable!(),
+fn write_sorted(out: &mut Blob, sorted: &BTreeSet<JsonProperty>) -> Result<(), AllocError> {
+    let mut before = b"{".as_slice();
+    for member in sorted.iter() {
+        out.append(before)?;
+        out.append(member.key.as_slice())?;
+        out.append(b":")?;
+        out.append(member.value.as_slice())?;
+        before = b",".as_slice();
     }
+    out.append(if sorted.is_empty() {
+        b"{}".as_slice()
+    } else {
+        b"}".as_slice()
+    })
 }

@@ -1,8 +1,8 @@
 ghost use Rattle.std.specs.Prelude.{◌≡◌, ◌≤◌};
 ghost use Rattle.json_canon.specs.Outcomes.{WritesText};
 
-use crate::error::CanonError;
 use crate::whole::to_writer;
+use json_events::CanonError;
 use json_values::{Sink, ToValue};
 use std::alloc::Global;
 

@@ -1,10 +1,10 @@
+use crate::plain::write_value;
 use crate::{
-    Annotations, Blob, CanonError, JcsSerializer, JsonProperty, List, MemorySink, PlainSink, Sink,
-    Text, events_write, one_text, order_of_names, pipe, to_string, to_vec, to_writer,
+    Annotations, Blob, CanonError, JcsSerializer, List, MemorySink, PlainSink, Sink, Text, pipe,
+    to_string, to_vec, to_writer,
 };
 use serde_json::Value;
 use std::alloc::{AllocError, Global};
-use std::cmp::Ordering;
 use std::test::Fail;
 
 #[test]
@@ -189,22 +189,39 @@ fn nesting_past_127_is_unreadable(rt: HostRuntime) -> Result<(), Fail> {
     Ok(())
 }
 
-fn member(alloc: Global, name: &str, key: &[u8]) -> Result<JsonProperty, AllocError> {
-    let key = Blob::new(alloc, key)?;
-    JsonProperty::new(alloc, name, key, Blob::empty(alloc))
+// A value by its number, inside out.
+fn generated(alloc: Global, number: usize) -> Result<Text, AllocError> {
+    let wraps = [
+        ("[null,", ",\"\\n\"]"),
+        ("{\"\u{fb33}\":", ",\"\u{1f600}\":true}"),
+        ("{\"b\":[],\"\":", ",\"a\":{}}"),
+        ("{\"a\\ud800\\udc00b\":[", ",-1],\"a\\uffff\":2}"),
+    ];
+    let mut text = Text::new(alloc, "7")?;
+    let mut left = number;
+    for _ in 0..3 {
+        let (front, back) = wraps[left % 4];
+        let mut wrapped = Text::new(alloc, front)?;
+        wrapped.push_str(text.as_str())?;
+        wrapped.push_str(back)?;
+        text = wrapped;
+        left /= 4;
+    }
+    Ok(text)
 }
 
 #[test]
-fn members_are_compared_by_their_sorting_keys(rt: HostRuntime) -> Result<(), Fail> {
-    let dalet = member(rt.alloc(), "\u{fb33}", b"1")?;
-    let grin = member(rt.alloc(), "\u{1f600}", b"2")?;
-    assert_eq!(rt; grin.sorting_key.as_slice(), [0xd83d, 0xde00].as_slice());
-    assert_eq!(rt; dalet.cmp(&grin), Ordering::Greater);
-    assert_eq!(rt; grin.partial_cmp(&dalet), Some(Ordering::Less));
-    assert!(rt; grin == member(rt.alloc(), "\u{1f600}", b"3")?);
-    assert!(rt; grin != dalet);
-    events_write();
-    one_text();
-    order_of_names();
+fn the_plain_program_writes_the_same(rt: HostRuntime) -> Result<(), Fail> {
+    for number in 0..64 {
+        let json = generated(rt.alloc(), number)?;
+        let value = Value::from_str(rt.alloc(), json.as_str())?;
+        let mut plain = Blob::empty(rt.alloc());
+        write_value(rt.alloc(), &mut plain, &value)?;
+        assert_eq!(rt;
+            to_vec(rt.alloc(), &value)?.as_slice(),
+            plain.as_slice(),
+            "at {number}"
+        );
+    }
     Ok(())
 }

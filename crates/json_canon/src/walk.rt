@@ -1,15 +1,12 @@
 // The first number of a value that has no canonical text.
 ghost use Rattle.std.specs.Prelude.{◌≡◌, IfNone};
 ghost use Rattle.serde_json.specs.View.{view, number_view, items_view, members_view};
-ghost use Rattle.json_canon.specs.Refused.{refused, refused_items, refused_members, refused_by, refused_integer};
-ghost use Rattle.json_canon.specs.Values.{IsValue, AreValues, AreMembers};
+ghost use Rattle.json_events.specs.Refused.{refused, refused_items, refused_members, refused_by};
+ghost use Rattle.json_events.specs.Values.{IsValue, AreValues, AreMembers};
 ghost use Rattle.serde_json.specs.Find.{as_integer};
 
-use crate::error::CanonError;
+use json_events::{CanonError, refused_integer};
 use serde_json::{Map, Number, Value};
-
-// The whole numbers up to here are those that every reader keeps (RFC 8785, 3.2.2.3).
-const GREATEST: i128 = 9007199254740991;
 
 /// Items are looked at by place, and members by the bytes of their names.
 #[cycle(walk)]
@@ -59,15 +56,5 @@ fn refused_number(number: &Number) -> Option<CanonError>
     match number.as_i128() {
         None => Some(CanonError::Float),
         Some(z) => refused_integer(z),
-    }
-}
-
-pub(crate) fn refused_integer(z: i128) -> Option<CanonError>
-    ensures { result ≡ refused_integer z }
-{
-    if -GREATEST <= z && z <= GREATEST {
-        None
-    } else {
-        Some(CanonError::IntegerOutOfRange)
     }
 }

@@ -1,11 +1,12 @@
-ghost use Rattle.std.specs.Prelude.{◌≡◌, ◌≤◌, IfOk, IsUtf8};
+ghost use Rattle.std.specs.Prelude.{◌≡◌, ◌≤◌, IfOk, OnOk, IsUtf8};
 ghost use Rattle.serde_json.specs.View.{view};
 ghost use Rattle.json_canon.specs.Outcomes.{GivesText, WritesText, PipesText};
+ghost use Rattle.json_events.specs.Values.{IsValue};
 
-use crate::error::CanonError;
-use crate::plain::write_value;
+use crate::feed::feed;
 use crate::walk::refusal;
-use json_values::{Blob, Sink, SinkError, Text, ToValue, put_all, read_json};
+use json_events::{CanonError, JcsFormatter};
+use json_values::{Blob, PlainSink, Sink, Text, ToValue, read_json};
 use serde_json::Value;
 use std::alloc::Global;
 
@@ -39,12 +40,8 @@ pub fn to_writer<V: ToValue, K: Sink>(
     ensures count { (K.state sink.old).faults ≤ (K.state sink.new).faults }
 {
     let value = value.to_value(alloc)?;
-    let text = text_of(alloc, &value)?;
-    match put_all(sink, text.as_slice()) {
-        Ok(()) => Ok(()),
-        Err(SinkError::Failed) => Err(CanonError::SinkFault),
-        Err(SinkError::WantOfMemory) => Err(CanonError::WantOfMemory),
-    }
+    let written = put_text(alloc, sink, &value);
+    written
 }
 
 /// The canonical text of a JSON text. `Unreadable` exactly where it is no JSON, or nests deeper than 127.
@@ -60,18 +57,28 @@ pub fn pipe(alloc: Global, json: &str) -> Result<Text, CanonError>
     }
 }
 
+/// Puts the text of a value as its events, once no number of it is refused.
+fn put_text<K: Sink>(alloc: Global, sink: &mut K, value: &Value) -> Result<(), CanonError>
+    ensures text { WritesText result (view value.now) (K.state sink.old) (K.state sink.new) }
+    ensures value { OnOk result (IsValue (view value.now)) }
+    ensures count { (K.state sink.old).faults ≤ (K.state sink.new).faults }
+{
+    match refusal(value) {
+        Some(refused) => return Err(refused),
+        None => {}
+    }
+    let mut formatter = JcsFormatter::new(alloc);
+    let fed = feed(&mut formatter, sink, value);
+    fed
+}
+
 fn text_of(alloc: Global, value: &Value) -> Result<Blob, CanonError>
     ensures text { GivesText result (view value.now) }
     ensures utf8 { IfOk result (λ t. IsUtf8 t) }
 {
-    match refusal(value) {
-        Some(refused) => Err(refused),
-        None => {
-            let mut text = Blob::empty(alloc);
-            write_value(alloc, &mut text, value)?;
-            Ok(text)
-        }
-    }
+    let mut sink = PlainSink::new(alloc);
+    put_text(alloc, &mut sink, value)?;
+    Ok(sink.into_blob())
 }
 
 fn string_of(alloc: Global, value: &Value) -> Result<Text, CanonError>

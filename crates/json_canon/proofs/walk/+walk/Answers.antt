@@ -3,7 +3,7 @@ use Rattle.std.proofs.lemmas.Str.{IsUtf8-string_bytes}
 use Rattle.serde_json.specs.Data.{string}
 use Rattle.serde_json.specs.View.{view}
 use Rattle.serde_json.specs.declared.value.Value.{String, the_lemmas}
-use Rattle.json_canon.specs.Values.{IsValue}
+use Rattle.json_events.specs.Values.{IsValue}
 use Rattle.json_canon.proofs.Walks.{MembersLeft, members_next}
 use Rattle.json_canon.proofs.walk.+walk.Goals as goal
 

@@ -1,0 +1,184 @@
+-- Event calls, one after another.
+use Rattle.std.proofs.Common.{◌≡◌, ℕ, ◌≤◌, arith, List, [], ◌∷◌, ◌++◌, Option, Some, None, Result, Ok, Err, refl, sym, ap, subst, ◌∙◌, inl, inr, append_assoc, append-nil}
+use Rattle.std.specs.Result.{IsErrAnd}
+use Rattle.serde_json.specs.Data.{Data, Items, item, Members, member}
+use Rattle.json_values.specs.Counts.{Rose}
+use Rattle.json_values.specs.Tray.{Tray, Adds, AddsFront}
+use Rattle.json_values.proofs.Sinks.{adds_more}
+use Rattle.json_events.specs.declared.error.CanonError.{CanonError}
+use Rattle.json_events.specs.declared.error.CanonError.TheVariants.{SinkFault, WantOfMemory}
+use Rattle.json_events.specs.Drafts.{Stage, step, run}
+use Rattle.json_events.specs.Events.{Event, item_begins, item_ends, array_ends, name_begins, string_event, name_ends, member_begins, member_ends, object_ends}
+use Rattle.json_canon.specs.Feeding.{Ran, Fed}
+use Rattle.json_events.specs.Spelling.{spelled, spelled_items, spelled_members}
+use Rattle.json_events.specs.Turns.{Taken, Answers, answer, Breaks}
+use Rattle.json_events.proofs.Spelled.{run-append}
+
+no_refusal : (o : Option CanonError) (u : Unit {0}) → Ok u ≡ answer o → o ≡ None
+no_refusal None u e = refl
+no_refusal (Some c) u e = cc
+
+its_refusal : (o : Option CanonError) (e : CanonError) → Err e ≡ answer o → o ≡ Some e
+its_refusal None e is = cc
+its_refusal (Some c) e is = cc
+
+out_one : (x : Event) (s : Stage) (before after : Tray) → Adds (step x s).out before after → Adds (run (x ∷ []) s).out before after
+out_one x s before after added = subst (λ o. Adds o before after) (sym (append-nil (step x s).out)) added
+
+ran_one : (x : Event) (r : Result (Unit {0}) CanonError) (old new : Stage) (before after : Tray) → Taken x r old new before after → Ran (x ∷ []) old new before after
+ran_one x r old new before after taken = record { stage = taken.stage; added = out_one x old before after taken.added }
+
+front_one : (x : Event) (s : Stage) (before after : Tray) → AddsFront (step x s).out before after → AddsFront (run (x ∷ []) s).out before after
+front_one x s before after front = subst (λ o. AddsFront o before after) (sym (append-nil (step x s).out)) front
+
+abbrev error : CanonError → Result (Unit {0}) CanonError
+error e = Err e
+
+same_error : (e c : CanonError) → error e ≡ error c → e ≡ c
+same_error e c is = cc
+
+-- one event
+pub fed_one : (x : Event) (r : Result (Unit {0}) CanonError) (old new : Stage) (before after : Tray) → Answers x r old new before after → Fed (x ∷ []) r old new before after
+fed_one x (Ok u) old new before after (inl taken) = (ran_one x (Ok u) old new before after taken, no_refusal new.refusal u taken.answers)
+fed_one x (Ok u) old new before after (inr (inl broken)) = let e = broken.0.answers in cc
+fed_one x (Ok u) old new before after (inr (inr broken)) = let e = broken.answers in cc
+fed_one x (Err e) old new before after (inl taken) = inl (ran_one x (Err e) old new before after taken, its_refusal new.refusal e taken.answers)
+fed_one x (Err e) old new before after (inr (inl broken)) = inr (inl (record { is = same_error e SinkFault broken.0.answers; rose = broken.1; front = front_one x old before after broken.0.front }))
+fed_one x (Err e) old new before after (inr (inr broken)) = inr (inr (record { is = same_error e WantOfMemory broken.answers; front = front_one x old before after broken.front }))
+
+step_refused : (x : Event) (s : Stage) (e : CanonError) → s.refusal ≡ Some e → step x s ≡ record { stage = s; out = [] }
+step_refused x s e is = ap (λ o. step x (record { refusal = o; draft = s.draft })) is ∙ ap (λ o. record { stage = record { refusal = o; draft = s.draft }; out = [] }) (sym is)
+
+-- after a refusal nothing changes
+pub run_refused : (xs : List Event) (s : Stage) (e : CanonError) → s.refusal ≡ Some e → run xs s ≡ record { stage = s; out = [] }
+run_refused [] s e is = refl
+run_refused (x ∷ xs) s e is =
+    ap (λ first. record { stage = (run xs first.stage).stage; out = first.out ++ (run xs first.stage).out }) (step_refused x s e is)
+    ∙ ap (λ r. record { stage = r.stage; out = r.out }) (run_refused xs s e is)
+
+ran_more : (xs ys : List Event) (old mid new : Stage) (before tray after : Tray) → Ran xs old mid before tray → Ran ys mid new tray after → Ran (xs ++ ys) old new before after
+ran_more xs ys old mid new before tray after first second =
+    let all = run-append xs ys old in
+    let there = ap (run ys) first.stage in
+    record {
+      stage = second.stage ∙ ap (λ r. r.stage) there ∙ sym (ap (λ r. r.stage) all);
+      added = subst (λ o. Adds o before after) (ap (λ r. (run xs old).out ++ r.out) there ∙ sym (ap (λ r. r.out) all)) (adds_more (run xs old).out (run ys mid).out before tray after first.added second.added);
+    }
+
+front_more : (a b : List ℕ) (before tray after : Tray) → Adds a before tray → AddsFront b tray after → AddsFront (a ++ b) before after
+front_more a b before tray after added front = record {
+  front = a ++ front.front;
+  left = front.left;
+  split = ap (λ t. a ++ t) front.split ∙ sym (append_assoc a front.front front.left);
+  added = adds_more a front.front before tray after added front.added;
+}
+
+front_longer : (a b : List ℕ) (before after : Tray) → AddsFront a before after → AddsFront (a ++ b) before after
+front_longer a b before after front = record {
+  front = front.front;
+  left = front.left ++ b;
+  split = ap (λ t. t ++ b) front.split ∙ append_assoc front.front front.left b;
+  added = front.added;
+}
+
+rose_more : (a b c : ℕ) → a ≤ b → Rose b c → Rose a c
+rose_more a b c up rose = omega (arith, rose)
+
+breaks_more : (xs ys : List Event) (e : CanonError) (old mid : Stage) (before tray after : Tray) → Ran xs old mid before tray → before.faults ≤ tray.faults → Breaks (run ys mid).out e tray after → Breaks (run (xs ++ ys) old).out e before after
+breaks_more xs ys e old mid before tray after first up second =
+    let whole : (run xs old).out ++ (run ys mid).out ≡ (run (xs ++ ys) old).out = ap (λ r. (run xs old).out ++ r.out) (ap (run ys) first.stage) ∙ sym (ap (λ r. r.out) (run-append xs ys old)) in
+    elim second [
+      | inl faulted ↦ inl (record {
+        is = faulted.is;
+        rose = rose_more before.faults tray.faults after.faults up faulted.rose;
+        front = subst (λ o. AddsFront o before after) whole (front_more (run xs old).out (run ys mid).out before tray after first.added faulted.front);
+      })
+      | inr wanted ↦ inr (record { is = wanted.is; front = subst (λ o. AddsFront o before after) whole (front_more (run xs old).out (run ys mid).out before tray after first.added wanted.front) })
+    ]
+
+-- some events, and then others
+pub fed_then : (xs ys : List Event) (r : Result (Unit {0}) CanonError) (u : Unit {0}) (old mid new : Stage) (before tray after : Tray) → Fed xs (Ok u) old mid before tray → before.faults ≤ tray.faults → Fed ys r mid new tray after → Fed (xs ++ ys) r old new before after
+fed_then xs ys (Ok v) u old mid new before tray after first up second = (ran_more xs ys old mid new before tray after first.0 second.0, second.1)
+fed_then xs ys (Err e) u old mid new before tray after first up (inl second) = inl (ran_more xs ys old mid new before tray after first.0 second.0, second.1)
+fed_then xs ys (Err e) u old mid new before tray after first up (inr second) = inr (breaks_more xs ys e old mid before tray after first.0 up second)
+
+-- the first ones were refused or broken off
+pub fed_stop : (xs ys : List Event) (e : CanonError) (old new : Stage) (before after : Tray) → Fed {X = Unit {0}} xs (Err e) old new before after → Fed {X = Unit {0}} (xs ++ ys) (Err e) old new before after
+fed_stop xs ys e old new before after (inl first) =
+    let all = run-append xs ys old in
+    let there : run ys (run xs old).stage ≡ record { stage = new; out = [] } = ap (run ys) (sym first.0.stage) ∙ run_refused ys new e first.1 in
+    inl (
+      record {
+        stage = sym (ap (λ r. r.stage) all ∙ ap (λ r. r.stage) there);
+        added = subst (λ o. Adds o before after) (sym (ap (λ r. r.out) all ∙ ap (λ r. (run xs old).out ++ r.out) there ∙ append-nil (run xs old).out)) first.0.added;
+      },
+      first.1,
+    )
+fed_stop xs ys e old new before after (inr broken) =
+    let all = ap (λ r. r.out) (run-append xs ys old) in
+    elim broken [
+      | inl faulted ↦ inr (inl (record { is = faulted.is; rose = faulted.rose; front = subst (λ o. AddsFront o before after) (sym all) (front_longer (run xs old).out _ before after faulted.front) }))
+      | inr wanted ↦ inr (inr (record { is = wanted.is; front = subst (λ o. AddsFront o before after) (sym all) (front_longer (run xs old).out _ before after wanted.front) }))
+    ]
+
+-- all events but those that are left were taken
+pub record FedUpTo (all left : List Event) (old now : Stage) (before tray : Tray) : Type 0 where
+  pub done : List Event
+  pub parts : all ≡ done ++ left
+  pub fed : Fed {X = Unit {0}} done (Ok tt) old now before tray
+  pub count : before.faults ≤ tray.faults
+
+pub up_to : (xs left : List Event) (old now : Stage) (before tray : Tray) → Fed {X = Unit {0}} xs (Ok tt) old now before tray → before.faults ≤ tray.faults → FedUpTo (xs ++ left) left old now before tray
+up_to xs left old now before tray fed up = record { done = xs; parts = refl; fed = fed; count = up }
+
+pub up_to_more : (all xs rest left : List Event) (old now new : Stage) (before tray after : Tray) → left ≡ xs ++ rest → FedUpTo all left old now before tray → Fed {X = Unit {0}} xs (Ok tt) now new tray after → tray.faults ≤ after.faults → FedUpTo all rest old new before after
+up_to_more all xs rest left old now new before tray after is so fed up = record {
+  done = so.done ++ xs;
+  parts = so.parts ∙ ap (λ l. so.done ++ l) is ∙ sym (append_assoc so.done xs rest);
+  fed = fed_then so.done xs (Ok tt) tt old now new before tray after so.fed so.count fed;
+  count = omega (arith, so.count, up);
+}
+
+pub up_to_stop : (all xs rest left : List Event) (e : CanonError) (old now new : Stage) (before tray after : Tray) → left ≡ xs ++ rest → FedUpTo all left old now before tray → Fed {X = Unit {0}} xs (Err e) now new tray after → Fed {X = Unit {0}} all (Err e) old new before after
+up_to_stop all xs rest left e old now new before tray after is so fed =
+    subst (λ l. Fed {X = Unit {0}} l (Err e) old new before after) (append_assoc so.done xs rest ∙ sym (so.parts ∙ ap (λ l. so.done ++ l) is))
+    (fed_stop (so.done ++ xs) rest e old new before after (fed_then so.done xs (Err e) tt old now new before tray after so.fed so.count fed))
+
+pub up_to_end : (all left : List Event) (r : Result (Unit {0}) CanonError) (old now new : Stage) (before tray after : Tray) → FedUpTo all left old now before tray → Fed left r now new tray after → Fed all r old new before after
+up_to_end all left r old now new before tray after so fed = subst (λ l. Fed l r old new before after) (sym so.parts) (fed_then so.done left r tt old now new before tray after so.fed so.count fed)
+
+-- what is left of an array and of an object
+abbrev pub items_left : Items → List Event
+items_left ds = spelled_items ds ++ array_ends ∷ []
+
+abbrev pub members_left : Members → List Event
+members_left ms = spelled_members ms ++ object_ends ∷ []
+
+pub item_left : (d : Data) (ds : Items) → items_left (item d ds) ≡ (item_begins ∷ (spelled d ++ item_ends ∷ [])) ++ items_left ds
+item_left d ds = ap (λ l. item_begins ∷ l) (append_assoc (spelled d) (item_ends ∷ spelled_items ds) (array_ends ∷ []) ∙ sym (append_assoc (spelled d) (item_ends ∷ []) (items_left ds)))
+
+abbrev pub name_events : List ℕ → List Event
+name_events k = name_begins ∷ string_event k ∷ name_ends ∷ []
+
+abbrev pub value_events : Data → List Event
+value_events d = member_begins ∷ (spelled d ++ member_ends ∷ [])
+
+pub member_left : (k : List ℕ) (d : Data) (ms : Members) → members_left (member k d ms) ≡ name_events k ++ (value_events d ++ members_left ms)
+member_left k d ms = ap (λ l. name_begins ∷ string_event k ∷ name_ends ∷ member_begins ∷ l) (append_assoc (spelled d) (member_ends ∷ spelled_members ms) (object_ends ∷ []) ∙ sym (append_assoc (spelled d) (member_ends ∷ []) (members_left ms)))
+
+-- three calls in a row
+pub stop_second : (xs ys rest : List Event) (e : CanonError) (u : Unit {0}) (old mid new : Stage) (before tray after : Tray) → Fed xs (Ok u) old mid before tray → before.faults ≤ tray.faults → Fed {X = Unit {0}} ys (Err e) mid new tray after
+    → Fed {X = Unit {0}} (xs ++ (ys ++ rest)) (Err e) old new before after
+stop_second xs ys rest e u old mid new before tray after first up second =
+    subst (λ l. Fed {X = Unit {0}} l (Err e) old new before after) (append_assoc xs ys rest)
+    (fed_stop (xs ++ ys) rest e old new before after (fed_then xs ys (Err e) u old mid new before tray after first up second))
+
+pub all_three : (xs ys zs : List Event) (r : Result (Unit {0}) CanonError) (u v : Unit {0}) (old mid more new : Stage) (before tray late after : Tray) → Fed xs (Ok u) old mid before tray → before.faults ≤ tray.faults
+    → Fed ys (Ok v) mid more tray late → tray.faults ≤ late.faults → Fed zs r more new late after → Fed (xs ++ (ys ++ zs)) r old new before after
+all_three xs ys zs r u v old mid more new before tray late after first up second higher third =
+    fed_then xs (ys ++ zs) r u old mid new before tray after first up (fed_then ys zs r v mid more new tray late after second higher third)
+
+-- the refusal is handed on
+pub handed : (xs : List Event) (r : Result (Unit {0}) CanonError) (e : CanonError) (old new : Stage) (before after : Tray) → IsErrAnd r (λ x. x ≡ e) → Fed {X = Unit {0}} xs (Err e) old new before after → Fed xs r old new before after
+handed xs (Ok u) e old new before after is fed = absurd is
+handed xs (Err c) e old new before after is fed = subst (λ x. Fed {X = Unit {0}} xs (Err x) old new before after) (sym is) fed

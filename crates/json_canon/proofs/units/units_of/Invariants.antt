@@ -1,7 +1,0 @@
-use Rattle.std.proofs.Common.{◌≡◌, ◌++◌, IsUtf8}
-use Rattle.std.specs.Str.Iter.{chars_rest}
-use Rattle.json_canon.specs.Units.{units}
-use Rattle.json_canon.proofs.units.units_of.Given as goal
-
-abbrev pub invariant-loop-c : goal.invariant-loop-c
-invariant-loop-c l = IsUtf8 (chars_rest l.c-iterator) × (l.units ++ units (chars_rest l.c-iterator) ≡ units l.fn.name)

@@ -1,0 +1,52 @@
+-- Laws of canonical texts.
+use Rattle.std.specs.Prelude.{◌≡◌, ◌↔◌, ◌++◌, ℕ, List, [], ◌∷◌, None, Result}
+use Rattle.std.specs.Str.{IsUtf8}
+use Rattle.std.specs.declared.cmp.Ordering.TheVariants.{Equal}
+use Rattle.serde_json.specs.Data.{Data}
+use Rattle.json_events.specs.Canonical.{Canonical}
+use Rattle.json_events.specs.Drafts.{run, fresh}
+use Rattle.json_events.specs.Events.{Event, finishes}
+use Rattle.json_events.specs.Formatters.{stage_of, Holds}
+use Rattle.json_events.specs.Refused.{refused}
+use Rattle.json_events.specs.Spelling.{spelled}
+use Rattle.json_events.specs.Turns.{Taken, answer}
+use Rattle.json_events.specs.Units.{by_units}
+use Rattle.json_events.specs.Values.{IsValue}
+use Rattle.json_events.specs.declared.error.CanonError.{CanonError}
+use Rattle.json_events.specs.declared.formatter.JcsFormatter.{JcsFormatter}
+use Rattle.json_values.specs.Tray.{Tray, Adds}
+
+-- a value has at most one text
+abbrev pub OneText : Type 0
+OneText = (d : Data) (t u : List ℕ) → Canonical d t → Canonical d u → t ≡ u
+
+-- names are in one order, in which only equal names tie
+abbrev pub TiesEqualNames : Type 0
+TiesEqualNames = (a b : List ℕ) → IsUtf8 a → IsUtf8 b → by_units a b ≡ Equal → a ≡ b
+
+-- U+FB33 and U+1F600, in UTF-8
+abbrev pub dalet : List ℕ
+dalet = 0xEF ∷ 0xAC ∷ 0xB3 ∷ []
+
+abbrev pub grin : List ℕ
+grin = 0xF0 ∷ 0x9F ∷ 0x98 ∷ 0x80 ∷ []
+
+-- a value of `serde_json` has a text exactly where no number of it is refused
+abbrev pub HasText : Type 0
+HasText = (d : Data) → IsValue d → ((refused d ≡ None) ↔ ((t : List ℕ) × Canonical d t))
+
+-- the events of a value, its members in any order, leave no refusal, and its text went out
+abbrev pub EventsWrite : Type 0
+EventsWrite = (d : Data) → IsValue d → refused d ≡ None
+    → ((run (spelled d ++ finishes ∷ []) fresh).stage.refusal ≡ None) × Canonical d (run (spelled d ++ finishes ∷ []) fresh).out
+
+-- a new formatter holds what no events leave
+abbrev pub HoldsFirst : Type 0
+HoldsFirst = (f : JcsFormatter) → stage_of f ≡ fresh → Holds f [] []
+
+-- a call that was taken goes on from what the events before it left: what it put is what went out more, and
+-- it answers the first refusal
+abbrev pub HoldsNext : Type 0
+HoldsNext = (f g : JcsFormatter) (out : List ℕ) (events : List Event) (x : Event) (r : Result (Unit {0}) CanonError) (before after : Tray)
+    → Holds f out events → Taken x r (stage_of f) (stage_of g) before after
+    → (more : List ℕ) × Holds g (out ++ more) (events ++ x ∷ []) × Adds more before after × (r ≡ answer (stage_of g).refusal)

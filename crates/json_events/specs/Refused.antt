@@ -1,0 +1,38 @@
+-- Which numbers have no canonical text, and the first of them in a value.
+use Rattle.std.specs.Prelude.{ℤ, Option, Some, None, if◌then◌else◌}
+use Rattle.serde_json.specs.Data.{Data, null, boolean, number, string, array, object, Items, no_items, item, Members, no_members, member}
+use Rattle.serde_json.specs.Find.{as_integer}
+use Rattle.json_events.specs.Canonical.{in_range}
+use Rattle.json_events.specs.declared.error.CanonError.{CanonError}
+use Rattle.json_events.specs.declared.error.CanonError.TheVariants.{Float, IntegerOutOfRange}
+
+-- a whole number past the range
+abbrev pub refused_integer : ℤ → Option CanonError
+refused_integer z = if in_range z then None else Some IntegerOutOfRange
+
+abbrev pub refused_by : Option ℤ → Option CanonError
+refused_by None = Some Float
+refused_by (Some z) = refused_integer z
+
+-- the first one, and else the second
+abbrev pub first_of_two : Option CanonError → Option CanonError → Option CanonError
+first_of_two None later = later
+first_of_two (Some e) later = Some e
+
+abbrev mutual
+  -- the first number that is a float or past the range: items by place, members by the bytes of their names
+  pub refused : Data → Option CanonError
+  refused null = None
+  refused (boolean b) = None
+  refused (number n) = refused_by (as_integer n)
+  refused (string s) = None
+  refused (array ds) = refused_items ds
+  refused (object ms) = refused_members ms
+
+  pub refused_items : Items → Option CanonError
+  refused_items no_items = None
+  refused_items (item d ds) = first_of_two (refused d) (refused_items ds)
+
+  pub refused_members : Members → Option CanonError
+  refused_members no_members = None
+  refused_members (member k d ms) = first_of_two (refused d) (refused_members ms)

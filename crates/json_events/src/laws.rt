@@ -1,0 +1,30 @@
+// Laws of canonical texts, as contracts of functions that do nothing.
+ghost use Rattle.std.specs.Prelude.{◌≡◌};
+ghost use Rattle.std.specs.Cmp.{IsTotalOrder};
+ghost use Rattle.std.specs.Cmp.Lexicographic.{slice_cmp};
+ghost use Rattle.std.specs.Ordering.{nat_cmp};
+ghost use Rattle.std.specs.declared.cmp.Ordering.TheVariants.{Less, Greater};
+ghost use Rattle.json_events.specs.Laws.{OneText, HasText, EventsWrite, HoldsFirst, HoldsNext, TiesEqualNames, dalet, grin};
+ghost use Rattle.json_events.specs.Units.{by_units};
+
+/// A value has at most one canonical text, and has one exactly where no number of it is refused.
+pub fn one_text()
+    ensures one { OneText }
+    ensures has { HasText }
+{}
+
+/// Names are in one order, in which only equal names tie. It is not that of their bytes.
+pub fn order_of_names()
+    ensures total { IsTotalOrder by_units }
+    ensures ties { TiesEqualNames }
+    ensures units { by_units dalet grin ≡ Greater }
+    ensures bytes { slice_cmp nat_cmp dalet grin ≡ Less }
+{}
+
+/// The events of a value write its text, whatever order its members come in. A formatter holds what the
+/// events so far leave.
+pub fn events_write()
+    ensures values { EventsWrite }
+    ensures first { HoldsFirst }
+    ensures next { HoldsNext }
+{}

@@ -1,0 +1,26 @@
+//! Values as events, and the formatter that writes their canonical text (RFC 8785).
+#![tactic(auto)]
+
+mod array_events;
+mod error;
+mod formatter;
+mod laws;
+mod members;
+mod object_events;
+mod pieces;
+mod property;
+mod scalars;
+mod spot;
+mod state;
+mod turns;
+mod units;
+mod value_events;
+
+pub use error::CanonError;
+pub use formatter::JcsFormatter;
+pub use laws::{events_write, one_text, order_of_names};
+pub use property::JsonProperty;
+pub use scalars::refused_integer;
+
+#[cfg(test)]
+mod tests;

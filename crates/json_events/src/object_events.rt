@@ -1,0 +1,92 @@
+// The events of objects.
+ghost use Rattle.std.specs.Prelude.{◌≤◌};
+
+use crate::error::CanonError;
+use crate::formatter::{JcsFormatter, kept};
+use crate::spot::Spot;
+use crate::turns::{begin_object, end_member, end_object, move_on};
+use json_values::Sink;
+
+impl JcsFormatter {
+    ghost use Rattle.json_events.specs.Events.{object_begins, name_begins, name_ends, member_begins, member_ends, object_ends};
+    ghost use Rattle.json_events.specs.Formatters.{stage_of};
+    ghost use Rattle.json_events.specs.Turns.{Answers};
+
+    /// An object begins.
+    pub fn begin_object<K: Sink>(&mut self, sink: &mut K) -> Result<(), CanonError>
+        ensures answers { Answers object_begins result (stage_of self.old) (stage_of self.new) (K.state sink.old) (K.state sink.new) }
+        ensures count { (K.state sink.old).faults ≤ (K.state sink.new).faults }
+    {
+        if let Some(refusal) = self.refusal {
+            return Err(refusal);
+        }
+        let answer = begin_object(self.alloc, &mut self.state, sink);
+        self.refusal = kept(&answer);
+        answer
+    }
+
+    /// An object ends, after any number of members. Its text is written.
+    pub fn end_object<K: Sink>(&mut self, sink: &mut K) -> Result<(), CanonError>
+        ensures answers { Answers object_ends result (stage_of self.old) (stage_of self.new) (K.state sink.old) (K.state sink.new) }
+        ensures count { (K.state sink.old).faults ≤ (K.state sink.new).faults }
+    {
+        if let Some(refusal) = self.refusal {
+            return Err(refusal);
+        }
+        let answer = end_object(self.alloc, &mut self.state, sink);
+        self.refusal = kept(&answer);
+        answer
+    }
+
+    /// A member's name begins. A string comes next.
+    pub fn begin_object_key<K: Sink>(&mut self, _sink: &mut K) -> Result<(), CanonError>
+        ensures answers { Answers name_begins result (stage_of self.old) (stage_of self.new) (K.state _sink.old) (K.state _sink.new) }
+        ensures count { (K.state _sink.old).faults ≤ (K.state _sink.new).faults }
+    {
+        if let Some(refusal) = self.refusal {
+            return Err(refusal);
+        }
+        let answer = move_on(&mut self.state, Spot::Names, Spot::NameDue);
+        self.refusal = kept(&answer);
+        answer
+    }
+
+    /// A member's name ends.
+    pub fn end_object_key<K: Sink>(&mut self, _sink: &mut K) -> Result<(), CanonError>
+        ensures answers { Answers name_ends result (stage_of self.old) (stage_of self.new) (K.state _sink.old) (K.state _sink.new) }
+        ensures count { (K.state _sink.old).faults ≤ (K.state _sink.new).faults }
+    {
+        if let Some(refusal) = self.refusal {
+            return Err(refusal);
+        }
+        let answer = move_on(&mut self.state, Spot::NameDone, Spot::Named);
+        self.refusal = kept(&answer);
+        answer
+    }
+
+    /// A member's value begins.
+    pub fn begin_object_value<K: Sink>(&mut self, _sink: &mut K) -> Result<(), CanonError>
+        ensures answers { Answers member_begins result (stage_of self.old) (stage_of self.new) (K.state _sink.old) (K.state _sink.new) }
+        ensures count { (K.state _sink.old).faults ≤ (K.state _sink.new).faults }
+    {
+        if let Some(refusal) = self.refusal {
+            return Err(refusal);
+        }
+        let answer = move_on(&mut self.state, Spot::Named, Spot::ValueDue);
+        self.refusal = kept(&answer);
+        answer
+    }
+
+    /// A member ends, after its value. `DuplicateKey` where the object has its name already.
+    pub fn end_object_value<K: Sink>(&mut self, _sink: &mut K) -> Result<(), CanonError>
+        ensures answers { Answers member_ends result (stage_of self.old) (stage_of self.new) (K.state _sink.old) (K.state _sink.new) }
+        ensures count { (K.state _sink.old).faults ≤ (K.state _sink.new).faults }
+    {
+        if let Some(refusal) = self.refusal {
+            return Err(refusal);
+        }
+        let answer = end_member(self.alloc, &mut self.state);
+        self.refusal = kept(&answer);
+        answer
+    }
+}

@@ -1,0 +1,45 @@
+// The texts of numbers, truth values and strings (RFC 8785, 3.2.2).
+ghost use Rattle.std.specs.Prelude.{◌≡◌, IfOk};
+ghost use Rattle.std.specs.Fmt.{signed_decimal};
+ghost use Rattle.json_values.specs.Canon.{quoted_text};
+ghost use Rattle.json_events.specs.Canonical.{truth_text};
+ghost use Rattle.json_events.specs.Refused.{refused_integer};
+
+use crate::error::CanonError;
+use itoa::Buffer;
+use json_values::{Blob, write_quoted};
+use std::alloc::{AllocError, Global};
+
+// The whole numbers up to here are those that every reader keeps (RFC 8785, 3.2.2.3).
+const GREATEST: i128 = 9007199254740991;
+
+/// `IntegerOutOfRange` for a number past 9007199254740991 on either side.
+pub fn refused_integer(z: i128) -> Option<CanonError>
+    ensures { result ≡ refused_integer z }
+{
+    if -GREATEST <= z && z <= GREATEST {
+        None
+    } else {
+        Some(CanonError::IntegerOutOfRange)
+    }
+}
+
+pub(crate) fn truth_word(value: bool) -> &'static [u8]
+    ensures { result.now ≡ truth_text value }
+{
+    if value { b"true" } else { b"false" }
+}
+
+pub(crate) fn integer_text(alloc: Global, value: i128) -> Result<Blob, AllocError>
+    ensures { IfOk result (λ t. t ≡ signed_decimal value) }
+{
+    let mut buffer = Buffer::new();
+    Blob::new(alloc, buffer.format(value).as_bytes())
+}
+
+pub(crate) fn string_text(alloc: Global, text: &str) -> Result<Blob, AllocError>
+    ensures { IfOk result (λ t. t ≡ quoted_text text.now) }
+{
+    let quoted = write_quoted(alloc, text)?;
+    Blob::new(alloc, quoted.as_str().as_bytes())
+}
