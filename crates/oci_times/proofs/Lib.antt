@@ -1,0 +1,4 @@
+pub mod Back
+pub mod Bridge
+pub mod Joins
+pub mod Shares

@@ -1,0 +1,4 @@
+pub mod Equalities
+pub mod Moment
+pub mod Reading
+pub mod Writing
