@@ -1,0 +1,23 @@
+-- Configuration files as the bytes of a configuration.
+use Rattle.std.specs.Prelude.{◌≡◌, ℕ, List, Option, Some, None, Result, Ok, Err, ⊤}
+use Rattle.serde_json.specs.Written.{compact_text}
+use Rattle.json_values.specs.JsonText.{plain_json_of}
+use Rattle.json_tables.specs.Reading.{◌>>=◌}
+use Rattle.oci_config.specs.declared.conversion.ConfigError.{ConfigError}
+use Rattle.oci_config.specs.declared.conversion.ConfigError.TheVariants.{Unreadable, WantOfMemory}
+use Rattle.oci_config.specs.declared.file.ConfigFile.{ConfigFile}
+use Rattle.oci_config.specs.File.{file_of, file_written}
+
+-- the file that the bytes say, where they are JSON in which no float stands
+abbrev pub file_in : List ℕ → Option ConfigFile
+file_in bytes = plain_json_of bytes >>= file_of
+
+-- the file, or `Unreadable` exactly where the bytes say none, unless memory runs out
+abbrev pub ReadsFile : Result ConfigFile ConfigError → List ℕ → Type 0
+ReadsFile (Ok file) bytes = file_in bytes ≡ Some file
+ReadsFile (Err Unreadable) bytes = file_in bytes ≡ None
+ReadsFile (Err WantOfMemory) bytes = ⊤
+
+-- the compact text of a file
+abbrev pub file_text : ConfigFile → List ℕ
+file_text file = compact_text (file_written file)

@@ -1,0 +1,5 @@
+pub mod Config
+pub mod Conversion
+pub mod File
+pub mod History
+pub mod Rootfs

@@ -1,0 +1,173 @@
+//! How a container is started.
+ghost use Rattle.std.specs.Prelude.{◌≡◌, IfOk, Ok, None};
+ghost use Rattle.serde_json.specs.View.{view};
+ghost use Rattle.json_tables.specs.Outcomes.{Gives, ReadsDocument};
+ghost use Rattle.oci_config.specs.Config.{config_members};
+
+use json_tables::{ReadError, Reads, an_object, read_document, row9};
+use json_values::{Annotations, Copied, List, Text, TextSet, ToValue, copies3, copies6};
+use json_writing::{UnlessEmpty, Writes, object9};
+use serde_json::Value;
+use std::alloc::{AllocError, Global};
+
+/// How a container is started (OCI image specification, config.md, `config`).
+#[derive(Debug, Drop)]
+pub struct Config {
+    pub user: Option<Text>,
+    pub exposed_ports: Option<TextSet>,
+    pub env: Option<List<Text>>,
+    pub cmd: Option<List<Text>>,
+    pub entrypoint: Option<List<Text>>,
+    pub volumes: Option<TextSet>,
+    pub working_dir: Option<Text>,
+    pub labels: Option<Annotations>,
+    pub stop_signal: Option<Text>,
+}
+
+impl Config {
+    ghost use Rattle.oci_config.specs.Config.{config_of};
+
+    /// `Float` exactly where a float stands anywhere, else `Shape` exactly where the table does not read it.
+    pub fn read(alloc: Global, value: &Value) -> Result<Config, ReadError>
+        ensures { ReadsDocument result config_of (view value.now) }
+    {
+        read_document(alloc, value)
+    }
+
+    /// None in every field.
+    pub fn default(_alloc: Global) -> Result<Config, AllocError>
+        ensures { IfOk result (λ config. config ≡ record { user = None; exposed_ports = None; env = None; cmd = None; entrypoint = None; volumes = None; working_dir = None; labels = None; stop_signal = None }) }
+    {
+        Ok(Config {
+            user: None,
+            exposed_ports: None,
+            env: None,
+            cmd: None,
+            entrypoint: None,
+            volumes: None,
+            working_dir: None,
+            labels: None,
+            stop_signal: None,
+        })
+    }
+}
+
+impl Reads for Config {
+    ghost use Rattle.oci_config.specs.Config.{config_of};
+
+    ghost reading = { config_of };
+
+    #[tactic(auto, unfolding(crate::specs::Config::config_of), using(crate::proofs::Again::no_object, crate::proofs::Again::behind_object))]
+    fn read_value(alloc: Global, value: &Value) -> Result<Config, ReadError> {
+        an_object(value)?;
+        let config = config_members(alloc, value)?;
+        Ok(config)
+    }
+}
+
+#[tactic(auto, unfolding(crate::specs::Config::config_members))]
+fn config_members(alloc: Global, value: &Value) -> Result<Config, ReadError>
+    ensures { Gives result (config_members (view value.now)) }
+{
+    let (user, exposed_ports, env, cmd, entrypoint, volumes, working_dir, labels, stop_signal) =
+        row9(
+            alloc,
+            value,
+            "User",
+            "ExposedPorts",
+            "Env",
+            "Cmd",
+            "Entrypoint",
+            "Volumes",
+            "WorkingDir",
+            "Labels",
+            "StopSignal",
+        )?;
+    Ok(Config {
+        user,
+        exposed_ports,
+        env,
+        cmd,
+        entrypoint,
+        volumes,
+        working_dir,
+        labels,
+        stop_signal,
+    })
+}
+
+impl Writes for Config {
+    ghost use Rattle.oci_config.specs.Config.{config_written, normal_config};
+
+    ghost written = { config_written };
+
+    ghost normal = { normal_config };
+
+    #[tactic(auto, unfolding(crate::specs::Config::config_written))]
+    fn write_value(&self, alloc: Global) -> Result<Value, AllocError> {
+        let value = object9(
+            alloc,
+            "User",
+            &self.user,
+            "ExposedPorts",
+            &UnlessEmpty(&self.exposed_ports),
+            "Env",
+            &UnlessEmpty(&self.env),
+            "Cmd",
+            &UnlessEmpty(&self.cmd),
+            "Entrypoint",
+            &UnlessEmpty(&self.entrypoint),
+            "Volumes",
+            &UnlessEmpty(&self.volumes),
+            "WorkingDir",
+            &self.working_dir,
+            "Labels",
+            &UnlessEmpty(&self.labels),
+            "StopSignal",
+            &self.stop_signal,
+        )?;
+        Ok(value)
+    }
+}
+
+impl ToValue for Config {
+    ghost use Rattle.oci_config.specs.Config.{config_of, config_written, normal_config};
+
+    ghost written = { config_written };
+
+    /// Nothing that is none or empty is written. What it gives reads back, with what is empty made none.
+    #[tactic(auto, using(json_writing::proofs::Whole::document_again))]
+    fn to_value(&self, alloc: Global) -> Result<Value, AllocError>
+        ensures exact { IfOk result (λ v. view v ≡ config_written self.now) }
+        ensures reads_back { IfOk result (λ v. ReadsDocument (Ok (normal_config self.now)) config_of (view v)) }
+    {
+        let value = self.write_value(alloc)?;
+        Ok(value)
+    }
+}
+
+impl Copied for Config {
+    fn copy(&self, alloc: Global) -> Result<Config, AllocError> {
+        let (user, exposed_ports, volumes, working_dir, labels, stop_signal) = copies6(
+            alloc,
+            &self.user,
+            &self.exposed_ports,
+            &self.volumes,
+            &self.working_dir,
+            &self.labels,
+            &self.stop_signal,
+        )?;
+        let (env, cmd, entrypoint) = copies3(alloc, &self.env, &self.cmd, &self.entrypoint)?;
+        Ok(Config {
+            user,
+            exposed_ports,
+            env,
+            cmd,
+            entrypoint,
+            volumes,
+            working_dir,
+            labels,
+            stop_signal,
+        })
+    }
+}

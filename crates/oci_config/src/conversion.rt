@@ -1,0 +1,92 @@
+ghost use Rattle.std.specs.Prelude.{◌≡◌, IfOk};
+ghost use Rattle.oci_config.specs.Conversion.{file_in, file_text};
+
+use crate::file::ConfigFile;
+use json_tables::{holds_float, read_or_none};
+use json_values::{Annotations, Blob, ToValue, read_json};
+use oci_manifests::blob::Config;
+use std::alloc::{AllocError, Global};
+use thiserror::Error;
+
+/// Why a configuration gives no file.
+#[derive(Clone, Copy, Debug, PartialEq, Eq, Error)]
+pub enum ConfigError {
+    /// Its bytes are no JSON, or no configuration file.
+    #[error("the configuration does not read")]
+    Unreadable,
+    #[error("out of memory")]
+    WantOfMemory,
+}
+
+impl From<AllocError> for ConfigError {
+    ghost use Rattle.std.specs.Prelude.{◌≡◌};
+    ghost use Rattle.oci_config.specs.declared.conversion.ConfigError.TheVariants.{WantOfMemory};
+
+    ghost from_gives = { λ _ e. e ≡ WantOfMemory };
+
+    fn from(_error: AllocError) -> ConfigError {
+        ConfigError::WantOfMemory
+    }
+}
+
+impl ConfigFile {
+    ghost use Rattle.oci_config.specs.Conversion.{ReadsFile};
+
+    /// What `read` gives of the JSON of the configuration's bytes; `Unreadable` exactly where they are no JSON or
+    /// it refuses that.
+    pub fn from_config(alloc: Global, config: &Config) -> Result<ConfigFile, ConfigError>
+        ensures { ReadsFile result config.now.content }
+    {
+        let Some(file) = file_in(alloc, config.content.as_slice())? else {
+            return Err(ConfigError::Unreadable);
+        };
+        Ok(file)
+    }
+}
+
+fn file_in(alloc: Global, bytes: &[u8]) -> Result<Option<ConfigFile>, AllocError>
+    ensures { IfOk result (λ found. found ≡ file_in bytes.now) }
+{
+    let Some(json) = read_json(alloc, bytes)? else {
+        return Ok(None);
+    };
+    if holds_float(json.value()) {
+        return Ok(None);
+    }
+    let file = read_or_none(alloc, json.value())?;
+    Ok(file)
+}
+
+/// A configuration that holds a file.
+pub trait FromConfigFile: Sized {
+    /// The compact text of the file's value, under OCI's configuration type.
+    fn oci_v1_from_config_file(
+        alloc: Global,
+        config_file: &ConfigFile,
+        annotations: Option<Annotations>,
+    ) -> Result<Self, AllocError>;
+}
+
+impl FromConfigFile for Config {
+    ghost use Rattle.oci_manifests.specs.declared.media_types.TheConstants.{IMAGE_CONFIG_MEDIA_TYPE};
+
+    fn oci_v1_from_config_file(
+        alloc: Global,
+        config_file: &ConfigFile,
+        annotations: Option<Annotations>,
+    ) -> Result<Config, AllocError>
+        ensures { IfOk result (λ config. config ≡ record { content = file_text config_file.now; media_type = IMAGE_CONFIG_MEDIA_TYPE.now; annotations = annotations }) }
+    {
+        let content = file_text(alloc, config_file)?;
+        Config::oci_v1(alloc, content, annotations)
+    }
+}
+
+fn file_text(alloc: Global, file: &ConfigFile) -> Result<Blob, AllocError>
+    ensures { IfOk result (λ text. text ≡ file_text file.now) }
+{
+    let value = file.to_value(alloc)?;
+    let text = value.to_string(alloc)?;
+    let bytes = Blob::new(alloc, text.as_str().as_bytes())?;
+    Ok(bytes)
+}

@@ -1,0 +1,137 @@
+ghost use Rattle.std.specs.Prelude.{◌≡◌, IfOk, Ok};
+ghost use Rattle.serde_json.specs.View.{view};
+ghost use Rattle.json_tables.specs.Outcomes.{ReadsDocument};
+
+use crate::config::Config;
+use crate::history::History;
+use crate::rootfs::Rootfs;
+use json_tables::{ReadError, Reads, read_document, row7};
+use json_values::{Copied, List, Text, ToValue, copies7};
+use json_writing::{Required, UnlessEmpty, Writes, object7};
+use oci_times::Time;
+use serde_json::Value;
+use std::alloc::{AllocError, Global};
+
+/// The configuration file of an image (OCI image specification, config.md).
+#[derive(Debug, Drop)]
+pub struct ConfigFile {
+    pub created: Option<Time>,
+    pub author: Option<Text>,
+    pub architecture: Text,
+    pub os: Text,
+    pub config: Option<Config>,
+    pub rootfs: Rootfs,
+    pub history: Option<List<History>>,
+}
+
+impl ConfigFile {
+    ghost use Rattle.oci_config.specs.File.{file_of};
+
+    /// `Float` exactly where a float stands anywhere, else `Shape` exactly where the table does not read it.
+    pub fn read(alloc: Global, value: &Value) -> Result<ConfigFile, ReadError>
+        ensures { ReadsDocument result file_of (view value.now) }
+    {
+        read_document(alloc, value)
+    }
+}
+
+impl Reads for ConfigFile {
+    ghost use Rattle.oci_config.specs.File.{file_of};
+
+    ghost reading = { file_of };
+
+    #[tactic(auto, unfolding(crate::specs::File::file_of))]
+    fn read_value(alloc: Global, value: &Value) -> Result<ConfigFile, ReadError> {
+        let (created, author, architecture, os, config, rootfs, history) = row7(
+            alloc,
+            value,
+            "created",
+            "author",
+            "architecture",
+            "os",
+            "config",
+            "rootfs",
+            "history",
+        )?;
+        Ok(ConfigFile {
+            created,
+            author,
+            architecture,
+            os,
+            config,
+            rootfs,
+            history,
+        })
+    }
+}
+
+impl Writes for ConfigFile {
+    ghost use Rattle.oci_config.specs.File.{file_written, normal_file};
+
+    ghost written = { file_written };
+
+    ghost normal = { normal_file };
+
+    #[tactic(auto, unfolding(crate::specs::File::file_written))]
+    fn write_value(&self, alloc: Global) -> Result<Value, AllocError> {
+        let value = object7(
+            alloc,
+            "created",
+            &self.created,
+            "author",
+            &self.author,
+            "architecture",
+            &self.architecture,
+            "os",
+            &self.os,
+            "config",
+            &self.config,
+            "rootfs",
+            &Required(&self.rootfs),
+            "history",
+            &UnlessEmpty(&self.history),
+        )?;
+        Ok(value)
+    }
+}
+
+impl ToValue for ConfigFile {
+    ghost use Rattle.oci_config.specs.File.{file_of, file_written, normal_file};
+
+    ghost written = { file_written };
+
+    /// Nothing that is none, an empty history, and nothing that is empty in `config` is written. What it gives reads
+    /// back, with what is empty made none.
+    #[tactic(auto, using(json_writing::proofs::Whole::document_again))]
+    fn to_value(&self, alloc: Global) -> Result<Value, AllocError>
+        ensures exact { IfOk result (λ v. view v ≡ file_written self.now) }
+        ensures reads_back { IfOk result (λ v. ReadsDocument (Ok (normal_file self.now)) file_of (view v)) }
+    {
+        let value = self.write_value(alloc)?;
+        Ok(value)
+    }
+}
+
+impl Copied for ConfigFile {
+    fn copy(&self, alloc: Global) -> Result<ConfigFile, AllocError> {
+        let (created, author, architecture, os, config, rootfs, history) = copies7(
+            alloc,
+            &self.created,
+            &self.author,
+            &self.architecture,
+            &self.os,
+            &self.config,
+            &self.rootfs,
+            &self.history,
+        )?;
+        Ok(ConfigFile {
+            created,
+            author,
+            architecture,
+            os,
+            config,
+            rootfs,
+            history,
+        })
+    }
+}

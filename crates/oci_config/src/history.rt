@@ -1,0 +1,140 @@
+ghost use Rattle.std.specs.Prelude.{◌≡◌, IfOk, Ok};
+ghost use Rattle.serde_json.specs.View.{view};
+ghost use Rattle.json_tables.specs.Outcomes.{Gives, ReadsDocument};
+ghost use Rattle.oci_config.specs.History.{history_members};
+
+use json_tables::{ReadError, Reads, an_object, read_document, row5};
+use json_values::{Copied, Text, ToValue, copies4};
+use json_writing::{Writes, object5};
+use oci_times::Time;
+use serde_json::Value;
+use std::alloc::{AllocError, Global};
+
+/// A step by which an image was made (OCI image specification, config.md, `history`).
+#[derive(Debug, Drop)]
+pub struct History {
+    pub created: Option<Time>,
+    pub author: Option<Text>,
+    pub created_by: Option<Text>,
+    pub comment: Option<Text>,
+    /// Whether the step left the file system as it was.
+    pub empty_layer: Option<bool>,
+}
+
+impl History {
+    ghost use Rattle.oci_config.specs.History.{history_of, no_history};
+
+    /// `Float` exactly where a float stands anywhere, else `Shape` exactly where the table does not read it.
+    pub fn read(alloc: Global, value: &Value) -> Result<History, ReadError>
+        ensures { ReadsDocument result history_of (view value.now) }
+    {
+        read_document(alloc, value)
+    }
+
+    /// None in every field.
+    pub fn default(_alloc: Global) -> Result<History, AllocError>
+        ensures { IfOk result (λ history. history ≡ no_history) }
+    {
+        Ok(History {
+            created: None,
+            author: None,
+            created_by: None,
+            comment: None,
+            empty_layer: None,
+        })
+    }
+}
+
+impl Reads for History {
+    ghost use Rattle.oci_config.specs.History.{history_of};
+
+    ghost reading = { history_of };
+
+    #[tactic(auto, unfolding(crate::specs::History::history_of), using(crate::proofs::Again::no_object, crate::proofs::Again::behind_object))]
+    fn read_value(alloc: Global, value: &Value) -> Result<History, ReadError> {
+        an_object(value)?;
+        let history = history_members(alloc, value)?;
+        Ok(history)
+    }
+}
+
+#[tactic(auto, unfolding(crate::specs::History::history_members))]
+fn history_members(alloc: Global, value: &Value) -> Result<History, ReadError>
+    ensures { Gives result (history_members (view value.now)) }
+{
+    let (created, author, created_by, comment, empty_layer) = row5(
+        alloc,
+        value,
+        "created",
+        "author",
+        "created_by",
+        "comment",
+        "empty_layer",
+    )?;
+    Ok(History {
+        created,
+        author,
+        created_by,
+        comment,
+        empty_layer,
+    })
+}
+
+impl Writes for History {
+    ghost use Rattle.oci_config.specs.History.{history_written};
+
+    ghost written = { history_written };
+
+    #[tactic(auto, unfolding(crate::specs::History::history_written))]
+    fn write_value(&self, alloc: Global) -> Result<Value, AllocError> {
+        let value = object5(
+            alloc,
+            "created",
+            &self.created,
+            "author",
+            &self.author,
+            "created_by",
+            &self.created_by,
+            "comment",
+            &self.comment,
+            "empty_layer",
+            &self.empty_layer,
+        )?;
+        Ok(value)
+    }
+}
+
+impl ToValue for History {
+    ghost use Rattle.oci_config.specs.History.{history_of, history_written};
+
+    ghost written = { history_written };
+
+    /// None is not written. What it gives reads back.
+    #[tactic(auto, using(json_writing::proofs::Whole::document_again))]
+    fn to_value(&self, alloc: Global) -> Result<Value, AllocError>
+        ensures exact { IfOk result (λ v. view v ≡ history_written self.now) }
+        ensures reads_back { IfOk result (λ v. ReadsDocument (Ok self.now) history_of (view v)) }
+    {
+        let value = self.write_value(alloc)?;
+        Ok(value)
+    }
+}
+
+impl Copied for History {
+    fn copy(&self, alloc: Global) -> Result<History, AllocError> {
+        let (created, author, created_by, comment) = copies4(
+            alloc,
+            &self.created,
+            &self.author,
+            &self.created_by,
+            &self.comment,
+        )?;
+        Ok(History {
+            created,
+            author,
+            created_by,
+            comment,
+            empty_layer: self.empty_layer,
+        })
+    }
+}

@@ -1,0 +1,100 @@
+ghost use Rattle.std.specs.Prelude.{◌≡◌, IfOk, Ok};
+ghost use Rattle.serde_json.specs.View.{view};
+ghost use Rattle.json_tables.specs.Outcomes.{ReadsDocument};
+
+use json_tables::{Member, ReadError, Reads, present, read_document, row2};
+use json_values::{Copied, List, Text, ToValue, copies2};
+use json_writing::{Writes, object2};
+use serde_json::Value;
+use std::alloc::{AllocError, Global};
+
+/// The kind of a root file system that is made of layers.
+pub const ROOTFS_TYPE: &'static str = "layers";
+
+/// The layers that a root file system is made of (OCI image specification, config.md, `rootfs`).
+#[derive(Debug, Drop)]
+pub struct Rootfs {
+    /// The member `type`.
+    pub kind: Text,
+    pub diff_ids: List<Text>,
+}
+
+impl Rootfs {
+    ghost use Rattle.oci_config.specs.Rootfs.{rootfs_of, no_layers};
+
+    /// `Float` exactly where a float stands anywhere, else `Shape` exactly where the table does not read it.
+    pub fn read(alloc: Global, value: &Value) -> Result<Rootfs, ReadError>
+        ensures { ReadsDocument result rootfs_of (view value.now) }
+    {
+        read_document(alloc, value)
+    }
+
+    /// The kind `layers`, and no layers.
+    pub fn default(alloc: Global) -> Result<Rootfs, AllocError>
+        ensures { IfOk result (λ rootfs. rootfs ≡ no_layers) }
+    {
+        let kind = Text::new(alloc, ROOTFS_TYPE)?;
+        Ok(Rootfs {
+            kind,
+            diff_ids: List::new(alloc),
+        })
+    }
+}
+
+impl Reads for Rootfs {
+    ghost use Rattle.oci_config.specs.Rootfs.{rootfs_of};
+
+    ghost reading = { rootfs_of };
+
+    #[tactic(auto, unfolding(crate::specs::Rootfs::rootfs_of))]
+    fn read_value(alloc: Global, value: &Value) -> Result<Rootfs, ReadError> {
+        let (kind, diff_ids) = row2(alloc, value, "type", "diff_ids")?;
+        Ok(Rootfs { kind, diff_ids })
+    }
+}
+
+impl Member for Rootfs {
+    ghost use Rattle.json_tables.specs.Reading.{present};
+    ghost use Rattle.oci_config.specs.Rootfs.{rootfs_of};
+
+    ghost found = { present rootfs_of };
+
+    fn read_member(alloc: Global, member: Option<&Value>) -> Result<Rootfs, ReadError> {
+        present(alloc, member)
+    }
+}
+
+impl Writes for Rootfs {
+    ghost use Rattle.oci_config.specs.Rootfs.{rootfs_written};
+
+    ghost written = { rootfs_written };
+
+    #[tactic(auto, unfolding(crate::specs::Rootfs::rootfs_written))]
+    fn write_value(&self, alloc: Global) -> Result<Value, AllocError> {
+        let value = object2(alloc, "type", &self.kind, "diff_ids", &self.diff_ids)?;
+        Ok(value)
+    }
+}
+
+impl ToValue for Rootfs {
+    ghost use Rattle.oci_config.specs.Rootfs.{rootfs_of, rootfs_written};
+
+    ghost written = { rootfs_written };
+
+    /// What it gives reads back.
+    #[tactic(auto, using(json_writing::proofs::Whole::document_again))]
+    fn to_value(&self, alloc: Global) -> Result<Value, AllocError>
+        ensures exact { IfOk result (λ v. view v ≡ rootfs_written self.now) }
+        ensures reads_back { IfOk result (λ v. ReadsDocument (Ok self.now) rootfs_of (view v)) }
+    {
+        let value = self.write_value(alloc)?;
+        Ok(value)
+    }
+}
+
+impl Copied for Rootfs {
+    fn copy(&self, alloc: Global) -> Result<Rootfs, AllocError> {
+        let (kind, diff_ids) = copies2(alloc, &self.kind, &self.diff_ids)?;
+        Ok(Rootfs { kind, diff_ids })
+    }
+}
