@@ -25,7 +25,7 @@ unfolding unquoted
 quote_ends [] = refl
 quote_ends (c ∷ text) = refl
 
-plain_byte : (b : ℕ) (text : List ℕ) → (b == 34) ≡ false → (b == 92) ≡ false → unquoted (b ∷ text) ≡ option_map (λ content. b ∷ content) (unquoted text)
+pub plain_byte : (b : ℕ) (text : List ℕ) → (b == 34) ≡ false → (b == 92) ≡ false → unquoted (b ∷ text) ≡ option_map (λ content. b ∷ content) (unquoted text)
 unfolding unquoted
 plain_byte b [] q s = rw q refl
 plain_byte b (c ∷ text) q s = rw (q, s) refl
@@ -70,7 +70,7 @@ no_mark (b ∷ text) plain quote slash = by (b == 34) (b == 92) refl refl where
       let two : 1 + prefix_len (has Plain) text ≡ 0 = subst (λ v. cond (not v) (1 + prefix_len (has Plain) text) 0 ≡ 0) is_s one in
       absurd (omega (arith, two))
 
-quote_full : (text : List ℕ) → is_blank text ≡ true → unquoted (34 ∷ text) ≡ Some []
+pub quote_full : (text : List ℕ) → is_blank text ≡ true → unquoted (34 ∷ text) ≡ Some []
 quote_full text h = quote_ends text ∙ rw h refl
 
 quote_more : (text : List ℕ) → is_blank text ≡ false → unquoted (34 ∷ text) ≡ None
@@ -101,3 +101,8 @@ plain_stops_here text = by (nat_lt (prefix_len (has Plain) text) (length text)) 
   by : (v : Bool) → nat_lt (prefix_len (has Plain) text) (length text) ≡ v → prefix_len (has Plain) (drop (prefix_len (has Plain) text) text) ≡ 0
   by true lt = let less : prefix_len (has Plain) text < length text = grind (arith, nat_tests, lt) in prefix_len-drop_no (has Plain) text _ 0 less (prefix_len_stops (has Plain) text 0 less)
   by false ge = prefix_len-drop_all (has Plain) text _ (grind (arith, nat_tests, ge))
+
+-- a backslash makes the next byte literal
+pub literal_byte : (c : ℕ) (text : List ℕ) → unquoted (92 ∷ c ∷ text) ≡ option_map (λ content. c ∷ content) (unquoted text)
+unfolding unquoted
+literal_byte c text = refl

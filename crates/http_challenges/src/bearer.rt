@@ -1,7 +1,9 @@
 // What a challenge of the scheme Bearer asks for.
-ghost use Rattle.std.specs.Prelude.{◌≡◌, Some, None, Ok, Err, IfOk, IfErr, option_copied};
+ghost use Rattle.std.specs.Prelude.{◌≡◌, true, List, Some, None, Ok, Err, IfOk, IfErr, option_copied};
 ghost use Rattle.http_challenges.specs.Bearer.{is_named, last_value, bearer_of, first_bearer, is_text, text_of, in_header};
 ghost use Rattle.http_challenges.specs.Bearer.{IsRefusal};
+ghost use Rattle.http_challenges.specs.Words.{AreChallenges};
+ghost use Rattle.http_challenges.specs.declared.challenge.Challenge.{Challenge as OneChallenge};
 ghost use Rattle.http_challenges.specs.declared.bearer.ChallengeError.TheVariants.{WantOfMemory as out_of_memory};
 
 use crate::challenge::{Challenge, challenges};
@@ -113,10 +115,11 @@ impl BearerChallenge {
     /// The first challenge of the scheme Bearer that has a realm, in the value of a header `www-authenticate`.
     ///
     /// `NotText` where the value is not text, and else `NoBearer` where no challenge is such.
-    #[tactic(auto, unfolding(crate::specs::Bearer::in_header))]
+    #[tactic(auto, using(crate::proofs::Listing::header_list), unfolding(crate::specs::Bearer::in_header))]
     pub fn from_header(alloc: Global, value: &[u8]) -> Result<BearerChallenge, ChallengeError>
         ensures ok { IfOk result (λ bearer. in_header value.now ≡ Ok bearer) }
         ensures refused { IfErr result (IsRefusal (in_header value.now)) }
+        ensures listed { (list : List OneChallenge) → is_text value.now ≡ true → AreChallenges value.now list → in_header value.now ≡ first_bearer list }
     {
         let Some(text) = text_of(value) else {
             return Err(ChallengeError::NotText);

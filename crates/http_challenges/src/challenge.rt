@@ -1,6 +1,8 @@
 // Challenges.
 ghost use Rattle.std.specs.Prelude.{◌≡◌, ◌++◌, ◌∷◌, [], List, IfOk, if◌then◌else◌};
 ghost use Rattle.http_challenges.specs.Elements.{challenges_of, whole};
+ghost use Rattle.http_challenges.specs.Words.{AreChallenges};
+ghost use Rattle.http_challenges.specs.declared.challenge.Challenge.{Challenge as OneChallenge};
 ghost use Rattle.http_challenges.specs.declared.element.Element.{Element as OneElement};
 
 use crate::element::{Element, read_element};
@@ -55,10 +57,9 @@ fn take(
     }
 }
 
-/// The challenges of a list (RFC 9110, section 11.6.1), up to the first place that does not read: a challenge is whole
-/// where the next one begins or the text ends.
+// The challenges of a text, read element by element.
 #[tactic(auto, unfolding(crate::specs::Elements::challenges_of))]
-pub fn challenges(alloc: Global, text: &str) -> Result<List<Challenge>, AllocError>
+fn listed(alloc: Global, text: &str) -> Result<List<Challenge>, AllocError>
     ensures { IfOk result (λ found. found ≡ challenges_of text.now) }
 {
     let mut found = List::new(alloc);
@@ -75,5 +76,16 @@ pub fn challenges(alloc: Global, text: &str) -> Result<List<Challenge>, AllocErr
     if let Some(whole) = last {
         found.push(whole)?;
     }
+    Ok(found)
+}
+
+/// The challenges of a list (RFC 9110, section 11.6.1), up to the first place that does not read: a challenge is whole
+/// where the next one begins or the text ends.
+pub fn challenges(alloc: Global, text: &str) -> Result<List<Challenge>, AllocError>
+    ensures ok { IfOk result (λ found. found ≡ challenges_of text.now) }
+    ensures grammar { IfOk result (λ found. AreChallenges text.now found) }
+    ensures only { IfOk result (λ found. (others : List OneChallenge) → AreChallenges text.now others → others ≡ found) }
+{
+    let found = listed(alloc, text)?;
     Ok(found)
 }

@@ -1,14 +1,10 @@
-use Rattle.std.proofs.Common.{sym, ap, ◌∙◌, ◌∷◌, ◌++◌, refl}
-use Rattle.std.specs.Option.{option_copied}
-use Rattle.http_challenges.specs.Elements.{challenges_of, whole}
-use Rattle.http_challenges.proofs.Commas.{taken, elements_left}
+use Rattle.std.proofs.Common.{sym, subst, ◌∙◌}
+use Rattle.http_challenges.specs.Words.{AreChallenges}
+use Rattle.http_challenges.proofs.Listing.{are_challenges, same_challenges}
 use Rattle.http_challenges.proofs.challenge.challenges.Goals as goal
 
-pub returns-then-not-branch : goal.returns-then-not-branch
-unfolding challenges_of
-returns-then-not-branch c =
-    let left = option_copied c.cut_element.result.1 in
-    sym (taken c.args.text.now c.in-Some.rest.now c.cut_element.result.0.now (option_copied c.loop-left.left) left c.loop-left.found c.loop-left.last c.loop-left.invariant (ap option_copied c.in-Some.is) c.cut_element.ensures.split
-    ∙ ap (λ element. c.loop-left.found ++ whole c.loop-left.last (element ∷ elements_left left)) (sym c.in_ok-element.ensures)
-    ∙ c.in_ok-take.ensures (elements_left left)
-    ∙ rw c.if-not-branch.true refl)
+pub returns-clause-grammar : goal.returns-clause-grammar
+returns-clause-grammar c = subst (AreChallenges c.args.text.now) (sym c.in_ok-found.ensures) (are_challenges c.args.text.now)
+
+pub returns-clause-only : goal.returns-clause-only
+returns-clause-only c others are = same_challenges c.args.text.now others _ are (are_challenges c.args.text.now) ∙ sym c.in_ok-found.ensures

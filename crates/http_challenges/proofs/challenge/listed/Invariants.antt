@@ -3,7 +3,7 @@ use Rattle.std.specs.Option.{option_copied}
 use Rattle.http_challenges.specs.declared.split.Place.TheVariants.{Outside}
 use Rattle.http_challenges.specs.Elements.{split_from, element_of, whole}
 use Rattle.http_challenges.proofs.Commas.{elements_left, bytes_left}
-use Rattle.http_challenges.proofs.challenge.challenges.Given as goal
+use Rattle.http_challenges.proofs.challenge.listed.Given as goal
 
 abbrev pub invariant-loop-left : goal.invariant-loop-left
 invariant-loop-left l = whole None (map element_of (split_from Outside l.text)) ≡ l.found ++ whole l.last (elements_left (option_copied l.left))

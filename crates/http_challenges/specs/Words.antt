@@ -1,0 +1,104 @@
+-- Lists of challenges as sets of texts (RFC 9110, sections 5.6 and 11).
+use Rattle.std.specs.Prelude.{◌≡◌, ◌≢◌, ◌==◌, ◌⊎◌, ◌&&◌, ℕ, List, [], ◌∷◌, ◌++◌, Bool, false, not, IsTrue, Option, Some, None}
+use Rattle.std.specs.List.{list_all}
+use Rattle.std.specs.Option.{option_to_list}
+use Rattle.http_challenges.specs.declared.challenge.Challenge.{Challenge}
+use Rattle.http_challenges.specs.Grammar.{is_blank_byte, is_token_byte, past_blanks}
+
+-- white space, or nothing
+abbrev pub Blanks : List ℕ → Type 0
+Blanks text = IsTrue (list_all is_blank_byte text)
+
+-- one or more letters, digits and marks
+abbrev pub Token : List ℕ → Type 0
+Token text = (text ≢ []) × IsTrue (list_all is_token_byte text)
+
+-- neither a quote nor a backslash
+abbrev pub is_plain_byte : ℕ → Bool
+is_plain_byte b = not (b == 34) && not (b == 92)
+
+-- what stands between two quotes, and what it says: `\` makes the next byte literal
+pub data Says : List ℕ → List ℕ → Type 0 where
+  nothing : Says [] []
+  plain : (b : ℕ) (text content : List ℕ) → IsTrue (is_plain_byte b) → Says text content → Says (b ∷ text) (b ∷ content)
+  literal : (b : ℕ) (text content : List ℕ) → Says text content → Says (92 ∷ b ∷ text) (b ∷ content)
+
+-- a quoted string, and what it says
+pub record Quoted (text content : List ℕ) : Type 0 where
+  pub inner : List ℕ
+  pub is : text ≡ 34 ∷ (inner ++ 34 ∷ [])
+  pub says : Says inner content
+
+-- the value of a parameter: a token, or what a quoted string says
+abbrev pub Value : List ℕ → List ℕ → Type 0
+Value text value = (Token text × (value ≡ text)) ⊎ Quoted text value
+
+-- a parameter: a name, white space, `=` and a value
+pub record IsParameter (text : List ℕ) (parameter : List ℕ × List ℕ) : Type 0 where
+  pub gap : List ℕ
+  pub written : List ℕ
+  pub is : text ≡ parameter.0 ++ (gap ++ 61 ∷ written)
+  pub name : Token parameter.0
+  pub blanks : Blanks gap
+  pub value : Value written parameter.1
+
+-- a parameter in white space
+pub record AddsParameter (text : List ℕ) (parameter : List ℕ × List ℕ) : Type 0 where
+  pub front : List ℕ
+  pub word : List ℕ
+  pub back : List ℕ
+  pub is : text ≡ front ++ (word ++ back)
+  pub before : Blanks front
+  pub parameter_is : IsParameter word parameter
+  pub behind : Blanks back
+
+-- no parameter, or one behind white space
+abbrev pub FirstParameter : List ℕ → List (List ℕ × List ℕ) → Type 0
+FirstParameter text params = (Blanks text × (params ≡ [])) ⊎ ((b : ℕ) × (rest : List ℕ) × (parameter : List ℕ × List ℕ) × (text ≡ b ∷ rest) × IsTrue (is_blank_byte b) × AddsParameter rest parameter × (params ≡ parameter ∷ []))
+
+-- a scheme in white space, with its first parameter where it has one
+pub record BeginsChallenge (text : List ℕ) (challenge : Challenge) : Type 0 where
+  pub front : List ℕ
+  pub rest : List ℕ
+  pub is : text ≡ front ++ (challenge.scheme ++ rest)
+  pub before : Blanks front
+  pub scheme : Token challenge.scheme
+  pub params : FirstParameter rest challenge.params
+
+-- the first byte, where there is one, passes
+abbrev pub begins : (ℕ → Bool) → List ℕ → Bool
+begins p [] = false
+begins p (b ∷ text) = p b
+
+-- a scheme begins the text: a whole token, that is not followed, behind white space, by `=`
+pub record BeginsScheme (text : List ℕ) : Type 0 where
+  pub front : List ℕ
+  pub scheme : List ℕ
+  pub rest : List ℕ
+  pub is : text ≡ front ++ (scheme ++ rest)
+  pub before : Blanks front
+  pub token : Token scheme
+  pub ends : begins is_token_byte rest ≡ false
+  pub no_value : begins (λ b. b == 61) (past_blanks rest) ≡ false
+
+-- a comma with this text behind it, or nothing
+abbrev pub behind_comma : Option (List ℕ) → List ℕ
+behind_comma None = []
+behind_comma (Some text) = 44 ∷ text
+
+-- this parameter behind the others
+abbrev pub with_parameter : Challenge → List ℕ × List ℕ → Challenge
+with_parameter challenge parameter = record challenge { params = challenge.params ++ parameter ∷ [] }
+
+-- These challenges stand whole in a list, of which the first may have begun before this text: the elements of the list stand between commas, each is empty, adds a parameter, or begins a challenge, and a challenge is whole where the next one begins or the text ends.
+pub data Whole : Option Challenge → Option (List ℕ) → List Challenge → Type 0 where
+  at_end : (last : Option Challenge) → Whole last None (option_to_list last)
+  at_scheme : (last : Option Challenge) (text : List ℕ) → BeginsScheme text → Whole last (Some text) (option_to_list last)
+  empty : (last : Option Challenge) (part : List ℕ) (tail : Option (List ℕ)) (found : List Challenge) → Blanks part → Whole last tail found → Whole last (Some (part ++ behind_comma tail)) found
+  adds : (challenge : Challenge) (parameter : List ℕ × List ℕ) (part : List ℕ) (tail : Option (List ℕ)) (found : List Challenge) → AddsParameter part parameter → Whole (Some (with_parameter challenge parameter)) tail found → Whole (Some challenge) (Some (part ++ behind_comma tail)) found
+  next : (last : Option Challenge) (challenge : Challenge) (part : List ℕ) (tail : Option (List ℕ)) (found : List Challenge) → BeginsChallenge part challenge → Whole (Some challenge) tail found → Whole last (Some (part ++ behind_comma tail)) (option_to_list last ++ found)
+
+-- the challenges of a text: they stand whole in it, and are as many as may be, so that no other stands whole before the first place that does not read
+pub record AreChallenges (text : List ℕ) (found : List Challenge) : Type 0 where
+  pub whole : (found ≡ []) ⊎ Whole None (Some text) found
+  pub most : (others : List Challenge) → Whole None (Some text) others → (more : List Challenge) × (found ≡ others ++ more)
