@@ -1,6 +1,8 @@
 -- What a request carries (OCI distribution specification, "Pull").
 use Rattle.std.specs.Prelude.{ℕ, flat_map, List, [], ◌∷◌, ◌++◌, Option, Some, None, Result, Ok, Err, codes, nat_lt, ◌&&◌, if◌then◌else◌}
 use Rattle.url.specs.Parts.{Parts, serialize}
+use Rattle.oci_auth.specs.Credentials.{authorization_of}
+use Rattle.oci_auth.specs.declared.token_type.RegistryTokenType.{RegistryTokenType}
 use Rattle.oci_transport.specs.Headers.{Fields, added, held, is_header_value}
 use Rattle.std.specs.FinMap as map
 use Rattle.oci_transport.specs.declared.message.Request.{Request}
@@ -31,13 +33,18 @@ abbrev pub with_accept : Option (List ℕ) → Fields → Result Fields OciDistr
 with_accept None headers = Ok headers
 with_accept (Some types) headers = with_header headers (codes "accept") types
 
--- every request names the client, and one for a document or a blob the types that are accepted
-abbrev pub headers_of : Settings → Option (List ℕ) → Result Fields OciDistributionError
-headers_of s types = with_header map.empty (codes "user-agent") s.user_agent >>= with_accept types
+abbrev pub with_token : Option RegistryTokenType → Fields → Result Fields OciDistributionError
+with_token None headers = Ok headers
+with_token (Some token) headers = with_header headers (codes "authorization") (authorization_of token)
+
+-- Every request names the client, and one for a document or a blob the types that are accepted. A
+-- token is shown where there is one.
+abbrev pub headers_of : Settings → Option (List ℕ) → Option RegistryTokenType → Result Fields OciDistributionError
+headers_of s types token = with_header map.empty (codes "user-agent") s.user_agent >>= with_accept types >>= with_token token
 
 abbrev pub bare_request : Method → Parts → Fields → Request
 bare_request method url headers = record { method = method; url = serialize url; headers = headers; body = [] }
 
 -- a request without a body
-unfoldable pub request_of : Settings → Method → Parts → Option (List ℕ) → Result Request OciDistributionError
-request_of s method url types = headers_of s types >>= λ headers. Ok (bare_request method url headers)
+unfoldable pub request_of : Settings → Method → Parts → Option (List ℕ) → Option RegistryTokenType → Result Request OciDistributionError
+request_of s method url types token = headers_of s types token >>= λ headers. Ok (bare_request method url headers)

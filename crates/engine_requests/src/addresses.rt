@@ -82,8 +82,8 @@ fn blob_text(
     Ok(text)
 }
 
-// The URL of a text.
-fn read_url(alloc: Global, text: Text) -> Result<Url, OciDistributionError>
+/// The URL of a text, which is refused where it is none.
+pub fn read_url(alloc: Global, text: Text) -> Result<Url, OciDistributionError>
     ensures { Says result (url_read text) }
 {
     match request_url(alloc, text.as_str()) {

@@ -12,7 +12,7 @@ use std::fmt::{self, Display, Formatter};
 /// What a request could not be made of.
 #[derive(Clone, Copy, Debug, PartialEq, Eq)]
 pub enum GenericCause {
-    /// A value that cannot stand in a header: the user agent or an accepted type.
+    /// A value that cannot stand in a header: the user agent, an accepted type or a token.
     HeaderText,
 }
 
@@ -29,6 +29,8 @@ pub enum SpecViolation {
 pub enum OciDistributionError {
     /// A document that reads both as a manifest and as an index.
     AmbiguousManifest(Blob),
+    /// The realm answered with another status than 200, and with this body.
+    AuthenticationFailure(Blob),
     /// A body with more bytes than the settings allow.
     BodyTooLong,
     /// A digest in a header, a reference or a descriptor that is none, or that does not name the body.
@@ -44,6 +46,8 @@ pub enum OciDistributionError {
     PullNoLayersError,
     /// A status from 400 to 499 other than 401, with the registry's own list of errors.
     RegistryError { envelope: OciEnvelope, url: Text },
+    /// A body in which the realm names no token.
+    RegistryTokenDecodeError(Blob),
     /// A status of an error without such a list.
     ServerError { code: u16, url: Text, message: Blob },
     /// The sink failed: the count of its faults rose.
@@ -74,6 +78,7 @@ impl OciDistributionError {
     pub fn name(&self) -> &'static str {
         match self {
             OciDistributionError::AmbiguousManifest(_) => "AmbiguousManifest",
+            OciDistributionError::AuthenticationFailure(_) => "AuthenticationFailure",
             OciDistributionError::BodyTooLong => "BodyTooLong",
             OciDistributionError::DigestError(_) => "DigestError",
             OciDistributionError::GenericError(_) => "GenericError",
@@ -86,6 +91,7 @@ impl OciDistributionError {
             OciDistributionError::ManifestParsingError(_) => "ManifestParsingError",
             OciDistributionError::PullNoLayersError => "PullNoLayersError",
             OciDistributionError::RegistryError { .. } => "RegistryError",
+            OciDistributionError::RegistryTokenDecodeError(_) => "RegistryTokenDecodeError",
             OciDistributionError::ServerError { .. } => "ServerError",
             OciDistributionError::SinkFault => "SinkFault",
             OciDistributionError::SpecViolationError(_) => "SpecViolationError",

@@ -8,11 +8,13 @@ mod documents;
 mod error;
 mod requests;
 mod settings;
+mod tokens;
 
-pub use addresses::{base_url, blob_url, manifest_url, registry_address};
+pub use addresses::{base_url, blob_url, manifest_url, read_url, registry_address};
 pub use answers::{Got, accepted, document_in, fits_reference, header_digest, refused_answer};
 pub use blobs::{Expected, Plan, both_compared, digesters, plan_of};
 pub use documents::read_document;
 pub use error::{GenericCause, OciDistributionError, SpecViolation};
 pub use requests::{MANIFEST_TYPES, listed, request_of};
 pub use settings::{ClientProtocol, Settings};
+pub use tokens::{Wanted, read_challenge, realm_request, token_read};

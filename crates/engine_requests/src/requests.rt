@@ -2,10 +2,11 @@
 ghost use Rattle.std.specs.Prelude.{◌≡◌, ◌++◌, flat_map, IfOk, OnOk, IsTrue, option_copied, Ok};
 ghost use Rattle.http_header.specs.FieldName.{is_header_name};
 ghost use Rattle.engine_requests.specs.Errors.{Says};
-ghost use Rattle.engine_requests.specs.Requests.{behind, listed, with_header, with_accept, headers_of, request_of};
+ghost use Rattle.engine_requests.specs.Requests.{behind, listed, with_header, with_accept, with_token, headers_of, request_of};
 
 use crate::{GenericCause, OciDistributionError, Settings};
 use json_values::{Blob, Copied, Text};
+use oci_auth::RegistryTokenType;
 use oci_transport::{HeaderError, Headers, Method, Request};
 use std::alloc::{AllocError, Global};
 use url::Url;
@@ -68,12 +69,30 @@ fn with_accept(headers: Headers, types: Option<&str>) -> Result<Headers, OciDist
     }
 }
 
+fn with_token(
+    alloc: Global,
+    headers: Headers,
+    token: &Option<RegistryTokenType>,
+) -> Result<Headers, OciDistributionError>
+    ensures { Says result (with_token token.now headers) }
+{
+    match token {
+        Some(token) => {
+            let value = token.authorization(alloc)?;
+            let headers = with_header(headers, "authorization", value.as_str())?;
+            Ok(headers)
+        }
+        None => Ok(headers),
+    }
+}
+
 fn headers_of(
     alloc: Global,
     settings: &Settings,
     types: Option<&str>,
+    token: &Option<RegistryTokenType>,
 ) -> Result<Headers, OciDistributionError>
-    ensures { Says result (headers_of settings.now (option_copied types.entry)) }
+    ensures { Says result (headers_of settings.now (option_copied types.entry) token.now) }
 {
     let headers = with_header(
         Headers::new(alloc),
@@ -81,10 +100,11 @@ fn headers_of(
         settings.user_agent.as_str(),
     )?;
     let headers = with_accept(headers, types)?;
+    let headers = with_token(alloc, headers, token)?;
     Ok(headers)
 }
 
-/// A request without a body, for these media types where some are given.
+/// A request without a body, for these media types where some are given, with this token where there is one.
 #[tactic(auto, unfolding(crate::specs::Requests::request_of))]
 pub fn request_of(
     alloc: Global,
@@ -92,10 +112,11 @@ pub fn request_of(
     method: Method,
     url: &Url,
     types: Option<&str>,
+    token: &Option<RegistryTokenType>,
 ) -> Result<Request, OciDistributionError>
-    ensures { Says result (request_of settings.now method url.now (option_copied types.entry)) }
+    ensures { Says result (request_of settings.now method url.now (option_copied types.entry) token.now) }
 {
-    let headers = headers_of(alloc, settings, types)?;
+    let headers = headers_of(alloc, settings, types, token)?;
     let url = Text::new(alloc, url.as_str())?;
     Ok(Request {
         method,

@@ -1,5 +1,5 @@
 -- The exits of a function, as steps of its row.
-use Rattle.std.proofs.Common.{◌≡◌, Result, Ok, Err, Option, Some, None, refl, Bool, true, false}
+use Rattle.std.proofs.Common.{◌≡◌, ℕ, List, Result, Ok, Err, Option, Some, None, refl, Bool, true, false}
 use Rattle.std.specs.Prelude.{MatchBool}
 use Rattle.std.specs.Result.{IsErrAnd}
 use Rattle.std.proofs.lemmas.Result.{err_from_is_err_and}
@@ -11,11 +11,15 @@ use Rattle.engine_requests.specs.declared.error.OciDistributionError.{OciDistrib
 use Rattle.engine_requests.specs.declared.error.OciDistributionError.TheVariants as refusal
 use Rattle.oci_auth.specs.declared.memory.Memory.{Memory}
 use Rattle.engine_requests.specs.Errors.{is_memory, Says}
-use Rattle.engine_steps.specs.Rows.{Row, recalled as recall, keep, passed_over, store}
+use Rattle.engine_steps.specs.Rows.{Row, recalled as recall, keep, passed_over, store, with_kept, taken, shown_text, kept_text}
 use Rattle.oci_auth.specs.declared.auth.RegistryAuth.{RegistryAuth}
 use Rattle.oci_names.specs.declared.reference.Reference.{Reference}
 use Rattle.oci_names.specs.References.{resolved_registry}
 use Rattle.oci_auth.specs.Memory.{stored}
+use Rattle.oci_auth.specs.Caches.{with_token}
+use Rattle.oci_auth.specs.Keys.{Key}
+use Rattle.oci_auth.specs.declared.cache.TokenCache.{TokenCache}
+use Rattle.oci_auth.specs.declared.token_type.RegistryTokenType.{RegistryTokenType}
 
 -- a step that was refused, at the exit of a `?`
 pub refused : {A B : Type 0} {p : Row A} (f : A → Row B) {old new : Link} {k l : Memory} {e : OciDistributionError} {r : Result B OciDistributionError}
@@ -75,14 +79,25 @@ pub changes : {A : Type 0} (f : Memory → Memory) (a : A) (link : Link) (k : Me
 changes f a link k = Meets-recall (λ k. Keep (f k) (Done (Ok a))) (Meets-keep (f k) (Done (Ok a)) (Meets-ok is_memory link (f k) a))
 
 -- a refusal for another cause than memory is passed over
-pub passed : (e : OciDistributionError) (link : Link) (k : Memory) → is_memory e ≡ false → Meets is_memory (Done (passed_over (Err e))) link link k k (Ok tt)
+pub passed : (e : OciDistributionError) (link : Link) (k : Memory) → is_memory e ≡ false → Meets is_memory (Done (passed_over e)) link link k k (Ok None)
 passed refusal.WantOfMemory link k h = absurd (cc h)
 passed e link k h = by_cause e h where
-  by_cause : (e : OciDistributionError) → is_memory e ≡ false → Meets is_memory (Done (passed_over (Err e))) link link k k (Ok tt)
+  by_cause : (e : OciDistributionError) → is_memory e ≡ false → Meets is_memory (Done (passed_over e)) link link k k (Ok None)
   by_cause refusal.WantOfMemory h = absurd (cc h)
   by_cause _ h = done
+
+-- a token is kept and used
+pub keeps_token : (moment : ℕ) (key : Key) (token : RegistryTokenType) (link : Link) (k : Memory) {tokens : TokenCache} → tokens ≡ with_token k.tokens key token moment → Meets is_memory (taken moment key (Ok (Some token))) link link k (record k { tokens = tokens }) (Ok (Some token))
+keeps_token moment key token link k is = rw is (changes (λ k. with_kept k key token moment) (Some token) link k)
+
+-- a token is kept, and its text answered
+pub keeps_text : (moment : ℕ) (key : Key) (token : RegistryTokenType) (link : Link) (k : Memory) {tokens : TokenCache} → tokens ≡ with_token k.tokens key token moment → Meets is_memory (kept_text moment key (Some token)) link link k (record k { tokens = tokens }) (Ok (shown_text token))
+keeps_text moment key token link k is = rw is (recalled (λ k. keep (with_kept k key token moment) >>= (λ _. Done (Ok (shown_text token)))) (and_then (λ _. Done (Ok (shown_text token))) keeps done))
 
 -- credentials are stored
 pub stores : (image : Reference) (a : RegistryAuth) (link : Link) (k : Memory) → Meets is_memory (store image a) link link k (stored k (resolved_registry image) a) (Ok tt)
 unfolding store
 stores image a link k = recalled (λ k. keep (stored k (resolved_registry image) a)) keeps
+
+pub stores_as : (image : Reference) (a : RegistryAuth) (link : Link) (k l : Memory) {registry : List ℕ} → l ≡ stored k registry a → registry ≡ resolved_registry image → Meets is_memory (store image a) link link k l (Ok tt)
+stores_as image a link k l is registry_is = rw (is, registry_is) (stores image a link k)

@@ -14,6 +14,15 @@ use Rattle.oci_names.specs.References.{resolved_registry}
 use Rattle.oci_auth.specs.declared.auth.RegistryAuth.{RegistryAuth}
 use Rattle.oci_auth.specs.declared.memory.Memory.{Memory}
 use Rattle.oci_auth.specs.Memory.{stored}
+use Rattle.oci_auth.specs.Caches.{key_of, token_at, with_token}
+use Rattle.oci_auth.specs.Credentials.{own_token}
+use Rattle.oci_auth.specs.Keys.{Key}
+use Rattle.oci_auth.specs.Tokens.{token_text}
+use Rattle.oci_auth.specs.declared.auth.RegistryAuth.TheVariants as auth
+use Rattle.oci_auth.specs.declared.token_type.RegistryOperation.{RegistryOperation}
+use Rattle.oci_auth.specs.declared.token_type.RegistryTokenType.{RegistryTokenType}
+use Rattle.oci_auth.specs.declared.token_type.RegistryTokenType.TheVariants as token
+use Rattle.http_challenges.specs.declared.bearer.BearerChallenge.{BearerChallenge}
 use Rattle.oci_protocol.specs.Proto.{Reading, Unread, Within, Reply, Headed, Answered, Failed, TooLong, SinkFailed, read_within, read_none, Proto, Done, Recall, Keep, bind, ◌>>=◌, ◌>>◌}
 use Rattle.oci_protocol.specs.Follow.{follow}
 use Rattle.oci_protocol.specs.Runs.{Meets, head_part}
@@ -23,7 +32,11 @@ use Rattle.engine_requests.specs.declared.error.OciDistributionError.{OciDistrib
 use Rattle.engine_requests.specs.declared.error.OciDistributionError.TheVariants as refusal
 use Rattle.engine_requests.specs.Errors.{is_memory}
 use Rattle.engine_requests.specs.Addresses.{registry_text, base_text, url_read}
+use Rattle.engine_requests.specs.Contexts.{Context}
 use Rattle.engine_requests.specs.Requests.{request_of}
+use Rattle.engine_requests.specs.Tokens.{wanted, realm_request, token_read}
+use Rattle.engine_requests.specs.declared.tokens.Wanted.{Wanted}
+use Rattle.engine_requests.specs.declared.tokens.Wanted.TheVariants as wants
 use Rattle.engine_requests.specs.Answers.{header_digest}
 use Rattle.engine_steps.specs.declared.asking.Named.{Named}
 use Rattle.engine_steps.specs.declared.asking.Named.TheVariants.{ByHeader, Unnamed}
@@ -99,49 +112,101 @@ store image a = do
 
 -- ---- tokens
 
--- The token step asks the registry's `/v2/`, without credentials. The answer is not looked at:
--- challenges come with the credentials that answer them.
-unfoldable pub token_step : Settings → Reference → Row Unit
-token_step s image = do
+-- the realm of a challenge is asked for a token
+unfoldable pub realm_asked : Settings → Reference → RegistryAuth → RegistryOperation → BearerChallenge → Row (Option RegistryTokenType)
+realm_asked s image a op challenge = do
+  url ← Done (url_read challenge.realm)
+  request ← Done (realm_request s image a op challenge.service url)
+  got ← whole 0 request s.max_body_bytes
+  Done (token_read got.answer)
+
+-- what the registry asks for is got
+abbrev pub fetched : Settings → Reference → RegistryAuth → RegistryOperation → Wanted → Row (Option RegistryTokenType)
+fetched s image a op wants.Nothing = Done (Ok None)
+fetched s image a op wants.Credentials = Done (Ok (own_token a))
+fetched s image a op (wants.Token challenge) = realm_asked s image a op challenge
+
+-- the registry's `/v2/` is asked, without credentials; the status and the body are not looked at
+unfoldable pub registry_asked : Settings → Reference → RegistryAuth → RegistryOperation → Row (Option RegistryTokenType)
+registry_asked s image a op = do
   url ← Done (url_read (base_text s image))
-  request ← Done (request_of s Get url None)
-  head_after 0 request
-  Done (Ok tt)
+  request ← Done (request_of s Get url None None)
+  head ← head_after 0 request
+  fetched s image a op (wanted head)
 
--- its refusals are passed over
-abbrev pub passed_over : Result Unit OciDistributionError → Result Unit OciDistributionError
-passed_over (Err refusal.WantOfMemory) = Err refusal.WantOfMemory
-passed_over _ = Ok tt
+-- the token step: a token that was handed in needs no request
+abbrev pub token_step : Settings → Reference → RegistryAuth → RegistryOperation → Row (Option RegistryTokenType)
+token_step s image (auth.Bearer token) op = Done (Ok (own_token (auth.Bearer token)))
+token_step s image (auth.Basic user password) op = registry_asked s image (auth.Basic user password) op
+token_step s image auth.Anonymous op = registry_asked s image auth.Anonymous op
 
-unfoldable pub token_asked : Settings → Reference → Row Unit
-token_asked s image = bind (token_step s image) (λ r. Done (passed_over r))
+-- what is kept once this token was got
+abbrev pub with_kept : Memory → Key → RegistryTokenType → ℕ → Memory
+with_kept k key token moment = record k { tokens = with_token k.tokens key token moment }
 
-abbrev pub token_by : Settings → Reference → Option RegistryAuth → Row Unit
-token_by s image None = Done (Ok tt)
-token_by s image (Some a) = token_asked s image
+-- a refusal other than want of memory gives no token
+abbrev pub passed_over : OciDistributionError → Result (Option RegistryTokenType) OciDistributionError
+passed_over refusal.WantOfMemory = Err refusal.WantOfMemory
+passed_over _ = Ok None
+
+-- a token that was got is kept and used
+abbrev pub taken : ℕ → Key → Result (Option RegistryTokenType) OciDistributionError → Row (Option RegistryTokenType)
+taken moment key (Ok None) = Done (Ok None)
+taken moment key (Ok (Some token)) = Recall (λ k. Keep (with_kept k key token moment) (Done (Ok (Some token))))
+taken moment key (Err e) = Done (passed_over e)
+
+unfoldable pub token_asked : Context → Reference → RegistryOperation → RegistryAuth → Row (Option RegistryTokenType)
+token_asked s image op a = bind (token_step s.settings image a op) (taken s.moment (key_of image op))
+
+-- the kept token, or else one that is asked for
+abbrev pub kept_or_asked : Context → Reference → RegistryOperation → RegistryAuth → Option RegistryTokenType → Row (Option RegistryTokenType)
+kept_or_asked s image op a (Some token) = Done (Ok (Some token))
+kept_or_asked s image op a None = token_asked s image op a
+
+abbrev pub token_by : Context → Reference → RegistryOperation → Option RegistryAuth → Option RegistryTokenType → Row (Option RegistryTokenType)
+token_by s image op None kept = Done (Ok None)
+token_by s image op (Some a) kept = kept_or_asked s image op a kept
 
 -- only where credentials are stored for the registry
-unfoldable pub token_for : Settings → Reference → Row Unit
-token_for s image = do
+unfoldable pub token_for : Context → Reference → RegistryOperation → Row (Option RegistryTokenType)
+token_for s image op = do
   k ← recalled
-  token_by s image (map.get k.credentials (resolved_registry image))
+  token_by s image op (map.get k.credentials (resolved_registry image)) (token_at k.tokens (key_of image op) s.moment)
 
 abbrev pub goes_to : Option Parts → Parts → Bool
 goes_to None registry = false
 goes_to (Some url) registry = targets url registry
 
-abbrev pub token_where : Settings → Reference → Bool → Row Unit
-token_where s image false = Done (Ok tt)
-token_where s image true = token_for s image
+abbrev pub token_where : Context → Reference → RegistryOperation → Bool → Row (Option RegistryTokenType)
+token_where s image op false = Done (Ok None)
+token_where s image op true = token_for s image op
 
--- before a request that goes to the registry, and before no other
-unfoldable pub authorized : Settings → Reference → Parts → Row Unit
-authorized s image url = do
-  registry ← Done (url_read (registry_text s image))
-  token_where s image (goes_to (request_url (serialize url)) registry)
+-- the token of a request, which goes to the registry and to no other
+unfoldable pub authorized : Context → Reference → RegistryOperation → Parts → Row (Option RegistryTokenType)
+authorized s image op url = do
+  registry ← Done (url_read (registry_text s.settings image))
+  token_where s image op (goes_to (request_url (serialize url)) registry)
 
--- the request for this URL, after its token step
-unfoldable pub prepared : Settings → Reference → Method → Parts → List ℕ → Row Request
-prepared s image method url types = do
-  authorized s image url
-  Done (request_of s method url (Some types))
+-- the request for this URL, with its token
+unfoldable pub prepared : Context → Reference → RegistryOperation → Method → Parts → List ℕ → Row Request
+prepared s image op method url types = do
+  token ← authorized s image op url
+  Done (request_of s.settings method url (Some types) token)
+
+-- the token of credentials that are handed in, which is kept; its text is answered where it is a realm's
+abbrev pub shown_text : RegistryTokenType → Option (List ℕ)
+shown_text (token.Bearer given) = Some (token_text given)
+shown_text (token.Basic user password) = None
+
+abbrev pub kept_text : ℕ → Key → Option RegistryTokenType → Row (Option (List ℕ))
+kept_text moment key None = Done (Ok None)
+kept_text moment key (Some given) = do
+  k ← recalled
+  keep (with_kept k key given moment)
+  Done (Ok (shown_text given))
+
+unfoldable pub token_given : Context → Reference → RegistryAuth → RegistryOperation → Row (Option (List ℕ))
+token_given s image a op = do
+  store image a
+  given ← token_step s.settings image a op
+  kept_text s.moment (key_of image op) given

@@ -3,8 +3,10 @@
 
 mod asking;
 mod blobs;
+mod given;
 mod tokens;
 
 pub use asking::{Named, named_after, whole};
 pub use blobs::attempt;
+pub use given::token_given;
 pub use tokens::prepared;

@@ -1,4 +1,5 @@
 pub mod Caches
+pub mod Credentials
 pub mod Expirations
 pub mod Keys
 pub mod Memory

@@ -53,6 +53,11 @@ impl TokenCache {
         }
     }
 
+    /// The allocator that the tokens are kept by.
+    pub fn alloc(&self) -> Global {
+        self.tokens.alloc()
+    }
+
     /// Keeps a token that was got at this moment, in seconds since 1970, in the place of the one that is kept for the same
     /// registry, repository and operation. Where its expiration is none nothing changes.
     pub fn insert(

@@ -1,25 +1,27 @@
 // What a client keeps between its calls.
 ghost use Rattle.std.specs.Prelude.{◌≡◌, OnOk, OnErr};
-ghost use Rattle.std.specs.FinMap as map;
-ghost use Rattle.oci_auth.specs.Memory.{stored};
+ghost use Rattle.oci_auth.specs.Memory.{fresh, stored};
 
 use crate::auth::RegistryAuth;
+use crate::cache::TokenCache;
 use json_values::{Copied, Text, TextMap};
 use std::alloc::{AllocError, Global};
 
-/// Stored credentials, by registry.
+/// Stored credentials, by registry, and the tokens that were got.
 #[derive(Drop)]
 pub struct Memory {
     pub credentials: TextMap<RegistryAuth>,
+    pub tokens: TokenCache,
 }
 
 impl Memory {
-    /// Nothing is kept.
-    pub fn new(alloc: Global) -> Memory
-        ensures { result ≡ record { credentials = map.empty } }
+    /// Nothing is kept. A token that does not say when it expires will be kept for so many seconds.
+    pub fn new(alloc: Global, default_expiration_secs: u64) -> Memory
+        ensures { result ≡ fresh default_expiration_secs }
     {
         Memory {
             credentials: TextMap::new(alloc),
+            tokens: TokenCache::new(alloc, default_expiration_secs),
         }
     }
 }

@@ -170,16 +170,41 @@ fn a_push_comes_before_a_pull(rt: HostRuntime) -> Result<(), Fail> {
 
 #[test]
 fn credentials_are_stored_once(rt: HostRuntime) -> Result<(), Fail> {
-    let mut memory = Memory::new(rt.alloc());
-    for _ in 0..2 {
-        store(
-            rt.alloc(),
-            &mut memory,
-            "r.example",
-            &RegistryAuth::Anonymous,
-        )?;
-        let stored = memory.credentials.get("r.example").copied();
-        assert_eq!(rt; stored, Some(RegistryAuth::Anonymous));
+    let alloc = rt.alloc();
+    let mut memory = Memory::new(alloc, 60);
+    let auth = RegistryAuth::Bearer(Text::new(alloc, "t1")?);
+    store(alloc, &mut memory, "r.example", &auth)?;
+    store(alloc, &mut memory, "r.example", &RegistryAuth::Anonymous)?;
+    let stored = memory.credentials.get("r.example");
+    assert!(rt; stored.is_some_and(|stored| *stored == auth));
+    Ok(())
+}
+
+#[test]
+fn credentials_are_shown_so(rt: HostRuntime) -> Result<(), Fail> {
+    let alloc = rt.alloc();
+    let basic = RegistryAuth::Basic(Text::new(alloc, "user")?, Text::new(alloc, "secret")?);
+    let bearer = RegistryAuth::Bearer(Text::new(alloc, "t1")?);
+    for (auth, header, shown) in [
+        (RegistryAuth::Anonymous, None, "Anonymous"),
+        (
+            basic,
+            Some("Basic dXNlcjpzZWNyZXQ="),
+            "Basic(\"user\", \"<redacted>\")",
+        ),
+        (bearer, Some("Bearer t1"), "Bearer(\"<redacted>\")"),
+    ] {
+        let debug = format!(in alloc; "{:?}", auth.copy(alloc)?)?;
+        assert_eq!(rt; debug.as_str(), shown);
+        let value = match auth.own_token(alloc)? {
+            Some(token) => Some(token.authorization(alloc)?),
+            None => None,
+        };
+        assert_eq!(rt;
+            value.as_ref().map(|text| text.as_str()),
+            header,
+            "at {shown}"
+        );
     }
     Ok(())
 }

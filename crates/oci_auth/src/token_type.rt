@@ -1,7 +1,10 @@
 // What a client keeps for a registry, and what it is kept for.
-ghost use Rattle.std.specs.Prelude.{◌≡◌, ◌↔◌, IsTrue};
+ghost use Rattle.std.specs.Prelude.{◌≡◌, ◌↔◌, ◌++◌, IfOk, IsTrue, codes};
+ghost use Rattle.base64.specs.Engines.{standard};
+ghost use Rattle.base64.specs.GeneralPurpose.{encode_of};
 
 use crate::token::RegistryToken;
+use base64::engine::general_purpose::STANDARD;
 use json_values::{Copied, Text, copies2};
 use std::alloc::{AllocError, Global};
 use std::cmp::Ordering;
@@ -33,6 +36,39 @@ impl RegistryOperation {
             RegistryOperation::Pull => 1,
         }
     }
+}
+
+impl RegistryTokenType {
+    ghost use Rattle.oci_auth.specs.Credentials.{authorization_of};
+
+    /// The value of the header `authorization`: `Bearer` and the token (RFC 6750, 2.1), or `Basic` and base64 of the user
+    /// name, a colon and the password (RFC 7617, 2).
+    pub fn authorization(&self, alloc: Global) -> Result<Text, AllocError>
+        ensures { IfOk result (λ value. value ≡ authorization_of self.now) }
+    {
+        match self {
+            RegistryTokenType::Bearer(token) => {
+                let value = token.bearer_token(alloc)?;
+                Ok(value)
+            }
+            RegistryTokenType::Basic(user, password) => {
+                let value = basic_value(alloc, user.as_str(), password.as_str())?;
+                Ok(value)
+            }
+        }
+    }
+}
+
+fn basic_value(alloc: Global, user: &str, password: &str) -> Result<Text, AllocError>
+    ensures { IfOk result (λ value. value ≡ codes "Basic " ++ encode_of standard (user.now ++ codes ":" ++ password.now)) }
+{
+    let mut both = Text::new(alloc, user)?;
+    both.push_str(":")?;
+    both.push_str(password)?;
+    let coded = STANDARD.encode(alloc, both.as_str().as_bytes())?;
+    let mut value = Text::new(alloc, "Basic ")?;
+    value.push_str(coded.as_str())?;
+    Ok(value)
 }
 
 impl Copied for RegistryTokenType {

@@ -15,10 +15,10 @@ pub returns-then-not-goes : goal.returns-then-not-goes
 unfolding authorized
 returns-then-not-goes g c = and_then _ (said _ c.in_ok-registry.ensures) (rw (sym c.in_ok-goes.ensures ∙ c.if-not-goes.true) done)
 
-pub returns-in_err-token_for : goal.returns-in_err-token_for
+pub returns-in_err-token : goal.returns-in_err-token
 unfolding authorized
-returns-in_err-token_for g c = and_then _ (said _ c.in_ok-registry.ensures) (rw (sym c.in_ok-goes.ensures ∙ c.if-not-goes.false) (passed_on c.in_err-token_for.ensures c.from_residual-in_err-token_for.ensures.1))
+returns-in_err-token g c = and_then _ (said _ c.in_ok-registry.ensures) (rw (sym c.in_ok-goes.ensures ∙ c.if-not-goes.false) (passed_on c.in_err-token.ensures c.from_residual-in_err-token.ensures.1))
 
 pub returns : goal.returns
 unfolding authorized
-returns g c = and_then _ (said _ c.in_ok-registry.ensures) (rw (sym c.in_ok-goes.ensures ∙ c.if-not-goes.false) c.in_ok-token_for.ensures)
+returns g c = and_then _ (said _ c.in_ok-registry.ensures) (rw (sym c.in_ok-goes.ensures ∙ c.if-not-goes.false) c.in_ok-token.ensures)

@@ -1,16 +1,28 @@
 use Rattle.std.proofs.Common.{sym, ◌∙◌}
-use Rattle.engine_steps.proofs.Exits.{done, caught, caught_refusal, caught_memory, passed}
+use Rattle.engine_steps.proofs.Exits.{wanting, done, caught, caught_refusal, caught_memory, keeps_token, passed}
 use Rattle.engine_steps.specs.Rows.{token_asked}
 use Rattle.engine_steps.proofs.tokens.token_asked.Goals as goal
 
-pub returns-in-Ok : goal.returns-in-Ok
+pub returns-in_err-kept-in-Ok-Some : goal.returns-in_err-kept-in-Ok-Some
 unfolding token_asked
-returns-in-Ok g c = λ k. caught _ (c.in-Ok.ensures k) done
+returns-in_err-kept-in-Ok-Some g c = caught _ (c.in-Ok-Some.ensures c.args.memory.now) (wanting c.from_residual.ensures.1)
+
+pub returns-in_err-insert-in-Ok-Some : goal.returns-in_err-insert-in-Ok-Some
+unfolding token_asked
+returns-in_err-insert-in-Ok-Some g c = caught _ (c.in-Ok-Some.ensures c.args.memory.now) (rw c.in_err-insert-in-Ok-Some.ensures.err (wanting c.from_residual-in_err-insert-in-Ok-Some.ensures.1))
+
+pub returns-in_ok-insert-in-Ok-Some : goal.returns-in_ok-insert-in-Ok-Some
+unfolding token_asked
+returns-in_ok-insert-in-Ok-Some g c = caught _ (rw c.in-Ok-Some.field-0-is at (c.in-Ok-Some.ensures c.args.memory.now)) (keeps_token _ _ _ _ _ (rw c.in_ok-kept-in-Ok-Some.ensures at c.in_ok-insert-in-Ok-Some.ensures.ok))
+
+pub returns-in-Ok-None : goal.returns-in-Ok-None
+unfolding token_asked
+returns-in-Ok-None g c = caught _ (rw c.in-Ok-None.field-0-is at (c.in-Ok-None.ensures c.args.memory.now)) done
 
 pub returns-then-is_memory : goal.returns-then-is_memory
 unfolding token_asked
-returns-then-is_memory g c = λ k. caught_memory _ (sym c.is_memory.ensures ∙ c.if-is_memory.true) (c.in-Err.ensures k)
+returns-then-is_memory g c = caught_memory _ (sym c.is_memory.ensures ∙ c.if-is_memory.true) (c.in-Err.ensures c.args.memory.now)
 
 pub returns-else-is_memory : goal.returns-else-is_memory
 unfolding token_asked
-returns-else-is_memory g c = λ k. caught_refusal _ (sym c.is_memory.ensures ∙ c.if-is_memory.false) (c.in-Err.ensures k) (passed _ _ _ (sym c.is_memory.ensures ∙ c.if-is_memory.false))
+returns-else-is_memory g c = caught_refusal _ (sym c.is_memory.ensures ∙ c.if-is_memory.false) (c.in-Err.ensures c.args.memory.now) (passed _ _ _ (sym c.is_memory.ensures ∙ c.if-is_memory.false))

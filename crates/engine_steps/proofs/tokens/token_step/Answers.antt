@@ -1,19 +1,20 @@
-use Rattle.engine_steps.proofs.Exits.{refused, and_then, said, done}
-use Rattle.engine_steps.specs.Rows.{token_step}
+use Rattle.engine_steps.proofs.Exits.{wanting, done, passed_on}
 use Rattle.engine_steps.proofs.tokens.token_step.Goals as goal
 
-pub returns-in_err-url : goal.returns-in_err-url
-unfolding token_step
-returns-in_err-url g c = λ k. refused _ (said _ c.in_err-url.ensures) c.from_residual.ensures.1
+pub returns-in_err-token-in-Bearer : goal.returns-in_err-token-in-Bearer
+returns-in_err-token-in-Bearer g c = λ k. wanting c.from_residual.ensures.1
 
-pub returns-in_err-request : goal.returns-in_err-request
-unfolding token_step
-returns-in_err-request g c = λ k. and_then _ (said _ c.in_ok-url.ensures) (refused _ (said _ c.in_err-request.ensures) c.from_residual-in_err-request.ensures.1)
+pub returns-in_ok-token-in-Bearer : goal.returns-in_ok-token-in-Bearer
+returns-in_ok-token-in-Bearer g c = λ k. rw c.in-Bearer.is (rw (rw c.in-Bearer.is at c.in_ok-token-in-Bearer.ensures) done)
 
-pub returns-in_err-_head : goal.returns-in_err-_head
-unfolding token_step
-returns-in_err-_head g c = λ k. and_then _ (said _ c.in_ok-url.ensures) (and_then _ (said _ c.in_ok-request.ensures) (refused _ (c.in_err-_head.ensures k) c.from_residual-in_err-_head.ensures.1))
+pub returns-in_err-token-in-Basic : goal.returns-in_err-token-in-Basic
+returns-in_err-token-in-Basic g c = λ k. rw c.in-Basic.is (passed_on (rw c.in-Basic.is at (c.in_err-token-in-Basic.ensures k)) c.from_residual-in_err-token-in-Basic.ensures.1)
 
-pub returns : goal.returns
-unfolding token_step
-returns g c = λ k. and_then _ (said _ c.in_ok-url.ensures) (and_then _ (said _ c.in_ok-request.ensures) (and_then _ (c.in_ok-_head.ensures k) done))
+pub returns-in_ok-token-in-Basic : goal.returns-in_ok-token-in-Basic
+returns-in_ok-token-in-Basic g c = λ k. rw c.in-Basic.is (rw c.in-Basic.is at (c.in_ok-token-in-Basic.ensures k))
+
+pub returns-in_err-token-in-Anonymous : goal.returns-in_err-token-in-Anonymous
+returns-in_err-token-in-Anonymous g c = λ k. rw c.in-Anonymous.is (passed_on (rw c.in-Anonymous.is at (c.in_err-token-in-Anonymous.ensures k)) c.from_residual-in_err-token-in-Anonymous.ensures.1)
+
+pub returns-in_ok-token-in-Anonymous : goal.returns-in_ok-token-in-Anonymous
+returns-in_ok-token-in-Anonymous g c = λ k. rw c.in-Anonymous.is (rw c.in-Anonymous.is at (c.in_ok-token-in-Anonymous.ensures k))
