@@ -1,4 +1,3 @@
 pub mod Layers
 pub mod NoSink
 pub mod Quiet
-pub mod Storing

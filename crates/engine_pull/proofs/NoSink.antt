@@ -1,5 +1,5 @@
 -- What comes before a blob's request is no fault of the sink.
-use Rattle.std.proofs.Common.{◌≡◌, ℕ, Bool, true, false, List, [], Option, Some, None, Result, Ok, Err, refl, sym, ◌∙◌}
+use Rattle.std.proofs.Common.{◌≡◌, ℕ, Bool, true, false, List, [], Option, Some, None, Result, Ok, Err, refl, sym, subst, ◌∙◌}
 use Rattle.std.specs.Prelude.{MatchBool, if◌then◌else◌, nat_lt, ◌&&◌}
 use Rattle.std.specs.Result.{IsErrAnd}
 use Rattle.std.proofs.lemmas.Result.{err_from_is_err_and}
@@ -14,18 +14,24 @@ use Rattle.oci_names.specs.declared.reference.Reference.{Reference}
 use Rattle.oci_names.specs.References.{resolved_registry}
 use Rattle.oci_auth.specs.declared.auth.RegistryAuth.{RegistryAuth}
 use Rattle.oci_auth.specs.declared.memory.Memory.{Memory}
+use Rattle.oci_auth.specs.Caches.{key_of, token_at}
+use Rattle.oci_auth.specs.Credentials.{authorization_of}
+use Rattle.oci_auth.specs.Keys.{Key}
+use Rattle.oci_auth.specs.declared.token_type.RegistryOperation.{RegistryOperation}
+use Rattle.oci_auth.specs.declared.token_type.RegistryTokenType.{RegistryTokenType}
 use Rattle.oci_protocol.specs.Proto.{Done, bind, unless_refused, ◌>>=◌}
 use Rattle.oci_protocol.specs.Runs.{Meets}
 use Rattle.oci_protocol.specs.Ends.{Ends}
 use Rattle.oci_protocol.proofs.Ends.{Ends-any, Ends-bind, Meets-ends}
+use Rattle.engine_requests.specs.Contexts.{Context}
 use Rattle.engine_requests.specs.declared.settings.Settings.{Settings}
 use Rattle.engine_requests.specs.declared.error.OciDistributionError.{OciDistributionError}
 use Rattle.engine_requests.specs.declared.error.OciDistributionError.TheVariants as refusal
 use Rattle.engine_requests.specs.declared.error.GenericCause.TheVariants.{HeaderText}
 use Rattle.engine_requests.specs.Errors.{is_memory, ◌>>=◌ as ◌into◌}
 use Rattle.engine_requests.specs.Addresses.{url_or, url_read, registry_text}
-use Rattle.engine_requests.specs.Requests.{with_header, with_accept, headers_of, request_of}
-use Rattle.engine_steps.specs.Rows.{Row, passed_over, token_step, token_asked, token_by, token_for, goes_to, token_where, authorized, prepared}
+use Rattle.engine_requests.specs.Requests.{with_header, with_accept, with_token, headers_of, request_of}
+use Rattle.engine_steps.specs.Rows.{Row, passed_over, taken, token_step, token_asked, kept_or_asked, token_by, token_for, goes_to, token_where, authorized, prepared}
 use Rattle.engine_steps.specs.Blobs.{Spills}
 use Rattle.engine_steps.proofs.Attempts.{spills_none}
 
@@ -33,6 +39,27 @@ use Rattle.engine_steps.proofs.Attempts.{spills_none}
 abbrev pub Calm : {A : Type 0} → Result A OciDistributionError → Type 0
 Calm (Ok a) = Unit {0}
 Calm (Err e) = e ≡ refusal.SinkFault → ⊥
+
+-- the refusal is neither that nor a value that cannot stand in a header
+abbrev pub IsPlain : OciDistributionError → Type 0
+IsPlain refusal.SinkFault = ⊥
+IsPlain (refusal.GenericError HeaderText) = ⊥
+IsPlain _ = Unit {0}
+
+abbrev pub Plain : {A : Type 0} → Result A OciDistributionError → Type 0
+Plain (Ok a) = Unit {0}
+Plain (Err e) = IsPlain e
+
+plain_other : (e : OciDistributionError) → IsPlain e → e ≡ refusal.SinkFault → ⊥
+plain_other e plain is = subst IsPlain is plain
+
+pub plain_calm : {A : Type 0} (r : Result A OciDistributionError) → Plain r → Calm r
+plain_calm (Ok a) plain = tt
+plain_calm (Err e) plain = plain_other e plain
+
+pub into_plain : {A B : Type 0} (r : Result A OciDistributionError) (f : A → Result B OciDistributionError) → Plain r → ((a : A) → Plain (f a)) → Plain (r into f)
+into_plain (Ok a) f h each = each a
+into_plain (Err e) f h each = h
 
 url_calm : (text : List ℕ) (url : Option Parts) → Calm (url_or text url)
 url_calm text (Some url) = tt
@@ -55,9 +82,16 @@ accept_calm : (types : Option (List ℕ)) (headers : Fields) → Calm (with_acce
 accept_calm None headers = tt
 accept_calm (Some types) headers = header_calm headers _ types
 
-pub request_calm : (s : Settings) (method : Method) (url : Parts) (types : Option (List ℕ)) → Calm (request_of s method url types)
+token_calm : (token : Option RegistryTokenType) (headers : Fields) → Calm (with_token token headers)
+token_calm None headers = tt
+token_calm (Some token) headers = header_calm headers _ (authorization_of token)
+
+headers_calm : (s : Settings) (types : Option (List ℕ)) (token : Option RegistryTokenType) → Calm (headers_of s types token)
+headers_calm s types token = into_calm (with_header map.empty _ s.user_agent into with_accept types) (with_token token) (into_calm (with_header map.empty _ s.user_agent) (with_accept types) (header_calm map.empty _ s.user_agent) (accept_calm types)) (token_calm token)
+
+pub request_calm : (s : Settings) (method : Method) (url : Parts) (types : Option (List ℕ)) (token : Option RegistryTokenType) → Calm (request_of s method url types token)
 unfolding request_of
-request_calm s method url types = into_calm (headers_of s types) _ (into_calm (with_header map.empty _ s.user_agent) (with_accept types) (header_calm map.empty _ s.user_agent) (accept_calm types)) (λ headers. tt)
+request_calm s method url types token = into_calm (headers_of s types token) _ (headers_calm s types token) (λ headers. tt)
 
 unless_calm : {A B : Type 0} (f : A → Row B) → ((a : A) → Ends Calm (f a)) → (r : Result A OciDistributionError) → Calm r → Ends Calm (unless_refused f r)
 unfolding Ends
@@ -72,36 +106,43 @@ pub done_calm : {A : Type 0} (r : Result A OciDistributionError) → Calm r → 
 unfolding Ends
 done_calm r h = h
 
-over_calm : (r : Result Unit OciDistributionError) → Calm (passed_over r)
-over_calm (Ok u) = tt
-over_calm (Err e) = by_cause e where
-  by_cause : (e : OciDistributionError) → Calm (passed_over (Err e))
-  by_cause refusal.WantOfMemory = λ h. cc
-  by_cause _ = tt
+over_calm : (e : OciDistributionError) → Calm (passed_over e)
+over_calm refusal.WantOfMemory = λ h. cc
+over_calm _ = tt
 
-asked_calm : (s : Settings) (image : Reference) → Ends Calm (token_asked s image)
+taken_calm : (moment : ℕ) (key : Key) (r : Result (Option RegistryTokenType) OciDistributionError) → Ends Calm (taken moment key r)
+unfolding Ends
+taken_calm moment key (Ok None) = tt
+taken_calm moment key (Ok (Some token)) = λ k. tt
+taken_calm moment key (Err e) = over_calm e
+
+asked_calm : (s : Context) (image : Reference) (op : RegistryOperation) (a : RegistryAuth) → Ends Calm (token_asked s image op a)
 unfolding token_asked
-asked_calm s image = Ends-bind (λ r. Unit {0}) Calm (token_step s image) (λ r. Done (passed_over r)) (Ends-any (λ r. Unit {0}) (token_step s image) (λ r. tt)) (λ r h. done_calm (passed_over r) (over_calm r))
+asked_calm s image op a = Ends-bind (λ r. Unit {0}) Calm (token_step s.settings image a op) (taken s.moment (key_of image op)) (Ends-any (λ r. Unit {0}) (token_step s.settings image a op) (λ r. tt)) (λ r h. taken_calm s.moment (key_of image op) r)
 
-by_calm : (s : Settings) (image : Reference) (a : Option RegistryAuth) → Ends Calm (token_by s image a)
-by_calm s image None = done_calm (Ok tt) tt
-by_calm s image (Some a) = asked_calm s image
+kept_calm : (s : Context) (image : Reference) (op : RegistryOperation) (a : RegistryAuth) (kept : Option RegistryTokenType) → Ends Calm (kept_or_asked s image op a kept)
+kept_calm s image op a (Some token) = done_calm (Ok (Some token)) tt
+kept_calm s image op a None = asked_calm s image op a
 
-for_calm : (s : Settings) (image : Reference) → Ends Calm (token_for s image)
+by_calm : (s : Context) (image : Reference) (op : RegistryOperation) (a : Option RegistryAuth) (kept : Option RegistryTokenType) → Ends Calm (token_by s image op a kept)
+by_calm s image op None kept = done_calm (Ok None) tt
+by_calm s image op (Some a) kept = kept_calm s image op a kept
+
+for_calm : (s : Context) (image : Reference) (op : RegistryOperation) → Ends Calm (token_for s image op)
 unfolding token_for Ends bind
-for_calm s image = λ k. by_calm s image (map.get k.credentials (resolved_registry image))
+for_calm s image op = λ k. by_calm s image op (map.get k.credentials (resolved_registry image)) (token_at k.tokens (key_of image op) s.moment)
 
-where_calm : (s : Settings) (image : Reference) (b : Bool) → Ends Calm (token_where s image b)
-where_calm s image true = for_calm s image
-where_calm s image false = done_calm (Ok tt) tt
+where_calm : (s : Context) (image : Reference) (op : RegistryOperation) (b : Bool) → Ends Calm (token_where s image op b)
+where_calm s image op true = for_calm s image op
+where_calm s image op false = done_calm (Ok None) tt
 
-authorized_calm : (s : Settings) (image : Reference) (url : Parts) → Ends Calm (authorized s image url)
+authorized_calm : (s : Context) (image : Reference) (op : RegistryOperation) (url : Parts) → Ends Calm (authorized s image op url)
 unfolding authorized
-authorized_calm s image url = next_calm (Done (url_read (registry_text s image))) _ (done_calm _ (read_calm (registry_text s image))) (λ registry. where_calm s image (goes_to (request_url (serialize url)) registry))
+authorized_calm s image op url = next_calm (Done (url_read (registry_text s.settings image))) _ (done_calm _ (read_calm (registry_text s.settings image))) (λ registry. where_calm s image op (goes_to (request_url (serialize url)) registry))
 
-pub prepared_calm : (s : Settings) (image : Reference) (method : Method) (url : Parts) (types : List ℕ) → Ends Calm (prepared s image method url types)
+pub prepared_calm : (s : Context) (image : Reference) (op : RegistryOperation) (method : Method) (url : Parts) (types : List ℕ) → Ends Calm (prepared s image op method url types)
 unfolding prepared
-prepared_calm s image method url types = next_calm (authorized s image url) _ (authorized_calm s image url) (λ u. done_calm _ (request_calm s method url (Some types)))
+prepared_calm s image op method url types = next_calm (authorized s image op url) _ (authorized_calm s image op url) (λ token. done_calm _ (request_calm s.settings method url (Some types) token))
 
 is_calm : (e : OciDistributionError) → MatchBool (is_memory e) (Unit {0}) (e ≡ refusal.SinkFault → ⊥) → e ≡ refusal.SinkFault → ⊥
 is_calm e h is = (rw is at h) refl

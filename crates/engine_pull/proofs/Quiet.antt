@@ -20,6 +20,7 @@ use Rattle.oci_transport.specs.declared.message.Method.TheVariants.{Get}
 use Rattle.oci_names.specs.declared.reference.Reference.{Reference}
 use Rattle.oci_auth.specs.declared.auth.RegistryAuth.{RegistryAuth}
 use Rattle.oci_auth.specs.declared.memory.Memory.{Memory}
+use Rattle.oci_auth.specs.declared.token_type.RegistryOperation.TheVariants.{Pull}
 use Rattle.oci_protocol.specs.Proto.{Piped, Reply, Headed, Answered, Failed, TooLong, SinkFailed, read_within, Done, bind, unless_refused, ◌>>=◌}
 use Rattle.oci_protocol.specs.Runs.{Runs, Meets, head_part}
 use Rattle.oci_protocol.specs.Ends.{Ends}
@@ -27,7 +28,7 @@ use Rattle.oci_protocol.specs.Shows.{Shows, Heard}
 use Rattle.oci_protocol.proofs.Ends.{Runs-ends}
 use Rattle.oci_protocol.proofs.Showing.{done_run, Shows-done, Shows-bind, Shows-follow, Meets-shows}
 use Rattle.engine_requests.specs.declared.answers.Got.{Got}
-use Rattle.engine_requests.specs.declared.settings.Settings.{Settings}
+use Rattle.engine_requests.specs.Contexts.{Context}
 use Rattle.engine_requests.specs.declared.error.SpecViolation.TheVariants.{Status}
 use Rattle.engine_requests.specs.declared.error.OciDistributionError.{OciDistributionError}
 use Rattle.engine_requests.specs.declared.error.OciDistributionError.TheVariants as refusal
@@ -42,7 +43,7 @@ use Rattle.engine_pull.specs.Images.{image_manifest, is_accepted, all_accepted, 
 use Rattle.oci_manifests.specs.declared.descriptor.OciDescriptor.{OciDescriptor}
 use Rattle.oci_manifests.specs.declared.document.OciManifest.TheVariants.{Image, ImageIndex}
 use Rattle.oci_manifests.specs.declared.manifest.OciImageManifest.{OciImageManifest}
-use Rattle.engine_pull.proofs.NoSink.{Calm, read_calm, into_calm, done_calm, prepared_calm}
+use Rattle.engine_pull.proofs.NoSink.{Calm, IsPlain, Plain, plain_calm, into_plain, read_calm, done_calm, prepared_calm}
 
 -- ---- rows
 
@@ -76,61 +77,61 @@ whole_quiet times request limit = Shows-follow (λ m c n r. Calm r) times reques
 
 -- ---- answers
 
-listed_calm : (url : List ℕ) (answer : Answer) (o : Option OciEnvelope) → by_envelope url answer o ≢ refusal.SinkFault
-listed_calm url answer (Some envelope) is = cc
-listed_calm url answer None is = cc
+listed_plain : (url : List ℕ) (answer : Answer) (o : Option OciEnvelope) → IsPlain (by_envelope url answer o)
+listed_plain url answer (Some envelope) = tt
+listed_plain url answer None = tt
 
-refused_calm : (url : List ℕ) (answer : Answer) → refused_answer url answer ≢ refusal.SinkFault
-refused_calm url answer = by_status (nat_eq answer.status 401) (is_success answer.status) (is_client_error answer.status) where
-  by_status : (a b c : Bool) → (if a then refusal.UnauthorizedError url else (if b then refusal.SpecViolationError (Status 200 answer.status url) else (if c then by_envelope url answer (envelope_in answer.body) else refusal.ServerError answer.status url answer.body))) ≢ refusal.SinkFault
-  by_status true b c is = cc
-  by_status false true c is = cc
-  by_status false false true is = listed_calm url answer (envelope_in answer.body) is
-  by_status false false false is = cc
+pub refused_plain : (url : List ℕ) (answer : Answer) → IsPlain (refused_answer url answer)
+refused_plain url answer = by_status (nat_eq answer.status 401) (is_success answer.status) (is_client_error answer.status) where
+  by_status : (a b c : Bool) → IsPlain (if a then refusal.UnauthorizedError url else (if b then refusal.SpecViolationError (Status 200 answer.status url) else (if c then by_envelope url answer (envelope_in answer.body) else refusal.ServerError answer.status url answer.body)))
+  by_status true b c = tt
+  by_status false true c = tt
+  by_status false false true = listed_plain url answer (envelope_in answer.body)
+  by_status false false false = tt
 
-accepted_calm : (url : List ℕ) (answer : Answer) → Calm (accepted url answer)
-accepted_calm url answer = by_test (nat_eq answer.status 200) where
-  by_test : (b : Bool) → Calm {A = Answer} (if b then Ok answer else Err (refused_answer url answer))
+pub accepted_plain : (url : List ℕ) (answer : Answer) → Plain (accepted url answer)
+accepted_plain url answer = by_test (nat_eq answer.status 200) where
+  by_test : (b : Bool) → Plain {A = Answer} (if b then Ok answer else Err (refused_answer url answer))
   by_test true = tt
-  by_test false = refused_calm url answer
+  by_test false = refused_plain url answer
 
-digest_calm : {A : Type 0} (r : Result A _) → Calm (or_digest_error r)
-digest_calm (Ok a) = tt
-digest_calm (Err e) = λ is. cc
+pub digest_plain : {A : Type 0} (r : Result A _) → Plain (or_digest_error r)
+digest_plain (Ok a) = tt
+digest_plain (Err e) = tt
 
-found_calm : (image : Reference) (got : Got) → Calm (document_in image got)
-found_calm image got = into_calm (accepted got.url got.answer) _ (accepted_calm got.url got.answer) (λ answer.
-    into_calm (answer_digest image answer) _ (into_calm (header_digest answer.headers) _ (digest_calm _) (λ header. digest_calm _)) (λ digest. tt))
+pub found_plain : (image : Reference) (got : Got) → Plain (document_in image got)
+found_plain image got = into_plain (accepted got.url got.answer) _ (accepted_plain got.url got.answer) (λ answer.
+    into_plain (answer_digest image answer) _ (into_plain (header_digest answer.headers) _ (digest_plain _) (λ header. digest_plain _)) (λ digest. tt))
 
 -- ---- documents
 
-type_calm : (o : Option (List ℕ)) → Calm (type_checked o)
-type_calm None = tt
-type_calm (Some kind) = by_test (is_manifest_type kind) where
-  by_test : (b : Bool) → Calm {A = Unit {0}} (if b then Ok tt else Err (refusal.UnsupportedMediaTypeError kind))
+type_plain : (o : Option (List ℕ)) → Plain (type_checked o)
+type_plain None = tt
+type_plain (Some kind) = by_test (is_manifest_type kind) where
+  by_test : (b : Bool) → Plain {A = Unit {0}} (if b then Ok tt else Err (refusal.UnsupportedMediaTypeError kind))
   by_test true = tt
-  by_test false = λ is. cc
+  by_test false = tt
 
-version_calm : (body : List ℕ) (o : Option Versioned) → Calm (version_checked body o)
-version_calm body None = λ is. cc
-version_calm body (Some v) = by_test (int_eq v.schema_version (pos 2)) where
-  by_test : (b : Bool) → Calm (if b then type_checked v.media_type else Err (refusal.UnsupportedSchemaVersionError v.schema_version))
-  by_test true = type_calm v.media_type
-  by_test false = λ is. cc
+version_plain : (body : List ℕ) (o : Option Versioned) → Plain (version_checked body o)
+version_plain body None = tt
+version_plain body (Some v) = by_test (int_eq v.schema_version (pos 2)) where
+  by_test : (b : Bool) → Plain (if b then type_checked v.media_type else Err (refusal.UnsupportedSchemaVersionError v.schema_version))
+  by_test true = type_plain v.media_type
+  by_test false = tt
 
-one_calm : (body : List ℕ) (o : Option OciManifest) → Calm (or_unread body o)
-one_calm body None = λ is. cc
-one_calm body (Some document) = tt
+one_plain : (body : List ℕ) (o : Option OciManifest) → Plain (or_unread body o)
+one_plain body None = tt
+one_plain body (Some document) = tt
 
-tables_calm : (body : List ℕ) → Calm (tables_read body (plain_of (json_of body)))
-tables_calm body =
-    elim (plain_of (json_of body)) as (λ o. Calm (tables_read body o)) [
-      | None ↦ λ is. cc
-      | Some d ↦ elim (reads_twice d) as (λ b. Calm (if b then Err (refusal.AmbiguousManifest body) else or_unread body (document_of d))) [ true ↦ λ is. cc | false ↦ one_calm body (document_of d) ]
+tables_plain : (body : List ℕ) → Plain (tables_read body (plain_of (json_of body)))
+tables_plain body =
+    elim (plain_of (json_of body)) as (λ o. Plain (tables_read body o)) [
+      | None ↦ tt
+      | Some d ↦ elim (reads_twice d) as (λ b. Plain (if b then Err (refusal.AmbiguousManifest body) else or_unread body (document_of d))) [ true ↦ tt | false ↦ one_plain body (document_of d) ]
     ]
 
-read_document_calm : (body : List ℕ) → Calm (document_read body)
-read_document_calm body = into_calm (version_checked body (versioned_in (json_of body))) _ (version_calm body (versioned_in (json_of body))) (λ u. tables_calm body)
+pub read_document_plain : (body : List ℕ) → Plain (document_read body)
+read_document_plain body = into_plain (version_checked body (versioned_in (json_of body))) _ (version_plain body (versioned_in (json_of body))) (λ u. tables_plain body)
 
 -- ---- a manifest
 
@@ -138,24 +139,24 @@ store_calm : (image : Reference) (a : RegistryAuth) → Ends Calm (store image a
 unfolding store Ends bind
 store_calm image a = λ k. tt
 
-document_quiet : (s : Settings) (image : Reference) (url : _) (types : List ℕ) → Quiet (document s image url types)
+document_quiet : (s : Context) (image : Reference) (url : _) (types : List ℕ) → Quiet (document s image url types)
 unfolding document
-document_quiet s image url types = quiet_next (prepared s image Get url types) _ (quiet_ends _ (prepared_calm s image Get url types)) (λ request. quiet_next (whole 10 request s.max_body_bytes) _ (whole_quiet 10 request s.max_body_bytes) (λ got. quiet_ends _ (done_calm _ (found_calm image got))))
+document_quiet s image url types = quiet_next (prepared s image Pull Get url types) _ (quiet_ends _ (prepared_calm s image Pull Get url types)) (λ request. quiet_next (whole 10 request s.settings.max_body_bytes) _ (whole_quiet 10 request s.settings.max_body_bytes) (λ got. quiet_ends _ (done_calm _ (plain_calm _ (found_plain image got)))))
 
-raw_quiet : (s : Settings) (image : Reference) (a : RegistryAuth) (types : List ℕ) → Quiet (pull_manifest_raw s image a types)
+raw_quiet : (s : Context) (image : Reference) (a : RegistryAuth) (types : List ℕ) → Quiet (pull_manifest_raw s image a types)
 unfolding pull_manifest_raw
-raw_quiet s image a types = quiet_next (store image a) _ (quiet_ends _ (store_calm image a)) (λ u. quiet_next (Done (url_read (manifest_text s image))) _ (quiet_ends _ (done_calm _ (read_calm _))) (λ url. document_quiet s image url types))
+raw_quiet s image a types = quiet_next (store image a) _ (quiet_ends _ (store_calm image a)) (λ u. quiet_next (Done (url_read (manifest_text s.settings image))) _ (quiet_ends _ (done_calm _ (read_calm _))) (λ url. document_quiet s image url types))
 
-manifest_quiet : (s : Settings) (image : Reference) (a : RegistryAuth) → Quiet (pull_manifest s image a)
+manifest_quiet : (s : Context) (image : Reference) (a : RegistryAuth) → Quiet (pull_manifest s image a)
 unfolding pull_manifest
-manifest_quiet s image a = quiet_next (pull_manifest_raw s image a manifest_types) _ (raw_quiet s image a manifest_types) (λ found. quiet_next (Done (document_read found.0)) _ (quiet_ends _ (done_calm _ (read_document_calm found.0))) (λ document. quiet_ends _ (done_calm _ tt)))
+manifest_quiet s image a = quiet_next (pull_manifest_raw s image a manifest_types) _ (raw_quiet s image a manifest_types) (λ found. quiet_next (Done (document_read found.0)) _ (quiet_ends _ (done_calm _ (plain_calm _ (read_document_plain found.0)))) (λ document. quiet_ends _ (done_calm _ tt)))
 
 met_quiet : {A : Type 0} {p : Row A} {old new : Link} {k l : Memory} {e : OciDistributionError} → Quiet p → Meets is_memory p old new k l (Err e) → e ≢ refusal.SinkFault
 met_quiet {p = p} {old = old} {new = new} {k = k} {l = l} {e = e} quiet met is = sunk (rw is at met) where
   sunk : Meets is_memory p old new k l (Err refusal.SinkFault) → ⊥
   sunk met = (Meets-shows (λ m c n r. Calm r) quiet met).holds refl
 
-pub manifest_not_sunk : (s : Settings) (image : Reference) (a : RegistryAuth) {old new : Link} {k l : Memory} {e : OciDistributionError} → Meets is_memory (pull_manifest s image a) old new k l (Err e) → e ≢ refusal.SinkFault
+pub manifest_not_sunk : (s : Context) (image : Reference) (a : RegistryAuth) {old new : Link} {k l : Memory} {e : OciDistributionError} → Meets is_memory (pull_manifest s image a) old new k l (Err e) → e ≢ refusal.SinkFault
 manifest_not_sunk s image a met = met_quiet (manifest_quiet s image a) met
 
 -- ---- steps with no request
@@ -165,25 +166,26 @@ says_calm {A} {e} s calm says is = sunk (rw is at says) where
   sunk : s ≡ Err refusal.SinkFault → ⊥
   sunk h = (subst Calm h calm) refl
 
+pub kind_plain : (document : OciManifest) → Plain (image_manifest document)
+kind_plain (Image manifest) = tt
+kind_plain (ImageIndex index) = tt
+
 pub image_not_sunk : (document : OciManifest) {e : OciDistributionError} → Says {A = OciImageManifest} (Err e) (image_manifest document) → e ≢ refusal.SinkFault
-image_not_sunk document says = says_calm (image_manifest document) (of_kind document) says where
-  of_kind : (document : OciManifest) → Calm (image_manifest document)
-  of_kind (Image manifest) = tt
-  of_kind (ImageIndex index) = λ is. cc
+image_not_sunk document says = says_calm (image_manifest document) (plain_calm (image_manifest document) (kind_plain document)) says
 
-types_calm : (types : List (List ℕ)) (xs : List OciDescriptor) → Calm (all_accepted types xs)
-types_calm types [] = tt
-types_calm types (x ∷ xs) = by_test (is_accepted types x.media_type) (types_calm types xs) where
-  by_test : (b : Bool) → Calm (all_accepted types xs) → Calm (if b then all_accepted types xs else Err (refusal.IncompatibleLayerMediaTypeError x.media_type))
+types_plain : (types : List (List ℕ)) (xs : List OciDescriptor) → Plain (all_accepted types xs)
+types_plain types [] = tt
+types_plain types (x ∷ xs) = by_test (is_accepted types x.media_type) (types_plain types xs) where
+  by_test : (b : Bool) → Plain (all_accepted types xs) → Plain (if b then all_accepted types xs else Err (refusal.IncompatibleLayerMediaTypeError x.media_type))
   by_test true rest = rest
-  by_test false rest = λ is. cc
+  by_test false rest = tt
 
-layers_calm : (types : List (List ℕ)) (xs : List OciDescriptor) → Calm (layers_accepted types xs)
-layers_calm types [] = λ is. cc
-layers_calm types (x ∷ xs) = types_calm types (x ∷ xs)
+pub layers_plain : (types : List (List ℕ)) (xs : List OciDescriptor) → Plain (layers_accepted types xs)
+layers_plain types [] = tt
+layers_plain types (x ∷ xs) = types_plain types (x ∷ xs)
 
 pub layers_not_sunk : (types : List (List ℕ)) (xs : List OciDescriptor) {e : OciDistributionError} → Says {A = Unit {0}} (Err e) (layers_accepted types xs) → e ≢ refusal.SinkFault
-layers_not_sunk types xs says = says_calm (layers_accepted types xs) (layers_calm types xs) says
+layers_not_sunk types xs says = says_calm (layers_accepted types xs) (plain_calm (layers_accepted types xs) (layers_plain types xs)) says
 
 -- ---- exits
 

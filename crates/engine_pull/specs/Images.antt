@@ -9,7 +9,7 @@ use Rattle.oci_manifests.specs.declared.descriptor.OciDescriptor.{OciDescriptor}
 use Rattle.oci_manifests.specs.declared.blob.ImageLayer.{ImageLayer}
 use Rattle.oci_manifests.specs.declared.blob.Config.{Config}
 use Rattle.oci_protocol.specs.Proto.{Done, ◌>>=◌, ◌>>◌}
-use Rattle.engine_requests.specs.declared.settings.Settings.{Settings}
+use Rattle.engine_requests.specs.Contexts.{Context}
 use Rattle.engine_requests.specs.declared.error.OciDistributionError.{OciDistributionError}
 use Rattle.engine_requests.specs.declared.error.OciDistributionError.TheVariants as refusal
 use Rattle.oci_transport.specs.Link.{Link}
@@ -48,14 +48,14 @@ abbrev pub config_of : OciImageManifest → List ℕ → Config
 config_of manifest content = record { content = content; media_type = manifest.config.media_type; annotations = manifest.annotations }
 
 -- each descriptor's blob, in order
-unfoldable pub pull_layers : Settings → Reference → List OciDescriptor → List ImageLayer → Row (List ImageLayer)
+unfoldable pub pull_layers : Context → Reference → List OciDescriptor → List ImageLayer → Row (List ImageLayer)
 pull_layers s image [] layers = Done (Ok layers)
 pull_layers s image (x ∷ xs) layers = do
   content ← pull_blob s image x.digest
   pull_layers s image xs (layers ++ layer_of x content ∷ [])
 
 -- an image whose layers are of these types
-unfoldable pub pull : Settings → Reference → RegistryAuth → List (List ℕ) → Row ImageData
+unfoldable pub pull : Context → Reference → RegistryAuth → List (List ℕ) → Row ImageData
 pull s image a accepted = do
   found ← pull_manifest s image a
   manifest ← Done (image_manifest found.0)

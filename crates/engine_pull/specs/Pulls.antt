@@ -6,9 +6,10 @@ use Rattle.oci_transport.specs.declared.message.Method.TheVariants.{Get, Head}
 use Rattle.oci_names.specs.declared.reference.Reference.{Reference}
 use Rattle.oci_names.specs.References.{digest_of}
 use Rattle.oci_auth.specs.declared.auth.RegistryAuth.{RegistryAuth}
+use Rattle.oci_auth.specs.declared.token_type.RegistryOperation.TheVariants.{Pull}
 use Rattle.oci_manifests.specs.declared.document.OciManifest.{OciManifest}
 use Rattle.oci_protocol.specs.Proto.{Done, ◌>>=◌, ◌>>◌}
-use Rattle.engine_requests.specs.declared.settings.Settings.{Settings}
+use Rattle.engine_requests.specs.Contexts.{Context}
 use Rattle.engine_requests.specs.Addresses.{manifest_text, blob_text, url_read}
 use Rattle.engine_requests.specs.Requests.{manifest_types}
 use Rattle.engine_requests.specs.Answers.{accepted, document_in, fits_reference}
@@ -19,21 +20,21 @@ use Rattle.engine_steps.specs.Rows.{Row, store, whole, named_after, prepared}
 use Rattle.engine_steps.specs.Blobs.{attempt}
 
 -- a document's bytes with their digest
-unfoldable pub document : Settings → Reference → Parts → List ℕ → Row (List ℕ × List ℕ)
+unfoldable pub document : Context → Reference → Parts → List ℕ → Row (List ℕ × List ℕ)
 document s image url types = do
-  request ← prepared s image Get url types
-  got ← whole 10 request s.max_body_bytes
+  request ← prepared s image Pull Get url types
+  got ← whole 10 request s.settings.max_body_bytes
   Done (document_in image got)
 
 -- the bytes of a manifest or an index, with their digest
-unfoldable pub pull_manifest_raw : Settings → Reference → RegistryAuth → List ℕ → Row (List ℕ × List ℕ)
+unfoldable pub pull_manifest_raw : Context → Reference → RegistryAuth → List ℕ → Row (List ℕ × List ℕ)
 pull_manifest_raw s image a types = do
   store image a
-  url ← Done (url_read (manifest_text s image))
+  url ← Done (url_read (manifest_text s.settings image))
   document s image url types
 
 -- the digest that the answer's header names, else that of the document
-abbrev pub digest_by : Settings → Reference → Parts → Named → Row (List ℕ)
+abbrev pub digest_by : Context → Reference → Parts → Named → Row (List ℕ)
 digest_by s image url (ByHeader digest got) = do
   Done (accepted got.url got.answer)
   Done (fits_reference digest (digest_of image))
@@ -42,24 +43,24 @@ digest_by s image url Unnamed = do
   Done (Ok found.1)
 
 -- the digest of a manifest or an index
-unfoldable pub fetch_manifest_digest : Settings → Reference → RegistryAuth → Row (List ℕ)
+unfoldable pub fetch_manifest_digest : Context → Reference → RegistryAuth → Row (List ℕ)
 fetch_manifest_digest s image a = do
   store image a
-  url ← Done (url_read (manifest_text s image))
-  request ← prepared s image Head url manifest_types
-  named ← named_after 10 request s.max_body_bytes
+  url ← Done (url_read (manifest_text s.settings image))
+  request ← prepared s image Pull Head url manifest_types
+  named ← named_after 10 request s.settings.max_body_bytes
   digest_by s image url named
 
 -- a manifest or an index, with its digest
-unfoldable pub pull_manifest : Settings → Reference → RegistryAuth → Row (OciManifest × List ℕ)
+unfoldable pub pull_manifest : Context → Reference → RegistryAuth → Row (OciManifest × List ℕ)
 pull_manifest s image a = do
   found ← pull_manifest_raw s image a manifest_types
   document ← Done (document_read found.0)
   Done (Ok (document, found.1))
 
 -- the bytes of a blob, which its digest names
-unfoldable pub pull_blob : Settings → Reference → List ℕ → Row (List ℕ)
+unfoldable pub pull_blob : Context → Reference → List ℕ → Row (List ℕ)
 pull_blob s image digest = do
-  url ← Done (url_read (blob_text s image digest))
-  request ← prepared s image Get url manifest_types
-  attempt s.max_body_bytes digest request
+  url ← Done (url_read (blob_text s.settings image digest))
+  request ← prepared s image Pull Get url manifest_types
+  attempt s.settings.max_body_bytes digest request

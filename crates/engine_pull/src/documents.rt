@@ -2,6 +2,7 @@
 ghost use Rattle.std.specs.Prelude.{◌≡◌};
 ghost use Rattle.oci_auth.specs.declared.memory.Memory.{Memory};
 ghost use Rattle.oci_protocol.specs.Runs.{Meets};
+ghost use Rattle.engine_requests.specs.Contexts.{within};
 ghost use Rattle.engine_requests.specs.Errors.{is_memory, Says};
 ghost use Rattle.engine_pull.specs.Pulls.{document, pull_manifest_raw, digest_by, fetch_manifest_digest, pull_manifest};
 
@@ -11,7 +12,7 @@ use engine_requests::{
 };
 use engine_steps::{Named, named_after, prepared, whole};
 use json_values::{Blob, Text};
-use oci_auth::{Memory, RegistryAuth, store};
+use oci_auth::{Memory, RegistryAuth, RegistryOperation, store};
 use oci_manifests::OciManifest;
 use oci_names::Reference;
 use oci_transport::{Method, Transport};
@@ -23,19 +24,22 @@ fn document<T: Transport>(
     alloc: Global,
     transport: &mut T,
     settings: &Settings,
-    memory: &Memory,
+    memory: &mut Memory,
+    moment: u64,
     image: &Reference,
     url: &Url,
     types: &str,
 ) -> Result<(Blob, Text), OciDistributionError>
-    ensures { Meets is_memory (document settings.now image.now url.now types.now) (T.state transport.old) (T.state transport.new) memory.now memory.now result }
+    ensures { Meets is_memory (document (within settings.now moment) image.now url.now types.now) (T.state transport.old) (T.state transport.new) memory.old memory.new result }
 {
     let request = prepared(
         alloc,
         transport,
         settings,
         memory,
+        moment,
         image,
+        RegistryOperation::Pull,
         Method::Get,
         url,
         types,
@@ -51,15 +55,18 @@ pub fn pull_manifest_raw<T: Transport>(
     transport: &mut T,
     settings: &Settings,
     memory: &mut Memory,
+    moment: u64,
     image: &Reference,
     auth: &RegistryAuth,
     types: &str,
 ) -> Result<(Blob, Text), OciDistributionError>
-    ensures { Meets is_memory (pull_manifest_raw settings.now image.now auth.now types.now) (T.state transport.old) (T.state transport.new) memory.old memory.new result }
+    ensures { Meets is_memory (pull_manifest_raw (within settings.now moment) image.now auth.now types.now) (T.state transport.old) (T.state transport.new) memory.old memory.new result }
 {
     store(alloc, memory, image.resolve_registry(), auth)?;
     let url = manifest_url(alloc, settings, image)?;
-    let found = document(alloc, transport, settings, memory, image, &url, types)?;
+    let found = document(
+        alloc, transport, settings, memory, moment, image, &url, types,
+    )?;
     Ok(found)
 }
 
@@ -68,12 +75,13 @@ fn digest_by<T: Transport>(
     alloc: Global,
     transport: &mut T,
     settings: &Settings,
-    memory: &Memory,
+    memory: &mut Memory,
+    moment: u64,
     image: &Reference,
     url: &Url,
     named: Named,
 ) -> Result<Text, OciDistributionError>
-    ensures { Meets is_memory (digest_by settings.now image.now url.now named) (T.state transport.old) (T.state transport.new) memory.now memory.now result }
+    ensures { Meets is_memory (digest_by (within settings.now moment) image.now url.now named) (T.state transport.old) (T.state transport.new) memory.old memory.new result }
 {
     match named {
         Named::ByHeader(digest, got) => {
@@ -87,6 +95,7 @@ fn digest_by<T: Transport>(
                 transport,
                 settings,
                 memory,
+                moment,
                 image,
                 url,
                 MANIFEST_TYPES,
@@ -102,10 +111,11 @@ pub fn fetch_manifest_digest<T: Transport>(
     transport: &mut T,
     settings: &Settings,
     memory: &mut Memory,
+    moment: u64,
     image: &Reference,
     auth: &RegistryAuth,
 ) -> Result<Text, OciDistributionError>
-    ensures { Meets is_memory (fetch_manifest_digest settings.now image.now auth.now) (T.state transport.old) (T.state transport.new) memory.old memory.new result }
+    ensures { Meets is_memory (fetch_manifest_digest (within settings.now moment) image.now auth.now) (T.state transport.old) (T.state transport.new) memory.old memory.new result }
 {
     store(alloc, memory, image.resolve_registry(), auth)?;
     let url = manifest_url(alloc, settings, image)?;
@@ -114,13 +124,17 @@ pub fn fetch_manifest_digest<T: Transport>(
         transport,
         settings,
         memory,
+        moment,
         image,
+        RegistryOperation::Pull,
         Method::Head,
         &url,
         MANIFEST_TYPES,
     )?;
     let named = named_after(alloc, transport, 10, &request, settings.max_body_bytes)?;
-    let digest = digest_by(alloc, transport, settings, memory, image, &url, named)?;
+    let digest = digest_by(
+        alloc, transport, settings, memory, moment, image, &url, named,
+    )?;
     Ok(digest)
 }
 
@@ -130,16 +144,18 @@ pub fn pull_manifest<T: Transport>(
     transport: &mut T,
     settings: &Settings,
     memory: &mut Memory,
+    moment: u64,
     image: &Reference,
     auth: &RegistryAuth,
 ) -> Result<(OciManifest, Text), OciDistributionError>
-    ensures { Meets is_memory (pull_manifest settings.now image.now auth.now) (T.state transport.old) (T.state transport.new) memory.old memory.new result }
+    ensures { Meets is_memory (pull_manifest (within settings.now moment) image.now auth.now) (T.state transport.old) (T.state transport.new) memory.old memory.new result }
 {
     let found = pull_manifest_raw(
         alloc,
         transport,
         settings,
         memory,
+        moment,
         image,
         auth,
         MANIFEST_TYPES,

@@ -2,6 +2,7 @@
 ghost use Rattle.std.specs.Prelude.{◌≡◌, ◌≢◌, Err, IfOk};
 ghost use Rattle.oci_auth.specs.declared.memory.Memory.{Memory};
 ghost use Rattle.oci_protocol.specs.Runs.{Meets};
+ghost use Rattle.engine_requests.specs.Contexts.{within};
 ghost use Rattle.engine_requests.specs.Errors.{is_memory, Says};
 ghost use Rattle.engine_pull.specs.Images.{image_manifest, is_accepted, all_accepted, layers_accepted, layer_of, config_of, pull_layers, pull};
 
@@ -126,12 +127,13 @@ fn pull_layers<T: Transport>(
     alloc: Global,
     transport: &mut T,
     settings: &Settings,
-    memory: &Memory,
+    memory: &mut Memory,
+    moment: u64,
     image: &Reference,
     descriptors: &[OciDescriptor],
     mut layers: List<ImageLayer>,
 ) -> Result<List<ImageLayer>, OciDistributionError>
-    ensures run { Meets is_memory (pull_layers settings.now image.now descriptors.now layers) (T.state transport.old) (T.state transport.new) memory.now memory.now result }
+    ensures run { Meets is_memory (pull_layers (within settings.now moment) image.now descriptors.now layers) (T.state transport.old) (T.state transport.new) memory.old memory.new result }
     ensures no_sink { result ≢ Err OciDistributionError.SinkFault }
 {
     for descriptor in descriptors {
@@ -140,6 +142,7 @@ fn pull_layers<T: Transport>(
             transport,
             settings,
             memory,
+            moment,
             image,
             descriptor.digest.as_str(),
         )?;
@@ -155,14 +158,15 @@ pub fn pull<T: Transport>(
     transport: &mut T,
     settings: &Settings,
     memory: &mut Memory,
+    moment: u64,
     image: &Reference,
     auth: &RegistryAuth,
     accepted: &[Text],
 ) -> Result<ImageData, OciDistributionError>
-    ensures run { Meets is_memory (pull settings.now image.now auth.now accepted.now) (T.state transport.old) (T.state transport.new) memory.old memory.new result }
+    ensures run { Meets is_memory (pull (within settings.now moment) image.now auth.now accepted.now) (T.state transport.old) (T.state transport.new) memory.old memory.new result }
     ensures no_sink { result ≢ Err OciDistributionError.SinkFault }
 {
-    let found = pull_manifest(alloc, transport, settings, memory, image, auth)?;
+    let found = pull_manifest(alloc, transport, settings, memory, moment, image, auth)?;
     let (document, digest) = found;
     let manifest = image_manifest(document)?;
     let content = pulled_blob(
@@ -170,6 +174,7 @@ pub fn pull<T: Transport>(
         transport,
         settings,
         memory,
+        moment,
         image,
         manifest.config.digest.as_str(),
     )?;
@@ -180,6 +185,7 @@ pub fn pull<T: Transport>(
         transport,
         settings,
         memory,
+        moment,
         image,
         manifest.layers.as_slice(),
         List::new(alloc),

@@ -2,6 +2,7 @@
 ghost use Rattle.std.specs.Prelude.{◌≡◌, ◌≢◌, Err};
 ghost use Rattle.oci_auth.specs.declared.memory.Memory.{Memory};
 ghost use Rattle.oci_protocol.specs.Runs.{Meets};
+ghost use Rattle.engine_requests.specs.Contexts.{within};
 ghost use Rattle.engine_requests.specs.Errors.{is_memory};
 ghost use Rattle.engine_steps.specs.Blobs.{Spills};
 ghost use Rattle.engine_pull.specs.Pulls.{pull_blob};
@@ -9,7 +10,7 @@ ghost use Rattle.engine_pull.specs.Pulls.{pull_blob};
 use engine_requests::{MANIFEST_TYPES, OciDistributionError, Settings, blob_url};
 use engine_steps::{attempt, prepared};
 use json_values::{Blob, PlainSink, Sink};
-use oci_auth::Memory;
+use oci_auth::{Memory, RegistryOperation};
 use oci_names::Reference;
 use oci_transport::{Method, Transport};
 use std::alloc::Global;
@@ -20,12 +21,13 @@ pub fn pull_blob<T: Transport, K: Sink>(
     alloc: Global,
     transport: &mut T,
     settings: &Settings,
-    memory: &Memory,
+    memory: &mut Memory,
+    moment: u64,
     image: &Reference,
     digest: &str,
     out: &mut K,
 ) -> Result<(), OciDistributionError>
-    ensures { Spills (pull_blob settings.now image.now digest.now) (T.state transport.old) (T.state transport.new) memory.now memory.now (K.state out.old) (K.state out.new) result }
+    ensures { Spills (pull_blob (within settings.now moment) image.now digest.now) (T.state transport.old) (T.state transport.new) memory.old memory.new (K.state out.old) (K.state out.new) result }
 {
     let url = blob_url(alloc, settings, image, digest)?;
     let request = prepared(
@@ -33,7 +35,9 @@ pub fn pull_blob<T: Transport, K: Sink>(
         transport,
         settings,
         memory,
+        moment,
         image,
+        RegistryOperation::Pull,
         Method::Get,
         &url,
         MANIFEST_TYPES,
@@ -54,14 +58,17 @@ pub fn pulled_blob<T: Transport>(
     alloc: Global,
     transport: &mut T,
     settings: &Settings,
-    memory: &Memory,
+    memory: &mut Memory,
+    moment: u64,
     image: &Reference,
     digest: &str,
 ) -> Result<Blob, OciDistributionError>
-    ensures run { Meets is_memory (pull_blob settings.now image.now digest.now) (T.state transport.old) (T.state transport.new) memory.now memory.now result }
+    ensures run { Meets is_memory (pull_blob (within settings.now moment) image.now digest.now) (T.state transport.old) (T.state transport.new) memory.old memory.new result }
     ensures no_sink { result ≢ Err OciDistributionError.SinkFault }
 {
     let mut out = PlainSink::new(alloc);
-    pull_blob(alloc, transport, settings, memory, image, digest, &mut out)?;
+    pull_blob(
+        alloc, transport, settings, memory, moment, image, digest, &mut out,
+    )?;
     Ok(out.into_blob())
 }

@@ -8,12 +8,12 @@ returns-in_err-request g c = refused _ c.in_err-request.ensures c.from_residual.
 
 pub returns-in_err-got : goal.returns-in_err-got
 unfolding document
-returns-in_err-got g c = and_then _ c.in_ok-request.ensures (refused _ (c.in_err-got.ensures c.args.memory.now) c.from_residual-in_err-got.ensures.1)
+returns-in_err-got g c = and_then _ c.in_ok-request.ensures (refused _ (c.in_err-got.ensures _) c.from_residual-in_err-got.ensures.1)
 
 pub returns-in_err-found : goal.returns-in_err-found
 unfolding document
-returns-in_err-found g c = and_then _ c.in_ok-request.ensures (and_then _ (c.in_ok-got.ensures c.args.memory.now) (passed_on (said _ c.in_err-found.ensures) c.from_residual-in_err-found.ensures.1))
+returns-in_err-found g c = and_then _ c.in_ok-request.ensures (and_then _ (c.in_ok-got.ensures _) (passed_on (said _ c.in_err-found.ensures) c.from_residual-in_err-found.ensures.1))
 
 pub returns : goal.returns
 unfolding document
-returns g c = and_then _ c.in_ok-request.ensures (and_then _ (c.in_ok-got.ensures c.args.memory.now) (said _ c.in_ok-found.ensures))
+returns g c = and_then _ c.in_ok-request.ensures (and_then _ (c.in_ok-got.ensures _) (said _ c.in_ok-found.ensures))

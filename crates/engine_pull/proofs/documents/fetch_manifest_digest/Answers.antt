@@ -1,6 +1,5 @@
-use Rattle.engine_steps.proofs.Exits.{refused, wanting, and_then, said, passed_on}
+use Rattle.engine_steps.proofs.Exits.{refused, wanting, and_then, said, passed_on, stores_as}
 use Rattle.engine_pull.specs.Pulls.{fetch_manifest_digest}
-use Rattle.engine_pull.proofs.Storing.{stores_as}
 use Rattle.engine_pull.proofs.documents.fetch_manifest_digest.Goals as goal
 
 pub returns-in_err-store : goal.returns-in_err-store

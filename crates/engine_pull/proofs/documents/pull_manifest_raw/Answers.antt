@@ -1,6 +1,5 @@
-use Rattle.engine_steps.proofs.Exits.{refused, wanting, and_then, said, passed_on}
+use Rattle.engine_steps.proofs.Exits.{refused, wanting, and_then, said, passed_on, stores_as}
 use Rattle.engine_pull.specs.Pulls.{pull_manifest_raw}
-use Rattle.engine_pull.proofs.Storing.{stores_as}
 use Rattle.engine_pull.proofs.documents.pull_manifest_raw.Goals as goal
 
 pub returns-in_err-store : goal.returns-in_err-store

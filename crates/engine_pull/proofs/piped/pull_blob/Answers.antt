@@ -11,7 +11,7 @@ returns-in_err-url g c = spills_refused _ _ (done_calm _ (read_calm _)) (said _ 
 
 pub returns-in_err-request : goal.returns-in_err-request
 unfolding pull_blob
-returns-in_err-request g c = spills_next _ (said _ c.in_ok-url.ensures) (spills_refused _ _ (prepared_calm _ _ _ _ _) c.in_err-request.ensures (Meets-refused _ c.in_err-request.ensures) c.from_residual-in_err-request.ensures.1)
+returns-in_err-request g c = spills_next _ (said _ c.in_ok-url.ensures) (spills_refused _ _ (prepared_calm _ _ _ _ _ _) c.in_err-request.ensures (Meets-refused _ c.in_err-request.ensures) c.from_residual-in_err-request.ensures.1)
 
 pub returns-in_err-attempt : goal.returns-in_err-attempt
 unfolding pull_blob
