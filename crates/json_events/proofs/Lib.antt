@@ -1,6 +1,9 @@
+pub mod Causes
 pub mod Commas
+pub mod Fitting
 pub mod Holding
 pub mod Keeping
+pub mod Passing
 pub mod Spelled
 pub mod Turning
 pub mod Unique

@@ -1,5 +1,5 @@
 -- Laws of canonical texts.
-use Rattle.std.specs.Prelude.{◌≡◌, ◌↔◌, ◌++◌, ℕ, List, [], ◌∷◌, None, Result}
+use Rattle.std.specs.Prelude.{◌≡◌, ◌↔◌, ◌++◌, ℕ, List, [], ◌∷◌, Some, None, Result}
 use Rattle.std.specs.Str.{IsUtf8}
 use Rattle.std.specs.declared.cmp.Ordering.TheVariants.{Equal}
 use Rattle.serde_json.specs.Data.{Data}
@@ -12,6 +12,7 @@ use Rattle.json_events.specs.Spelling.{spelled}
 use Rattle.json_events.specs.Turns.{Taken, answer}
 use Rattle.json_events.specs.Units.{by_units}
 use Rattle.json_events.specs.Values.{IsValue}
+use Rattle.json_events.specs.WellNested.{Cause}
 use Rattle.json_events.specs.declared.error.CanonError.{CanonError}
 use Rattle.json_events.specs.declared.formatter.JcsFormatter.{JcsFormatter}
 use Rattle.json_values.specs.Tray.{Tray, Adds}
@@ -50,3 +51,12 @@ abbrev pub HoldsNext : Type 0
 HoldsNext = (f g : JcsFormatter) (out : List ℕ) (events : List Event) (x : Event) (r : Result (Unit {0}) CanonError) (before after : Tray)
     → Holds f out events → Taken x r (stage_of f) (stage_of g) before after
     → (more : List ℕ) × Holds g (out ++ more) (events ++ x ∷ []) × Adds more before after × (r ≡ answer (stage_of g).refusal)
+
+-- after events that were taken, an event has a refusal exactly where that has its cause
+abbrev pub RefusedByCause : Type 0
+RefusedByCause = (xs : List Event) (x : Event) → (run xs fresh).stage.refusal ≡ None
+    → (e : CanonError) → ((run (xs ++ x ∷ []) fresh).stage.refusal ≡ Some e) ↔ Cause e xs x
+
+-- after a refusal no event changes or writes anything
+abbrev pub RefusalStays : Type 0
+RefusalStays = (xs ys : List Event) (e : CanonError) → (run xs fresh).stage.refusal ≡ Some e → run (xs ++ ys) fresh ≡ run xs fresh

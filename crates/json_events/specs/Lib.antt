@@ -10,6 +10,7 @@ pub mod States
 pub mod Turns
 pub mod Units
 pub mod Values
+pub mod WellNested
 pub use Rattle.json_values.specs.Canon
 pub use Rattle.json_values.specs.Coding
 pub use Rattle.json_values.specs.Counts

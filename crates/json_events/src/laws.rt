@@ -4,7 +4,7 @@ ghost use Rattle.std.specs.Cmp.{IsTotalOrder};
 ghost use Rattle.std.specs.Cmp.Lexicographic.{slice_cmp};
 ghost use Rattle.std.specs.Ordering.{nat_cmp};
 ghost use Rattle.std.specs.declared.cmp.Ordering.TheVariants.{Less, Greater};
-ghost use Rattle.json_events.specs.Laws.{OneText, HasText, EventsWrite, HoldsFirst, HoldsNext, TiesEqualNames, dalet, grin};
+ghost use Rattle.json_events.specs.Laws.{OneText, HasText, EventsWrite, HoldsFirst, HoldsNext, RefusedByCause, RefusalStays, TiesEqualNames, dalet, grin};
 ghost use Rattle.json_events.specs.Units.{by_units};
 
 /// A value has at most one canonical text, and has one exactly where no number of it is refused.
@@ -27,4 +27,11 @@ pub fn events_write()
     ensures values { EventsWrite }
     ensures first { HoldsFirst }
     ensures next { HoldsNext }
+{}
+
+/// The first event that is refused has the cause of its refusal, and each that has one is refused. What comes
+/// after it changes nothing.
+pub fn first_refusal_has_its_cause()
+    ensures cause { RefusedByCause }
+    ensures stays { RefusalStays }
 {}

@@ -18,7 +18,7 @@ mod value_events;
 
 pub use error::CanonError;
 pub use formatter::JcsFormatter;
-pub use laws::{events_write, one_text, order_of_names};
+pub use laws::{events_write, first_refusal_has_its_cause, one_text, order_of_names};
 pub use property::JsonProperty;
 pub use scalars::refused_integer;
 

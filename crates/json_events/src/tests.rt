@@ -1,5 +1,6 @@
 use crate::{
-    CanonError, JcsFormatter, JsonProperty, events_write, one_text, order_of_names, refused_integer,
+    CanonError, JcsFormatter, JsonProperty, events_write, first_refusal_has_its_cause, one_text,
+    order_of_names, refused_integer,
 };
 use json_values::{Blob, List, MemorySink, PlainSink, Sink};
 use std::alloc::{AllocError, Global};
@@ -149,6 +150,7 @@ fn members_are_compared_by_their_sorting_keys(rt: HostRuntime) -> Result<(), Fai
     assert!(rt; grin != dalet);
     assert_eq!(rt; refused_integer(-9007199254740991), None);
     events_write();
+    first_refusal_has_its_cause();
     one_text();
     order_of_names();
     Ok(())
