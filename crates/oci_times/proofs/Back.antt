@@ -1,15 +1,15 @@
 -- A time that is written reads back.
-use Rattle.std.proofs.Common.{◌≡◌, ℕ, suc, ◌+◌, ◌-◌, ◌*◌, ◌/◌, ◌%◌, ◌<◌, ◌≤◌, Bool, true, false, ◌&&◌, ◌==◌, nat_lt, nat_le, List, [], ◌∷◌, ◌++◌, length, drop, Option, Some, None, is_none, true≢false, ◌||◌, ℤ, pos, refl, sym, ap, ◌∙◌, arith}
+use Rattle.std.proofs.Common.{◌≡◌, ℕ, suc, ◌+◌, ◌-◌, ◌*◌, ◌/◌, ◌%◌, ◌<◌, ◌≤◌, Bool, true, false, ◌&&◌, ◌==◌, nat_lt, nat_le, List, [], ◌∷◌, ◌++◌, length, drop, Some, None, is_none, true≢false, ◌||◌, ℤ, pos, refl, sym, ap, ◌∙◌, arith}
 use Rattle.std.specs.Prelude.{if◌then◌else◌, codes}
 use Rattle.std.proofs.lemmas.Bool.Decides.{nat_tests}
 use Rattle.std.proofs.lemmas.Bool.{eqb-true, le-ltb, le-leb}
 use Rattle.json_writing.specs.Again.{ReadsAgain}
 use Rattle.jiff_core.specs.Calendar.{is_leap_year, days_in_month}
 use Rattle.jiff.proofs.SpanFacts.{signed_arith}
-use Rattle.oci_times.specs.Moment.{Moment, is_day, is_clock, checked, earlier, at_minute, minutes_of}
+use Rattle.oci_times.specs.Moment.{Moment, is_day, is_clock, checked, at_minute, minutes_of}
 use Rattle.oci_times.specs.Reading.{is_digit, digit_value, two_digits, fraction_length, nanoseconds, civil_of, offset_of, in_utc, moment_of, time_of}
-use Rattle.oci_times.proofs.Bridge.{IsDayOf, IsClockOf, day_told, clock_told}
-use Rattle.oci_times.specs.Writing.{digit, two, three, date_text, clock_text, fraction_text, moment_text, time_written}
+use Rattle.oci_times.proofs.Bridge.{day_told, clock_told}
+use Rattle.oci_times.specs.Writing.{digit, three, date_text, clock_text, fraction_text, moment_text, time_written}
 
 digit_is : (n : ℕ) → is_digit (digit n) ≡ true
 unfolding is_digit digit

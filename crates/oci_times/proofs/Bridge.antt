@@ -1,9 +1,9 @@
 -- The tests of a moment, and the calendar's facts.
-use Rattle.std.proofs.Common.{◌≡◌, ℕ, ◌<◌, ◌≤◌, Bool, true, false, ◌&&◌, nat_lt, nat_le, Option, Some, None, refl, sym, ap, subst, ◌∙◌, arith, ℤ, to_z, w8, w16, w32, true≢false}
+use Rattle.std.proofs.Common.{◌≡◌, ℕ, ◌<◌, ◌≤◌, Bool, true, false, ◌&&◌, Some, None, refl, sym, ap, subst, ◌∙◌, arith, ℤ, to_z, w8, w16, w32, true≢false}
 use Rattle.std.specs.Prelude.{pos, unsigned_abs, if◌then◌else◌}
 use Rattle.std.proofs.lemmas.Bool.Decides.{nat_tests}
 use Rattle.std.proofs.lemmas.Int.{to_z_pos}
-use Rattle.jiff_core.specs.Calendar.{IsDate, days_in_month}
+use Rattle.jiff_core.specs.Calendar.{IsDate}
 use Rattle.jiff_core.specs.Date.{IsYmd}
 use Rattle.jiff_core.specs.Time.{IsTime, IsHms}
 use Rattle.jiff_core.specs.declared.civil.datetime.DateTime.{DateTime}
@@ -15,7 +15,7 @@ IsDayOf m = IsDate (pos m.year) (pos m.month) (pos m.day)
 abbrev pub IsClockOf : Moment → Type 0
 IsClockOf m = IsTime (pos m.hour) (pos m.minute) (pos m.second) (pos m.nanosecond)
 
-day_test : (m : Moment) → IsDayOf m → is_day m ≡ true
+pub day_test : (m : Moment) → IsDayOf m → is_day m ≡ true
 day_test m h = grind (arith, nat_tests, h.0.1, h.1.0, h.1.1, h.2.0, h.2.1)
 
 clock_test : (m : Moment) → IsClockOf m → is_clock m ≡ true

@@ -1,4 +1,5 @@
 pub mod Back
 pub mod Bridge
+pub mod Calendar
 pub mod Joins
 pub mod Shares

@@ -1,4 +1,5 @@
 pub mod Equalities
+pub mod Instant
 pub mod Moment
 pub mod Reading
 pub mod Writing
