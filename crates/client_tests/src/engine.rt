@@ -3,7 +3,7 @@ use crate::recorded::{
     CONFIG_DIGEST, LAYER_DIGEST, LAYER_TYPE, MANIFEST, MANIFEST_DIGEST, answer, answer_of, script,
 };
 use json_values::{Blob, List, MemorySink, PlainSink, Text};
-use oci_auth::RegistryAuth;
+use oci_auth::{RegistryAuth, RegistryOperation};
 use oci_engine::{Client, ClientConfig, ImageData};
 use oci_manifests::OciManifest;
 use oci_names::Reference;
@@ -299,5 +299,148 @@ fn unpoured(alloc: Global, script: &mut Script) -> Option<&'static str> {
 fn a_sink_that_fails_ends_the_pull_of_a_blob(rt: HostRuntime) -> Result<(), Fail> {
     let mut streamed = tokenless(rt.alloc(), "hello world")?;
     assert_eq!(rt; unpoured(rt.alloc(), &mut streamed), Some("SinkFault"));
+    Ok(())
+}
+
+// An answer of this status with this challenge, or none.
+fn challenge(alloc: Global, status: u16, header: &str) -> Result<Recorded, HeaderError> {
+    let mut headers = Headers::new(alloc);
+    if !header.is_empty() {
+        headers.add("www-authenticate", header.as_bytes())?;
+    }
+    Ok(Recorded {
+        fails: false,
+        status,
+        headers,
+        pieces: List::new(alloc),
+        fails_before: None,
+    })
+}
+
+const BEARER: &str = r#"Bearer realm="https://auth.example/token",service="r.example""#;
+
+fn basic(alloc: Global) -> Result<RegistryAuth, AllocError> {
+    let user = Text::new(alloc, "user")?;
+    let password = Text::new(alloc, "secret")?;
+    Ok(RegistryAuth::Basic(user, password))
+}
+
+// The URL of each request, with the value of its `authorization`.
+fn shown(alloc: Global, script: &Script) -> Result<String, AllocError> {
+    let mut lines = String::new(alloc);
+    for exchange in script.conversation().as_slice() {
+        lines.push_str(exchange.request.url.as_str())?;
+        if let Some(value) = exchange.request.headers.first("authorization") {
+            lines.push_str(" ")?;
+            lines.push_str(std::str::from_utf8(value).unwrap_or("?"))?;
+        }
+        lines.push_str("\n")?;
+    }
+    Ok(lines)
+}
+
+// The layer's blob at each of these moments, with credentials that are stored.
+fn blobs(
+    alloc: Global,
+    script: &mut Script,
+    auth: &RegistryAuth,
+    moments: &[u64],
+) -> Result<usize, Fail> {
+    let image = Reference::parse(alloc, "r.example/app:v1")?;
+    let mut client = client(alloc)?;
+    client.store_auth_if_needed("r.example", auth)?;
+    let mut found = 0;
+    for moment in moments {
+        if client
+            .pulled_blob(alloc, script, *moment, &image, LAYER_DIGEST)
+            .is_ok()
+        {
+            found = found + 1;
+        }
+    }
+    Ok(found)
+}
+
+#[test]
+fn a_token_is_asked_for_and_used_until_its_end(rt: HostRuntime) -> Result<(), Fail> {
+    let alloc = rt.alloc();
+    let mut answers = List::new(alloc);
+    answers.push(challenge(alloc, 401, BEARER)?)?;
+    answers.push(answer(alloc, "", r#"{"token":"t1"}"#)?)?;
+    answers.push(answer(alloc, LAYER_DIGEST, "hello world")?)?;
+    answers.push(answer(alloc, LAYER_DIGEST, "hello world")?)?;
+    answers.push(challenge(alloc, 200, "")?)?;
+    answers.push(answer(alloc, LAYER_DIGEST, "hello world")?)?;
+    let mut script = Script::new(alloc, answers);
+    let auth = basic(alloc)?;
+    assert_eq!(rt; blobs(alloc, &mut script, &auth, &[100, 160, 161])?, 3);
+    assert_eq!(rt;
+        shown(alloc, &script)?.as_str(),
+        "https://r.example/v2/\nhttps://auth.example/token?scope=repository%3Aapp%3Apull&service=r.example Basic dXNlcjpzZWNyZXQ=\nhttps://r.example/v2/app/blobs/sha256:b94d27b9934d3e08a52e52d7da7dabfac484efe37a5380ee9088f7ace2efcde9 Bearer t1\nhttps://r.example/v2/app/blobs/sha256:b94d27b9934d3e08a52e52d7da7dabfac484efe37a5380ee9088f7ace2efcde9 Bearer t1\nhttps://r.example/v2/\nhttps://r.example/v2/app/blobs/sha256:b94d27b9934d3e08a52e52d7da7dabfac484efe37a5380ee9088f7ace2efcde9\n"
+    );
+    Ok(())
+}
+
+#[test]
+fn credentials_are_shown_where_no_realm_is_named(rt: HostRuntime) -> Result<(), Fail> {
+    let alloc = rt.alloc();
+    let mut answers = List::new(alloc);
+    answers.push(challenge(alloc, 401, "Basic realm=\"r\"")?)?;
+    answers.push(answer(alloc, LAYER_DIGEST, "hello world")?)?;
+    let mut script = Script::new(alloc, answers);
+    let auth = basic(alloc)?;
+    assert_eq!(rt; blobs(alloc, &mut script, &auth, &[100])?, 1);
+    let lines = shown(alloc, &script)?;
+    assert!(rt; lines.as_str().ends_with(" Basic dXNlcjpzZWNyZXQ=\n"));
+    assert!(rt; lines.as_str().starts_with("https://r.example/v2/\n"));
+    Ok(())
+}
+
+// What `auth` answers: the text of a token, or the name of a refusal.
+fn given(alloc: Global, script: &mut Script, op: RegistryOperation) -> Result<Text, Fail> {
+    let image = Reference::parse(alloc, "r.example/app:v1")?;
+    let mut client = client(alloc)?;
+    match client.auth(alloc, script, 100, &image, &RegistryAuth::Anonymous, op) {
+        Ok(Some(text)) => Ok(text),
+        Ok(None) => Ok(Text::new(alloc, "none")?),
+        Err(refusal) => Ok(Text::new(alloc, refusal.name())?),
+    }
+}
+
+#[test]
+fn realms_answer_a_token_or_refuse_it(rt: HostRuntime) -> Result<(), Fail> {
+    let alloc = rt.alloc();
+    for (status, body, expected) in [
+        (200, r#"{"token":"t1"}"#, "t1"),
+        (403, "no", "AuthenticationFailure"),
+        (200, "{}", "RegistryTokenDecodeError"),
+    ] {
+        let mut answers = List::new(alloc);
+        answers.push(challenge(alloc, 401, BEARER)?)?;
+        answers.push(answer_of(alloc, status, "", body)?)?;
+        let mut script = Script::new(alloc, answers);
+        let found = given(alloc, &mut script, RegistryOperation::Push)?;
+        assert_eq!(rt; found.as_str(), expected);
+        let lines = shown(alloc, &script)?;
+        assert!(rt;
+            lines
+                .as_str()
+                .ends_with("scope=repository%3Aapp%3Apull%2Cpush&service=r.example\n")
+        );
+    }
+    Ok(())
+}
+
+#[test]
+fn a_token_past_ascii_is_sent(rt: HostRuntime) -> Result<(), Fail> {
+    let alloc = rt.alloc();
+    for (token, expected) in [("t\u{e9}", 1), ("t\u{7f}", 0)] {
+        let mut answers = List::new(alloc);
+        answers.push(answer(alloc, LAYER_DIGEST, "hello world")?)?;
+        let mut script = Script::new(alloc, answers);
+        let auth = RegistryAuth::Bearer(Text::new(alloc, token)?);
+        assert_eq!(rt; blobs(alloc, &mut script, &auth, &[100])?, expected);
+        assert_eq!(rt; script.conversation().as_slice().len(), expected);
+    }
     Ok(())
 }

@@ -16,6 +16,7 @@ use Rattle.oci_digests.specs.declared.digester.Algorithm.{Algorithm}
 use Rattle.oci_digests.specs.declared.error.DigestError.{DigestError}
 use Rattle.oci_digests.specs.declared.error.DigestError.TheVariants.{VerificationError}
 use Rattle.oci_auth.specs.declared.memory.Memory.{Memory}
+use Rattle.oci_auth.specs.declared.token_type.RegistryOperation.TheVariants.{Pull}
 use Rattle.oci_protocol.specs.Proto.{limit_of, Reply, Headed, Answered, Failed, TooLong, SinkFailed, ◌>>=◌}
 use Rattle.oci_protocol.specs.Runs.{head_part, Runs}
 use Rattle.oci_protocol.specs.Shows.{Shows, ByAnswer, Heard}
@@ -23,6 +24,7 @@ use Rattle.oci_protocol.proofs.Showing.{done_run, Shows-more, Shows-each, Shows-
 use Rattle.engine_requests.specs.declared.blobs.Expected.{Expected}
 use Rattle.engine_requests.specs.declared.blobs.Plan.{Plan}
 use Rattle.engine_requests.specs.declared.blobs.Plan.TheVariants as plan
+use Rattle.engine_requests.specs.Contexts.{Context}
 use Rattle.engine_requests.specs.declared.settings.Settings.{Settings}
 use Rattle.engine_requests.specs.declared.error.OciDistributionError.{OciDistributionError}
 use Rattle.engine_requests.specs.declared.error.OciDistributionError.TheVariants as refusal
@@ -34,7 +36,8 @@ use Rattle.engine_requests.specs.Blobs.{digest_expected, given_expected, pouring
 use Rattle.engine_steps.specs.Rows.{prepared}
 use Rattle.engine_steps.specs.Blobs.{reading_by, blob_reading, unread_by, read_by, blob_reply, attempt}
 use Rattle.engine_pull.specs.Pulls.{pull_blob}
-use Rattle.oci_engine.specs.Causes.{LastAnswer, Claimed, DigestCause, AnswerCause, Cause, AskedDigest, PouredCause}
+use Rattle.oci_engine.specs.Causes.{LastAnswer, Claimed, DigestCause, AnswerCause, AskedDigest}
+use Rattle.oci_engine.proofs.Early.{Loose, LoosePoured}
 use Rattle.oci_engine.proofs.Asking.{accepts_of, Prepared}
 use Rattle.oci_engine.proofs.Digested.{name_cause, name_claimed, differs_claimed, header_cause}
 use Rattle.oci_engine.proofs.Early.{EarlyCause, prepared_causes}
@@ -105,18 +108,18 @@ plan_shape digest answer = by_header digest answer (digest_in (first_of (codes "
 
 -- ---- a blob's cause
 
-pub blob_cause : (s : Settings) (digest : List ℕ) (c : List Exchange) (now : ℕ) (e : OciDistributionError) → Cause (AnswerCause (AskedDigest digest)) s manifest_types c now e → PouredCause s digest c now e
+pub blob_cause : (s : Settings) (digest : List ℕ) (c : List Exchange) (now : ℕ) (e : OciDistributionError) → Loose (AnswerCause (AskedDigest digest)) s manifest_types c now e → LoosePoured s digest c now e
 blob_cause s digest c now refusal.SinkFault h = tt
 blob_cause s digest c now e h = h
 
-shown : (s : Settings) (digest : List ℕ) (c : List Exchange) (now : ℕ) (address : List ℕ) (answer : Answer) (e : OciDistributionError) → LastAnswer c address answer → AnswerCause (AskedDigest digest) address answer e → PouredCause s digest c now e
+shown : (s : Settings) (digest : List ℕ) (c : List Exchange) (now : ℕ) (address : List ℕ) (answer : Answer) (e : OciDistributionError) → LastAnswer c address answer → AnswerCause (AskedDigest digest) address answer e → LoosePoured s digest c now e
 shown s digest c now address answer e last h = blob_cause s digest c now e (answer_cause (AskedDigest digest) s manifest_types now c address answer e last h)
 
 abbrev Any : ℕ → List Exchange → ℕ → List ℕ → Type 0
 Any m c n bytes = Unit {0}
 
 abbrev Blob : Settings → List ℕ → ℕ → List Exchange → ℕ → OciDistributionError → Type 0
-Blob s digest m c n e = PouredCause s digest c n e
+Blob s digest m c n e = LoosePoured s digest c n e
 
 unread_where : (s : Settings) (digest : List ℕ) (m after : ℕ) (c : List Exchange) (address : List ℕ) (answer : Answer) (p : Plan) → PlanShape digest answer p → LastAnswer c address answer → ByAnswer Any (Blob s digest) m c after (unread_by p)
 unread_where s digest m after c address answer (plan.Refuse e) shape last = shown s digest c after address answer (refusal.DigestError e) last shape
@@ -174,7 +177,7 @@ unfolding attempt
 attempt_causes s digest request accepts = Shows-follow (ByAnswer Any (Blob s digest)) 10 request (blob_reading s.max_body_bytes digest) (blob_reply digest) (blob_run s digest request accepts)
 
 -- after other exchanges
-pub blob_later : (s : Settings) (digest : List ℕ) (now : ℕ) (c d : List Exchange) (e : OciDistributionError) → PouredCause s digest d now e → PouredCause s digest (c ++ d) now e
+pub blob_later : (s : Settings) (digest : List ℕ) (now : ℕ) (c d : List Exchange) (e : OciDistributionError) → LoosePoured s digest d now e → LoosePoured s digest (c ++ d) now e
 blob_later s digest now c d refusal.SinkFault h = tt
 blob_later s digest now c d e h = cause_later (AnswerCause (AskedDigest digest)) (AnswerCause (AskedDigest digest)) s manifest_types now c d e (λ address answer h. h) h
 
@@ -187,10 +190,10 @@ early_where s digest P m n c (Ok a) h = h
 early_where s digest P m n c (Err e) h = blob_cause s digest c n e (early_cause (AnswerCause (AskedDigest digest)) s manifest_types n c e h)
 
 -- each refusal has its cause
-pub blob_causes : (s : Settings) (image : Reference) (digest : List ℕ) → Shows (ByAnswer (λ m c n bytes. Unit {0}) (λ m c n e. PouredCause s digest c n e)) (pull_blob s image digest)
+pub blob_causes : (s : Context) (image : Reference) (digest : List ℕ) → Shows (ByAnswer (λ m c n bytes. Unit {0}) (λ m c n e. LoosePoured s.settings digest c n e)) (pull_blob s image digest)
 unfolding pull_blob
-blob_causes s image digest = Shows-step (ByAnswer Any (Blob s digest)) (url_read (blob_text s image digest)) (λ url. prepared s image Get url manifest_types >>= λ request. attempt s.max_body_bytes digest request)
-    (λ url is. Shows-each (λ m c n request. Prepared s Get url manifest_types Get (serialize url) c request) Any (Blob s digest) (prepared s image Get url manifest_types) (λ request. attempt s.max_body_bytes digest request)
-    (Shows-more (ByAnswer (λ m c n request. Prepared s Get url manifest_types Get (serialize url) c request) (λ m c n e. EarlyCause s manifest_types e)) (ByAnswer (λ m c n request. Prepared s Get url manifest_types Get (serialize url) c request) (Blob s digest)) (prepared s image Get url manifest_types) (prepared_causes s image Get url manifest_types Get (serialize url)) (early_where s digest (λ m c n request. Prepared s Get url manifest_types Get (serialize url) c request)))
-    (λ m n c request p. Shows-more (ByAnswer Any (Blob s digest)) (λ start d o r. ByAnswer Any (Blob s digest) m (c ++ d) o r) (attempt s.max_body_bytes digest request) (attempt_causes s digest request (accepts_of s Get url manifest_types request p.made)) (λ start o d r h. later_where s digest m start o c d r h)))
-    (λ e is m. blob_cause s digest [] m e (url_cause (AnswerCause (AskedDigest digest)) s manifest_types (blob_text s image digest) m [] e is))
+blob_causes s image digest = Shows-step (ByAnswer Any (Blob s.settings digest)) (url_read (blob_text s.settings image digest)) (λ url. prepared s image Pull Get url manifest_types >>= λ request. attempt s.settings.max_body_bytes digest request)
+    (λ url is. Shows-each (λ m c n request. Prepared s.settings Get url manifest_types Get (serialize url) c request) Any (Blob s.settings digest) (prepared s image Pull Get url manifest_types) (λ request. attempt s.settings.max_body_bytes digest request)
+    (Shows-more (ByAnswer (λ m c n request. Prepared s.settings Get url manifest_types Get (serialize url) c request) (λ m c n e. EarlyCause s.settings manifest_types e)) (ByAnswer (λ m c n request. Prepared s.settings Get url manifest_types Get (serialize url) c request) (Blob s.settings digest)) (prepared s image Pull Get url manifest_types) (prepared_causes s image Pull Get url manifest_types Get (serialize url)) (early_where s.settings digest (λ m c n request. Prepared s.settings Get url manifest_types Get (serialize url) c request)))
+    (λ m n c request p. Shows-more (ByAnswer Any (Blob s.settings digest)) (λ start d o r. ByAnswer Any (Blob s.settings digest) m (c ++ d) o r) (attempt s.settings.max_body_bytes digest request) (attempt_causes s.settings digest request (accepts_of s.settings Get url manifest_types p.token request p.made)) (λ start o d r h. later_where s.settings digest m start o c d r h)))
+    (λ e is m. blob_cause s.settings digest [] m e (url_cause (AnswerCause (AskedDigest digest)) s.settings manifest_types (blob_text s.settings image digest) m [] e is))

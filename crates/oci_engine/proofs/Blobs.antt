@@ -16,6 +16,7 @@ use Rattle.oci_digests.specs.Checks.{header_digest as digest_in, and_then}
 use Rattle.oci_digests.specs.declared.error.DigestError.{DigestError}
 use Rattle.oci_digests.specs.declared.error.DigestError.TheVariants.{VerificationError}
 use Rattle.oci_auth.specs.declared.memory.Memory.{Memory}
+use Rattle.oci_auth.specs.declared.token_type.RegistryOperation.TheVariants.{Pull}
 use Rattle.oci_protocol.specs.Proto.{Unread, Reply, Headed, Answered, Failed, TooLong, SinkFailed, ◌>>=◌}
 use Rattle.oci_protocol.specs.Runs.{head_part, Runs}
 use Rattle.oci_protocol.specs.Shows.{Shows, WhereOk, Heard}
@@ -23,7 +24,7 @@ use Rattle.oci_protocol.proofs.Showing.{done_run, Shows-more, Shows-next, Shows-
 use Rattle.engine_requests.specs.declared.blobs.Expected.{Expected}
 use Rattle.engine_requests.specs.declared.blobs.Plan.{Plan}
 use Rattle.engine_requests.specs.declared.blobs.Plan.TheVariants as plan
-use Rattle.engine_requests.specs.declared.settings.Settings.{Settings}
+use Rattle.engine_requests.specs.Contexts.{Context}
 use Rattle.engine_requests.specs.declared.error.OciDistributionError.{OciDistributionError}
 use Rattle.engine_requests.specs.declared.error.OciDistributionError.TheVariants as refusal
 use Rattle.engine_requests.specs.Errors.{◌>>◌ as ◌before◌}
@@ -125,9 +126,9 @@ later_where digest c m start n d (Ok bytes) h = (body_after c h.0, h.1, last_aft
 later_where digest c m start n d (Err e) h = tt
 
 -- the bytes are those of an answer, and the digest names them
-pub blob_shows : (s : Settings) (image : Reference) (digest : List ℕ) → Shows (WhereOk (λ m c n bytes. Blob digest c bytes)) (pull_blob s image digest)
+pub blob_shows : (s : Context) (image : Reference) (digest : List ℕ) → Shows (WhereOk (λ m c n bytes. Blob digest c bytes)) (pull_blob s image digest)
 unfolding pull_blob
-blob_shows s image digest = Shows-step (WhereOk (λ m c n bytes. Blob digest c bytes)) (url_read (blob_text s image digest)) (λ url. prepared s image Get url manifest_types >>= λ request. attempt s.max_body_bytes digest request)
-    (λ url is. Shows-next (λ m c n request. Prepared s Get url manifest_types Get (serialize url) c request) (λ m c n bytes. Blob digest c bytes) (prepared s image Get url manifest_types) (λ request. attempt s.max_body_bytes digest request) (prepared_shows s image Get url manifest_types Get (serialize url))
-    (λ m n c request p. Shows-more (WhereOk (λ m c n bytes. Blob digest c bytes)) (λ start d o r. WhereOk (λ m c n bytes. Blob digest c bytes) m (c ++ d) o r) (attempt s.max_body_bytes digest request) (attempt_shows digest request s.max_body_bytes) (λ start o d r h. later_where digest c m start o d r h)))
+blob_shows s image digest = Shows-step (WhereOk (λ m c n bytes. Blob digest c bytes)) (url_read (blob_text s.settings image digest)) (λ url. prepared s image Pull Get url manifest_types >>= λ request. attempt s.settings.max_body_bytes digest request)
+    (λ url is. Shows-next (λ m c n request. Prepared s.settings Get url manifest_types Get (serialize url) c request) (λ m c n bytes. Blob digest c bytes) (prepared s image Pull Get url manifest_types) (λ request. attempt s.settings.max_body_bytes digest request) (prepared_shows s image Pull Get url manifest_types Get (serialize url))
+    (λ m n c request p. Shows-more (WhereOk (λ m c n bytes. Blob digest c bytes)) (λ start d o r. WhereOk (λ m c n bytes. Blob digest c bytes) m (c ++ d) o r) (attempt s.settings.max_body_bytes digest request) (attempt_shows digest request s.settings.max_body_bytes) (λ start o d r h. later_where digest c m start o d r h)))
     (λ e is m. tt)

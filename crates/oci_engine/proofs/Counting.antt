@@ -6,8 +6,11 @@ use Rattle.oci_transport.specs.Link.{Link}
 use Rattle.oci_transport.specs.declared.message.Exchange.{Exchange}
 use Rattle.oci_protocol.specs.Proto.{Proto, Done, Ask, Recall, Keep}
 use Rattle.oci_protocol.specs.Runs.{Runs, Performs, Breaks, Outcome, Meets, Told}
+use Rattle.oci_protocol.specs.Safe.{Safe}
 use Rattle.oci_protocol.specs.Shows.{Shows, ByAnswer}
+use Rattle.oci_protocol.proofs.Ending.{Runs-ends-safe}
 use Rattle.oci_engine.specs.Causes.{LastFailed}
+use Rattle.oci_engine.specs.TokenCauses.{LastIs}
 
 -- each exchange was sent at this count or a higher one
 abbrev SentFrom : ℕ → List Exchange → Type 0
@@ -41,11 +44,23 @@ failed_rose m n c sent f =
     let first : m ≤ f.last.faults = sent_last m f.asked.redirects f.last (sent_after m f.asked.front (f.asked.redirects ++ f.last ∷ []) (subst (SentFrom m) f.asked.split sent)) in
     omega (arith, first, f.rose)
 
--- the call's refusal e comes only where its last exchange failed, and so only where the count rose
-pub fault_rose : {K A E : Type 0} {of_memory : E → Bool} (P : ℕ → List Exchange → ℕ → A → Type 0) (R : ℕ → List Exchange → ℕ → E → Type 0) (p : Proto K (Result A E)) (e : E) {old new : Link} {k l : K} → of_memory e ≡ false → ((m n : ℕ) (c : List Exchange) → R m c n e → LastFailed c n) → Shows (ByAnswer P R) p → Meets of_memory p old new k l (Err e) → Rose old.faults new.faults
-fault_rose {K} {A} {E} {of_memory} P R p e {old} {new} {k} {l} other fails h met = performed (rw other at met.outcome) where
+last_rose : (m n : ℕ) (c : List Exchange) → SentFrom m c → LastIs (λ e. Rose e.faults n) c → Rose m n
+last_rose m n c sent f =
+    let first : m ≤ f.last.faults = sent_last m f.before f.last (subst (SentFrom m) f.split sent) in
+    omega (arith, first, f.holds)
+
+-- the call's refusal e comes only where the count rose
+fault_by : {K A E : Type 0} {of_memory : E → Bool} (P : ℕ → List Exchange → ℕ → A → Type 0) (R : ℕ → List Exchange → ℕ → E → Type 0) (p : Proto K (Result A E)) (e : E) {old new : Link} {k l : K} → of_memory e ≡ false → ((m n : ℕ) (c : List Exchange) → SentFrom m c → R m c n e → Rose m n) → Shows (ByAnswer P R) p → Meets of_memory p old new k l (Err e) → Rose old.faults new.faults
+fault_by {K} {A} {E} {of_memory} P R p e {old} {new} {k} {l} other rises h met = performed (rw other at met.outcome) where
   performed : Performs p old new k l (Err e) → Rose old.faults new.faults
-  performed run = failed_rose old.faults new.faults run.conversation (runs_sent p k l old.faults new.faults run.conversation (Err e) run.runs) (fails old.faults new.faults run.conversation (h.shows k l old.faults new.faults run.conversation (Err e) run.runs))
+  performed run = rises old.faults new.faults run.conversation (runs_sent p k l old.faults new.faults run.conversation (Err e) run.runs) (h.shows k l old.faults new.faults run.conversation (Err e) run.runs)
+
+-- where its last exchange failed
+pub fault_rose : {K A E : Type 0} {of_memory : E → Bool} (P : ℕ → List Exchange → ℕ → A → Type 0) (R : ℕ → List Exchange → ℕ → E → Type 0) (p : Proto K (Result A E)) (e : E) {old new : Link} {k l : K} → of_memory e ≡ false → ((m n : ℕ) (c : List Exchange) → R m c n e → LastFailed c n) → Shows (ByAnswer P R) p → Meets of_memory p old new k l (Err e) → Rose old.faults new.faults
+fault_rose P R p e other fails h met = fault_by P R p e other (λ m n c sent r. failed_rose m n c sent (fails m n c r)) h met
+
+pub fault_last : {K A E : Type 0} {of_memory : E → Bool} (P : ℕ → List Exchange → ℕ → A → Type 0) (R : ℕ → List Exchange → ℕ → E → Type 0) (p : Proto K (Result A E)) (e : E) {old new : Link} {k l : K} → of_memory e ≡ false → ((m n : ℕ) (c : List Exchange) → R m c n e → LastIs (λ x. Rose x.faults n) c) → Shows (ByAnswer P R) p → Meets of_memory p old new k l (Err e) → Rose old.faults new.faults
+fault_last P R p e other fails h met = fault_by P R p e other (λ m n c sent r. last_rose m n c sent (fails m n c r)) h met
 
 -- what was told has the cause of the refusal; want of memory has none
 pub refusal_told : {K A E : Type 0} {of_memory : E → Bool} (P : ℕ → List Exchange → ℕ → A → Type 0) (R : ℕ → List Exchange → ℕ → E → Type 0) (p : Proto K (Result A E)) {old new : Link} {k l : K} {r : Result A E} → ((m n : ℕ) (c : List Exchange) (e : E) → of_memory e ≡ true → R m c n e) → Shows (ByAnswer P R) p → Meets of_memory p old new k l r → IfErr r (λ e. Told (λ c. R old.faults c new.faults e) old new)
@@ -55,5 +70,21 @@ refusal_told {K} {A} {E} {of_memory} P R p {old} {new} {k} {l} {r} free h met = 
   by_memory false e is run = record { conversation = run.conversation; told = run.told; holds = h.shows k l old.faults new.faults run.conversation (Err e) run.runs }
 
   by_result : (r : Result A E) → Outcome of_memory p old new k l r → IfErr r (λ e. Told (λ c. R old.faults c new.faults e) old new)
+  by_result (Ok a) run = tt
+  by_result (Err e) run = by_memory (of_memory e) e refl run
+
+-- so it is where the cause comes of what the protocol shows and of what it keeps to
+pub refusal_both : {K A E : Type 0} {of_memory : E → Bool} (P : ℕ → List Exchange → ℕ → A → Type 0) (R : ℕ → List Exchange → ℕ → E → Type 0) (I : K → List Exchange → Type 0) (Q : K → List Exchange → Result A E → Type 0) (T : List Exchange → ℕ → E → Type 0) (p : Proto K (Result A E)) {old new : Link} {k l : K} {r : Result A E}
+    → ((n : ℕ) (c : List Exchange) (e : E) → of_memory e ≡ true → T c n e) → ((m n : ℕ) (c : List Exchange) (e : E) → R m c n e → Q l c (Err e) → T c n e) → Shows (ByAnswer P R) p → Safe (λ k c request. Unit {0}) I Q k [] p → Meets of_memory p old new k l r → IfErr r (λ e. Told (λ c. T c new.faults e) old new)
+refusal_both {K} {A} {E} {of_memory} P R I Q T p {old} {new} {k} {l} {r} free both h safe met = by_result r met.outcome where
+  by_memory : (b : Bool) (e : E) → of_memory e ≡ b → MatchBool b (Breaks p old new k l) (Performs p old new k l (Err e)) → Told (λ c. T c new.faults e) old new
+  by_memory true e is run = record { conversation = run.conversation; told = run.told; holds = free new.faults run.conversation e is }
+  by_memory false e is run = record {
+    conversation = run.conversation;
+    told = run.told;
+    holds = both old.faults new.faults run.conversation e (h.shows k l old.faults new.faults run.conversation (Err e) run.runs) (Runs-ends-safe (λ k c request. Unit {0}) I Q p k l old.faults new.faults [] run.conversation (Err e) safe run.runs);
+  }
+
+  by_result : (r : Result A E) → Outcome of_memory p old new k l r → IfErr r (λ e. Told (λ c. T c new.faults e) old new)
   by_result (Ok a) run = tt
   by_result (Err e) run = by_memory (of_memory e) e refl run

@@ -18,7 +18,9 @@ use Rattle.oci_protocol.specs.Runs.{Runs}
 use Rattle.oci_protocol.specs.Shows.{Shows, WhereOk, Heard}
 use Rattle.oci_protocol.proofs.Showing.{done_run, Shows-more, Shows-next, Shows-step, Shows-last, Shows-follow}
 use Rattle.oci_auth.specs.declared.memory.Memory.{Memory}
+use Rattle.oci_auth.specs.declared.token_type.RegistryOperation.TheVariants.{Pull}
 use Rattle.engine_requests.specs.declared.answers.Got.{Got}
+use Rattle.engine_requests.specs.Contexts.{Context}
 use Rattle.engine_requests.specs.declared.settings.Settings.{Settings}
 use Rattle.engine_requests.specs.declared.error.OciDistributionError.{OciDistributionError}
 use Rattle.engine_requests.specs.declared.error.OciDistributionError.TheVariants as refusal
@@ -94,7 +96,7 @@ by_document {image} {found = found} f =
     let v = f.validly in
     record { get = f.get; body = record { status = v.status; header = v.header; header_is = v.header_is; digest = v.validates.answer; names = names_of f.get.answer.body v.header (digest_of image) found.1 v.validates } }
 
-after_shows : (s : Settings) (image : Reference) (url : Parts) (x : Named) → Shows (WhereOk (λ m c n d. After image (serialize url) x c d)) (digest_by s image url x)
+after_shows : (s : Context) (image : Reference) (url : Parts) (x : Named) → Shows (WhereOk (λ m c n d. After image (serialize url) x c d)) (digest_by s image url x)
 after_shows s image url (named.ByHeader digest got) = Shows-step (WhereOk (λ m c n d. After image (serialize url) (named.ByHeader digest got) c d)) (accepted got.url got.answer) (λ answer. Done (fits_reference digest (digest_of image)))
     (λ answer is. Shows-last (λ m c n d. After image (serialize url) (named.ByHeader digest got) c d) (λ m c n e. Unit {0}) (fits_reference digest (digest_of image)) (λ d fits m. (refl, (accepted_is got.url got.answer answer is).0, fits_is digest (digest_of image) d fits)) (λ e is m. tt))
     (λ e is m. tt)
@@ -125,8 +127,8 @@ digest_where : (image : Reference) (address : List ℕ) (request : Request) (x :
 digest_where image address request x c names m start n d (Ok t) after = read_digest image address request x c d t names after
 digest_where image address request x c names m start n d (Err e) after = tt
 
-read_shows : (s : Settings) (image : Reference) (url : Parts) (request : Request) → Shows (WhereOk (λ m c n t. DigestRead image (serialize url) request c t)) (named_after 10 request s.max_body_bytes >>= λ x. digest_by s image url x)
-read_shows s image url request = Shows-next (λ m c n x. Names request c x) (λ m c n t. DigestRead image (serialize url) request c t) (named_after 10 request s.max_body_bytes) (λ x. digest_by s image url x) (named_shows request s.max_body_bytes)
+read_shows : (s : Context) (image : Reference) (url : Parts) (request : Request) → Shows (WhereOk (λ m c n t. DigestRead image (serialize url) request c t)) (named_after 10 request s.settings.max_body_bytes >>= λ x. digest_by s image url x)
+read_shows s image url request = Shows-next (λ m c n x. Names request c x) (λ m c n t. DigestRead image (serialize url) request c t) (named_after 10 request s.settings.max_body_bytes) (λ x. digest_by s image url x) (named_shows request s.settings.max_body_bytes)
     (λ m n c x names. Shows-more (WhereOk (λ m c n t. After image (serialize url) x c t)) (λ start d o r. WhereOk (λ m c n t. DigestRead image (serialize url) request c t) m (c ++ d) o r) (digest_by s image url x) (after_shows s image url x) (λ start o d r h. digest_where image (serialize url) request x c names m start o d r h))
 
 -- the first HEAD for the address led to one
@@ -136,7 +138,7 @@ record HeadRead (image : Reference) (address : List ℕ) (c : List Exchange) (d 
 
 head_read : (s : Settings) (image : Reference) (url : Parts) (c d : List Exchange) (request : Request) (digest : List ℕ) → Prepared s Head url manifest_types Head (serialize url) c request → DigestRead image (serialize url) request d digest → HeadRead image (serialize url) (c ++ d) digest
 head_read s image url c d request digest p r = record {
-  head = first_asked Head (serialize url) c r.asked r.after d request r.answer p.none (asks_of s Head url manifest_types request p.made) r.led r.split;
+  head = first_asked Head (serialize url) c r.asked r.after d request r.answer p.none (asks_of s Head url manifest_types p.token request p.made) r.led r.split;
   digest = r.digest;
 }
 
@@ -144,9 +146,9 @@ head_where : (s : Settings) (image : Reference) (url : Parts) (c : List Exchange
 head_where s image url c request p m start n d (Ok t) r = head_read s image url c d request t p r
 head_where s image url c request p m start n d (Err e) r = tt
 
-head_shows : (s : Settings) (image : Reference) (url : Parts) → Shows (WhereOk (λ m c n t. HeadRead image (serialize url) c t)) (prepared s image Head url manifest_types >>= λ request. named_after 10 request s.max_body_bytes >>= λ x. digest_by s image url x)
-head_shows s image url = Shows-next (λ m c n request. Prepared s Head url manifest_types Head (serialize url) c request) (λ m c n t. HeadRead image (serialize url) c t) (prepared s image Head url manifest_types) (λ request. named_after 10 request s.max_body_bytes >>= λ x. digest_by s image url x) (prepared_shows s image Head url manifest_types Head (serialize url))
-    (λ m n c request p. Shows-more (WhereOk (λ m c n t. DigestRead image (serialize url) request c t)) (λ start d o r. WhereOk (λ m c n t. HeadRead image (serialize url) c t) m (c ++ d) o r) (named_after 10 request s.max_body_bytes >>= λ x. digest_by s image url x) (read_shows s image url request) (λ start o d r h. head_where s image url c request p m start o d r h))
+head_shows : (s : Context) (image : Reference) (url : Parts) → Shows (WhereOk (λ m c n t. HeadRead image (serialize url) c t)) (prepared s image Pull Head url manifest_types >>= λ request. named_after 10 request s.settings.max_body_bytes >>= λ x. digest_by s image url x)
+head_shows s image url = Shows-next (λ m c n request. Prepared s.settings Head url manifest_types Head (serialize url) c request) (λ m c n t. HeadRead image (serialize url) c t) (prepared s image Pull Head url manifest_types) (λ request. named_after 10 request s.settings.max_body_bytes >>= λ x. digest_by s image url x) (prepared_shows s image Pull Head url manifest_types Head (serialize url))
+    (λ m n c request p. Shows-more (WhereOk (λ m c n t. DigestRead image (serialize url) request c t)) (λ start d o r. WhereOk (λ m c n t. HeadRead image (serialize url) c t) m (c ++ d) o r) (named_after 10 request s.settings.max_body_bytes >>= λ x. digest_by s image url x) (read_shows s image url request) (λ start o d r h. head_where s.settings image url c request p m start o d r h))
 
 -- ---- the row
 
@@ -164,9 +166,9 @@ answered_where s image url c is none m start n d (Ok t) h = record { url = url; 
 answered_where s image url c is none m start n d (Err e) h = tt
 
 -- the digest is the one that the registry answered
-pub digest_shows : (s : Settings) (image : Reference) (a : RegistryAuth) → Shows (WhereOk (λ m c n t. Digest s image c t)) (fetch_manifest_digest s image a)
+pub digest_shows : (s : Context) (image : Reference) (a : RegistryAuth) → Shows (WhereOk (λ m c n t. Digest s.settings image c t)) (fetch_manifest_digest s image a)
 unfolding fetch_manifest_digest
-digest_shows s image a = Shows-next Stored (λ m c n t. Digest s image c t) (store image a) (λ u. Done (url_read (manifest_text s image)) >>= λ url. prepared s image Head url manifest_types >>= λ request. named_after 10 request s.max_body_bytes >>= λ x. digest_by s image url x) (stored_shows image a)
-    (λ m n c u none. Shows-step (λ start d o r. WhereOk (λ m c n t. Digest s image c t) m (c ++ d) o r) (url_read (manifest_text s image)) (λ url. prepared s image Head url manifest_types >>= λ request. named_after 10 request s.max_body_bytes >>= λ x. digest_by s image url x)
-    (λ url is. Shows-more (WhereOk (λ m c n t. HeadRead image (serialize url) c t)) (λ start d o r. WhereOk (λ m c n t. Digest s image c t) m (c ++ d) o r) (prepared s image Head url manifest_types >>= λ request. named_after 10 request s.max_body_bytes >>= λ x. digest_by s image url x) (head_shows s image url) (λ start o d r h. answered_where s image url c is none m start o d r h))
+digest_shows s image a = Shows-next Stored (λ m c n t. Digest s.settings image c t) (store image a) (λ u. Done (url_read (manifest_text s.settings image)) >>= λ url. prepared s image Pull Head url manifest_types >>= λ request. named_after 10 request s.settings.max_body_bytes >>= λ x. digest_by s image url x) (stored_shows image a)
+    (λ m n c u none. Shows-step (λ start d o r. WhereOk (λ m c n t. Digest s.settings image c t) m (c ++ d) o r) (url_read (manifest_text s.settings image)) (λ url. prepared s image Pull Head url manifest_types >>= λ request. named_after 10 request s.settings.max_body_bytes >>= λ x. digest_by s image url x)
+    (λ url is. Shows-more (WhereOk (λ m c n t. HeadRead image (serialize url) c t)) (λ start d o r. WhereOk (λ m c n t. Digest s.settings image c t) m (c ++ d) o r) (prepared s image Pull Head url manifest_types >>= λ request. named_after 10 request s.settings.max_body_bytes >>= λ x. digest_by s image url x) (head_shows s image url) (λ start o d r h. answered_where s.settings image url c is none m start o d r h))
     (λ e is o. tt))

@@ -19,12 +19,14 @@ use Rattle.oci_digests.specs.declared.error.DigestError.{DigestError}
 use Rattle.oci_digests.proofs.Validated.{validates}
 use Rattle.oci_auth.specs.declared.auth.RegistryAuth.{RegistryAuth}
 use Rattle.oci_auth.specs.declared.memory.Memory.{Memory}
+use Rattle.oci_auth.specs.declared.token_type.RegistryOperation.TheVariants.{Pull}
 use Rattle.oci_protocol.specs.Proto.{Reading, Reply, Headed, Answered, Failed, TooLong, SinkFailed, read_within, Done, ◌>>=◌}
 use Rattle.oci_protocol.specs.Runs.{head_part, Runs}
 use Rattle.oci_protocol.specs.Follow.{Trail, IsFinal}
 use Rattle.oci_protocol.specs.Shows.{Shows, WhereOk, Heard}
 use Rattle.oci_protocol.proofs.Showing.{done_run, Shows-more, Shows-next, Shows-step, Shows-last, Shows-follow}
 use Rattle.engine_requests.specs.declared.answers.Got.{Got}
+use Rattle.engine_requests.specs.Contexts.{Context}
 use Rattle.engine_requests.specs.declared.settings.Settings.{Settings}
 use Rattle.engine_requests.specs.declared.error.OciDistributionError.{OciDistributionError}
 use Rattle.engine_requests.specs.declared.error.OciDistributionError.TheVariants as refusal
@@ -178,7 +180,7 @@ pub record Found (image : Reference) (address : List ℕ) (c : List Exchange) (f
 
 found_more : (s : Settings) (image : Reference) (url : Parts) (types : List ℕ) (c d : List Exchange) (request : Request) (found : List ℕ × List ℕ) → Prepared s Get url types Get (serialize url) c request → Read image request d found → Found image (serialize url) (c ++ d) found
 found_more s image url types c d request found p r = record {
-  get = first_asked Get (serialize url) c d [] d request r.answer p.none (asks_of s Get url types request p.made) r.led (sym (append-nil d));
+  get = first_asked Get (serialize url) c d [] d request r.answer p.none (asks_of s Get url types p.token request p.made) r.led (sym (append-nil d));
   validly = r.validly;
 }
 
@@ -186,10 +188,10 @@ found_where : (s : Settings) (image : Reference) (url : Parts) (types : List ℕ
 found_where s image url types c request p m start n d (Ok found) r = found_more s image url types c d request found p r
 found_where s image url types c request p m start n d (Err e) r = tt
 
-pub document_shows : (s : Settings) (image : Reference) (url : Parts) (types : List ℕ) → Shows (WhereOk (λ m c n found. Found image (serialize url) c found)) (document s image url types)
+pub document_shows : (s : Context) (image : Reference) (url : Parts) (types : List ℕ) → Shows (WhereOk (λ m c n found. Found image (serialize url) c found)) (document s image url types)
 unfolding document
-document_shows s image url types = Shows-next (λ m c n request. Prepared s Get url types Get (serialize url) c request) (λ m c n found. Found image (serialize url) c found) (prepared s image Get url types) (λ request. whole 10 request s.max_body_bytes >>= λ got. Done (document_in image got)) (prepared_shows s image Get url types Get (serialize url))
-    (λ m n c request p. Shows-more (WhereOk (λ m c n found. Read image request c found)) (λ start d o r. WhereOk (λ m c n found. Found image (serialize url) c found) m (c ++ d) o r) (whole 10 request s.max_body_bytes >>= λ got. Done (document_in image got)) (read_shows image request s.max_body_bytes) (λ start o d r h. found_where s image url types c request p m start o d r h))
+document_shows s image url types = Shows-next (λ m c n request. Prepared s.settings Get url types Get (serialize url) c request) (λ m c n found. Found image (serialize url) c found) (prepared s image Pull Get url types) (λ request. whole 10 request s.settings.max_body_bytes >>= λ got. Done (document_in image got)) (prepared_shows s image Pull Get url types Get (serialize url))
+    (λ m n c request p. Shows-more (WhereOk (λ m c n found. Read image request c found)) (λ start d o r. WhereOk (λ m c n found. Found image (serialize url) c found) m (c ++ d) o r) (whole 10 request s.settings.max_body_bytes >>= λ got. Done (document_in image got)) (read_shows image request s.settings.max_body_bytes) (λ start o d r h. found_where s.settings image url types c request p m start o d r h))
 
 document_of : {image : Reference} {address : List ℕ} {c : List Exchange} {found : List ℕ × List ℕ} → Found image address c found → Document image c found.0 found.1
 document_of {image} {address} {c} {found} f =
@@ -213,11 +215,11 @@ later_where image address c m start n d (Ok found) f = document_later c (documen
 later_where image address c m start n d (Err e) f = tt
 
 -- the bytes are those of an answer, and the digest names them
-pub raw_shows : (s : Settings) (image : Reference) (a : RegistryAuth) (types : List ℕ) → Shows (WhereOk (λ m c n found. Document image c found.0 found.1)) (pull_manifest_raw s image a types)
+pub raw_shows : (s : Context) (image : Reference) (a : RegistryAuth) (types : List ℕ) → Shows (WhereOk (λ m c n found. Document image c found.0 found.1)) (pull_manifest_raw s image a types)
 unfolding pull_manifest_raw
-raw_shows s image a types = Shows-next (λ m c n u. Unit {0}) (λ m c n found. Document image c found.0 found.1) (store image a) (λ u. Done (url_read (manifest_text s image)) >>= λ url. document s image url types)
+raw_shows s image a types = Shows-next (λ m c n u. Unit {0}) (λ m c n found. Document image c found.0 found.1) (store image a) (λ u. Done (url_read (manifest_text s.settings image)) >>= λ url. document s image url types)
     (Shows-more (λ m c n u. NoneAsks Get [] c) (WhereOk (λ m c n u. Unit {0})) (store image a) (quiet_store Get [] image a) (λ m n c r h. any_where m n c r))
-    (λ m n c u h. Shows-step (λ start d o r. WhereOk (λ m c n found. Document image c found.0 found.1) m (c ++ d) o r) (url_read (manifest_text s image)) (λ url. document s image url types)
+    (λ m n c u h. Shows-step (λ start d o r. WhereOk (λ m c n found. Document image c found.0 found.1) m (c ++ d) o r) (url_read (manifest_text s.settings image)) (λ url. document s image url types)
     (λ url is. Shows-more (WhereOk (λ m c n found. Found image (serialize url) c found)) (λ start d o r. WhereOk (λ m c n found. Document image c found.0 found.1) m (c ++ d) o r) (document s image url types) (document_shows s image url types) (λ start o d r f. later_where image (serialize url) c m start o d r f))
     (λ e is o. tt)) where
       any_where : {A E : Type 0} (m n : ℕ) (c : List Exchange) (r : Result A E) → WhereOk (λ m c n (u : A). Unit {0}) m c n r

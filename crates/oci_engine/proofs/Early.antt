@@ -1,38 +1,53 @@
 -- Why a call was refused before its request was made.
-use Rattle.std.proofs.Common.{◌≡◌, ◌⊎◌, inl, inr, ℕ, Bool, true, false, List, [], ◌∷◌, ◌++◌, Option, Some, None, Result, Ok, Err, codes, length, unwrap_or, refl, sym, ap, subst, ◌∙◌}
-use Rattle.std.specs.Prelude.{◌&&◌, nat_lt, sum_by, if◌then◌else◌}
-use Rattle.std.proofs.lemmas.List.{nil_from_length}
+use Rattle.std.proofs.Common.{◌≡◌, ℕ, Bool, true, false, List, Option, Some, None, Result, Ok, Err, codes, refl}
+use Rattle.std.specs.Prelude.{◌&&◌, nat_lt, if◌then◌else◌}
 use Rattle.std.specs.FinMap as map
-use Rattle.std.specs.FinMap.{entries-insert, len-entries, len-empty, get-empty, put}
-use Rattle.std.specs.Cmp.Lexicographic.{nat_list_cmp_total}
 use Rattle.url.specs.Parts.{Parts, serialize}
-use Rattle.json_values.specs.Places.{by_bytes}
-use Rattle.oci_transport.specs.Headers.{Fields, values_of, added, held, is_header_value}
+use Rattle.oci_transport.specs.Headers.{Fields, added, held, is_header_value}
 use Rattle.oci_transport.specs.Urls.{request_url}
+use Rattle.oci_transport.specs.declared.message.Answer.{Answer}
 use Rattle.oci_transport.specs.declared.message.Exchange.{Exchange}
 use Rattle.oci_transport.specs.declared.message.Method.{Method}
 use Rattle.oci_names.specs.declared.reference.Reference.{Reference}
 use Rattle.oci_names.specs.References.{resolved_registry}
 use Rattle.oci_auth.specs.declared.auth.RegistryAuth.{RegistryAuth}
 use Rattle.oci_auth.specs.declared.memory.Memory.{Memory}
+use Rattle.oci_auth.specs.Caches.{key_of, token_at}
+use Rattle.oci_auth.specs.Credentials.{authorization_of}
+use Rattle.oci_auth.specs.Keys.{Key}
+use Rattle.oci_auth.specs.declared.token_type.RegistryOperation.{RegistryOperation}
+use Rattle.oci_auth.specs.declared.token_type.RegistryTokenType.{RegistryTokenType}
 use Rattle.oci_protocol.specs.Proto.{Done, bind, unless_refused, ◌>>=◌}
 use Rattle.oci_protocol.specs.Ends.{Ends}
 use Rattle.oci_protocol.specs.Shows.{Shows, ByAnswer, WhereOk}
 use Rattle.oci_protocol.proofs.Ends.{Ends-any, Ends-bind, Runs-ends}
+use Rattle.engine_requests.specs.Contexts.{Context}
 use Rattle.engine_requests.specs.declared.settings.Settings.{Settings}
 use Rattle.engine_requests.specs.declared.error.GenericCause.TheVariants.{HeaderText}
 use Rattle.engine_requests.specs.declared.error.OciDistributionError.{OciDistributionError}
 use Rattle.engine_requests.specs.declared.error.OciDistributionError.TheVariants as refusal
 use Rattle.engine_requests.specs.Errors.{◌>>=◌ as ◌into◌}
 use Rattle.engine_requests.specs.Addresses.{url_or, url_read, registry_text}
-use Rattle.engine_requests.specs.Requests.{with_header, with_accept, headers_of, request_of, bare_request}
-use Rattle.engine_steps.specs.Rows.{Row, passed_over, token_step, token_asked, token_by, token_for, goes_to, token_where, authorized, prepared, store}
-use Rattle.oci_engine.proofs.Asking.{Prepared, prepared_shows, with_ok}
+use Rattle.engine_requests.specs.Requests.{with_header, with_accept, with_token, headers_of, request_of, bare_request}
+use Rattle.engine_steps.specs.Rows.{Row, passed_over, taken, token_step, token_asked, kept_or_asked, token_by, token_for, goes_to, token_where, authorized, prepared, store}
+use Rattle.oci_engine.specs.Causes.{Cause, PouredCause}
+use Rattle.oci_engine.proofs.Asking.{Prepared, prepared_shows}
 
--- a text that was built is no URL, or a value cannot stand in a header
+-- ---- causes, whatever value it is that cannot stand in a header
+
+abbrev pub AnyValue : List Exchange → Type 0
+AnyValue c = Unit {0}
+
+abbrev pub Loose : (List ℕ → Answer → OciDistributionError → Type 0) → Settings → List ℕ → List Exchange → ℕ → OciDistributionError → Type 0
+Loose Of s types c now e = Cause Of AnyValue s c now e
+
+abbrev pub LoosePoured : Settings → List ℕ → List Exchange → ℕ → OciDistributionError → Type 0
+LoosePoured s digest c now e = PouredCause AnyValue s digest c now e
+
+-- a text that was built is no URL, or a value cannot stand in a header (which value, `Shown` says)
 abbrev pub EarlyCause : Settings → List ℕ → OciDistributionError → Type 0
 EarlyCause s types (refusal.UrlParseError text) = request_url text ≡ None
-EarlyCause s types (refusal.GenericError HeaderText) = (is_header_value s.user_agent ≡ false) ⊎ (is_header_value types ≡ false)
+EarlyCause s types (refusal.GenericError HeaderText) = Unit {0}
 EarlyCause s types refusal.WantOfMemory = Unit {0}
 EarlyCause s types _ = ⊥
 
@@ -48,52 +63,32 @@ url_early s types text None is = is
 pub read_early : (s : Settings) (types text : List ℕ) → Early s types (url_read text)
 read_early s types text = url_early s types text (request_url text) refl
 
--- ---- few fields are held
-
-no_entries : map.entries (map.empty {X = List (List ℕ)} {R = by_bytes}) ≡ []
-no_entries = nil_from_length _ (sym (len-entries map.empty) ∙ len-empty by_bytes (List (List ℕ)))
-
-one_held : (name value : List ℕ) → held (added map.empty name value) ≡ 1
-one_held name value =
-    ap (λ (es : List (List ℕ × List (List ℕ))). sum_by (λ e. length e.1) es) (entries-insert nat_list_cmp_total map.empty name (values_of name map.empty ++ value ∷ []) ∙ ap (λ (es : List (List ℕ × List (List ℕ))). put by_bytes name (values_of name map.empty ++ value ∷ []) es) no_entries)
-    ∙ ap (λ (o : Option (List (List ℕ))). sum_by (λ (e : List ℕ × List (List ℕ)). length e.1) ((name, unwrap_or o [] ++ value ∷ []) ∷ [])) (get-empty by_bytes name)
-
-none_held : held map.empty ≡ 0
-none_held = ap (λ (es : List (List ℕ × List (List ℕ))). sum_by (λ e. length e.1) es) no_entries
-
 -- ---- headers
 
-header_early : (headers : Fields) (name value : List ℕ) (e : OciDistributionError) (n : ℕ) → held headers ≡ n → nat_lt n 1000 ≡ true → with_header headers name value ≡ Err e → (is_header_value value ≡ false) × (e ≡ refusal.GenericError HeaderText)
-header_early headers name value e n few small = by_test (is_header_value value) refl where
-  room : nat_lt (held headers) 1000 ≡ true
-  room = ap (λ n. nat_lt n 1000) few ∙ small
+header_early : (s : Settings) (types : List ℕ) (headers : Fields) (name value : List ℕ) → Early s types (with_header headers name value)
+header_early s types headers name value = by_test (is_header_value value && nat_lt (held headers) 1000) where
+  by_test : (b : Bool) → Early s types (if b then Ok (added headers name value) else Err (refusal.GenericError HeaderText))
+  by_test true = tt
+  by_test false = tt
 
-  by_both : (both : Bool) → both ≡ true → (if both then Ok (added headers name value) else Err (refusal.GenericError HeaderText)) ≡ Err e → ⊥
-  by_both true is h = cc h
-  by_both false is h = cc is
+accept_early : (s : Settings) (types : List ℕ) (listed : Option (List ℕ)) (headers : Fields) → Early s types (with_accept listed headers)
+accept_early s types None headers = tt
+accept_early s types (Some kinds) headers = header_early s types headers (codes "accept") kinds
 
-  by_test : (b : Bool) → is_header_value value ≡ b → (if b && nat_lt (held headers) 1000 then Ok (added headers name value) else Err (refusal.GenericError HeaderText)) ≡ Err e → (is_header_value value ≡ false) × (e ≡ refusal.GenericError HeaderText)
-  by_test true test h = absurd (by_both (nat_lt (held headers) 1000) room h)
-  by_test false test h = (test, cc h)
-
-early_header : (s : Settings) (types : List ℕ) (e : OciDistributionError) → e ≡ refusal.GenericError HeaderText → (is_header_value s.user_agent ≡ false) ⊎ (is_header_value types ≡ false) → EarlyCause s types e
-early_header s types e is h = subst (EarlyCause s types) (sym is) h
-
-accept_early : (s : Settings) (types : List ℕ) (headers : Fields) (r : Result Fields OciDistributionError) → held headers ≡ 1 → with_accept (Some types) headers ≡ r → Early s types r
-accept_early s types headers (Ok made) one is = tt
-accept_early s types headers (Err e) one is = let h = header_early headers (codes "accept") types e 1 one refl is in early_header s types e h.1 (inr h.0)
-
-headers_early : (s : Settings) (types : List ℕ) (r : Result Fields OciDistributionError) → with_header map.empty (codes "user-agent") s.user_agent ≡ r → Early s types (r into with_accept (Some types))
-headers_early s types (Ok headers) is = accept_early s types headers (with_accept (Some types) headers) (ap held (with_ok map.empty (codes "user-agent") s.user_agent headers is) ∙ one_held (codes "user-agent") s.user_agent) refl
-headers_early s types (Err e) is = let h = header_early map.empty (codes "user-agent") s.user_agent e 0 none_held refl is in early_header s types e h.1 (inl h.0)
+token_early : (s : Settings) (types : List ℕ) (token : Option RegistryTokenType) (headers : Fields) → Early s types (with_token token headers)
+token_early s types None headers = tt
+token_early s types (Some token) headers = header_early s types headers (codes "authorization") (authorization_of token)
 
 into_early : {A B : Type 0} (s : Settings) (types : List ℕ) (r : Result A OciDistributionError) (f : A → Result B OciDistributionError) → Early s types r → ((a : A) → Early s types (f a)) → Early s types (r into f)
 into_early s types (Ok a) f h each = each a
 into_early s types (Err e) f h each = h
 
-request_early : (s : Settings) (method : Method) (url : Parts) (types : List ℕ) → Early s types (request_of s method url (Some types))
+headers_early : (s : Settings) (types : List ℕ) (token : Option RegistryTokenType) → Early s types (headers_of s (Some types) token)
+headers_early s types token = into_early s types (with_header map.empty (codes "user-agent") s.user_agent into with_accept (Some types)) (with_token token) (into_early s types (with_header map.empty (codes "user-agent") s.user_agent) (with_accept (Some types)) (header_early s types map.empty (codes "user-agent") s.user_agent) (accept_early s types (Some types))) (token_early s types token)
+
+request_early : (s : Settings) (method : Method) (url : Parts) (types : List ℕ) (token : Option RegistryTokenType) → Early s types (request_of s method url (Some types) token)
 unfolding request_of
-request_early s method url types = into_early s types (headers_of s (Some types)) (λ headers. Ok (bare_request method url headers)) (headers_early s types (with_header map.empty (codes "user-agent") s.user_agent) refl) (λ headers. tt)
+request_early s method url types token = into_early s types (headers_of s (Some types) token) (λ headers. Ok (bare_request method url headers)) (headers_early s types token) (λ headers. tt)
 
 -- ---- rows
 
@@ -110,36 +105,43 @@ unfolding Ends
 done_early s types r h = h
 
 -- only want of memory comes out of the token step
-over_early : (s : Settings) (types : List ℕ) (r : Result (Unit {0}) OciDistributionError) → Early s types (passed_over r)
-over_early s types (Ok u) = tt
-over_early s types (Err e) = by_cause e where
-  by_cause : (e : OciDistributionError) → Early s types (passed_over (Err e))
-  by_cause refusal.WantOfMemory = tt
-  by_cause _ = tt
+over_early : (s : Settings) (types : List ℕ) (e : OciDistributionError) → Early s types (passed_over e)
+over_early s types refusal.WantOfMemory = tt
+over_early s types _ = tt
 
-asked_early : (s : Settings) (types : List ℕ) (image : Reference) → Ends (Early s types) (token_asked s image)
+taken_early : (s : Settings) (types : List ℕ) (moment : ℕ) (key : Key) (r : Result (Option RegistryTokenType) OciDistributionError) → Ends (Early s types) (taken moment key r)
+unfolding Ends
+taken_early s types moment key (Ok None) = tt
+taken_early s types moment key (Ok (Some token)) = λ k. tt
+taken_early s types moment key (Err e) = over_early s types e
+
+asked_early : (s : Context) (types : List ℕ) (image : Reference) (op : RegistryOperation) (a : RegistryAuth) → Ends (Early s.settings types) (token_asked s image op a)
 unfolding token_asked
-asked_early s types image = Ends-bind (λ r. Unit {0}) (Early s types) (token_step s image) (λ r. Done (passed_over r)) (Ends-any (λ r. Unit {0}) (token_step s image) (λ r. tt)) (λ r h. done_early s types (passed_over r) (over_early s types r))
+asked_early s types image op a = Ends-bind (λ r. Unit {0}) (Early s.settings types) (token_step s.settings image a op) (taken s.moment (key_of image op)) (Ends-any (λ r. Unit {0}) (token_step s.settings image a op) (λ r. tt)) (λ r h. taken_early s.settings types s.moment (key_of image op) r)
 
-by_early : (s : Settings) (types : List ℕ) (image : Reference) (a : Option RegistryAuth) → Ends (Early s types) (token_by s image a)
-by_early s types image None = done_early s types (Ok tt) tt
-by_early s types image (Some a) = asked_early s types image
+kept_early : (s : Context) (types : List ℕ) (image : Reference) (op : RegistryOperation) (a : RegistryAuth) (kept : Option RegistryTokenType) → Ends (Early s.settings types) (kept_or_asked s image op a kept)
+kept_early s types image op a (Some token) = done_early s.settings types (Ok (Some token)) tt
+kept_early s types image op a None = asked_early s types image op a
 
-for_early : (s : Settings) (types : List ℕ) (image : Reference) → Ends (Early s types) (token_for s image)
+by_early : (s : Context) (types : List ℕ) (image : Reference) (op : RegistryOperation) (a : Option RegistryAuth) (kept : Option RegistryTokenType) → Ends (Early s.settings types) (token_by s image op a kept)
+by_early s types image op None kept = done_early s.settings types (Ok None) tt
+by_early s types image op (Some a) kept = kept_early s types image op a kept
+
+for_early : (s : Context) (types : List ℕ) (image : Reference) (op : RegistryOperation) → Ends (Early s.settings types) (token_for s image op)
 unfolding token_for Ends bind
-for_early s types image = λ k. by_early s types image (map.get k.credentials (resolved_registry image))
+for_early s types image op = λ k. by_early s types image op (map.get k.credentials (resolved_registry image)) (token_at k.tokens (key_of image op) s.moment)
 
-where_early : (s : Settings) (types : List ℕ) (image : Reference) (b : Bool) → Ends (Early s types) (token_where s image b)
-where_early s types image true = for_early s types image
-where_early s types image false = done_early s types (Ok tt) tt
+where_early : (s : Context) (types : List ℕ) (image : Reference) (op : RegistryOperation) (b : Bool) → Ends (Early s.settings types) (token_where s image op b)
+where_early s types image op true = for_early s types image op
+where_early s types image op false = done_early s.settings types (Ok None) tt
 
-pub authorized_early : (s : Settings) (types : List ℕ) (image : Reference) (url : Parts) → Ends (Early s types) (authorized s image url)
+pub authorized_early : (s : Context) (types : List ℕ) (image : Reference) (op : RegistryOperation) (url : Parts) → Ends (Early s.settings types) (authorized s image op url)
 unfolding authorized
-authorized_early s types image url = next_early s types (Done (url_read (registry_text s image))) _ (done_early s types _ (read_early s types (registry_text s image))) (λ registry. where_early s types image (goes_to (request_url (serialize url)) registry))
+authorized_early s types image op url = next_early s.settings types (Done (url_read (registry_text s.settings image))) _ (done_early s.settings types _ (read_early s.settings types (registry_text s.settings image))) (λ registry. where_early s types image op (goes_to (request_url (serialize url)) registry))
 
-prepared_early : (s : Settings) (image : Reference) (method : Method) (url : Parts) (types : List ℕ) → Ends (Early s types) (prepared s image method url types)
+prepared_early : (s : Context) (image : Reference) (op : RegistryOperation) (method : Method) (url : Parts) (types : List ℕ) → Ends (Early s.settings types) (prepared s image op method url types)
 unfolding prepared
-prepared_early s image method url types = next_early s types (authorized s image url) _ (authorized_early s types image url) (λ u. done_early s types _ (request_early s method url types))
+prepared_early s image op method url types = next_early s.settings types (authorized s image op url) _ (authorized_early s types image op url) (λ token. done_early s.settings types _ (request_early s.settings method url types token))
 
 store_early : (s : Settings) (types : List ℕ) (image : Reference) (a : RegistryAuth) → Ends (Early s types) (store image a)
 unfolding store Ends bind
@@ -153,8 +155,8 @@ by_answer s types P m n c (Err e) h early = early
 early_shows : {A : Type 0} (s : Settings) (types : List ℕ) (P : ℕ → List Exchange → ℕ → A → Type 0) (p : Row A) → Shows (WhereOk P) p → Ends (Early s types) p → Shows (ByAnswer P (λ m c n e. EarlyCause s types e)) p
 early_shows s types P p h ends = record { shows = λ k l m n c r run. by_answer s types P m n c r (h.shows k l m n c r run) (Runs-ends (Early s types) p k l m n c r ends run) }
 
-pub prepared_causes : (s : Settings) (image : Reference) (asked : Method) (url : Parts) (types : List ℕ) (method : Method) (address : List ℕ) → Shows (ByAnswer (λ m c n request. Prepared s asked url types method address c request) (λ m c n e. EarlyCause s types e)) (prepared s image asked url types)
-prepared_causes s image asked url types method address = early_shows s types (λ m c n request. Prepared s asked url types method address c request) (prepared s image asked url types) (prepared_shows s image asked url types method address) (prepared_early s image asked url types)
+pub prepared_causes : (s : Context) (image : Reference) (op : RegistryOperation) (asked : Method) (url : Parts) (types : List ℕ) (method : Method) (address : List ℕ) → Shows (ByAnswer (λ m c n request. Prepared s.settings asked url types method address c request) (λ m c n e. EarlyCause s.settings types e)) (prepared s image op asked url types)
+prepared_causes s image op asked url types method address = early_shows s.settings types (λ m c n request. Prepared s.settings asked url types method address c request) (prepared s image op asked url types) (prepared_shows s image op asked url types method address) (prepared_early s image op asked url types)
 
 any_where : {A : Type 0} (m n : ℕ) (c : List Exchange) (r : Result A OciDistributionError) → WhereOk (λ m c n (a : A). Unit {0}) m c n r
 any_where m n c (Ok a) = tt

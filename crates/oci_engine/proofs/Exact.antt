@@ -13,17 +13,21 @@ use Rattle.oci_transport.specs.declared.message.Method.TheVariants.{Get, Head}
 use Rattle.oci_names.specs.declared.reference.Reference.{Reference}
 use Rattle.oci_auth.specs.declared.auth.RegistryAuth.{RegistryAuth}
 use Rattle.oci_auth.specs.declared.memory.Memory.{Memory}
+use Rattle.oci_auth.specs.declared.token_type.RegistryOperation.{RegistryOperation}
+use Rattle.oci_auth.specs.declared.token_type.RegistryOperation.TheVariants.{Pull}
+use Rattle.oci_auth.specs.declared.token_type.RegistryTokenType.{RegistryTokenType}
 use Rattle.oci_protocol.specs.Proto.{Done, bind, unless_refused, ◌>>=◌, ◌>>◌}
 use Rattle.oci_protocol.specs.Runs.{Meets}
 use Rattle.oci_protocol.specs.Ends.{Ends, UnlessMemory}
 use Rattle.oci_protocol.proofs.Ends.{Ends-bind, Meets-ends}
+use Rattle.engine_requests.specs.Contexts.{Context}
 use Rattle.engine_requests.specs.declared.settings.Settings.{Settings}
 use Rattle.engine_requests.specs.declared.error.GenericCause.TheVariants.{HeaderText}
 use Rattle.engine_requests.specs.declared.error.OciDistributionError.{OciDistributionError}
 use Rattle.engine_requests.specs.declared.error.OciDistributionError.TheVariants as refusal
 use Rattle.engine_requests.specs.Errors.{is_memory, ◌>>=◌ as ◌into◌}
 use Rattle.engine_requests.specs.Addresses.{manifest_text, blob_text, url_or, url_read}
-use Rattle.engine_requests.specs.Requests.{with_header, with_accept, headers_of, request_of, bare_request, manifest_types}
+use Rattle.engine_requests.specs.Requests.{with_header, with_accept, with_token, headers_of, request_of, bare_request, manifest_types}
 use Rattle.engine_steps.specs.Rows.{Row, store, authorized, prepared, named_after}
 use Rattle.engine_steps.specs.Blobs.{Spills, filled, attempt}
 use Rattle.engine_pull.specs.Pulls.{document, digest_by, pull_manifest_raw, fetch_manifest_digest, pull_manifest, pull_blob}
@@ -55,26 +59,26 @@ stored_before : {B : Type 0} (Q : Result B OciDistributionError → Type 0) (ima
 unfolding store Ends bind
 stored_before Q image a p h = λ k. h
 
-pub raw_url : (s : Settings) (image : Reference) (a : RegistryAuth) (types : List ℕ) → request_url (manifest_text s image) ≡ None → Ends (Only (refusal.UrlParseError (manifest_text s image))) (pull_manifest_raw s image a types)
+pub raw_url : (s : Context) (image : Reference) (a : RegistryAuth) (types : List ℕ) → request_url (manifest_text s.settings image) ≡ None → Ends (Only (refusal.UrlParseError (manifest_text s.settings image))) (pull_manifest_raw s image a types)
 unfolding pull_manifest_raw
-raw_url s image a types none = stored_before (Only (refusal.UrlParseError (manifest_text s image))) image a (Done (url_read (manifest_text s image)) >>= λ url. document s image url types) (no_url (manifest_text s image) (λ url. document s image url types) none)
+raw_url s image a types none = stored_before (Only (refusal.UrlParseError (manifest_text s.settings image))) image a (Done (url_read (manifest_text s.settings image)) >>= λ url. document s image url types) (no_url (manifest_text s.settings image) (λ url. document s image url types) none)
 
-pub digest_url : (s : Settings) (image : Reference) (a : RegistryAuth) → request_url (manifest_text s image) ≡ None → Ends (Only (refusal.UrlParseError (manifest_text s image))) (fetch_manifest_digest s image a)
+pub digest_url : (s : Context) (image : Reference) (a : RegistryAuth) → request_url (manifest_text s.settings image) ≡ None → Ends (Only (refusal.UrlParseError (manifest_text s.settings image))) (fetch_manifest_digest s image a)
 unfolding fetch_manifest_digest
-digest_url s image a none = stored_before (Only (refusal.UrlParseError (manifest_text s image))) image a (Done (url_read (manifest_text s image)) >>= λ url. prepared s image Head url manifest_types >>= λ request. named_after 10 request s.max_body_bytes >>= λ x. digest_by s image url x)
-    (no_url (manifest_text s image) (λ url. prepared s image Head url manifest_types >>= λ request. named_after 10 request s.max_body_bytes >>= λ x. digest_by s image url x) none)
+digest_url s image a none = stored_before (Only (refusal.UrlParseError (manifest_text s.settings image))) image a (Done (url_read (manifest_text s.settings image)) >>= λ url. prepared s image Pull Head url manifest_types >>= λ request. named_after 10 request s.settings.max_body_bytes >>= λ x. digest_by s image url x)
+    (no_url (manifest_text s.settings image) (λ url. prepared s image Pull Head url manifest_types >>= λ request. named_after 10 request s.settings.max_body_bytes >>= λ x. digest_by s image url x) none)
 
-pub manifest_url : (s : Settings) (image : Reference) (a : RegistryAuth) → request_url (manifest_text s image) ≡ None → Ends (Only (refusal.UrlParseError (manifest_text s image))) (pull_manifest s image a)
+pub manifest_url : (s : Context) (image : Reference) (a : RegistryAuth) → request_url (manifest_text s.settings image) ≡ None → Ends (Only (refusal.UrlParseError (manifest_text s.settings image))) (pull_manifest s image a)
 unfolding pull_manifest
-manifest_url s image a none = handed_on (refusal.UrlParseError (manifest_text s image)) (pull_manifest_raw s image a manifest_types) _ (raw_url s image a manifest_types none)
+manifest_url s image a none = handed_on (refusal.UrlParseError (manifest_text s.settings image)) (pull_manifest_raw s image a manifest_types) _ (raw_url s image a manifest_types none)
 
-pub image_url : (s : Settings) (image : Reference) (a : RegistryAuth) (accepted : List (List ℕ)) → request_url (manifest_text s image) ≡ None → Ends (Only (refusal.UrlParseError (manifest_text s image))) (pull s image a accepted)
+pub image_url : (s : Context) (image : Reference) (a : RegistryAuth) (accepted : List (List ℕ)) → request_url (manifest_text s.settings image) ≡ None → Ends (Only (refusal.UrlParseError (manifest_text s.settings image))) (pull s image a accepted)
 unfolding pull
-image_url s image a accepted none = handed_on (refusal.UrlParseError (manifest_text s image)) (pull_manifest s image a) _ (manifest_url s image a none)
+image_url s image a accepted none = handed_on (refusal.UrlParseError (manifest_text s.settings image)) (pull_manifest s image a) _ (manifest_url s image a none)
 
-pub blob_url : (s : Settings) (image : Reference) (digest : List ℕ) → request_url (blob_text s image digest) ≡ None → Ends (Only (refusal.UrlParseError (blob_text s image digest))) (pull_blob s image digest)
+pub blob_url : (s : Context) (image : Reference) (digest : List ℕ) → request_url (blob_text s.settings image digest) ≡ None → Ends (Only (refusal.UrlParseError (blob_text s.settings image digest))) (pull_blob s image digest)
 unfolding pull_blob
-blob_url s image digest none = no_url (blob_text s image digest) (λ url. prepared s image Get url manifest_types >>= λ request. attempt s.max_body_bytes digest request) none
+blob_url s image digest none = no_url (blob_text s.settings image digest) (λ url. prepared s image Pull Get url manifest_types >>= λ request. attempt s.settings.max_body_bytes digest request) none
 
 -- ---- a value that cannot stand in a header
 
@@ -82,7 +86,7 @@ not_made : (headers : Fields) (name value : List ℕ) (r : Result Fields OciDist
 not_made headers name value r bad is = sym is ∙ ap (λ b. if b && nat_lt (held headers) 1000 then Ok (added headers name value) else Err (refusal.GenericError HeaderText)) bad
 
 -- a request of such values is none
-unmade : (r : Result Fields OciDistributionError) → ◌≡◌ {A = Result Fields OciDistributionError} r (Err (refusal.GenericError HeaderText)) → (f : Fields → Result Request OciDistributionError) → (r into f) ≡ Err (refusal.GenericError HeaderText)
+unmade : {A : Type 0} (r : Result Fields OciDistributionError) → ◌≡◌ {A = Result Fields OciDistributionError} r (Err (refusal.GenericError HeaderText)) → (f : Fields → Result A OciDistributionError) → (r into f) ≡ Err (refusal.GenericError HeaderText)
 unmade (Ok headers) is f = absurd (cc is)
 unmade (Err e) is f = let same : e ≡ refusal.GenericError HeaderText = cc is in ap (λ (x : OciDistributionError). Err x) same
 
@@ -100,13 +104,16 @@ header_kind headers name value e = by_test (is_header_value value && nat_lt (hel
   by_test true is = absurd (cc is)
   by_test false is = cc is
 
-headers_bad : (s : Settings) (types : List ℕ) → HasBadHeader s types → headers_of s (Some types) ≡ Err (refusal.GenericError HeaderText)
-headers_bad s types (inl bad) = bad_agent types (with_header map.empty (codes "user-agent") s.user_agent) (not_made map.empty (codes "user-agent") s.user_agent (with_header map.empty (codes "user-agent") s.user_agent) bad refl)
-headers_bad s types (inr bad) = bad_types types (with_header map.empty (codes "user-agent") s.user_agent) bad (header_kind map.empty (codes "user-agent") s.user_agent)
+listing_bad : (s : Settings) (types : List ℕ) → HasBadHeader s types → (with_header map.empty (codes "user-agent") s.user_agent into with_accept (Some types)) ≡ Err (refusal.GenericError HeaderText)
+listing_bad s types (inl bad) = bad_agent types (with_header map.empty (codes "user-agent") s.user_agent) (not_made map.empty (codes "user-agent") s.user_agent (with_header map.empty (codes "user-agent") s.user_agent) bad refl)
+listing_bad s types (inr bad) = bad_types types (with_header map.empty (codes "user-agent") s.user_agent) bad (header_kind map.empty (codes "user-agent") s.user_agent)
 
-request_bad : (s : Settings) (method : Method) (url : Parts) (types : List ℕ) → HasBadHeader s types → request_of s method url (Some types) ≡ Err (refusal.GenericError HeaderText)
+headers_bad : (s : Settings) (types : List ℕ) (token : Option RegistryTokenType) → HasBadHeader s types → headers_of s (Some types) token ≡ Err (refusal.GenericError HeaderText)
+headers_bad s types token bad = unmade (with_header map.empty (codes "user-agent") s.user_agent into with_accept (Some types)) (listing_bad s types bad) (with_token token)
+
+request_bad : (s : Settings) (method : Method) (url : Parts) (types : List ℕ) (token : Option RegistryTokenType) → HasBadHeader s types → request_of s method url (Some types) token ≡ Err (refusal.GenericError HeaderText)
 unfolding request_of
-request_bad s method url types bad = unmade (headers_of s (Some types)) (headers_bad s types bad) (λ headers. Ok (bare_request method url headers))
+request_bad s method url types token bad = unmade (headers_of s (Some types) token) (headers_bad s types token bad) (λ headers. Ok (bare_request method url headers))
 
 early_is : (s : Settings) (types : List ℕ) (e : OciDistributionError) → EarlyCause s types e → IsEarlyRefusal e
 early_is s types (refusal.UrlParseError text) h = h
@@ -129,13 +136,13 @@ unless_refusal f (Err e) h = h
 early_on : {A B : Type 0} (p : Row A) (f : A → Row B) → Ends IsEarly p → Ends IsEarly (p >>= f)
 early_on p f h = Ends-bind IsEarly IsEarly p (unless_refused f) h (unless_refusal f)
 
-done_bad : (s : Settings) (method : Method) (url : Parts) (types : List ℕ) → HasBadHeader s types → Ends {K = Memory} IsEarly (Done (request_of s method url (Some types)))
+done_bad : (s : Settings) (method : Method) (url : Parts) (types : List ℕ) (token : Option RegistryTokenType) → HasBadHeader s types → Ends {K = Memory} IsEarly (Done (request_of s method url (Some types) token))
 unfolding Ends
-done_bad s method url types bad = subst IsEarly (sym (request_bad s method url types bad)) tt
+done_bad s method url types token bad = subst IsEarly (sym (request_bad s method url types token bad)) tt
 
-prepared_bad : (s : Settings) (image : Reference) (method : Method) (url : Parts) (types : List ℕ) → HasBadHeader s types → Ends IsEarly (prepared s image method url types)
+prepared_bad : (s : Context) (image : Reference) (op : RegistryOperation) (method : Method) (url : Parts) (types : List ℕ) → HasBadHeader s.settings types → Ends IsEarly (prepared s image op method url types)
 unfolding prepared
-prepared_bad s image method url types bad = Ends-bind (Early s types) IsEarly (authorized s image url) (unless_refused (λ u. Done (request_of s method url (Some types)))) (authorized_early s types image url) (unless_early s types (λ u. Done (request_of s method url (Some types))) (λ u. done_bad s method url types bad))
+prepared_bad s image op method url types bad = Ends-bind (Early s.settings types) IsEarly (authorized s image op url) (unless_refused (λ token. Done (request_of s.settings method url (Some types) token))) (authorized_early s types image op url) (unless_early s.settings types (λ token. Done (request_of s.settings method url (Some types) token)) (λ token. done_bad s.settings method url types token bad))
 
 by_url : {B : Type 0} (text : List ℕ) (f : Parts → Row B) (o : Option Parts) → request_url text ≡ o → ((url : Parts) → Ends IsEarly (f url)) → Ends IsEarly (unless_refused f (url_or text o))
 unfolding Ends
@@ -146,26 +153,26 @@ url_first : {B : Type 0} (text : List ℕ) (f : Parts → Row B) → ((url : Par
 unfolding bind
 url_first text f each = by_url text f (request_url text) refl each
 
-pub raw_bad : (s : Settings) (image : Reference) (a : RegistryAuth) (types : List ℕ) → HasBadHeader s types → Ends IsEarly (pull_manifest_raw s image a types)
+pub raw_bad : (s : Context) (image : Reference) (a : RegistryAuth) (types : List ℕ) → HasBadHeader s.settings types → Ends IsEarly (pull_manifest_raw s image a types)
 unfolding pull_manifest_raw document
-raw_bad s image a types bad = stored_before IsEarly image a (Done (url_read (manifest_text s image)) >>= λ url. document s image url types) (url_first (manifest_text s image) (λ url. document s image url types) (λ url. early_on (prepared s image Get url types) _ (prepared_bad s image Get url types bad)))
+raw_bad s image a types bad = stored_before IsEarly image a (Done (url_read (manifest_text s.settings image)) >>= λ url. document s image url types) (url_first (manifest_text s.settings image) (λ url. document s image url types) (λ url. early_on (prepared s image Pull Get url types) _ (prepared_bad s image Pull Get url types bad)))
 
-pub digest_bad : (s : Settings) (image : Reference) (a : RegistryAuth) → HasBadHeader s manifest_types → Ends IsEarly (fetch_manifest_digest s image a)
+pub digest_bad : (s : Context) (image : Reference) (a : RegistryAuth) → HasBadHeader s.settings manifest_types → Ends IsEarly (fetch_manifest_digest s image a)
 unfolding fetch_manifest_digest
-digest_bad s image a bad = stored_before IsEarly image a (Done (url_read (manifest_text s image)) >>= λ url. prepared s image Head url manifest_types >>= λ request. named_after 10 request s.max_body_bytes >>= λ x. digest_by s image url x)
-    (url_first (manifest_text s image) (λ url. prepared s image Head url manifest_types >>= λ request. named_after 10 request s.max_body_bytes >>= λ x. digest_by s image url x) (λ url. early_on (prepared s image Head url manifest_types) _ (prepared_bad s image Head url manifest_types bad)))
+digest_bad s image a bad = stored_before IsEarly image a (Done (url_read (manifest_text s.settings image)) >>= λ url. prepared s image Pull Head url manifest_types >>= λ request. named_after 10 request s.settings.max_body_bytes >>= λ x. digest_by s image url x)
+    (url_first (manifest_text s.settings image) (λ url. prepared s image Pull Head url manifest_types >>= λ request. named_after 10 request s.settings.max_body_bytes >>= λ x. digest_by s image url x) (λ url. early_on (prepared s image Pull Head url manifest_types) _ (prepared_bad s image Pull Head url manifest_types bad)))
 
-pub manifest_bad : (s : Settings) (image : Reference) (a : RegistryAuth) → HasBadHeader s manifest_types → Ends IsEarly (pull_manifest s image a)
+pub manifest_bad : (s : Context) (image : Reference) (a : RegistryAuth) → HasBadHeader s.settings manifest_types → Ends IsEarly (pull_manifest s image a)
 unfolding pull_manifest
 manifest_bad s image a bad = early_on (pull_manifest_raw s image a manifest_types) _ (raw_bad s image a manifest_types bad)
 
-pub image_bad : (s : Settings) (image : Reference) (a : RegistryAuth) (accepted : List (List ℕ)) → HasBadHeader s manifest_types → Ends IsEarly (pull s image a accepted)
+pub image_bad : (s : Context) (image : Reference) (a : RegistryAuth) (accepted : List (List ℕ)) → HasBadHeader s.settings manifest_types → Ends IsEarly (pull s image a accepted)
 unfolding pull
 image_bad s image a accepted bad = early_on (pull_manifest s image a) _ (manifest_bad s image a bad)
 
-pub blob_bad : (s : Settings) (image : Reference) (digest : List ℕ) → HasBadHeader s manifest_types → Ends IsEarly (pull_blob s image digest)
+pub blob_bad : (s : Context) (image : Reference) (digest : List ℕ) → HasBadHeader s.settings manifest_types → Ends IsEarly (pull_blob s image digest)
 unfolding pull_blob
-blob_bad s image digest bad = url_first (blob_text s image digest) (λ url. prepared s image Get url manifest_types >>= λ request. attempt s.max_body_bytes digest request) (λ url. early_on (prepared s image Get url manifest_types) _ (prepared_bad s image Get url manifest_types bad))
+blob_bad s image digest bad = url_first (blob_text s.settings image digest) (λ url. prepared s image Pull Get url manifest_types >>= λ request. attempt s.settings.max_body_bytes digest request) (λ url. early_on (prepared s image Pull Get url manifest_types) _ (prepared_bad s image Pull Get url manifest_types bad))
 
 -- ---- results
 
@@ -203,5 +210,5 @@ pub spilled_only : (e : OciDistributionError) {p : Row (List ℕ)} {old new : Li
 spilled_only e {r = r} h spills = filled_only e spills.body r (met_only e h spills.met)
 
 -- types that were put into one text
-pub listed_met : (s : Settings) (image : Reference) (a : RegistryAuth) (text types : List ℕ) {old new : Link} {k l : Memory} {r : Result (List ℕ × List ℕ) OciDistributionError} → text ≡ types → Meets is_memory (pull_manifest_raw s image a text) old new k l r → Meets is_memory (pull_manifest_raw s image a types) old new k l r
+pub listed_met : (s : Context) (image : Reference) (a : RegistryAuth) (text types : List ℕ) {old new : Link} {k l : Memory} {r : Result (List ℕ × List ℕ) OciDistributionError} → text ≡ types → Meets is_memory (pull_manifest_raw s image a text) old new k l r → Meets is_memory (pull_manifest_raw s image a types) old new k l r
 listed_met s image a text types is met = rw is at met

@@ -7,8 +7,12 @@ pub mod Digested
 pub mod Digests
 pub mod Documents
 pub mod Early
+pub mod Ended
 pub mod Exact
 pub mod ImageRefused
+pub mod Keeping
 pub mod Reasons
 pub mod Refused
 pub mod Results
+pub mod Shown
+pub mod TokenRefused

@@ -12,11 +12,13 @@ use Rattle.oci_names.specs.References.{digest_of}
 use Rattle.oci_digests.specs.Parts.{parts_of}
 use Rattle.oci_auth.specs.declared.auth.RegistryAuth.{RegistryAuth}
 use Rattle.oci_auth.specs.declared.memory.Memory.{Memory}
+use Rattle.oci_auth.specs.declared.token_type.RegistryOperation.TheVariants.{Pull}
 use Rattle.oci_protocol.specs.Proto.{Piped, limit_of, Reply, Headed, Answered, Failed, TooLong, SinkFailed, Done, ◌>>=◌}
 use Rattle.oci_protocol.specs.Runs.{Runs}
 use Rattle.oci_protocol.specs.Shows.{Shows, ByAnswer, Heard}
 use Rattle.oci_protocol.proofs.Showing.{done_run, Shows-more, Shows-each, Shows-step, Shows-last, Shows-follow}
 use Rattle.engine_requests.specs.declared.answers.Got.{Got}
+use Rattle.engine_requests.specs.Contexts.{Context}
 use Rattle.engine_requests.specs.declared.settings.Settings.{Settings}
 use Rattle.engine_requests.specs.declared.error.OciDistributionError.{OciDistributionError}
 use Rattle.engine_requests.specs.declared.error.OciDistributionError.TheVariants as refusal
@@ -90,31 +92,31 @@ any_later : (s : Settings) (image : Reference) (m start o : ℕ) (c d : List Exc
 any_later s image m start o c d (Ok x) h = tt
 any_later s image m start o c d (Err e) h = cause_later (AnswerCause (OwnDigest image)) (AnswerCause (OwnDigest image)) s manifest_types o c d e (λ address answer h. h) h
 
-document_digest : (s : Settings) (image : Reference) (url : Parts) → Shows (ByAnswer Any (OwnCause s image manifest_types)) (document s image url manifest_types >>= λ found. Done (Ok found.1))
-document_digest s image url = Shows-each (λ m c n found. Accepted c found.0) Any (OwnCause s image manifest_types) (document s image url manifest_types) (λ found. Done (Ok found.1)) (document_causes s image url manifest_types)
-    (λ m n c found h. Shows-last (λ start d o x. Unit {0}) (λ start d o e. OwnCause s image manifest_types m (c ++ d) o e) (Ok found.1) (λ x is o. tt) (λ e is o. absurd (cc is)))
+document_digest : (s : Context) (image : Reference) (url : Parts) → Shows (ByAnswer Any (OwnCause s.settings image manifest_types)) (document s image url manifest_types >>= λ found. Done (Ok found.1))
+document_digest s image url = Shows-each (λ m c n found. Accepted c found.0) Any (OwnCause s.settings image manifest_types) (document s image url manifest_types) (λ found. Done (Ok found.1)) (document_causes s image url manifest_types)
+    (λ m n c found h. Shows-last (λ start d o x. Unit {0}) (λ start d o e. OwnCause s.settings image manifest_types m (c ++ d) o e) (Ok found.1) (λ x is o. tt) (λ e is o. absurd (cc is)))
 
-by_causes : (s : Settings) (image : Reference) (url : Parts) (m n : ℕ) (c : List Exchange) (x : Named) → NamedLast m c n x → Shows (λ start d o r. ByAnswer Any (OwnCause s image manifest_types) m (c ++ d) o r) (digest_by s image url x)
-by_causes s image url m n c (named.ByHeader digest got) h = Shows-step (λ start d o r. ByAnswer Any (OwnCause s image manifest_types) m (c ++ d) o r) (accepted got.url got.answer) (λ answer. Done (fits_reference digest (digest_of image)))
-    (λ answer is. Shows-last (λ start d o x. Unit {0}) (λ start d o e. OwnCause s image manifest_types m (c ++ d) o e) (fits_reference digest (digest_of image)) (λ x is o. tt) (λ e is o. at_last o e (fits_refused image got.answer got.url digest (digest_of image) e refl h.1 is)))
+by_causes : (s : Context) (image : Reference) (url : Parts) (m n : ℕ) (c : List Exchange) (x : Named) → NamedLast m c n x → Shows (λ start d o r. ByAnswer Any (OwnCause s.settings image manifest_types) m (c ++ d) o r) (digest_by s image url x)
+by_causes s image url m n c (named.ByHeader digest got) h = Shows-step (λ start d o r. ByAnswer Any (OwnCause s.settings image manifest_types) m (c ++ d) o r) (accepted got.url got.answer) (λ answer. Done (fits_reference digest (digest_of image)))
+    (λ answer is. Shows-last (λ start d o x. Unit {0}) (λ start d o e. OwnCause s.settings image manifest_types m (c ++ d) o e) (fits_reference digest (digest_of image)) (λ x is o. tt) (λ e is o. at_last o e (fits_refused image got.answer got.url digest (digest_of image) e refl h.1 is)))
     (λ e is o. at_last o e (not_accepted (OwnDigest image) got.url got.answer e is)) where
-      at_last : (o : ℕ) (e : OciDistributionError) → AnswerCause (OwnDigest image) got.url got.answer e → OwnCause s image manifest_types m (c ++ []) o e
-      at_last o e cause = subst (λ x. OwnCause s image manifest_types m x o e) (sym (append-nil c)) (answer_cause (OwnDigest image) s manifest_types o c got.url got.answer e h.0 cause)
-by_causes s image url m n c named.Unnamed h = Shows-more (ByAnswer Any (OwnCause s image manifest_types)) (λ start d o r. ByAnswer Any (OwnCause s image manifest_types) m (c ++ d) o r) (document s image url manifest_types >>= λ found. Done (Ok found.1)) (document_digest s image url) (λ start o d r h. any_later s image m start o c d r h)
+      at_last : (o : ℕ) (e : OciDistributionError) → AnswerCause (OwnDigest image) got.url got.answer e → OwnCause s.settings image manifest_types m (c ++ []) o e
+      at_last o e cause = subst (λ x. OwnCause s.settings image manifest_types m x o e) (sym (append-nil c)) (answer_cause (OwnDigest image) s.settings manifest_types o c got.url got.answer e h.0 cause)
+by_causes s image url m n c named.Unnamed h = Shows-more (ByAnswer Any (OwnCause s.settings image manifest_types)) (λ start d o r. ByAnswer Any (OwnCause s.settings image manifest_types) m (c ++ d) o r) (document s image url manifest_types >>= λ found. Done (Ok found.1)) (document_digest s image url) (λ start o d r h. any_later s.settings image m start o c d r h)
 
-asked_causes : (s : Settings) (image : Reference) (url : Parts) (request : Request) → first_of (codes "accept") request.headers ≡ Some manifest_types → Shows (ByAnswer Any (OwnCause s image manifest_types)) (named_after 10 request s.max_body_bytes >>= λ x. digest_by s image url x)
-asked_causes s image url request accepts = Shows-each NamedLast Any (OwnCause s image manifest_types) (named_after 10 request s.max_body_bytes) (λ x. digest_by s image url x) (named_causes s image request accepts) (λ m n c x h. by_causes s image url m n c x h)
+asked_causes : (s : Context) (image : Reference) (url : Parts) (request : Request) → first_of (codes "accept") request.headers ≡ Some manifest_types → Shows (ByAnswer Any (OwnCause s.settings image manifest_types)) (named_after 10 request s.settings.max_body_bytes >>= λ x. digest_by s image url x)
+asked_causes s image url request accepts = Shows-each NamedLast Any (OwnCause s.settings image manifest_types) (named_after 10 request s.settings.max_body_bytes) (λ x. digest_by s image url x) (named_causes s.settings image request accepts) (λ m n c x h. by_causes s image url m n c x h)
 
-head_causes : (s : Settings) (image : Reference) (url : Parts) → Shows (ByAnswer Any (OwnCause s image manifest_types)) (prepared s image Head url manifest_types >>= λ request. named_after 10 request s.max_body_bytes >>= λ x. digest_by s image url x)
-head_causes s image url = Shows-each (λ m c n request. Prepared s Head url manifest_types Head (serialize url) c request) Any (OwnCause s image manifest_types) (prepared s image Head url manifest_types) (λ request. named_after 10 request s.max_body_bytes >>= λ x. digest_by s image url x)
-    (early_shown (AnswerCause (OwnDigest image)) s manifest_types (λ m c n request. Prepared s Head url manifest_types Head (serialize url) c request) (prepared s image Head url manifest_types) (prepared_causes s image Head url manifest_types Head (serialize url)))
-    (λ m n c request p. Shows-more (ByAnswer Any (OwnCause s image manifest_types)) (λ start d o r. ByAnswer Any (OwnCause s image manifest_types) m (c ++ d) o r) (named_after 10 request s.max_body_bytes >>= λ x. digest_by s image url x) (asked_causes s image url request (accepts_of s Head url manifest_types request p.made)) (λ start o d r h. any_later s image m start o c d r h))
+head_causes : (s : Context) (image : Reference) (url : Parts) → Shows (ByAnswer Any (OwnCause s.settings image manifest_types)) (prepared s image Pull Head url manifest_types >>= λ request. named_after 10 request s.settings.max_body_bytes >>= λ x. digest_by s image url x)
+head_causes s image url = Shows-each (λ m c n request. Prepared s.settings Head url manifest_types Head (serialize url) c request) Any (OwnCause s.settings image manifest_types) (prepared s image Pull Head url manifest_types) (λ request. named_after 10 request s.settings.max_body_bytes >>= λ x. digest_by s image url x)
+    (early_shown (AnswerCause (OwnDigest image)) s.settings manifest_types (λ m c n request. Prepared s.settings Head url manifest_types Head (serialize url) c request) (prepared s image Pull Head url manifest_types) (prepared_causes s image Pull Head url manifest_types Head (serialize url)))
+    (λ m n c request p. Shows-more (ByAnswer Any (OwnCause s.settings image manifest_types)) (λ start d o r. ByAnswer Any (OwnCause s.settings image manifest_types) m (c ++ d) o r) (named_after 10 request s.settings.max_body_bytes >>= λ x. digest_by s image url x) (asked_causes s image url request (accepts_of s.settings Head url manifest_types p.token request p.made)) (λ start o d r h. any_later s.settings image m start o c d r h))
 
 -- each refusal has its cause
-pub digest_causes : (s : Settings) (image : Reference) (a : RegistryAuth) → Shows (ByAnswer (λ m c n digest. Unit {0}) (OwnCause s image manifest_types)) (fetch_manifest_digest s image a)
+pub digest_causes : (s : Context) (image : Reference) (a : RegistryAuth) → Shows (ByAnswer (λ m c n digest. Unit {0}) (OwnCause s.settings image manifest_types)) (fetch_manifest_digest s image a)
 unfolding fetch_manifest_digest
-digest_causes s image a = Shows-each (λ m c n u. Unit {0}) Any (OwnCause s image manifest_types) (store image a) (λ u. Done (url_read (manifest_text s image)) >>= λ url. prepared s image Head url manifest_types >>= λ request. named_after 10 request s.max_body_bytes >>= λ x. digest_by s image url x)
-    (early_shown (AnswerCause (OwnDigest image)) s manifest_types (λ m c n u. Unit {0}) (store image a) (store_causes s manifest_types image a))
-    (λ m n c u h. Shows-step (λ start d o r. ByAnswer Any (OwnCause s image manifest_types) m (c ++ d) o r) (url_read (manifest_text s image)) (λ url. prepared s image Head url manifest_types >>= λ request. named_after 10 request s.max_body_bytes >>= λ x. digest_by s image url x)
-    (λ url is. Shows-more (ByAnswer Any (OwnCause s image manifest_types)) (λ start d o r. ByAnswer Any (OwnCause s image manifest_types) m (c ++ d) o r) (prepared s image Head url manifest_types >>= λ request. named_after 10 request s.max_body_bytes >>= λ x. digest_by s image url x) (head_causes s image url) (λ start o d r h. any_later s image m start o c d r h))
-    (λ e is o. url_cause (AnswerCause (OwnDigest image)) s manifest_types (manifest_text s image) o (c ++ []) e is))
+digest_causes s image a = Shows-each (λ m c n u. Unit {0}) Any (OwnCause s.settings image manifest_types) (store image a) (λ u. Done (url_read (manifest_text s.settings image)) >>= λ url. prepared s image Pull Head url manifest_types >>= λ request. named_after 10 request s.settings.max_body_bytes >>= λ x. digest_by s image url x)
+    (early_shown (AnswerCause (OwnDigest image)) s.settings manifest_types (λ m c n u. Unit {0}) (store image a) (store_causes s.settings manifest_types image a))
+    (λ m n c u h. Shows-step (λ start d o r. ByAnswer Any (OwnCause s.settings image manifest_types) m (c ++ d) o r) (url_read (manifest_text s.settings image)) (λ url. prepared s image Pull Head url manifest_types >>= λ request. named_after 10 request s.settings.max_body_bytes >>= λ x. digest_by s image url x)
+    (λ url is. Shows-more (ByAnswer Any (OwnCause s.settings image manifest_types)) (λ start d o r. ByAnswer Any (OwnCause s.settings image manifest_types) m (c ++ d) o r) (prepared s image Pull Head url manifest_types >>= λ request. named_after 10 request s.settings.max_body_bytes >>= λ x. digest_by s image url x) (head_causes s image url) (λ start o d r h. any_later s.settings image m start o c d r h))
+    (λ e is o. url_cause (AnswerCause (OwnDigest image)) s.settings manifest_types (manifest_text s.settings image) o (c ++ []) e is))

@@ -10,7 +10,7 @@ use Rattle.oci_auth.specs.declared.auth.RegistryAuth.{RegistryAuth}
 use Rattle.oci_auth.specs.declared.memory.Memory.{Memory}
 use Rattle.oci_protocol.specs.Runs.{Meets, Told}
 use Rattle.oci_protocol.proofs.Showing.{Meets-shows-ok}
-use Rattle.engine_requests.specs.declared.settings.Settings.{Settings}
+use Rattle.engine_requests.specs.Contexts.{Context}
 use Rattle.engine_requests.specs.declared.error.OciDistributionError.{OciDistributionError}
 use Rattle.engine_requests.specs.Errors.{is_memory}
 use Rattle.engine_steps.specs.Blobs.{Spills}
@@ -20,10 +20,10 @@ use Rattle.oci_engine.proofs.Documents.{raw_shows}
 use Rattle.oci_engine.proofs.Digests.{digest_shows}
 use Rattle.oci_engine.proofs.Blobs.{Blob, blob_shows}
 
-pub digest_answered : (s : Settings) (image : Reference) (a : RegistryAuth) {old new : Link} {k l : Memory} {r : Result (List ℕ) OciDistributionError} → Meets is_memory (fetch_manifest_digest s image a) old new k l r → IfOk r (λ d. Told (λ c. Answered s image c d) old new)
-digest_answered s image a met = Meets-shows-ok (λ m c n d. Answered s image c d) (digest_shows s image a) met
+pub digest_answered : (s : Context) (image : Reference) (a : RegistryAuth) {old new : Link} {k l : Memory} {r : Result (List ℕ) OciDistributionError} → Meets is_memory (fetch_manifest_digest s image a) old new k l r → IfOk r (λ d. Told (λ c. Answered s.settings image c d) old new)
+digest_answered s image a met = Meets-shows-ok (λ m c n d. Answered s.settings image c d) (digest_shows s image a) met
 
-raw_told : (s : Settings) (image : Reference) (a : RegistryAuth) (types : List ℕ) {old new : Link} {k l : Memory} {r : Result (List ℕ × List ℕ) OciDistributionError} → Meets is_memory (pull_manifest_raw s image a types) old new k l r → IfOk r (λ found. Told (λ c. Document image c found.0 found.1) old new)
+raw_told : (s : Context) (image : Reference) (a : RegistryAuth) (types : List ℕ) {old new : Link} {k l : Memory} {r : Result (List ℕ × List ℕ) OciDistributionError} → Meets is_memory (pull_manifest_raw s image a types) old new k l r → IfOk r (λ found. Told (λ c. Document image c found.0 found.1) old new)
 raw_told s image a types met = Meets-shows-ok (λ m c n found. Document image c found.0 found.1) (raw_shows s image a types) met
 
 -- what is so of what was told, and what follows of it
@@ -34,28 +34,28 @@ ok_more : {A E : Type 0} (P Q : A → Type 0) (r : Result A E) → IfOk r P → 
 ok_more P Q (Ok a) h more = more a h
 ok_more P Q (Err e) h more = tt
 
-pub raw_body : (s : Settings) (image : Reference) (a : RegistryAuth) (types : List ℕ) {old new : Link} {k l : Memory} {r : Result (List ℕ × List ℕ) OciDistributionError} → Meets is_memory (pull_manifest_raw s image a types) old new k l r → IfOk r (λ found. Told (λ c. Body c found.0) old new)
+pub raw_body : (s : Context) (image : Reference) (a : RegistryAuth) (types : List ℕ) {old new : Link} {k l : Memory} {r : Result (List ℕ × List ℕ) OciDistributionError} → Meets is_memory (pull_manifest_raw s image a types) old new k l r → IfOk r (λ found. Told (λ c. Body c found.0) old new)
 raw_body s image a types {old = old} {new = new} {r = r} met = ok_more (λ found. Told (λ c. Document image c found.0 found.1) old new) (λ found. Told (λ c. Body c found.0) old new) r (raw_told s image a types met) (λ found told. told_more (λ c d. d.body) told)
 
-pub raw_named : (s : Settings) (image : Reference) (a : RegistryAuth) (types : List ℕ) {old new : Link} {k l : Memory} {r : Result (List ℕ × List ℕ) OciDistributionError} → Meets is_memory (pull_manifest_raw s image a types) old new k l r → IfOk r (λ found. Names found.1 found.0)
+pub raw_named : (s : Context) (image : Reference) (a : RegistryAuth) (types : List ℕ) {old new : Link} {k l : Memory} {r : Result (List ℕ × List ℕ) OciDistributionError} → Meets is_memory (pull_manifest_raw s image a types) old new k l r → IfOk r (λ found. Names found.1 found.0)
 raw_named s image a types {old = old} {new = new} {r = r} met = ok_more (λ found. Told (λ c. Document image c found.0 found.1) old new) (λ found. Names found.1 found.0) r (raw_told s image a types met) (λ found told. told.holds.names)
 
-pub raw_given : (s : Settings) (image : Reference) (a : RegistryAuth) (types : List ℕ) {old new : Link} {k l : Memory} {r : Result (List ℕ × List ℕ) OciDistributionError} → Meets is_memory (pull_manifest_raw s image a types) old new k l r → IfOk r (λ found. (d : List ℕ) → digest_of image ≡ Some d → Names d found.0)
+pub raw_given : (s : Context) (image : Reference) (a : RegistryAuth) (types : List ℕ) {old new : Link} {k l : Memory} {r : Result (List ℕ × List ℕ) OciDistributionError} → Meets is_memory (pull_manifest_raw s image a types) old new k l r → IfOk r (λ found. (d : List ℕ) → digest_of image ≡ Some d → Names d found.0)
 raw_given s image a types {old = old} {new = new} {r = r} met = ok_more (λ found. Told (λ c. Document image c found.0 found.1) old new) (λ found. (d : List ℕ) → digest_of image ≡ Some d → Names d found.0) r (raw_told s image a types met) (λ found told. told.holds.named)
 
-blob_told : (s : Settings) (image : Reference) (digest : List ℕ) {old new : Link} {k l : Memory} {r : Result (List ℕ) OciDistributionError} → Meets is_memory (pull_blob s image digest) old new k l r → IfOk r (λ bytes. Told (λ c. Blob digest c bytes) old new)
+blob_told : (s : Context) (image : Reference) (digest : List ℕ) {old new : Link} {k l : Memory} {r : Result (List ℕ) OciDistributionError} → Meets is_memory (pull_blob s image digest) old new k l r → IfOk r (λ bytes. Told (λ c. Blob digest c bytes) old new)
 blob_told s image digest met = Meets-shows-ok (λ m c n bytes. Blob digest c bytes) (blob_shows s image digest) met
 
-pub blob_body : (s : Settings) (image : Reference) (digest : List ℕ) {old new : Link} {k l : Memory} {r : Result (List ℕ) OciDistributionError} → Meets is_memory (pull_blob s image digest) old new k l r → IfOk r (λ bytes. Told (λ c. Body c bytes) old new)
+pub blob_body : (s : Context) (image : Reference) (digest : List ℕ) {old new : Link} {k l : Memory} {r : Result (List ℕ) OciDistributionError} → Meets is_memory (pull_blob s image digest) old new k l r → IfOk r (λ bytes. Told (λ c. Body c bytes) old new)
 blob_body s image digest {old = old} {new = new} {r = r} met = ok_more (λ bytes. Told (λ c. Blob digest c bytes) old new) (λ bytes. Told (λ c. Body c bytes) old new) r (blob_told s image digest met) (λ bytes told. told_more (λ c b. b.0) told)
 
-pub blob_last : (s : Settings) (image : Reference) (digest : List ℕ) {old new : Link} {k l : Memory} {r : Result (List ℕ) OciDistributionError} → Meets is_memory (pull_blob s image digest) old new k l r → IfOk r (λ bytes. Told (λ c. LastBody c bytes) old new)
+pub blob_last : (s : Context) (image : Reference) (digest : List ℕ) {old new : Link} {k l : Memory} {r : Result (List ℕ) OciDistributionError} → Meets is_memory (pull_blob s image digest) old new k l r → IfOk r (λ bytes. Told (λ c. LastBody c bytes) old new)
 blob_last s image digest {old = old} {new = new} {r = r} met = ok_more (λ bytes. Told (λ c. Blob digest c bytes) old new) (λ bytes. Told (λ c. LastBody c bytes) old new) r (blob_told s image digest met) (λ bytes told. told_more (λ c b. b.2) told)
 
-pub blob_named : (s : Settings) (image : Reference) (digest : List ℕ) {old new : Link} {k l : Memory} {r : Result (List ℕ) OciDistributionError} → Meets is_memory (pull_blob s image digest) old new k l r → IfOk r (λ bytes. Names digest bytes)
+pub blob_named : (s : Context) (image : Reference) (digest : List ℕ) {old new : Link} {k l : Memory} {r : Result (List ℕ) OciDistributionError} → Meets is_memory (pull_blob s image digest) old new k l r → IfOk r (λ bytes. Names digest bytes)
 blob_named s image digest {old = old} {new = new} {r = r} met = ok_more (λ bytes. Told (λ c. Blob digest c bytes) old new) (λ bytes. Names digest bytes) r (blob_told s image digest met) (λ bytes told. told.holds.1)
 
-pub blob_took : (s : Settings) (image : Reference) (digest : List ℕ) {old new : Link} {k l : Memory} {before after : Tray} {r : Result (Unit {0}) OciDistributionError} → Spills (pull_blob s image digest) old new k l before after r → IfOk r (λ u. TookBlob digest old new before after)
+pub blob_took : (s : Context) (image : Reference) (digest : List ℕ) {old new : Link} {k l : Memory} {before after : Tray} {r : Result (Unit {0}) OciDistributionError} → Spills (pull_blob s image digest) old new k l before after r → IfOk r (λ u. TookBlob digest old new before after)
 blob_took s image digest {old} {new} {k} {l} {before} {after} {r} spills = by_result r spills where
   by_result : (r : Result (Unit {0}) OciDistributionError) → Spills (pull_blob s image digest) old new k l before after r → IfOk r (λ u. TookBlob digest old new before after)
   by_result (Ok u) spills = record { bytes = spills.body; took = spills.put; names = blob_named s image digest spills.met; body = blob_last s image digest spills.met }

@@ -8,6 +8,8 @@ use Rattle.oci_transport.specs.declared.message.Request.{Request}
 use Rattle.oci_transport.specs.declared.message.Answer.{Answer}
 use Rattle.oci_transport.specs.declared.message.Exchange.{Exchange}
 use Rattle.oci_names.specs.declared.reference.Reference.{Reference}
+use Rattle.oci_auth.specs.Credentials.{authorization_of}
+use Rattle.oci_auth.specs.declared.token_type.RegistryTokenType.{RegistryTokenType}
 use Rattle.oci_names.specs.References.{digest_of}
 use Rattle.oci_digests.specs.Names.{digest_text}
 use Rattle.oci_digests.specs.Checks.{is_header_text}
@@ -29,10 +31,10 @@ use Rattle.engine_requests.specs.declared.error.OciDistributionError.{OciDistrib
 use Rattle.engine_requests.specs.declared.error.OciDistributionError.TheVariants as refusal
 use Rattle.engine_requests.specs.Answers.{is_success, is_client_error, envelope_in, header_digest}
 use Rattle.engine_requests.specs.Errors.{is_memory}
-use Rattle.engine_requests.specs.Requests.{manifest_types}
 use Rattle.engine_requests.specs.Documents.{document_read}
 use Rattle.engine_pull.specs.Images.{is_accepted}
 use Rattle.oci_engine.specs.Answered.{Body}
+use Rattle.oci_engine.specs.Held.{Entry, IsHeld}
 
 -- ---- the last exchange of a call
 
@@ -138,15 +140,23 @@ pub record ByLast (P : List ℕ → Answer → Type 0) (c : List Exchange) : Typ
 abbrev pub HasBadHeader : Settings → List ℕ → Type 0
 HasBadHeader s types = (is_header_value s.user_agent ≡ false) ⊎ (is_header_value types ≡ false)
 
--- Why a call was refused that accepts these types. Of an answer the refusal speaks so. Memory may be
--- wanting anywhere.
-abbrev pub Cause : (List ℕ → Answer → OciDistributionError → Type 0) → Settings → List ℕ → List Exchange → ℕ → OciDistributionError → Type 0
-Cause Of s types c now (refusal.UrlParseError text) = request_url text ≡ None
-Cause Of s types c now (refusal.GenericError HeaderText) = HasBadHeader s types
-Cause Of s types c now refusal.BodyTooLong = LastTooLong c s.max_body_bytes
-Cause Of s types c now refusal.TransportFault = LastFailed c now
-Cause Of s types c now refusal.WantOfMemory = Unit {0}
-Cause Of s types c now e = ByLast (λ address answer. Of address answer e) c
+-- nor can a token that the call may show
+abbrev pub HasBadToken : Entry → List Exchange → Type 0
+HasBadToken x c = (token : RegistryTokenType) × IsHeld x c token × (is_header_value (authorization_of token) ≡ false)
+
+-- why a request could not be made: the user agent, the types or the token cannot stand in a header
+abbrev pub BadHeader : Entry → Settings → List ℕ → List Exchange → Type 0
+BadHeader x s types c = HasBadHeader s types ⊎ HasBadToken x c
+
+-- Why a call was refused. Of an answer the refusal speaks so, and of a value that cannot stand in a
+-- header so. Memory may be wanting anywhere.
+abbrev pub Cause : (List ℕ → Answer → OciDistributionError → Type 0) → (List Exchange → Type 0) → Settings → List Exchange → ℕ → OciDistributionError → Type 0
+Cause Of Bad s c now (refusal.UrlParseError text) = request_url text ≡ None
+Cause Of Bad s c now (refusal.GenericError HeaderText) = Bad c
+Cause Of Bad s c now refusal.BodyTooLong = LastTooLong c s.max_body_bytes
+Cause Of Bad s c now refusal.TransportFault = LastFailed c now
+Cause Of Bad s c now refusal.WantOfMemory = Unit {0}
+Cause Of Bad s c now e = ByLast (λ address answer. Of address answer e) c
 
 -- the digest that a reference has
 abbrev pub OwnDigest : Reference → List ℕ → Type 0
@@ -157,14 +167,14 @@ abbrev pub AskedDigest : List ℕ → List ℕ → Type 0
 AskedDigest digest text = text ≡ digest
 
 -- of a blob that is answered: no sink of the caller's can fail
-abbrev pub BlobCause : Settings → List ℕ → List Exchange → ℕ → OciDistributionError → Type 0
-BlobCause s digest c now refusal.SinkFault = ⊥
-BlobCause s digest c now e = Cause (AnswerCause (AskedDigest digest)) s manifest_types c now e
+abbrev pub BlobCause : (List Exchange → Type 0) → Settings → List ℕ → List Exchange → ℕ → OciDistributionError → Type 0
+BlobCause Bad s digest c now refusal.SinkFault = ⊥
+BlobCause Bad s digest c now e = Cause (AnswerCause (AskedDigest digest)) Bad s c now e
 
 -- of a blob that goes into the caller's sink: the count of the sink's faults is not told here
-abbrev pub PouredCause : Settings → List ℕ → List Exchange → ℕ → OciDistributionError → Type 0
-PouredCause s digest c now refusal.SinkFault = Unit {0}
-PouredCause s digest c now e = BlobCause s digest c now e
+abbrev pub PouredCause : (List Exchange → Type 0) → Settings → List ℕ → List Exchange → ℕ → OciDistributionError → Type 0
+PouredCause Bad s digest c now refusal.SinkFault = Unit {0}
+PouredCause Bad s digest c now e = BlobCause Bad s digest c now e
 
 -- the manifest was read from an answer's body
 pub record ManifestRead (c : List Exchange) (manifest : OciImageManifest) : Type 0 where
@@ -192,12 +202,12 @@ pub record NotAccepted (accepted : List (List ℕ)) (c : List Exchange) (kind : 
   pub other : is_accepted accepted kind ≡ false
 
 -- of a whole image, whose blobs are answered too
-abbrev pub ImageCause : Settings → Reference → List (List ℕ) → List Exchange → ℕ → OciDistributionError → Type 0
-ImageCause s image accepted c now refusal.ImageIndexParsingNoPlatformResolverError = ByLast (λ address answer. (index : OciImageIndex) × (document_read answer.body ≡ Ok (ImageIndex index))) c
-ImageCause s image accepted c now refusal.PullNoLayersError = (manifest : OciImageManifest) × ManifestRead c manifest × (manifest.layers ≡ [])
-ImageCause s image accepted c now (refusal.IncompatibleLayerMediaTypeError kind) = NotAccepted accepted c kind
-ImageCause s image accepted c now refusal.SinkFault = ⊥
-ImageCause s image accepted c now e = Cause (DocumentCause (ImageDigest image c)) s manifest_types c now e
+abbrev pub ImageCause : (List Exchange → Type 0) → Settings → Reference → List (List ℕ) → List Exchange → ℕ → OciDistributionError → Type 0
+ImageCause Bad s image accepted c now refusal.ImageIndexParsingNoPlatformResolverError = ByLast (λ address answer. (index : OciImageIndex) × (document_read answer.body ≡ Ok (ImageIndex index))) c
+ImageCause Bad s image accepted c now refusal.PullNoLayersError = (manifest : OciImageManifest) × ManifestRead c manifest × (manifest.layers ≡ [])
+ImageCause Bad s image accepted c now (refusal.IncompatibleLayerMediaTypeError kind) = NotAccepted accepted c kind
+ImageCause Bad s image accepted c now refusal.SinkFault = ⊥
+ImageCause Bad s image accepted c now e = Cause (DocumentCause (ImageDigest image c)) Bad s c now e
 
 -- ---- refusals that must come
 

@@ -1,29 +1,33 @@
-ghost use Rattle.std.specs.Prelude.{◌≡◌, ℕ, List, Some, None, Err, IfOk, IfErr};
-ghost use Rattle.std.specs.FinMap as map;
+ghost use Rattle.std.specs.Prelude.{◌≡◌, ℕ, List, Some, None, Err, OnOk, OnErr, IfOk, IfErr};
 ghost use Rattle.json_values.specs.Counts.{Rose};
 ghost use Rattle.oci_digests.specs.Names.{Names};
 ghost use Rattle.oci_transport.specs.Urls.{request_url};
 ghost use Rattle.oci_names.specs.References.{digest_of};
 ghost use Rattle.oci_protocol.specs.Runs.{Meets, Told};
+ghost use Rattle.engine_requests.specs.Contexts.{within};
 ghost use Rattle.engine_requests.specs.Addresses.{manifest_text, blob_text};
 ghost use Rattle.engine_requests.specs.Errors.{is_memory};
 ghost use Rattle.engine_requests.specs.Requests.{listed, manifest_types};
 ghost use Rattle.engine_steps.specs.Blobs.{Spills};
+ghost use Rattle.engine_steps.specs.Rows.{token_given};
+ghost use Rattle.oci_auth.specs.Memory.{fresh, stored};
 ghost use Rattle.engine_pull.specs.Pulls.{fetch_manifest_digest, pull_manifest, pull_manifest_raw, pull_blob};
 ghost use Rattle.engine_pull.specs.Images.{pull};
 ghost use Rattle.oci_engine.specs.Answered.{Answered, Body, LastBody, TookBlob};
-ghost use Rattle.oci_engine.specs.Causes.{AnswerCause, DocumentCause, Cause, OwnDigest, BlobCause, PouredCause, ImageCause, HasBadHeader, IsEarly, IsRefusedAs};
+ghost use Rattle.oci_engine.specs.Causes.{AnswerCause, DocumentCause, BadHeader, Cause, OwnDigest, BlobCause, PouredCause, ImageCause, HasBadHeader, IsEarly, IsRefusedAs};
 ghost use Rattle.oci_engine.specs.Clients.{settings_of};
+ghost use Rattle.oci_engine.specs.Held.{pulling};
+ghost use Rattle.oci_engine.specs.TokenCauses.{TokenCause};
 
 use crate::config::ClientConfig;
 use engine_pull::ImageData;
 use engine_requests::{OciDistributionError, Settings};
 use json_values::{Blob, Sink, Text};
-use oci_auth::{Memory, RegistryAuth};
+use oci_auth::{Memory, RegistryAuth, RegistryOperation};
 use oci_manifests::OciManifest;
 use oci_names::Reference;
 use oci_transport::Transport;
-use std::alloc::Global;
+use std::alloc::{AllocError, Global};
 
 /// A client of registries. Each call makes the requests of its row over the transport that it is handed.
 #[derive(Drop)]
@@ -36,10 +40,11 @@ pub struct Client {
 impl Client {
     pub fn new(alloc: Global, config: ClientConfig) -> Client
         ensures settings { result.settings ≡ settings_of config }
-        ensures fresh { result.memory ≡ record { credentials = map.empty } }
+        ensures fresh { result.memory ≡ fresh config.default_token_expiration_secs }
     {
         let ClientConfig {
             protocol,
+            default_token_expiration_secs,
             user_agent,
             max_body_bytes,
         } = config;
@@ -49,8 +54,49 @@ impl Client {
                 user_agent,
                 max_body_bytes,
             },
-            memory: Memory::new(alloc),
+            memory: Memory::new(alloc, default_token_expiration_secs),
         }
+    }
+
+    /// Stores credentials for a registry. Those that are stored already are never replaced.
+    pub fn store_auth_if_needed(
+        &mut self,
+        registry: &str,
+        auth: &RegistryAuth,
+    ) -> Result<(), AllocError>
+        ensures ok { OnOk result (self.new ≡ record self.old { memory = stored self.old.memory registry.now auth.now }) }
+        ensures err { OnErr result (self.new ≡ self.old) }
+    {
+        let alloc = self.memory.tokens.alloc();
+        oci_auth::store(alloc, &mut self.memory, registry, auth)
+    }
+
+    /// Stores credentials and gets their token for the operation, which is kept. The text of a token is answered, and none where
+    /// the registry asks for no token or for the credentials themselves. `moment` is in seconds since 1970.
+    pub fn auth<T: Transport>(
+        &mut self,
+        alloc: Global,
+        transport: &mut T,
+        moment: u64,
+        image: &Reference,
+        authentication: &RegistryAuth,
+        operation: RegistryOperation,
+    ) -> Result<Option<Text>, OciDistributionError>
+        ensures run { Meets is_memory (token_given (within self.old.settings moment) image.now authentication.now operation) (T.state transport.old) (T.state transport.new) self.old.memory self.new.memory result }
+        ensures settings { self.new.settings ≡ self.old.settings }
+        ensures causes { IfErr result (λ e. Told (λ c. TokenCause self.old.settings authentication.now c (T.state transport.new).faults e) (T.state transport.old) (T.state transport.new)) }
+        ensures fault { result ≡ Err OciDistributionError.TransportFault → Rose (T.state transport.old).faults (T.state transport.new).faults }
+    {
+        engine_steps::token_given(
+            alloc,
+            transport,
+            &self.settings,
+            &mut self.memory,
+            moment,
+            image,
+            authentication,
+            operation,
+        )
     }
 
     /// The digest of the image's manifest or index, as the registry names it. `moment` is in seconds since 1970.
@@ -58,14 +104,14 @@ impl Client {
         &mut self,
         alloc: Global,
         transport: &mut T,
-        _moment: u64,
+        moment: u64,
         image: &Reference,
         auth: &RegistryAuth,
     ) -> Result<Text, OciDistributionError>
-        ensures run { Meets is_memory (fetch_manifest_digest self.old.settings image.now auth.now) (T.state transport.old) (T.state transport.new) self.old.memory self.new.memory result }
+        ensures run { Meets is_memory (fetch_manifest_digest (within self.old.settings moment) image.now auth.now) (T.state transport.old) (T.state transport.new) self.old.memory self.new.memory result }
         ensures settings { self.new.settings ≡ self.old.settings }
         ensures answered { IfOk result (λ d. Told (λ c. Answered self.old.settings image.now c d) (T.state transport.old) (T.state transport.new)) }
-        ensures causes { IfErr result (λ e. Told (λ c. Cause (AnswerCause (OwnDigest image.now)) self.old.settings manifest_types c (T.state transport.new).faults e) (T.state transport.old) (T.state transport.new)) }
+        ensures causes { IfErr result (λ e. Told (λ c. Cause (AnswerCause (OwnDigest image.now)) (BadHeader (pulling self.old.memory (within self.old.settings moment) image.now (Some auth.now)) self.old.settings manifest_types) self.old.settings c (T.state transport.new).faults e) (T.state transport.old) (T.state transport.new)) }
         ensures fault { result ≡ Err OciDistributionError.TransportFault → Rose (T.state transport.old).faults (T.state transport.new).faults }
         ensures no_url { request_url (manifest_text self.old.settings image.now) ≡ None → IsRefusedAs (OciDistributionError.UrlParseError (manifest_text self.old.settings image.now)) result }
         ensures bad_header { HasBadHeader self.old.settings manifest_types → IsEarly result }
@@ -75,6 +121,7 @@ impl Client {
             transport,
             &self.settings,
             &mut self.memory,
+            moment,
             image,
             auth,
         )
@@ -85,17 +132,17 @@ impl Client {
         &mut self,
         alloc: Global,
         transport: &mut T,
-        _moment: u64,
+        moment: u64,
         image: &Reference,
         auth: &RegistryAuth,
         accepted_media_types: &[Text],
     ) -> Result<(Blob, Text), OciDistributionError>
-        ensures run { Meets is_memory (pull_manifest_raw self.old.settings image.now auth.now (listed accepted_media_types.now)) (T.state transport.old) (T.state transport.new) self.old.memory self.new.memory result }
+        ensures run { Meets is_memory (pull_manifest_raw (within self.old.settings moment) image.now auth.now (listed accepted_media_types.now)) (T.state transport.old) (T.state transport.new) self.old.memory self.new.memory result }
         ensures settings { self.new.settings ≡ self.old.settings }
         ensures body { IfOk result (λ found. Told (λ c. Body c found.0) (T.state transport.old) (T.state transport.new)) }
         ensures named { IfOk result (λ found. Names found.1 found.0) }
         ensures given { IfOk result (λ found. (d : List ℕ) → digest_of image.now ≡ Some d → Names d found.0) }
-        ensures causes { IfErr result (λ e. Told (λ c. Cause (AnswerCause (OwnDigest image.now)) self.old.settings (listed accepted_media_types.now) c (T.state transport.new).faults e) (T.state transport.old) (T.state transport.new)) }
+        ensures causes { IfErr result (λ e. Told (λ c. Cause (AnswerCause (OwnDigest image.now)) (BadHeader (pulling self.old.memory (within self.old.settings moment) image.now (Some auth.now)) self.old.settings (listed accepted_media_types.now)) self.old.settings c (T.state transport.new).faults e) (T.state transport.old) (T.state transport.new)) }
         ensures fault { result ≡ Err OciDistributionError.TransportFault → Rose (T.state transport.old).faults (T.state transport.new).faults }
         ensures no_url { request_url (manifest_text self.old.settings image.now) ≡ None → IsRefusedAs (OciDistributionError.UrlParseError (manifest_text self.old.settings image.now)) result }
         ensures bad_header { HasBadHeader self.old.settings (listed accepted_media_types.now) → IsEarly result }
@@ -106,6 +153,7 @@ impl Client {
             transport,
             &self.settings,
             &mut self.memory,
+            moment,
             image,
             auth,
             types.as_str(),
@@ -118,13 +166,13 @@ impl Client {
         &mut self,
         alloc: Global,
         transport: &mut T,
-        _moment: u64,
+        moment: u64,
         image: &Reference,
         auth: &RegistryAuth,
     ) -> Result<(OciManifest, Text), OciDistributionError>
-        ensures run { Meets is_memory (pull_manifest self.old.settings image.now auth.now) (T.state transport.old) (T.state transport.new) self.old.memory self.new.memory result }
+        ensures run { Meets is_memory (pull_manifest (within self.old.settings moment) image.now auth.now) (T.state transport.old) (T.state transport.new) self.old.memory self.new.memory result }
         ensures settings { self.new.settings ≡ self.old.settings }
-        ensures causes { IfErr result (λ e. Told (λ c. Cause (DocumentCause (OwnDigest image.now)) self.old.settings manifest_types c (T.state transport.new).faults e) (T.state transport.old) (T.state transport.new)) }
+        ensures causes { IfErr result (λ e. Told (λ c. Cause (DocumentCause (OwnDigest image.now)) (BadHeader (pulling self.old.memory (within self.old.settings moment) image.now (Some auth.now)) self.old.settings manifest_types) self.old.settings c (T.state transport.new).faults e) (T.state transport.old) (T.state transport.new)) }
         ensures fault { result ≡ Err OciDistributionError.TransportFault → Rose (T.state transport.old).faults (T.state transport.new).faults }
         ensures no_url { request_url (manifest_text self.old.settings image.now) ≡ None → IsRefusedAs (OciDistributionError.UrlParseError (manifest_text self.old.settings image.now)) result }
         ensures bad_header { HasBadHeader self.old.settings manifest_types → IsEarly result }
@@ -134,6 +182,7 @@ impl Client {
             transport,
             &self.settings,
             &mut self.memory,
+            moment,
             image,
             auth,
         )
@@ -144,14 +193,14 @@ impl Client {
         &mut self,
         alloc: Global,
         transport: &mut T,
-        _moment: u64,
+        moment: u64,
         image: &Reference,
         auth: &RegistryAuth,
         accepted_media_types: &[Text],
     ) -> Result<ImageData, OciDistributionError>
-        ensures run { Meets is_memory (pull self.old.settings image.now auth.now accepted_media_types.now) (T.state transport.old) (T.state transport.new) self.old.memory self.new.memory result }
+        ensures run { Meets is_memory (pull (within self.old.settings moment) image.now auth.now accepted_media_types.now) (T.state transport.old) (T.state transport.new) self.old.memory self.new.memory result }
         ensures settings { self.new.settings ≡ self.old.settings }
-        ensures causes { IfErr result (λ e. Told (λ c. ImageCause self.old.settings image.now accepted_media_types.now c (T.state transport.new).faults e) (T.state transport.old) (T.state transport.new)) }
+        ensures causes { IfErr result (λ e. Told (λ c. ImageCause (BadHeader (pulling self.old.memory (within self.old.settings moment) image.now (Some auth.now)) self.old.settings manifest_types) self.old.settings image.now accepted_media_types.now c (T.state transport.new).faults e) (T.state transport.old) (T.state transport.new)) }
         ensures fault { result ≡ Err OciDistributionError.TransportFault → Rose (T.state transport.old).faults (T.state transport.new).faults }
         ensures no_url { request_url (manifest_text self.old.settings image.now) ≡ None → IsRefusedAs (OciDistributionError.UrlParseError (manifest_text self.old.settings image.now)) result }
         ensures bad_header { HasBadHeader self.old.settings manifest_types → IsEarly result }
@@ -161,6 +210,7 @@ impl Client {
             transport,
             &self.settings,
             &mut self.memory,
+            moment,
             image,
             auth,
             accepted_media_types,
@@ -172,15 +222,15 @@ impl Client {
         &mut self,
         alloc: Global,
         transport: &mut T,
-        _moment: u64,
+        moment: u64,
         image: &Reference,
         digest: &str,
         out: &mut K,
     ) -> Result<(), OciDistributionError>
-        ensures spills { Spills (pull_blob self.old.settings image.now digest.now) (T.state transport.old) (T.state transport.new) self.old.memory self.new.memory (K.state out.old) (K.state out.new) result }
+        ensures spills { Spills (pull_blob (within self.old.settings moment) image.now digest.now) (T.state transport.old) (T.state transport.new) self.old.memory self.new.memory (K.state out.old) (K.state out.new) result }
         ensures settings { self.new.settings ≡ self.old.settings }
         ensures took { IfOk result (λ u. TookBlob digest.now (T.state transport.old) (T.state transport.new) (K.state out.old) (K.state out.new)) }
-        ensures causes { IfErr result (λ e. Told (λ c. PouredCause self.old.settings digest.now c (T.state transport.new).faults e) (T.state transport.old) (T.state transport.new)) }
+        ensures causes { IfErr result (λ e. Told (λ c. PouredCause (BadHeader (pulling self.old.memory (within self.old.settings moment) image.now None) self.old.settings manifest_types) self.old.settings digest.now c (T.state transport.new).faults e) (T.state transport.old) (T.state transport.new)) }
         ensures fault { result ≡ Err OciDistributionError.TransportFault → Rose (T.state transport.old).faults (T.state transport.new).faults }
         ensures sink { result ≡ Err OciDistributionError.SinkFault → Rose (K.state out.old).faults (K.state out.new).faults }
         ensures no_url { request_url (blob_text self.old.settings image.now digest.now) ≡ None → IsRefusedAs (OciDistributionError.UrlParseError (blob_text self.old.settings image.now digest.now)) result }
@@ -190,7 +240,8 @@ impl Client {
             alloc,
             transport,
             &self.settings,
-            &self.memory,
+            &mut self.memory,
+            moment,
             image,
             digest,
             out,
@@ -202,16 +253,16 @@ impl Client {
         &mut self,
         alloc: Global,
         transport: &mut T,
-        _moment: u64,
+        moment: u64,
         image: &Reference,
         digest: &str,
     ) -> Result<Blob, OciDistributionError>
-        ensures run { Meets is_memory (pull_blob self.old.settings image.now digest.now) (T.state transport.old) (T.state transport.new) self.old.memory self.new.memory result }
+        ensures run { Meets is_memory (pull_blob (within self.old.settings moment) image.now digest.now) (T.state transport.old) (T.state transport.new) self.old.memory self.new.memory result }
         ensures settings { self.new.settings ≡ self.old.settings }
         ensures body { IfOk result (λ bytes. Told (λ c. Body c bytes) (T.state transport.old) (T.state transport.new)) }
         ensures last { IfOk result (λ bytes. Told (λ c. LastBody c bytes) (T.state transport.old) (T.state transport.new)) }
         ensures named { IfOk result (λ bytes. Names digest.now bytes) }
-        ensures causes { IfErr result (λ e. Told (λ c. BlobCause self.old.settings digest.now c (T.state transport.new).faults e) (T.state transport.old) (T.state transport.new)) }
+        ensures causes { IfErr result (λ e. Told (λ c. BlobCause (BadHeader (pulling self.old.memory (within self.old.settings moment) image.now None) self.old.settings manifest_types) self.old.settings digest.now c (T.state transport.new).faults e) (T.state transport.old) (T.state transport.new)) }
         ensures fault { result ≡ Err OciDistributionError.TransportFault → Rose (T.state transport.old).faults (T.state transport.new).faults }
         ensures no_url { request_url (blob_text self.old.settings image.now digest.now) ≡ None → IsRefusedAs (OciDistributionError.UrlParseError (blob_text self.old.settings image.now digest.now)) result }
         ensures bad_header { HasBadHeader self.old.settings manifest_types → IsEarly result }
@@ -220,7 +271,8 @@ impl Client {
             alloc,
             transport,
             &self.settings,
-            &self.memory,
+            &mut self.memory,
+            moment,
             image,
             digest,
         )

@@ -1,19 +1,20 @@
 use Rattle.oci_engine.proofs.Results.{digest_answered}
 use Rattle.oci_engine.proofs.Reasons.{digest_reason, digest_fault}
 use Rattle.oci_engine.proofs.Exact.{digest_url, digest_bad, met_only, met_early}
+use Rattle.engine_requests.specs.Contexts.{within}
 use Rattle.oci_engine.proofs.client.Client.fetch_manifest_digest.Goals as goal
 
 pub returns-clause-answered : goal.returns-clause-answered
-returns-clause-answered g c = digest_answered c.args.self.now.settings c.args.image.now c.args.auth.now c.fetch_manifest_digest.ensures
+returns-clause-answered g c = digest_answered (within c.args.self.now.settings c.args.moment) c.args.image.now c.args.auth.now c.fetch_manifest_digest.ensures
 
 pub returns-clause-causes : goal.returns-clause-causes
-returns-clause-causes g c = digest_reason c.args.self.now.settings c.args.image.now c.args.auth.now c.fetch_manifest_digest.ensures
+returns-clause-causes g c = digest_reason (within c.args.self.now.settings c.args.moment) c.args.image.now c.args.auth.now c.fetch_manifest_digest.ensures
 
 pub returns-clause-fault : goal.returns-clause-fault
-returns-clause-fault g c = digest_fault c.args.self.now.settings c.args.image.now c.args.auth.now c.fetch_manifest_digest.ensures
+returns-clause-fault g c = digest_fault (within c.args.self.now.settings c.args.moment) c.args.image.now c.args.auth.now c.fetch_manifest_digest.ensures
 
 pub returns-clause-no_url : goal.returns-clause-no_url
-returns-clause-no_url g c = λ none. met_only _ (digest_url c.args.self.now.settings c.args.image.now c.args.auth.now none) c.fetch_manifest_digest.ensures
+returns-clause-no_url g c = λ none. met_only _ (digest_url (within c.args.self.now.settings c.args.moment) c.args.image.now c.args.auth.now none) c.fetch_manifest_digest.ensures
 
 pub returns-clause-bad_header : goal.returns-clause-bad_header
-returns-clause-bad_header g c = λ bad. met_early (digest_bad c.args.self.now.settings c.args.image.now c.args.auth.now bad) c.fetch_manifest_digest.ensures
+returns-clause-bad_header g c = λ bad. met_early (digest_bad (within c.args.self.now.settings c.args.moment) c.args.image.now c.args.auth.now bad) c.fetch_manifest_digest.ensures

@@ -1,22 +1,23 @@
 use Rattle.oci_engine.proofs.Results.{blob_took}
 use Rattle.oci_engine.proofs.Reasons.{spilled_reason, spilled_fault}
 use Rattle.oci_engine.proofs.Exact.{blob_url, blob_bad, spilled_only, spilled_early}
+use Rattle.engine_requests.specs.Contexts.{within}
 use Rattle.oci_engine.proofs.client.Client.pull_blob.Goals as goal
 
 pub returns-clause-took : goal.returns-clause-took
-returns-clause-took g c = blob_took c.args.self.now.settings c.args.image.now c.args.digest.now c.pull_blob.ensures
+returns-clause-took g c = blob_took (within c.args.self.now.settings c.args.moment) c.args.image.now c.args.digest.now c.pull_blob.ensures
 
 pub returns-clause-causes : goal.returns-clause-causes
-returns-clause-causes g c = spilled_reason c.args.self.now.settings c.args.image.now c.args.digest.now c.pull_blob.ensures
+returns-clause-causes g c = spilled_reason (within c.args.self.now.settings c.args.moment) c.args.image.now c.args.digest.now c.pull_blob.ensures
 
 pub returns-clause-fault : goal.returns-clause-fault
-returns-clause-fault g c = spilled_fault c.args.self.now.settings c.args.image.now c.args.digest.now c.pull_blob.ensures
+returns-clause-fault g c = spilled_fault (within c.args.self.now.settings c.args.moment) c.args.image.now c.args.digest.now c.pull_blob.ensures
 
 pub returns-clause-sink : goal.returns-clause-sink
 returns-clause-sink g c = c.pull_blob.ensures.fault
 
 pub returns-clause-no_url : goal.returns-clause-no_url
-returns-clause-no_url g c = λ none. spilled_only _ (blob_url c.args.self.now.settings c.args.image.now c.args.digest.now none) c.pull_blob.ensures
+returns-clause-no_url g c = λ none. spilled_only _ (blob_url (within c.args.self.now.settings c.args.moment) c.args.image.now c.args.digest.now none) c.pull_blob.ensures
 
 pub returns-clause-bad_header : goal.returns-clause-bad_header
-returns-clause-bad_header g c = λ bad. spilled_early (blob_bad c.args.self.now.settings c.args.image.now c.args.digest.now bad) c.pull_blob.ensures
+returns-clause-bad_header g c = λ bad. spilled_early (blob_bad (within c.args.self.now.settings c.args.moment) c.args.image.now c.args.digest.now bad) c.pull_blob.ensures

@@ -1,15 +1,16 @@
 use Rattle.oci_engine.proofs.Reasons.{manifest_reason, manifest_fault}
 use Rattle.oci_engine.proofs.Exact.{manifest_url, manifest_bad, met_only, met_early}
+use Rattle.engine_requests.specs.Contexts.{within}
 use Rattle.oci_engine.proofs.client.Client.pull_manifest.Goals as goal
 
 pub returns-clause-causes : goal.returns-clause-causes
-returns-clause-causes g c = manifest_reason c.args.self.now.settings c.args.image.now c.args.auth.now c.pull_manifest.ensures
+returns-clause-causes g c = manifest_reason (within c.args.self.now.settings c.args.moment) c.args.image.now c.args.auth.now c.pull_manifest.ensures
 
 pub returns-clause-fault : goal.returns-clause-fault
-returns-clause-fault g c = manifest_fault c.args.self.now.settings c.args.image.now c.args.auth.now c.pull_manifest.ensures
+returns-clause-fault g c = manifest_fault (within c.args.self.now.settings c.args.moment) c.args.image.now c.args.auth.now c.pull_manifest.ensures
 
 pub returns-clause-no_url : goal.returns-clause-no_url
-returns-clause-no_url g c = λ none. met_only _ (manifest_url c.args.self.now.settings c.args.image.now c.args.auth.now none) c.pull_manifest.ensures
+returns-clause-no_url g c = λ none. met_only _ (manifest_url (within c.args.self.now.settings c.args.moment) c.args.image.now c.args.auth.now none) c.pull_manifest.ensures
 
 pub returns-clause-bad_header : goal.returns-clause-bad_header
-returns-clause-bad_header g c = λ bad. met_early (manifest_bad c.args.self.now.settings c.args.image.now c.args.auth.now bad) c.pull_manifest.ensures
+returns-clause-bad_header g c = λ bad. met_early (manifest_bad (within c.args.self.now.settings c.args.moment) c.args.image.now c.args.auth.now bad) c.pull_manifest.ensures

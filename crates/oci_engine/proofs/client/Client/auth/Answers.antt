@@ -1,0 +1,9 @@
+use Rattle.engine_requests.specs.Contexts.{within}
+use Rattle.oci_engine.proofs.TokenRefused.{token_reason, token_fault}
+use Rattle.oci_engine.proofs.client.Client.auth.Goals as goal
+
+pub returns-clause-causes : goal.returns-clause-causes
+returns-clause-causes g c = token_reason (within c.args.self.now.settings c.args.moment) c.args.image.now c.args.authentication.now c.args.operation c.token_given.ensures
+
+pub returns-clause-fault : goal.returns-clause-fault
+returns-clause-fault g c = token_fault (within c.args.self.now.settings c.args.moment) c.args.image.now c.args.authentication.now c.args.operation c.token_given.ensures

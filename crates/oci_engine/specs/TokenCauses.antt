@@ -1,0 +1,40 @@
+-- Why the call for a token was refused. Such a refusal speaks of the last exchange of the call.
+use Rattle.std.specs.Prelude.{◌≡◌, ◌≢◌, ◌<◌, ◌⊎◌, ℕ, false, List, [], ◌∷◌, ◌++◌, Some, None, length}
+use Rattle.json_values.specs.Counts.{Rose}
+use Rattle.oci_transport.specs.Headers.{is_header_value}
+use Rattle.oci_transport.specs.Urls.{request_url}
+use Rattle.oci_transport.specs.declared.message.Answer.{Answer}
+use Rattle.oci_transport.specs.declared.message.Exchange.{Exchange}
+use Rattle.oci_auth.specs.Credentials.{own_token, authorization_of}
+use Rattle.oci_auth.specs.Tokens.{token_of}
+use Rattle.oci_auth.specs.declared.auth.RegistryAuth.{RegistryAuth}
+use Rattle.oci_auth.specs.declared.token_type.RegistryTokenType.{RegistryTokenType}
+use Rattle.engine_requests.specs.declared.settings.Settings.{Settings}
+use Rattle.engine_requests.specs.declared.error.GenericCause.TheVariants.{HeaderText}
+use Rattle.engine_requests.specs.declared.error.OciDistributionError.{OciDistributionError}
+use Rattle.engine_requests.specs.declared.error.OciDistributionError.TheVariants as refusal
+
+-- this is so of the last exchange
+pub record LastIs (P : Exchange → Type 0) (c : List Exchange) : Type 0 where
+  pub before : List Exchange
+  pub last : Exchange
+  pub split : c ≡ before ++ last ∷ []
+  pub holds : P last
+
+-- it was answered, and this is so of the answer
+abbrev pub WithAnswer : (Answer → Type 0) → Exchange → Type 0
+WithAnswer P e = (answer : Answer) × (e.answer ≡ Some answer) × P answer
+
+-- the token of the credentials cannot stand in a header
+abbrev pub HasBadAuth : RegistryAuth → Type 0
+HasBadAuth a = (token : RegistryTokenType) × (own_token a ≡ Some token) × (is_header_value (authorization_of token) ≡ false)
+
+abbrev pub TokenCause : Settings → RegistryAuth → List Exchange → ℕ → OciDistributionError → Type 0
+TokenCause s a c now (refusal.UrlParseError text) = request_url text ≡ None
+TokenCause s a c now (refusal.GenericError HeaderText) = (is_header_value s.user_agent ≡ false) ⊎ HasBadAuth a
+TokenCause s a c now refusal.BodyTooLong = LastIs (WithAnswer (λ answer. s.max_body_bytes < length answer.body)) c
+TokenCause s a c now refusal.TransportFault = LastIs (λ e. Rose e.faults now) c
+TokenCause s a c now (refusal.AuthenticationFailure body) = LastIs (WithAnswer (λ answer. (answer.status ≢ 200) × (body ≡ answer.body))) c
+TokenCause s a c now (refusal.RegistryTokenDecodeError body) = LastIs (WithAnswer (λ answer. (answer.status ≡ 200) × (body ≡ answer.body) × (token_of body ≡ None))) c
+TokenCause s a c now refusal.WantOfMemory = Unit {0}
+TokenCause s a c now _ = ⊥
