@@ -12,6 +12,7 @@ use Rattle.json_events.specs.Events.{Event, item_begins, item_ends, array_ends, 
 use Rattle.json_canon.specs.Feeding.{Ran, Fed}
 use Rattle.json_events.specs.Spelling.{spelled, spelled_items, spelled_members}
 use Rattle.json_events.specs.Turns.{Taken, Answers, answer, Breaks}
+use Rattle.json_events.proofs.Passing.{run_refused}
 use Rattle.json_events.proofs.Spelled.{run-append}
 
 no_refusal : (o : Option CanonError) (u : Unit {0}) → Ok u ≡ answer o → o ≡ None
@@ -45,16 +46,6 @@ fed_one x (Ok u) old new before after (inr (inr broken)) = let e = broken.answer
 fed_one x (Err e) old new before after (inl taken) = inl (ran_one x (Err e) old new before after taken, its_refusal new.refusal e taken.answers)
 fed_one x (Err e) old new before after (inr (inl broken)) = inr (inl (record { is = same_error e SinkFault broken.0.answers; rose = broken.1; front = front_one x old before after broken.0.front }))
 fed_one x (Err e) old new before after (inr (inr broken)) = inr (inr (record { is = same_error e WantOfMemory broken.answers; front = front_one x old before after broken.front }))
-
-step_refused : (x : Event) (s : Stage) (e : CanonError) → s.refusal ≡ Some e → step x s ≡ record { stage = s; out = [] }
-step_refused x s e is = ap (λ o. step x (record { refusal = o; draft = s.draft })) is ∙ ap (λ o. record { stage = record { refusal = o; draft = s.draft }; out = [] }) (sym is)
-
--- after a refusal nothing changes
-pub run_refused : (xs : List Event) (s : Stage) (e : CanonError) → s.refusal ≡ Some e → run xs s ≡ record { stage = s; out = [] }
-run_refused [] s e is = refl
-run_refused (x ∷ xs) s e is =
-    ap (λ first. record { stage = (run xs first.stage).stage; out = first.out ++ (run xs first.stage).out }) (step_refused x s e is)
-    ∙ ap (λ r. record { stage = r.stage; out = r.out }) (run_refused xs s e is)
 
 ran_more : (xs ys : List Event) (old mid new : Stage) (before tray after : Tray) → Ran xs old mid before tray → Ran ys mid new tray after → Ran (xs ++ ys) old new before after
 ran_more xs ys old mid new before tray after first second =

@@ -11,6 +11,7 @@ pub use Rattle.json_events.specs.Spelling
 pub use Rattle.json_events.specs.Turns
 pub use Rattle.json_events.specs.Units
 pub use Rattle.json_events.specs.Values
+pub use Rattle.json_events.specs.WellNested
 pub use Rattle.json_values.specs.Canon
 pub use Rattle.json_values.specs.Coding
 pub use Rattle.json_values.specs.Counts

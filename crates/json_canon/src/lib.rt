@@ -7,7 +7,8 @@ mod walk;
 mod whole;
 
 pub use json_events::{
-    CanonError, JcsFormatter, JsonProperty, events_write, one_text, order_of_names,
+    CanonError, JcsFormatter, JsonProperty, events_write, first_refusal_has_its_cause, one_text,
+    order_of_names,
 };
 pub use json_values::{
     Annotations, Blob, Copied, Json, List, MemorySink, PlainSink, Sink, SinkError, Text, TextMap,

@@ -176,7 +176,7 @@ act_why finishes d xs so = only_why xs finishes d Whole (moves (at Finished d) [
 
 -- ---- the event after events that were taken
 
-going_is : (s : Stage) → s.refusal ≡ None → s ≡ going s.draft
+pub going_is : (s : Stage) → s.refusal ≡ None → s ≡ going s.draft
 going_is s is = ap (λ o. record { refusal = o; draft = s.draft }) is
 
 next_is : (xs : List Event) (x : Event) → (after xs fresh).refusal ≡ None → after (xs ++ x ∷ []) fresh ≡ (turned (act x (after xs fresh).draft) (after xs fresh).draft).stage
@@ -246,7 +246,7 @@ unrefused_at : (o : Option CanonError) (ys : List Event) (s : Stage) → s.refus
 unrefused_at None ys s is none = refl
 unrefused_at (Some e) ys s is none = let all : Some e ≡ None = sym (ap (λ t. t.refusal) (stays ys s e is) ∙ is) ∙ none in cc
 
-unrefused : (xs ys : List Event) → (after (xs ++ ys) fresh).refusal ≡ None → (after xs fresh).refusal ≡ None
+pub unrefused : (xs ys : List Event) → (after (xs ++ ys) fresh).refusal ≡ None → (after xs fresh).refusal ≡ None
 unrefused xs ys none = unrefused_at (after xs fresh).refusal ys (after xs fresh) refl (sym (ap (λ s. s.refusal) (after-append xs ys fresh)) ∙ none)
 
 due_at : (o : Option Spot) (turn : Spot → Turn) (d : Draft) (ys : List Event) → (after ys (turned (where_due o turn) d).stage).refusal ≡ None → (s : Spot) × (o ≡ Some s)

@@ -1,12 +1,13 @@
 -- What events leave, and what a formatter holds after them.
-use Rattle.std.proofs.Common.{[], ◌∷◌, ◌++◌, refl, sym, ap, subst, ◌∙◌, append-nil}
+use Rattle.std.proofs.Common.{◌≡◌, [], ◌∷◌, ◌++◌, refl, sym, ap, subst, ◌∙◌, append-nil, append_assoc}
 use Rattle.json_events.specs.Canonical.{Canonical}
 use Rattle.json_events.specs.Drafts.{run, fresh, step, at}
 use Rattle.json_events.specs.Events.{finishes}
 use Rattle.json_events.specs.Formatters.{stage_of}
-use Rattle.json_events.specs.Laws.{EventsWrite, HoldsFirst, HoldsNext}
+use Rattle.json_events.specs.Laws.{EventsWrite, FrontGoesOut, HoldsFirst, HoldsNext}
 use Rattle.json_events.specs.Spelling.{spelled}
 use Rattle.json_events.specs.declared.spot.Spot.TheVariants.{Whole, Finished}
+use Rattle.json_events.proofs.Unique.{unique}
 use Rattle.json_events.proofs.Spelled.{new_comes, joins, one, run-append, with_text}
 
 pub events_write : EventsWrite
@@ -32,3 +33,11 @@ holds_next f g out events x r before after holds taken =
       taken.added,
       taken.answers,
     )
+
+pub front_goes_out : FrontGoesOut
+front_goes_out xs ys v t so canonical =
+    let written = events_write v so.value so.plain in
+    let all = ys ++ finishes ∷ [] in
+    let same : t ≡ (run (spelled v ++ finishes ∷ []) fresh).out = unique v t _ canonical written.1 in
+    let parts : spelled v ++ finishes ∷ [] ≡ xs ++ all = ap (λ l. l ++ finishes ∷ []) (sym so.events) ∙ append_assoc xs ys (finishes ∷ []) in
+    ((run all (run xs fresh).stage).out, same ∙ ap (λ l. (run l fresh).out) parts ∙ ap (λ r. r.out) (run-append xs all fresh))

@@ -8,4 +8,5 @@ pub mod Spelled
 pub mod Turning
 pub mod Unique
 pub mod Utf16
+pub mod Valued
 pub mod Written

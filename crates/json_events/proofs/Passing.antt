@@ -80,7 +80,7 @@ either P ls true t u d first second = first
 either P ls false t u d first second = second
 
 -- the level where a value comes
-abbrev InPlace : Draft → Spot → Level → Type 0
+abbrev pub InPlace : Draft → Spot → Level → Type 0
 InPlace d s l = l ≡ (at s d).inner
 
 due_passes : (P : Level → Type 0) (ls : List Level) (turn : Spot → Turn) (d : Draft) (s : Spot) → after_value d.inner.spot ≡ Some s → Passes P ls (turned (turn s) d).stage → Passes P ls (turned (where_due (after_value d.inner.spot) turn) d).stage
@@ -102,21 +102,26 @@ scalar_passes a_fragment d s due = due_passes (InPlace d s) d.outer (λ t. refus
 here : (q r : Spot) (t : Turn) → q ≡ r → is_at r r ≡ true → (if is_at q r then t else refused NotWellNested) ≡ t
 here q r t is same = ap (λ b. if b then t else refused NotWellNested) (ap (λ p. is_at p r) is ∙ same)
 
-abbrev AtSpot : Spot → Level → Type 0
+abbrev pub AtSpot : Spot → Level → Type 0
 AtSpot q l = l.spot ≡ q
 
 -- ---- arrays
 
-item_begin : (e : Draft) (ls : List Level) → e.inner.spot ≡ Items → e.outer ≡ ls → Passes (AtSpot ItemDue) ls (after (item_begins ∷ []) (going e))
+pub item_begin : (e : Draft) (ls : List Level) → e.inner.spot ≡ Items → e.outer ≡ ls → Passes (AtSpot ItemDue) ls (after (item_begins ∷ []) (going e))
 item_begin e ls spot outer = wrote (AtSpot ItemDue) ls _ (comma_if e.inner.begun) (record e { inner = record e.inner { spot = ItemDue; begun = true } }) e (here e.inner.spot Items (begins_item e) spot refl) refl outer
 
-item_end : (e : Draft) (ls : List Level) → e.inner.spot ≡ ItemDone → e.outer ≡ ls → Passes (AtSpot Items) ls (after (item_ends ∷ []) (going e))
+pub item_end : (e : Draft) (ls : List Level) → e.inner.spot ≡ ItemDone → e.outer ≡ ls → Passes (AtSpot Items) ls (after (item_ends ∷ []) (going e))
 item_end e ls spot outer = moved (AtSpot Items) ls _ e (at Items e) [] (here e.inner.spot ItemDone (moves (at Items e) []) spot refl) refl outer
 
 array_end : (e : Draft) (l : Level) (ls : List Level) → e.inner.spot ≡ Items → e.outer ≡ l ∷ ls → Passes (λ m. m ≡ l) ls (after (array_ends ∷ []) (going e))
 array_end e l ls spot outer =
     wrote (λ m. m ≡ l) ls _ (93 ∷ []) (record e { inner = l; outer = ls }) e
     (here e.inner.spot Items (ends_array e) spot refl ∙ ap (λ o. where_around o (λ m ms. writes (93 ∷ []) (record e { inner = m; outer = ms }))) outer) refl refl
+
+pub array_begin : (d : Draft) (s : Spot) → after_value d.inner.spot ≡ Some s → Passes (AtSpot Items) ((at s d).inner ∷ d.outer) (after (array_begins ∷ []) (going d))
+array_begin d s due =
+    due_passes (AtSpot Items) ((at s d).inner ∷ d.outer) (λ t. writes (91 ∷ []) (opened (level Items d.inner.held []) (at t d))) d s due
+    (wrote (AtSpot Items) ((at s d).inner ∷ d.outer) _ (91 ∷ []) (opened (level Items d.inner.held []) (at s d)) d refl refl refl)
 
 item_passes : (t : Tree) (e : Draft) (ls : List Level) → ((f : Draft) → f.inner.spot ≡ ItemDue → Passes (InPlace f ItemDone) f.outer (after (nested t) (going f)))
     → e.inner.spot ≡ Items → e.outer ≡ ls → Passes (AtSpot Items) ls (after (item_begins ∷ (nested t ++ item_ends ∷ [])) (going e))
@@ -156,10 +161,10 @@ pub record FieldsIn (fs : Fields) (l : Level) : Type 0 where
   pub spot : l.spot ≡ Names
   pub has : (k : List ℕ) → ties k l.members ≡ has_field k fs
 
-abbrev named : List ℕ → Level → Level
+abbrev pub named : List ℕ → Level → Level
 named k l = record l { spot = ValueDue; name = k }
 
-name_passes : (k : List ℕ) (e : Draft) (ls : List Level) → e.inner.spot ≡ Names → e.outer ≡ ls → Passes (λ l. l ≡ named k e.inner) ls (after (name_events k) (going e))
+pub name_passes : (k : List ℕ) (e : Draft) (ls : List Level) → e.inner.spot ≡ Names → e.outer ≡ ls → Passes (λ l. l ≡ named k e.inner) ls (after (name_events k) (going e))
 name_passes k e ls spot outer =
     let end = record e { inner = named k e.inner } in
     let rest : Leaves (string_event k ∷ name_ends ∷ member_begins ∷ []) (at NameDue e) end [] = refl in
@@ -213,8 +218,7 @@ mutual
   tree_passes (scalar c) d s due = scalar_passes c d s due
   tree_passes (array ts) d s due =
       and_then (array_begins ∷ []) (nested_items ts ++ array_ends ∷ []) d (AtSpot Items) (InPlace d s) ((at s d).inner ∷ d.outer) d.outer
-      (due_passes (AtSpot Items) ((at s d).inner ∷ d.outer) (λ t. writes (91 ∷ []) (opened (level Items d.inner.held []) (at t d))) d s due
-      (wrote (AtSpot Items) ((at s d).inner ∷ d.outer) _ (91 ∷ []) (opened (level Items d.inner.held []) (at s d)) d refl refl refl))
+      (array_begin d s due)
       (λ e spot out. and_then (nested_items ts) (array_ends ∷ []) e (AtSpot Items) (InPlace d s) e.outer d.outer (items_passes ts e spot)
       (λ f ended around. array_end f (at s d).inner d.outer ended (around ∙ out)))
   tree_passes (object fs) d s due =
@@ -222,7 +226,7 @@ mutual
       (λ e begun out. and_then (nested_fields fs) (object_ends ∷ []) e (FieldsIn fs) (InPlace d s) e.outer d.outer (fields_passes fs e begun)
       (λ f ended around. object_end f (at s d).inner d.outer ended.spot (around ∙ out)))
 
-  items_passes : (ts : Trees) (d : Draft) → d.inner.spot ≡ Items → Passes (AtSpot Items) d.outer (after (nested_items ts) (going d))
+  pub items_passes : (ts : Trees) (d : Draft) → d.inner.spot ≡ Items → Passes (AtSpot Items) d.outer (after (nested_items ts) (going d))
   items_passes no_trees d spot = inl (record { new = d; is = refl; inner = spot; outer = refl })
   items_passes (and_tree ts t) d spot =
       and_then (nested_items ts) (item_begins ∷ (nested t ++ item_ends ∷ [])) d (AtSpot Items) (AtSpot Items) d.outer d.outer (items_passes ts d spot)

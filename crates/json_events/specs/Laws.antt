@@ -8,7 +8,7 @@ use Rattle.json_events.specs.Drafts.{run, fresh}
 use Rattle.json_events.specs.Events.{Event, finishes}
 use Rattle.json_events.specs.Formatters.{stage_of, Holds}
 use Rattle.json_events.specs.Refused.{refused}
-use Rattle.json_events.specs.Spelling.{spelled}
+use Rattle.json_events.specs.Spelling.{spelled, AreTexts}
 use Rattle.json_events.specs.Turns.{Taken, answer}
 use Rattle.json_events.specs.Units.{by_units}
 use Rattle.json_events.specs.Values.{IsValue}
@@ -60,3 +60,18 @@ RefusedByCause = (xs : List Event) (x : Event) → (run xs fresh).stage.refusal 
 -- after a refusal no event changes or writes anything
 abbrev pub RefusalStays : Type 0
 RefusalStays = (xs ys : List Event) (e : CanonError) → (run xs fresh).stage.refusal ≡ Some e → run (xs ++ ys) fresh ≡ run xs fresh
+
+-- the events spell the value, whose whole numbers are in range, and in which no float stands and no object has a
+-- name twice
+pub record ValueOf (xs : List Event) (v : Data) : Type 0 where
+  pub events : xs ≡ spelled v
+  pub plain : refused v ≡ None
+  pub value : IsValue v
+
+-- events that were taken to the end spell a value
+abbrev pub FinishedSpells : Type 0
+FinishedSpells = (xs : List Event) → AreTexts xs → (run (xs ++ finishes ∷ []) fresh).stage.refusal ≡ None → (v : Data) × ValueOf xs v
+
+-- at each moment a front of the text of the value that the events go on to went out
+abbrev pub FrontGoesOut : Type 0
+FrontGoesOut = (xs ys : List Event) (v : Data) (t : List ℕ) → ValueOf (xs ++ ys) v → Canonical v t → (rest : List ℕ) × (t ≡ (run xs fresh).out ++ rest)

@@ -1,5 +1,5 @@
 -- The events that spell a value.
-use Rattle.std.specs.Prelude.{ℤ, List, [], ◌∷◌, ◌++◌, Option, Some, None}
+use Rattle.std.specs.Prelude.{ℤ, IsUtf8, ⊤, List, [], ◌∷◌, ◌++◌, Option, Some, None}
 use Rattle.serde_json.specs.Data.{Data, null, boolean, number, string, array, object, Items, no_items, item, Members, no_members, member}
 use Rattle.serde_json.specs.Find.{as_integer}
 use Rattle.json_events.specs.Events.{Event, null_value, truth_value, whole_value, float_value, string_event, array_begins, item_begins, item_ends, array_ends, object_begins, name_begins, name_ends, member_begins, member_ends, object_ends}
@@ -24,3 +24,12 @@ abbrev mutual
   pub spelled_members : Members → List Event
   spelled_members no_members = []
   spelled_members (member k d ms) = name_begins ∷ string_event k ∷ name_ends ∷ member_begins ∷ (spelled d ++ member_ends ∷ spelled_members ms)
+
+-- its string is UTF-8
+abbrev pub IsText : Event → Type 0
+IsText (string_event s) = IsUtf8 s
+IsText x = ⊤
+
+abbrev pub AreTexts : List Event → Type 0
+AreTexts [] = ⊤
+AreTexts (x ∷ xs) = IsText x × AreTexts xs

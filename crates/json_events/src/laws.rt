@@ -4,7 +4,7 @@ ghost use Rattle.std.specs.Cmp.{IsTotalOrder};
 ghost use Rattle.std.specs.Cmp.Lexicographic.{slice_cmp};
 ghost use Rattle.std.specs.Ordering.{nat_cmp};
 ghost use Rattle.std.specs.declared.cmp.Ordering.TheVariants.{Less, Greater};
-ghost use Rattle.json_events.specs.Laws.{OneText, HasText, EventsWrite, HoldsFirst, HoldsNext, RefusedByCause, RefusalStays, TiesEqualNames, dalet, grin};
+ghost use Rattle.json_events.specs.Laws.{OneText, HasText, EventsWrite, FrontGoesOut, HoldsFirst, HoldsNext, FinishedSpells, RefusedByCause, RefusalStays, TiesEqualNames, dalet, grin};
 ghost use Rattle.json_events.specs.Units.{by_units};
 
 /// A value has at most one canonical text, and has one exactly where no number of it is refused.
@@ -21,10 +21,12 @@ pub fn order_of_names()
     ensures bytes { slice_cmp nat_cmp dalet grin ≡ Less }
 {}
 
-/// The events of a value write its text, whatever order its members come in. A formatter holds what the
-/// events so far leave.
+/// The events of a value write its text, whatever order its members come in, and events that are taken to the
+/// end are those of a value. A formatter holds what the events so far leave.
 pub fn events_write()
     ensures values { EventsWrite }
+    ensures front { FrontGoesOut }
+    ensures spells { FinishedSpells }
     ensures first { HoldsFirst }
     ensures next { HoldsNext }
 {}

@@ -1,4 +1,5 @@
-use Rattle.json_events.proofs.Holding.{events_write, holds_first, holds_next}
+use Rattle.json_events.proofs.Holding.{events_write, front_goes_out, holds_first, holds_next}
+use Rattle.json_events.proofs.Valued.{finished_spells}
 use Rattle.json_events.proofs.laws.events_write.Goals as goal
 
 pub returns-clause-values : goal.returns-clause-values
@@ -9,3 +10,9 @@ returns-clause-first c = holds_first
 
 pub returns-clause-next : goal.returns-clause-next
 returns-clause-next c = holds_next
+
+pub returns-clause-spells : goal.returns-clause-spells
+returns-clause-spells c = finished_spells
+
+pub returns-clause-front : goal.returns-clause-front
+returns-clause-front c = front_goes_out
