@@ -1,4 +1,4 @@
-ghost use Rattle.std.specs.Prelude.{◌≡◌, IfOk, Ok};
+ghost use Rattle.std.specs.Prelude.{◌≡◌, ◌↔◌, IfOk, IsTrue, Ok};
 ghost use Rattle.serde_json.specs.View.{view};
 ghost use Rattle.json_tables.specs.Outcomes.{Gives, ReadsDocument};
 ghost use Rattle.oci_config.specs.History.{history_members};
@@ -137,4 +137,31 @@ impl Copied for History {
             empty_layer: self.empty_layer,
         })
     }
+}
+
+/// Equality is that of all fields.
+impl PartialEq for History {
+    ghost use Rattle.std.specs.Cmp.{partial_equiv_from_equiv};
+    ghost use Rattle.oci_config.specs.Equalities.{is_same_history, histories};
+
+    ghost eq = { is_same_history };
+
+    ghost laws = { partial_equiv_from_equiv histories };
+
+    fn eq(&self, other: &History) -> bool
+        ensures value { result ≡ is_same_history self.now other.now }
+        ensures same { IsTrue result ↔ (self.now ≡ other.now) }
+    {
+        self.created == other.created
+            && self.author == other.author
+            && self.created_by == other.created_by
+            && self.comment == other.comment
+            && self.empty_layer == other.empty_layer
+    }
+}
+
+impl Eq for History {
+    ghost use Rattle.oci_config.specs.Equalities.{histories};
+
+    ghost laws = { histories };
 }

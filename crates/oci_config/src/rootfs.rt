@@ -1,4 +1,6 @@
-ghost use Rattle.std.specs.Prelude.{◌≡◌, IfOk, Ok};
+ghost use Rattle.std.specs.Prelude.{◌≡◌, ◌↔◌, IfOk, IsTrue, Ok};
+ghost use Rattle.std.specs.Str.{bytes_eq};
+ghost use Rattle.std.specs.Cmp.Lexicographic.{pointwise};
 ghost use Rattle.serde_json.specs.View.{view};
 ghost use Rattle.json_tables.specs.Outcomes.{ReadsDocument};
 
@@ -97,4 +99,35 @@ impl Copied for Rootfs {
         let (kind, diff_ids) = copies2(alloc, &self.kind, &self.diff_ids)?;
         Ok(Rootfs { kind, diff_ids })
     }
+}
+
+#[tactic(auto, using(crate::proofs::Texts::texts_decided))]
+fn are_same(a: &List<Text>, b: &List<Text>) -> bool
+    ensures value { result ≡ pointwise bytes_eq a.now b.now }
+    ensures same { IsTrue result ↔ (a.now ≡ b.now) }
+{
+    a.as_slice() == b.as_slice()
+}
+
+/// Equality is that of all fields.
+impl PartialEq for Rootfs {
+    ghost use Rattle.std.specs.Cmp.{partial_equiv_from_equiv};
+    ghost use Rattle.oci_config.specs.Equalities.{is_same_rootfs, roots};
+
+    ghost eq = { is_same_rootfs };
+
+    ghost laws = { partial_equiv_from_equiv roots };
+
+    fn eq(&self, other: &Rootfs) -> bool
+        ensures value { result ≡ is_same_rootfs self.now other.now }
+        ensures same { IsTrue result ↔ (self.now ≡ other.now) }
+    {
+        self.kind == other.kind && are_same(&self.diff_ids, &other.diff_ids)
+    }
+}
+
+impl Eq for Rootfs {
+    ghost use Rattle.oci_config.specs.Equalities.{roots};
+
+    ghost laws = { roots };
 }

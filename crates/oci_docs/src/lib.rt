@@ -4,7 +4,9 @@
 
 mod written;
 
-pub use oci_config::{ConfigError, ConfigFile, FromConfigFile, History, ROOTFS_TYPE, Rootfs, config};
+pub use oci_config::{
+    ConfigError, ConfigFile, FromConfigFile, History, ROOTFS_TYPE, Rootfs, config,
+};
 pub use oci_digests::{
     Algorithm, Digest, DigestError, Digester, digest_header_value, names_digest, sha256_digest,
     validate_digest,
