@@ -5,7 +5,7 @@ use Rattle.oci_names.specs.References.{whole_text}
 use Rattle.oci_auth.specs.declared.auth.RegistryAuth.{RegistryAuth}
 use Rattle.oci_manifests.specs.declared.document.OciManifest.{OciManifest}
 use Rattle.oci_protocol.specs.Proto.{Done, bind}
-use Rattle.engine_requests.specs.declared.settings.Settings.{Settings}
+use Rattle.engine_requests.specs.Contexts.{Context}
 use Rattle.engine_steps.specs.Rows.{Row as Engine}
 use Rattle.engine_pull.specs.Pulls.{fetch_manifest_digest, pull_manifest, pull_manifest_raw, pull_blob}
 use Rattle.engine_pull.specs.Images.{pull}
@@ -19,17 +19,17 @@ use Rattle.sig_registry.specs.Clients.{Row}
 unfoldable pub in_words : Called → Reference → {A : Type 0} → Engine A → Row A
 in_words called image p = bind p (λ r. Done (worded called (whole_text image) r))
 
-unfoldable pub digest_call : Settings → Reference → RegistryAuth → Row (List ℕ)
+unfoldable pub digest_call : Context → Reference → RegistryAuth → Row (List ℕ)
 digest_call s image a = in_words FetchManifest image (fetch_manifest_digest s image a)
 
-unfoldable pub manifest_call : Settings → Reference → RegistryAuth → Row (OciManifest × List ℕ)
+unfoldable pub manifest_call : Context → Reference → RegistryAuth → Row (OciManifest × List ℕ)
 manifest_call s image a = in_words PullManifest image (pull_manifest s image a)
 
-unfoldable pub image_call : Settings → Reference → RegistryAuth → List (List ℕ) → Row ImageData
+unfoldable pub image_call : Context → Reference → RegistryAuth → List (List ℕ) → Row ImageData
 image_call s image a accepted = in_words Pull image (pull s image a accepted)
 
-unfoldable pub document_call : Settings → Reference → RegistryAuth → List ℕ → Row (List ℕ × List ℕ)
+unfoldable pub document_call : Context → Reference → RegistryAuth → List ℕ → Row (List ℕ × List ℕ)
 document_call s image a types = in_words Pull image (pull_manifest_raw s image a types)
 
-unfoldable pub blob_call : Settings → Reference → List ℕ → Row (List ℕ)
+unfoldable pub blob_call : Context → Reference → List ℕ → Row (List ℕ)
 blob_call s image digest = in_words Pull image (pull_blob s image digest)

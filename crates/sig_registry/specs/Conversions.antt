@@ -1,4 +1,9 @@
--- What is handed on to the registry's client.
+-- Credentials, as the registry's client takes them and as data.
+use Rattle.std.specs.Prelude.{ℕ, List, [], ◌∷◌, codes, Option, Some}
+use Rattle.serde_json.specs.Data.{Data, string}
+use Rattle.json_values.specs.Writing.{listed}
+use Rattle.json_writing.specs.Fields.{fields}
+use Rattle.oci_auth.specs.Credentials.{redacted_auth}
 use Rattle.oci_auth.specs.declared.auth.RegistryAuth.{RegistryAuth}
 use Rattle.oci_auth.specs.declared.auth.RegistryAuth.TheVariants as registry
 use Rattle.sig_registry.specs.declared.auth.Auth.{Auth}
@@ -6,3 +11,20 @@ use Rattle.sig_registry.specs.declared.auth.Auth.TheVariants as given
 
 abbrev pub registry_auth : Auth → RegistryAuth
 registry_auth given.Anonymous = registry.Anonymous
+registry_auth (given.Basic user password) = registry.Basic user password
+registry_auth (given.Bearer token) = registry.Bearer token
+
+abbrev pub auth_from : RegistryAuth → Auth
+auth_from registry.Anonymous = given.Anonymous
+auth_from (registry.Basic user password) = given.Basic user password
+auth_from (registry.Bearer token) = given.Bearer token
+
+-- credentials as data
+abbrev pub auth_value : Auth → Data
+auth_value given.Anonymous = string (codes "Anonymous")
+auth_value (given.Basic user password) = fields ((codes "Basic", Some (listed string (user ∷ password ∷ []))) ∷ [])
+auth_value (given.Bearer token) = fields ((codes "Bearer", Some (string token)) ∷ [])
+
+-- what is shown of them
+abbrev pub redacted : Auth → Option (List ℕ)
+redacted auth = redacted_auth (registry_auth auth)

@@ -1,6 +1,7 @@
 // A client that keeps no answers.
 ghost use Rattle.std.specs.Prelude.{◌≡◌};
 ghost use Rattle.engine_requests.specs.declared.settings.Settings.{Settings};
+ghost use Rattle.engine_requests.specs.Contexts.{within};
 ghost use Rattle.engine_requests.specs.Requests.{listed};
 ghost use Rattle.sig_registry.specs.Errors.{is_memory};
 ghost use Rattle.sig_registry.specs.Clients.{Made, plain_state};

@@ -1,5 +1,6 @@
 use Rattle.std.proofs.Common.{List}
 use Rattle.engine_pull.specs.Pulls.{fetch_manifest_digest}
+use Rattle.engine_requests.specs.Contexts.{within}
 use Rattle.sig_registry.specs.Calls.{digest_call}
 use Rattle.sig_registry.specs.declared.wording.Called.TheVariants.{FetchManifest}
 use Rattle.sig_registry.proofs.InWords.{made}
@@ -7,4 +8,4 @@ use Rattle.sig_registry.proofs.plain.OciClientClientCapabilities.fetch_manifest_
 
 pub returns : goal.returns
 unfolding digest_call
-returns g c = record { run = λ s. made FetchManifest c.args.image.now (λ t. fetch_manifest_digest t c.args.image.now c.args.auth.now) s c.fetch_manifest_digest-outcome.ensures.settings c.fetch_manifest_digest-outcome.ensures.run c.worded.ensures }
+returns g c = record { run = λ s. made FetchManifest c.args.image.now (λ t. fetch_manifest_digest (within t c.args.moment) c.args.image.now c.args.auth.now) s c.fetch_manifest_digest-outcome.ensures.settings c.fetch_manifest_digest-outcome.ensures.run c.worded.ensures }

@@ -1,5 +1,6 @@
 use Rattle.std.proofs.Common.{List}
 use Rattle.engine_pull.specs.Images.{pull}
+use Rattle.engine_requests.specs.Contexts.{within}
 use Rattle.sig_registry.specs.Calls.{image_call}
 use Rattle.sig_registry.specs.declared.wording.Called.TheVariants.{Pull}
 use Rattle.sig_registry.proofs.InWords.{made}
@@ -7,4 +8,4 @@ use Rattle.sig_registry.proofs.plain.OciClientClientCapabilities.pull.Goals as g
 
 pub returns : goal.returns
 unfolding image_call
-returns g c = record { run = λ s. made Pull c.args.image.now (λ t. pull t c.args.image.now c.args.auth.now c.args.accepted_media_types.now) s c.pull-outcome.ensures.settings c.pull-outcome.ensures.run c.worded.ensures }
+returns g c = record { run = λ s. made Pull c.args.image.now (λ t. pull (within t c.args.moment) c.args.image.now c.args.auth.now c.args.accepted_media_types.now) s c.pull-outcome.ensures.settings c.pull-outcome.ensures.run c.worded.ensures }

@@ -1,5 +1,6 @@
 use Rattle.std.proofs.Common.{List, sym}
 use Rattle.engine_pull.specs.Pulls.{pull_blob}
+use Rattle.engine_requests.specs.Contexts.{within}
 use Rattle.sig_registry.specs.Calls.{blob_call}
 use Rattle.sig_registry.specs.declared.wording.Called.TheVariants.{Pull}
 use Rattle.sig_registry.proofs.InWords.{made}
@@ -7,4 +8,4 @@ use Rattle.sig_registry.proofs.plain.OciClientClientCapabilities.pull_blob.Goals
 
 pub returns : goal.returns
 unfolding blob_call
-returns g c = record { run = λ s. rw (sym c.as_str.ensures) (made Pull c.args.image.now (λ t. pull_blob t c.args.image.now c.as_str.result.now) s c.pulled_blob-outcome.ensures.settings c.pulled_blob-outcome.ensures.run c.worded.ensures) }
+returns g c = record { run = λ s. rw (sym c.as_str.ensures) (made Pull c.args.image.now (λ t. pull_blob (within t c.args.moment) c.args.image.now c.as_str.result.now) s c.pulled_blob-outcome.ensures.settings c.pulled_blob-outcome.ensures.run c.worded.ensures) }

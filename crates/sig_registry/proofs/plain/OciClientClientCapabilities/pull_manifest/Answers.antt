@@ -1,5 +1,6 @@
 use Rattle.std.proofs.Common.{List}
 use Rattle.engine_pull.specs.Pulls.{pull_manifest}
+use Rattle.engine_requests.specs.Contexts.{within}
 use Rattle.sig_registry.specs.Calls.{manifest_call}
 use Rattle.sig_registry.specs.declared.wording.Called.TheVariants.{PullManifest}
 use Rattle.sig_registry.proofs.InWords.{made}
@@ -7,4 +8,4 @@ use Rattle.sig_registry.proofs.plain.OciClientClientCapabilities.pull_manifest.G
 
 pub returns : goal.returns
 unfolding manifest_call
-returns g c = record { run = λ s. made PullManifest c.args.image.now (λ t. pull_manifest t c.args.image.now c.args.auth.now) s c.pull_manifest-outcome.ensures.settings c.pull_manifest-outcome.ensures.run c.worded.ensures }
+returns g c = record { run = λ s. made PullManifest c.args.image.now (λ t. pull_manifest (within t c.args.moment) c.args.image.now c.args.auth.now) s c.pull_manifest-outcome.ensures.settings c.pull_manifest-outcome.ensures.run c.worded.ensures }

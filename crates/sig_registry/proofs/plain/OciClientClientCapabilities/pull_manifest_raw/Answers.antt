@@ -1,6 +1,7 @@
 use Rattle.std.proofs.Common.{List}
 use Rattle.engine_pull.specs.Pulls.{pull_manifest_raw}
 use Rattle.engine_requests.specs.Requests.{listed}
+use Rattle.engine_requests.specs.Contexts.{within}
 use Rattle.sig_registry.specs.Calls.{document_call}
 use Rattle.sig_registry.specs.declared.wording.Called.TheVariants.{Pull}
 use Rattle.sig_registry.proofs.InWords.{made}
@@ -8,4 +9,4 @@ use Rattle.sig_registry.proofs.plain.OciClientClientCapabilities.pull_manifest_r
 
 pub returns : goal.returns
 unfolding document_call
-returns g c = record { run = λ s. made Pull c.args.image.now (λ t. pull_manifest_raw t c.args.image.now c.args.auth.now (listed c.args.accepted_media_types.now)) s c.pull_manifest_raw-outcome.ensures.settings c.pull_manifest_raw-outcome.ensures.run c.worded.ensures }
+returns g c = record { run = λ s. made Pull c.args.image.now (λ t. pull_manifest_raw (within t c.args.moment) c.args.image.now c.args.auth.now (listed c.args.accepted_media_types.now)) s c.pull_manifest_raw-outcome.ensures.settings c.pull_manifest_raw-outcome.ensures.run c.worded.ensures }
