@@ -1,9 +1,8 @@
 -- What a shelf answers under the URLs of its repository.
-use Rattle.std.proofs.Common.{◌≡◌, ℕ, zero, suc, ◌+◌, ◌<◌, ◌≤◌, Bool, true, false, cond, not, ◌&&◌, ◌==◌, List, [], ◌∷◌, ◌++◌, length, take, drop, Option, Some, None, refl, sym, ap, subst, ◌∙◌, arith, append_assoc}
-use Rattle.std.specs.Prelude.{codes, nat_eq, nat_lt, option_map, option_and_then}
+use Rattle.std.proofs.Common.{◌≡◌, ℕ, suc, ◌+◌, Bool, true, false, cond, not, ◌&&◌, ◌==◌, List, [], ◌∷◌, ◌++◌, length, drop, Some, None, refl, ap, ◌∙◌, arith}
+use Rattle.std.specs.Prelude.{codes, nat_lt, option_map, option_and_then}
 use Rattle.std.specs.Option.{option_or}
-use Rattle.std.specs.List.{list_all, list_any, position_or_len, before_first, after_first}
-use Rattle.std.proofs.lemmas.Bool.{eq-eqb}
+use Rattle.std.specs.List.{list_all, position_or_len, before_first}
 use Rattle.std.proofs.lemmas.Bool.Decides.{nat_tests}
 use Rattle.std.proofs.lemmas.List.{take_all, length-append}
 use Rattle.std.proofs.Math.Seq.{drop-append-add}
@@ -12,7 +11,7 @@ use Rattle.std.specs.FinMap as map
 use Rattle.oci_transport.specs.declared.message.Request.{Request}
 use Rattle.oci_shelf.specs.declared.shelf.Shelf.{Shelf}
 use Rattle.oci_shelf.specs.Paths.{after, past_mark, past_slash, path_of, is_slash, is_question_mark}
-use Rattle.oci_shelf.specs.Table.{answer, at_path, in_registry, in_repository, or_manifest, or_blob, or_referrers, manifest_answer, blob_answer, referrers_answer, unless_redirected, is_get_or_head, is_get, found, not_found}
+use Rattle.oci_shelf.specs.Table.{answer, at_path, in_registry, in_repository, or_manifest, manifest_answer, blob_answer, referrers_answer, unless_redirected, is_get_or_head, is_get, found, not_found}
 use Rattle.oci_shelf.proofs.Fronts.{after-front}
 
 -- no byte of the list passes

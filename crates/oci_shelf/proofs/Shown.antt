@@ -1,7 +1,7 @@
 -- What the transports of a shelf show after a step of what they serve.
-use Rattle.std.proofs.Common.{◌≡◌, ℕ, zero, suc, ◌+◌, ◌≤◌, Bool, true, false, ◌||◌, not, ◌==◌, List, [], ◌∷◌, ◌++◌, length, take, drop, Option, Some, None, refl, sym, ap, subst, ◌∙◌, arith}
+use Rattle.std.proofs.Common.{◌≡◌, ℕ, ◌+◌, Bool, true, false, ◌||◌, not, ◌==◌, List, [], ◌∷◌, length, take, drop, Some, None, refl, sym, ap, subst, ◌∙◌, arith}
 use Rattle.std.proofs.lemmas.Bool.Decides.{nat_tests}
-use Rattle.oci_transport.specs.Link.{Link, Answering, NeverFails, Steady, Answers, AddsUnanswered, Takes}
+use Rattle.oci_transport.specs.Link.{Answering, NeverFails, Steady, Answers, AddsUnanswered, Takes}
 use Rattle.oci_transport.specs.declared.message.Request.{Request}
 use Rattle.oci_transport.specs.declared.message.AnswerHead.{AnswerHead}
 use Rattle.oci_shelf.specs.Steps.{IsAnswered, IsUnanswered, GivesPiece}

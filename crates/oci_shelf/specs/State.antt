@@ -1,5 +1,5 @@
 -- What the transports of a shelf show.
-use Rattle.std.specs.Prelude.{ℕ, Bool, false, ◌==◌, ◌||◌, not, List, length, drop, Option, Some, None, if◌then◌else◌}
+use Rattle.std.specs.Prelude.{ℕ, Bool, false, ◌==◌, ◌||◌, not, List, length, drop, Some, None, if◌then◌else◌}
 use Rattle.std.specs.List.{list_any}
 use Rattle.oci_transport.specs.Link.{Link, Answering}
 use Rattle.oci_shelf.specs.Table.{answer}

@@ -13,3 +13,6 @@ pub use faulty::FaultyShelf;
 pub use shelf::{Shelf, ShelfBlobs, ShelfDocument, ShelfDocuments};
 pub use table::answer;
 pub use transport::ShelfTransport;
+
+#[cfg(test)]
+mod tests;

@@ -1,4 +1,4 @@
-use Rattle.std.proofs.Common.{◌≡◌, ◌∙◌}
+use Rattle.std.proofs.Common.{◌∙◌}
 use Rattle.std.specs.Prelude.{codes}
 use Rattle.oci_shelf.specs.Table as rows
 use Rattle.oci_shelf.proofs.table.document_answer.Goals as goal
