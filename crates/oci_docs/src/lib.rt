@@ -2,11 +2,10 @@
 //! configuration files and their times, digests, and the text of a manifest that is pushed.
 #![tactic(auto)]
 
+pub mod config;
 mod written;
 
-pub use oci_config::{
-    ConfigError, ConfigFile, FromConfigFile, History, ROOTFS_TYPE, Rootfs, config,
-};
+pub use oci_config::{ConfigError, ConfigFile, FromConfigFile, History, ROOTFS_TYPE, Rootfs};
 pub use oci_digests::{
     Algorithm, Digest, DigestError, Digester, digest_header_value, names_digest, sha256_digest,
     validate_digest,
