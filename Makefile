@@ -17,6 +17,7 @@ rows:
 bench:
 	cd crates/pull_program && rt run -- pull < stdin > /dev/null
 	python3 bench/run.py
+	python3 bench/canon.py
 
 # Makes each allocation of the stored run fail in turn.
 allocations:

@@ -170,6 +170,15 @@ def input_that_is_no_case():
     write("input_that_is_no_case", ["pull"], "x", [], 3)
 
 
+def canonical_texts():
+    write("canonical_text", ["canon"], '{"c":120,"b":false,"a":"Hello!"}', ['{"a":"Hello!","b":false,"c":120}'], 0)
+    # U+1F600 begins with the unit 0xD83D, which is before U+FB33, though its bytes are after.
+    write("names_in_the_order_of_their_units", ["canon"], r'{"\ufb33":1,"\ud83d\ude00":2}', ['{"\U0001f600":2,"\ufb33":1}'], 0)
+    write("a_whole_number_past_the_range", ["canon"], "9007199254740992", ["refused IntegerOutOfRange"], 1)
+    write("a_float", ["canon"], "1.5", ["refused Float"], 1)
+    write("input_that_is_no_json", ["canon"], '{"a":1', [], 3)
+
+
 if __name__ == "__main__":
     pulls_the_base_case()
     a_policy_without_constraint()
@@ -177,3 +186,4 @@ if __name__ == "__main__":
     each_layer_satisfies_one_constraint()
     no_words()
     input_that_is_no_case()
+    canonical_texts()

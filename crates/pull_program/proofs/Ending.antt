@@ -8,8 +8,9 @@ use Rattle.pull_program.specs.declared.report.Report.{Report}
 use Rattle.pull_program.specs.declared.status.Status.{Status}
 use Rattle.pull_program.specs.declared.status.Status.TheVariants as status
 use Rattle.pull_program.specs.declared.words.Word.{Word}
-use Rattle.pull_program.specs.declared.words.Word.TheVariants.{Pull}
+use Rattle.pull_program.specs.declared.words.Word.TheVariants.{Pull, Canon}
 use Rattle.pull_program.specs.Words.{word_of, code_of}
+use Rattle.pull_program.proofs.TextEnding.{not_usage_text}
 use Rattle.pull_program.specs.Serving.{input_limit, WasRead, Served, SaysPull, SaysWord, Says, EndsWith, Ends}
 
 -- what was read is what was told
@@ -67,3 +68,4 @@ says_usage s words code old new before after is says = by_word (word_of words) s
   by_word : (word : Option Word) → SaysWord word s old new before after → word ≡ None ↔ code ≡ 2
   by_word None h = ((λ none. is ∙ ap code_of h.0), (λ two. refl))
   by_word (Some Pull) h = ((λ none. absurd (cc none)), (λ two. absurd (not_usage s old new before after h (sym is ∙ two))))
+  by_word (Some Canon) h = ((λ none. absurd (cc none)), (λ two. absurd (not_usage_text s old new before after h (sym is ∙ two))))

@@ -1,3 +1,4 @@
 pub mod Cases
 pub mod Ending
 pub mod Rounding
+pub mod TextEnding

@@ -1,29 +1,20 @@
 -- What each status of the program says.
 use Rattle.std.specs.Prelude.{◌≡◌, ◌≤◌, ◌<◌, ◌⊎◌, ℕ, Bool, true, false, List, length, Option, Some, None, Result, Ok, Err, IsOk}
-use Rattle.std.specs.Io.KnownBytes.{IsAtEnd}
 use Rattle.json_values.specs.Counts.{Rose}
 use Rattle.json_values.specs.Tray.{Tray, Adds, AddsFront}
 use Rattle.oci_names.specs.References.{reference_of}
-use Rattle.pull_edge.specs.Spring.{Spring, IsAll, IsPast}
+use Rattle.pull_edge.specs.Spring.{Spring, IsPast}
 use Rattle.pull_case.specs.Case.{case_in}
 use Rattle.pull_case.specs.declared.case.Case.{Case}
+pub use Rattle.pull_program.specs.Inputs.{input_limit, WasRead, EndsWith}
 use Rattle.pull_program.specs.Pulls.{ReportsCase}
+use Rattle.pull_program.specs.Texts.{SaysCanon}
 use Rattle.pull_program.specs.Words.{word_of}
 use Rattle.pull_program.specs.declared.report.Report.{Report}
 use Rattle.pull_program.specs.declared.words.Word.{Word}
-use Rattle.pull_program.specs.declared.words.Word.TheVariants.{Pull}
+use Rattle.pull_program.specs.declared.words.Word.TheVariants.{Pull, Canon}
 use Rattle.pull_program.specs.declared.status.Status.{Status}
 use Rattle.pull_program.specs.declared.status.Status.TheVariants as status
-
--- how many bytes the input may have
-abbrev pub input_limit : ℕ
-input_limit = 67108864
-
--- these bytes are the whole input, which was read to its end and is short enough
-pub record WasRead (bytes : List ℕ) (old new : Spring) : Type 0 where
-  pub whole : IsAll old.left bytes
-  pub ended : IsAtEnd new.left
-  pub short : length bytes ≤ input_limit
 
 -- the input was read and is no case
 pub record NoCase (old new : Spring) : Type 0 where
@@ -91,16 +82,13 @@ SaysPull status.TooLong old new before after = IsPast input_limit old.left × (a
 -- where the words are no form that the program takes, nothing was read or written
 abbrev pub SaysWord : Option Word → Status → Spring → Spring → Tray → Tray → Type 0
 SaysWord (Some Pull) s old new before after = SaysPull s old new before after
+SaysWord (Some Canon) s old new before after = SaysCanon s old new before after
 SaysWord None s old new before after = (s ≡ status.Usage) × (new ≡ old) × (after ≡ before)
 
 abbrev pub Says : Status → List (List ℕ) → Spring → Spring → Tray → Tray → Type 0
 Says s words old new before after = SaysWord (word_of words) s old new before after
 
 -- ---- the other way round: with which status an input ends
-
--- with this one, unless memory was wanting or the source failed
-abbrev pub EndsWith : ℕ → ℕ → Spring → Spring → Type 0
-EndsWith wanted code old new = (code ≡ wanted) ⊎ ((code ≡ 6) ⊎ ((code ≡ 4) × Rose old.faults new.faults))
 
 -- input that is no case ends with 3, and longer input with 7
 abbrev pub Ends : List (List ℕ) → ℕ → Spring → Spring → Type 0

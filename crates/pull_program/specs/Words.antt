@@ -1,13 +1,13 @@
 -- The words that the program takes, and the statuses that it ends with.
 use Rattle.std.specs.Prelude.{ℕ, List, [], ◌∷◌, Option, Some, None, if◌then◌else◌, codes, bytes_eq}
 use Rattle.pull_program.specs.declared.words.Word.{Word}
-use Rattle.pull_program.specs.declared.words.Word.TheVariants.{Pull}
+use Rattle.pull_program.specs.declared.words.Word.TheVariants.{Pull, Canon}
 use Rattle.pull_program.specs.declared.status.Status.{Status}
 use Rattle.pull_program.specs.declared.status.Status.TheVariants as status
 
--- the one word `pull`
+-- the one word `pull` or `canon`
 abbrev pub word_of : List (List ℕ) → Option Word
-word_of (word ∷ []) = if bytes_eq word (codes "pull") then Some Pull else None
+word_of (word ∷ []) = if bytes_eq word (codes "pull") then Some Pull else if bytes_eq word (codes "canon") then Some Canon else None
 word_of words = None
 
 -- the number of a status

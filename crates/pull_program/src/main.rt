@@ -1,6 +1,8 @@
-//! Pulls the image of a recorded case only where a trusted signature stands for it, and writes a report.
+//! Pulls the image of a recorded case only where a trusted signature stands for it, and writes a report. Writes
+//! canonical texts of JSON.
 #![tactic(auto)]
 
+mod canon;
 #[cfg(test)]
 mod faults;
 mod pulls;
@@ -34,12 +36,12 @@ fn arguments<R: Env + Alloc>(rt: &R, alloc: Global) -> io::Result<List<Text>> {
 // What a status other than 0 and 1 means, and what to do.
 fn advice(status: u8) -> &'static str {
     match status {
-        2 => "usage: pull_program pull < CASE",
-        3 => "pull: the input is not a case: see README.md for its members",
-        4 => "pull: the input could not be read",
-        5 => "pull: the report could not be written",
-        6 => "pull: out of memory",
-        7 => "pull: the input has more than 67108864 bytes",
+        2 => "usage: pull_program pull < CASE, or pull_program canon < JSON",
+        3 => "the input is not a case (see README.md for its members), or not JSON",
+        4 => "the input could not be read",
+        5 => "the output could not be written",
+        6 => "out of memory",
+        7 => "the input has more than 67108864 bytes",
         _ => "",
     }
 }

@@ -2,8 +2,10 @@
 ghost use Rattle.std.specs.Prelude.{◌≡◌, ◌↔◌, None};
 ghost use Rattle.pull_program.specs.declared.status.Status.{Status};
 ghost use Rattle.pull_program.specs.Serving.{ReadsCase, Puts, SaysPull, Says, Ends};
+ghost use Rattle.pull_program.specs.Texts.{TextEnds};
 ghost use Rattle.pull_program.specs.Words.{word_of, code_of};
 
+use crate::canon::serve_canon;
 use crate::pulls::pull_case;
 use crate::report::Report;
 use crate::status::Status;
@@ -14,7 +16,7 @@ use pull_edge::{ReadRefusal, Source, read_all};
 use std::alloc::Global;
 
 /// How many bytes the input may have.
-const INPUT_LIMIT: u64 = 67108864;
+pub(crate) const INPUT_LIMIT: u64 = 67108864;
 
 // The case in the input.
 fn read_input<S: Source>(alloc: Global, source: &mut S) -> Result<Case, Status>
@@ -34,7 +36,7 @@ fn read_input<S: Source>(alloc: Global, source: &mut S) -> Result<Case, Status>
 }
 
 // Writes a report.
-fn deliver<K: Sink>(sink: &mut K, report: &Report) -> Status
+pub(crate) fn deliver<K: Sink>(sink: &mut K, report: &Report) -> Status
     ensures { Puts result report.now (K.state sink.old) (K.state sink.new) }
 {
     match put_all(sink, report.bytes.as_slice()) {
@@ -74,6 +76,7 @@ pub fn serve<S: Source, K: Sink>(
 {
     match word_of(words) {
         Some(Word::Pull) => serve_pull(alloc, source, sink),
+        Some(Word::Canon) => serve_canon(alloc, source, sink),
         None => Status::Usage,
     }
 }
@@ -83,6 +86,7 @@ pub fn run<S: Source, K: Sink>(alloc: Global, words: &[Text], source: &mut S, si
     ensures says { (status : Status) × (result ≡ code_of status) × Says status words.now (S.state source.old) (S.state source.new) (K.state sink.old) (K.state sink.new) }
     ensures other_words { word_of words.now ≡ None ↔ result ≡ 2 }
     ensures other_input { Ends words.now result (S.state source.old) (S.state source.new) }
+    ensures other_text { TextEnds words.now result (S.state source.old) (S.state source.new) }
 {
     serve(alloc, words, source, sink).code()
 }

@@ -5,19 +5,19 @@ ghost use Rattle.pull_program.specs.Words.{code_of};
 /// How the program ended.
 #[derive(Clone, Copy, Debug, PartialEq, Eq)]
 pub enum Status {
-    /// Each pull answered an image, and the report went out.
+    /// Each pull answered an image, or the value has a text, and the output went out.
     Done,
-    /// Some pull was refused, and the report, which says so, went out.
+    /// Some pull was refused, or the value has no text, and the output, which says so, went out.
     Refused,
     /// The words are no form that the program takes. Nothing was read or written.
     Usage,
-    /// The input is no case. Nothing was written.
+    /// The input is no case, or no JSON. Nothing was written.
     NotACase,
     /// The source failed. Nothing was written.
     SourceFault,
-    /// The sink failed. A front of the report went out.
+    /// The sink failed. A front of the output went out.
     SinkFault,
-    /// Memory was wanting. A front of the report went out, or nothing.
+    /// Memory was wanting. A front of the output went out, or nothing.
     WantOfMemory,
     /// The input is longer than 67108864 bytes. Nothing was written.
     TooLong,

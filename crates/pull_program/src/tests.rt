@@ -67,7 +67,12 @@ fn calls(alloc: Global, call: Option<u64>) -> Result<List<u64>, Fail> {
 
 // The status of `pull` on this input, and what went out, where the sink fails at this call.
 fn pulled(alloc: Global, input: &str, failing: Option<u64>) -> Result<(u8, Blob), Fail> {
-    let words = words(alloc, Some("pull"))?;
+    ended(alloc, "pull", input, failing)
+}
+
+// The same of this word.
+fn ended(alloc: Global, word: &str, input: &str, failing: Option<u64>) -> Result<(u8, Blob), Fail> {
+    let words = words(alloc, Some(word))?;
     let mut source = PlainSource::new(Blob::new(alloc, input.as_bytes())?);
     let mut sink = MemorySink::new(alloc, calls(alloc, failing)?);
     let status = run(alloc, words.as_slice(), &mut source, &mut sink);
@@ -134,5 +139,23 @@ fn other_words_end_with_two(rt: HostRuntime) -> Result<(), Fail> {
     assert_eq!(rt; run(alloc, none.as_slice(), &mut source, &mut sink), 2);
     let other = words(alloc, Some("push"))?;
     assert_eq!(rt; run(alloc, other.as_slice(), &mut source, &mut sink), 2);
+    Ok(())
+}
+
+#[test]
+fn canon_writes_a_text_or_why_there_is_none(rt: HostRuntime) -> Result<(), Fail> {
+    for (input, status, out) in [
+        ("{\"b\":false,\"a\":1}", 0, "{\"a\":1,\"b\":false}\n"),
+        ("9007199254740992", 1, "refused IntegerOutOfRange\n"),
+        ("1.5", 1, "refused Float\n"),
+        ("{\"a\":1", 3, ""),
+    ] {
+        let (code, written) = ended(rt.alloc(), "canon", input, None)?;
+        assert_eq!(rt; code, status, "at {input}");
+        assert!(rt; written.as_slice() == out.as_bytes(), "at {input}");
+    }
+    let (code, written) = ended(rt.alloc(), "canon", "1", Some(0))?;
+    assert_eq!(rt; code, 5);
+    assert!(rt; written.as_slice().is_empty());
     Ok(())
 }

@@ -9,6 +9,8 @@ use json_values::Text;
 pub enum Word {
     /// Pulls the image of the case in the input, and writes a report.
     Pull,
+    /// Writes the canonical text of the JSON in the input.
+    Canon,
 }
 
 /// What these words ask for, if they are a form that the program takes.
@@ -17,6 +19,7 @@ pub fn word_of(words: &[Text]) -> Option<Word>
 {
     match words {
         [word] if word.as_str() == "pull" => Some(Word::Pull),
+        [word] if word.as_str() == "canon" => Some(Word::Canon),
         _ => None,
     }
 }

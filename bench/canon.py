@@ -1,0 +1,78 @@
+#!/usr/bin/env python3
+"""Measures `canon` on generated JSON that is deep, wide or full of strings, each by itself.
+
+Time is that of the processor. It is told as a ratio to Python's `json`, which reads the same text and prints it with
+sorted names in the same run, and as the growth from an eighth of the text to the whole, where 8 is linear.
+"""
+import json
+import os
+import subprocess
+import sys
+import tempfile
+
+# Nothing is left beside the program.
+sys.dont_write_bytecode = True
+
+HERE = os.path.dirname(os.path.abspath(__file__))
+PROGRAM = os.path.join(HERE, "../crates/pull_program/out/pull_program")
+PLAIN = "import json,sys;sys.stdout.write(json.dumps(json.load(sys.stdin),sort_keys=True,separators=(',',':'),ensure_ascii=False))"
+MEGABYTES = 32
+RUNS = 3
+
+
+def deep(place):
+    """Objects in arrays, 60 of each, one in the other."""
+    return '{"next":[' * 60 + str(place) + "]}" * 60
+
+
+def wide(place):
+    """An object of many members that are not in order."""
+    return "{" + ",".join(f'"{(name * 7919 + place) % 10007:05d}":{name}' for name in range(1000)) + "}"
+
+
+def strings(place):
+    """A long text with escapes and letters past ASCII."""
+    return json.dumps(("letter \u00e4 \U0001f600 \n " + str(place)) * 40, ensure_ascii=False)
+
+
+def text_of(item, size):
+    items, length = [], 0
+    while length < size:
+        items.append(item(len(items)))
+        length += len(items[-1].encode()) + 1
+    return "[" + ",".join(items) + "]"
+
+
+def seconds(words, path):
+    """The least time of some runs."""
+    least = None
+    for _ in range(RUNS):
+        with open(path, "rb") as stdin:
+            process = subprocess.Popen(words, stdin=stdin, stdout=subprocess.DEVNULL)
+            _, status, usage = os.wait4(process.pid, 0)
+        if status != 0:
+            raise SystemExit(f"{words[0]} ended with {status}")
+        took = usage.ru_utime + usage.ru_stime
+        least = took if least is None else min(least, took)
+    return least
+
+
+def measured(item, size):
+    with tempfile.NamedTemporaryFile("w", encoding="utf-8") as stored:
+        stored.write(text_of(item, size))
+        stored.flush()
+        length = os.path.getsize(stored.name)
+        return seconds([PROGRAM, "canon"], stored.name), seconds([sys.executable, "-c", PLAIN], stored.name), length
+
+
+def main():
+    for item in (deep, wide, strings):
+        small, _, _ = measured(item, MEGABYTES * 1000000 // 8)
+        large, plain, length = measured(item, MEGABYTES * 1000000)
+        print(
+            f"{item.__name__}: {length} bytes, {length / large / 1e6:.1f} MB/s, {large / plain:.2f} times Python's json,"
+            f" growth {large / small:.1f} for 8 times the text"
+        )
+
+
+main()

@@ -1,0 +1,71 @@
+// The word `canon`: the canonical text of the JSON in the input.
+ghost use Rattle.std.specs.Prelude.{◌≡◌, true, IfOk};
+ghost use Rattle.pull_program.specs.Texts.{ReadsJson, Prints, SaysCanon};
+
+use crate::report::Report;
+use crate::serving::{INPUT_LIMIT, deliver};
+use crate::status::Status;
+use json_canon::{CanonError, to_vec};
+use json_values::{Blob, Json, Sink, read_json};
+use pull_edge::{ReadRefusal, Source, read_all};
+use std::alloc::{AllocError, Global};
+
+// The JSON in the input.
+fn read_value<S: Source>(alloc: Global, source: &mut S) -> Result<Json, Status>
+    ensures { ReadsJson result (S.state source.old) (S.state source.new) }
+{
+    let input = match read_all(alloc, source, INPUT_LIMIT) {
+        Ok(input) => input,
+        Err(ReadRefusal::TooLong) => return Err(Status::TooLong),
+        Err(ReadRefusal::SourceFault) => return Err(Status::SourceFault),
+        Err(ReadRefusal::WantOfMemory) => return Err(Status::WantOfMemory),
+    };
+    match read_json(alloc, input.as_slice()) {
+        Ok(Some(value)) => Ok(value),
+        Ok(None) => Err(Status::NotACase),
+        Err(_) => Err(Status::WantOfMemory),
+    }
+}
+
+// A line of the value's text, or of why it has none.
+fn print(alloc: Global, value: &Json) -> Result<Report, AllocError>
+    ensures { IfOk result (λ r. Prints value.now r.refused r.bytes) }
+{
+    match to_vec(alloc, value) {
+        Ok(text) => {
+            let mut bytes = text;
+            bytes.append(b"\n")?;
+            Ok(Report {
+                bytes,
+                refused: false,
+            })
+        }
+        Err(CanonError::Float) => refusal(alloc, b"refused Float\n"),
+        Err(CanonError::IntegerOutOfRange) => refusal(alloc, b"refused IntegerOutOfRange\n"),
+        Err(_) => Err(AllocError),
+    }
+}
+
+fn refusal(alloc: Global, line: &[u8]) -> Result<Report, AllocError>
+    ensures { IfOk result (λ r. r ≡ record { bytes = line.now; refused = true }) }
+{
+    let bytes = Blob::new(alloc, line)?;
+    Ok(Report {
+        bytes,
+        refused: true,
+    })
+}
+
+/// Writes the canonical text of the JSON in the input and a line feed, or a line that says why it has none.
+pub(crate) fn serve_canon<S: Source, K: Sink>(alloc: Global, source: &mut S, sink: &mut K) -> Status
+    ensures { SaysCanon result (S.state source.old) (S.state source.new) (K.state sink.old) (K.state sink.new) }
+{
+    let value = match read_value(alloc, source) {
+        Ok(value) => value,
+        Err(status) => return status,
+    };
+    match print(alloc, &value) {
+        Ok(line) => deliver(sink, &line),
+        Err(_) => Status::WantOfMemory,
+    }
+}
