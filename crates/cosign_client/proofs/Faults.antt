@@ -19,6 +19,7 @@ use Rattle.oci_protocol.specs.Proto.{Done, bind, unless_refused, ◌>>=◌}
 use Rattle.oci_protocol.specs.Ends.{OnAnswer}
 use Rattle.oci_protocol.specs.Runs.{Runs, Meets}
 use Rattle.oci_protocol.proofs.Laws.{Runs-count}
+use Rattle.engine_requests.specs.Contexts.{Context}
 use Rattle.engine_requests.specs.declared.settings.Settings.{Settings}
 use Rattle.engine_requests.specs.declared.error.OciDistributionError.{OciDistributionError}
 use Rattle.engine_requests.specs.declared.error.OciDistributionError.TheVariants as engine_refusal
@@ -28,7 +29,8 @@ use Rattle.engine_steps.specs.Rows.{Row as Engine}
 use Rattle.engine_pull.specs.Pulls.{pull_manifest}
 use Rattle.engine_pull.specs.Images.{pull}
 use Rattle.engine_pull.specs.declared.image.ImageData.{ImageData}
-use Rattle.oci_engine.specs.Causes.{DocumentCause, Cause, OwnDigest}
+use Rattle.oci_engine.specs.Causes.{DocumentCause, OwnDigest}
+use Rattle.oci_engine.proofs.Early.{Loose}
 use Rattle.oci_engine.proofs.ImageRefused.{RowCause, manifest_causes, image_causes}
 use Rattle.oci_engine.proofs.Reasons.{manifest_fault, image_fault}
 use Rattle.sig_registry.specs.declared.error.SigstoreError.{SigstoreError}
@@ -72,7 +74,7 @@ abbrev EngineCounts : {A : Type 0} → ℕ → ℕ → Result A OciDistributionE
 EngineCounts m n (Ok a) = m ≤ n
 EngineCounts m n (Err e) = Sincere m n e
 
-manifest_memory : (s : Settings) (image : Reference) (c : List Exchange) (n : ℕ) (e : OciDistributionError) → Cause (DocumentCause (OwnDigest image)) s manifest_types c n e → engine_is_memory e ≡ false → in_engine e ≡ false
+manifest_memory : (s : Settings) (image : Reference) (c : List Exchange) (n : ℕ) (e : OciDistributionError) → Loose (DocumentCause (OwnDigest image)) s manifest_types c n e → engine_is_memory e ≡ false → in_engine e ≡ false
 manifest_memory s image c n engine_refusal.WantOfMemory h other = absurd (cc other)
 manifest_memory s image c n (engine_refusal.DigestError digest_refusal.WantOfMemory) h other = absurd h.holds
 manifest_memory s image c n _ h other = refl
@@ -91,23 +93,23 @@ fault_of : {A : Type 0} (p : Engine A) (k l : Kept) (m n : ℕ) (c : List Exchan
     → ((old new : Link) → Meets engine_is_memory p old new k l (Err engine_refusal.TransportFault) → Rose old.faults new.faults) → is_engine_fault e ≡ true → Rose m n
 fault_of {A} p k l m n c e run rose is = rose (silent m) (silent n) (Runs-meets engine_is_memory p k l m n c engine_refusal.TransportFault refl (subst (λ x. Runs p k m c n l (let r : Result A OciDistributionError = Err x in r)) (only_fault e is) run))
 
-manifest_counts : (s : Settings) (image : Reference) (a : RegistryAuth) → Counts EngineCounts (pull_manifest s image a)
+manifest_counts : (s : Context) (image : Reference) (a : RegistryAuth) → Counts EngineCounts (pull_manifest s image a)
 manifest_counts s image a = record { counts = λ k l m n c r run. by_result k l m n c r run } where
   by_result : (k l : Kept) (m n : ℕ) (c : List Exchange) (r : Result (OciManifest × List ℕ) OciDistributionError) → Runs (pull_manifest s image a) k m c n l r → EngineCounts m n r
   by_result k l m n c (Ok found) run = Runs-count (pull_manifest s image a) k l m n c (Ok found) run
   by_result k l m n c (Err e) run = record {
     falls = Runs-count (pull_manifest s image a) k l m n c (Err e) run;
-    no_memory = manifest_memory s image c n e ((manifest_causes s image a).shows k l m n c (Err e) run);
+    no_memory = manifest_memory s.settings image c n e ((manifest_causes s image a).shows k l m n c (Err e) run);
     fault = fault_of (pull_manifest s image a) k l m n c e run (λ old new met. manifest_fault s image a met refl);
   }
 
-image_counts : (s : Settings) (image : Reference) (a : RegistryAuth) (accepted : List (List ℕ)) → Counts EngineCounts (pull s image a accepted)
+image_counts : (s : Context) (image : Reference) (a : RegistryAuth) (accepted : List (List ℕ)) → Counts EngineCounts (pull s image a accepted)
 image_counts s image a accepted = record { counts = λ k l m n c r run. by_result k l m n c r run } where
   by_result : (k l : Kept) (m n : ℕ) (c : List Exchange) (r : Result ImageData OciDistributionError) → Runs (pull s image a accepted) k m c n l r → EngineCounts m n r
   by_result k l m n c (Ok found) run = Runs-count (pull s image a accepted) k l m n c (Ok found) run
   by_result k l m n c (Err e) run = record {
     falls = Runs-count (pull s image a accepted) k l m n c (Err e) run;
-    no_memory = image_memory s image accepted c n e ((image_causes s image a accepted).shows k l m n c (Err e) run);
+    no_memory = image_memory s.settings image accepted c n e ((image_causes s image a accepted).shows k l m n c (Err e) run);
     fault = fault_of (pull s image a accepted) k l m n c e run (λ old new met. image_fault s image a accepted met refl);
   }
 
@@ -144,11 +146,11 @@ unfolding in_words
 words_count called image p h = Counts-bind EngineCounts CallCounts p (λ r. Done (worded called (whole_text image) r)) h
     (λ m n r at. Counts-done (λ start o b. start ≡ n → CallCounts m o b) (worded called (whole_text image) r) (λ o same. rw same (worded_counts called (whole_text image) m n r at)))
 
-manifest_call_counts : (s : Settings) (image : Reference) (a : RegistryAuth) → Counts CallCounts (manifest_call s image a)
+manifest_call_counts : (s : Context) (image : Reference) (a : RegistryAuth) → Counts CallCounts (manifest_call s image a)
 unfolding manifest_call
 manifest_call_counts s image a = words_count PullManifest image (pull_manifest s image a) (manifest_counts s image a)
 
-image_call_counts : (s : Settings) (image : Reference) (a : RegistryAuth) (accepted : List (List ℕ)) → Counts CallCounts (image_call s image a accepted)
+image_call_counts : (s : Context) (image : Reference) (a : RegistryAuth) (accepted : List (List ℕ)) → Counts CallCounts (image_call s image a accepted)
 unfolding image_call
 image_call_counts s image a accepted = words_count Pull image (pull s image a accepted) (image_counts s image a accepted)
 
@@ -218,32 +220,32 @@ by_image_counts m n o found document (Err e) h call = refused_counts m n o found
 abbrev Keeps : ℕ → TrustedLayers → ℕ → ℕ → Result TrustedLayers SigstoreError → Type 0
 Keeps m found start o r = FoundCounts m start found → OnAnswer (FoundCounts m o) r
 
-by_manifest_counts : (m n o : ℕ) (s : Settings) (tag : Reference) (a : RegistryAuth) (found : TrustedLayers) (r : Result (OciManifest × List ℕ) SigstoreError) → FoundCounts m n found → CallCounts n o r → Counts (λ start p b. start ≡ o → OnAnswer (FoundCounts m p) b) (by_manifest s tag a found r)
+by_manifest_counts : (m n o : ℕ) (s : Context) (tag : Reference) (a : RegistryAuth) (found : TrustedLayers) (r : Result (OciManifest × List ℕ) SigstoreError) → FoundCounts m n found → CallCounts n o r → Counts (λ start p b. start ≡ o → OnAnswer (FoundCounts m p) b) (by_manifest s tag a found r)
 by_manifest_counts m n o s tag a found (Err e) h call = Counts-done (λ start p b. start ≡ o → OnAnswer (FoundCounts m p) b) (refused_source found e) (λ p same. rw same (refused_counts m n o found e h call))
 by_manifest_counts m n o s tag a found (Ok document) h call = Counts-bind CallCounts (λ start p b. start ≡ o → OnAnswer (FoundCounts m p) b) (image_call s tag a (payload_type ∷ [])) (λ r. Done (by_image found document.0 r)) (image_call_counts s tag a (payload_type ∷ []))
     (λ start p r at. Counts-done (λ t q b. t ≡ p → start ≡ o → OnAnswer (FoundCounts m q) b) (by_image found document.0 r) (λ q same begins. rw same (by_image_counts m start p found document.0 r (rw begins (later m n o found.skipped call h)) at)))
 
-by_counts : (m : ℕ) (s : Settings) (tag : Reference) (a : RegistryAuth) (found : TrustedLayers) (b : Bool) → Counts (Keeps m found) (search_by s tag a found b)
+by_counts : (m : ℕ) (s : Context) (tag : Reference) (a : RegistryAuth) (found : TrustedLayers) (b : Bool) → Counts (Keeps m found) (search_by s tag a found b)
 by_counts m s tag a found true = record { counts = λ k l n o c r run h. (Counts-bind CallCounts (λ start p b. FoundCounts m start found → OnAnswer (FoundCounts m p) b) (manifest_call s tag a) (by_manifest s tag a found) (manifest_call_counts s tag a) (λ start p r call. Counts-more (λ t q b. FoundCounts m start found → t ≡ p → OnAnswer (FoundCounts m q) b) (λ t q b. t ≡ p → FoundCounts m start found → OnAnswer (FoundCounts m q) b) (by_manifest s tag a found r) (record { counts = λ k l t q c b run h. (by_manifest_counts m start p s tag a found r h call).counts k l t q c b run }) (λ t q b f same h. f h same))).counts k l n o c r run h }
 by_counts m s tag a found false = Counts-done (Keeps m found) (Ok (skipping found (Source Tag (NotAReference (whole_text tag))))) (λ n h. quiet m n found (Source Tag (NotAReference (whole_text tag))) h refl refl)
 
-tag_counts : (m : ℕ) (s : Settings) (image : Reference) (a : RegistryAuth) (found : TrustedLayers) → Counts (Keeps m found) (search_tag s image a found)
+tag_counts : (m : ℕ) (s : Context) (image : Reference) (a : RegistryAuth) (found : TrustedLayers) → Counts (Keeps m found) (search_tag s image a found)
 unfolding search_tag
 tag_counts m s image a found = by_counts m s (tag_reference image found.digest) a found (reads_back (tag_reference image found.digest))
 
 abbrev SearchCounts : ℕ → ℕ → Result TrustedLayers SigstoreError → Type 0
 SearchCounts m n r = OnAnswer (FoundCounts m n) r
 
-after_digest : (m n : ℕ) (s : Settings) (image : Reference) (a : RegistryAuth) (digest : List ℕ) (r : Result (Unit {0}) SigstoreError) → m ≤ n → Counts (λ start o b. start ≡ n → SearchCounts m o b) (unless_refused (λ u. search_tag s image a (nothing_yet digest)) r)
+after_digest : (m n : ℕ) (s : Context) (image : Reference) (a : RegistryAuth) (digest : List ℕ) (r : Result (Unit {0}) SigstoreError) → m ≤ n → Counts (λ start o b. start ≡ n → SearchCounts m o b) (unless_refused (λ u. search_tag s image a (nothing_yet digest)) r)
 after_digest m n s image a digest (Err e) le = Counts-done (λ start o b. start ≡ n → SearchCounts m o b) (Err e) (λ o same. tt)
 after_digest m n s image a digest (Ok u) le = Counts-more (Keeps m (nothing_yet digest)) (λ start o b. start ≡ n → SearchCounts m o b) (search_tag s image a (nothing_yet digest)) (tag_counts m s image a (nothing_yet digest)) (λ start o b keeps same. keeps (none_skipped m start (rw same le)))
 
-digest_then : (m n : ℕ) (s : Settings) (image : Reference) (a : RegistryAuth) (r : Result (List ℕ) SigstoreError) → m ≤ n → Counts (λ start o b. start ≡ n → SearchCounts m o b) (unless_refused (λ digest. Done (reading_back (digest_reference image digest)) >>= (λ u. search_tag s image a (nothing_yet digest))) r)
+digest_then : (m n : ℕ) (s : Context) (image : Reference) (a : RegistryAuth) (r : Result (List ℕ) SigstoreError) → m ≤ n → Counts (λ start o b. start ≡ n → SearchCounts m o b) (unless_refused (λ digest. Done (reading_back (digest_reference image digest)) >>= (λ u. search_tag s image a (nothing_yet digest))) r)
 unfolding bind
 digest_then m n s image a (Err e) le = Counts-done (λ start o b. start ≡ n → SearchCounts m o b) (Err e) (λ o same. tt)
 digest_then m n s image a (Ok digest) le = after_digest m n s image a digest (reading_back (digest_reference image digest)) le
 
-search_counts : (s : Settings) (image : Reference) (a : RegistryAuth) → Counts SearchCounts (searched s image a)
+search_counts : (s : Context) (image : Reference) (a : RegistryAuth) → Counts SearchCounts (searched s image a)
 unfolding searched
 search_counts s image a = Counts-bind (λ m n r. m ≤ n) SearchCounts (digest_call s image a) _ (Counts-any (digest_call s image a)) (λ m n r le. digest_then m n s image a r le)
 
@@ -264,35 +266,35 @@ completed_quiet : (m n : ℕ) (found : TrustedLayers) (signature : SignatureLaye
 completed_quiet m n found signature (Ok pulled) = tt
 completed_quiet m n found signature (Err e) = refused_quiet (Counted m n) e
 
-layer_counts : (m n : ℕ) (s : Settings) (image : Reference) (a : RegistryAuth) (accepted : List (List ℕ)) (found : TrustedLayers) (o : Option SignatureLayer) → FoundCounts m n found → Counts (λ start p b. start ≡ n → PullCounts m p b) (by_layer s image a accepted found o)
+layer_counts : (m n : ℕ) (s : Context) (image : Reference) (a : RegistryAuth) (accepted : List (List ℕ)) (found : TrustedLayers) (o : Option SignatureLayer) → FoundCounts m n found → Counts (λ start p b. start ≡ n → PullCounts m p b) (by_layer s image a accepted found o)
 layer_counts m n s image a accepted found None h = Counts-done (λ start p b. start ≡ n → PullCounts m p b) (Err (refusal.Unsatisfied found.digest found.collected found.skipped)) (λ p same. rw same h)
 layer_counts m n s image a accepted found (Some signature) h = Counts-bind (λ start p r. Unit {0}) (λ start p b. start ≡ n → PullCounts m p b) (image_row s image (digest_reference image found.digest) a accepted) (λ r. Done (completed found signature r)) (record { counts = λ k l t q c r run. tt })
     (λ start p r u. Counts-done (λ t q b. t ≡ p → start ≡ n → PullCounts m q b) (completed found signature r) (λ q same begins. completed_quiet m q found signature r))
 
-search_then : (m n : ℕ) (stands : SignatureLayer → Bool) (s : Settings) (image : Reference) (a : RegistryAuth) (accepted : List (List ℕ)) (r : Result TrustedLayers SigstoreError) → SearchCounts m n r → Counts (λ start p b. start ≡ n → PullCounts m p b) (by_search stands s image a accepted r)
+search_then : (m n : ℕ) (stands : SignatureLayer → Bool) (s : Context) (image : Reference) (a : RegistryAuth) (accepted : List (List ℕ)) (r : Result TrustedLayers SigstoreError) → SearchCounts m n r → Counts (λ start p b. start ≡ n → PullCounts m p b) (by_search stands s image a accepted r)
 search_then m n stands s image a accepted (Ok found) h = layer_counts m n s image a accepted found (find stands found.collected) h
 search_then m n stands s image a accepted (Err e) h = Counts-done (λ start p b. start ≡ n → PullCounts m p b) (Err (refused_as e)) (λ p same. refused_quiet (Counted m p) e)
 
-reference_counts : (stands : SignatureLayer → Bool) (s : Settings) (image : Reference) (a : RegistryAuth) (accepted : List (List ℕ)) (b : Bool) → Counts PullCounts (by_reference stands s image a accepted b)
+reference_counts : (stands : SignatureLayer → Bool) (s : Context) (image : Reference) (a : RegistryAuth) (accepted : List (List ℕ)) (b : Bool) → Counts PullCounts (by_reference stands s image a accepted b)
 reference_counts stands s image a accepted true = Counts-bind SearchCounts PullCounts (searched s image a) (by_search stands s image a accepted) (search_counts s image a) (λ m n r h. search_then m n stands s image a accepted r h)
 reference_counts stands s image a accepted false = Counts-done PullCounts (Err (refusal.OciReferenceNotValidError (whole_text image))) (λ m. tt)
 
-pull_counts : (u : Bool) (stands : SignatureLayer → Bool) (s : Settings) (image : Reference) (a : RegistryAuth) (accepted : List (List ℕ)) → Counts PullCounts (verified u stands s image a accepted)
+pull_counts : (u : Bool) (stands : SignatureLayer → Bool) (s : Context) (image : Reference) (a : RegistryAuth) (accepted : List (List ℕ)) → Counts PullCounts (verified u stands s image a accepted)
 unfolding verified
 pull_counts true stands s image a accepted = Counts-done PullCounts (Err refusal.EmptyPolicy) (λ m. tt)
 pull_counts false stands s image a accepted = reference_counts stands s image a accepted (reads_back image)
 
 -- ---- so it is of a call
 
-search_counted : (s : Settings) (image : Reference) (a : RegistryAuth) {old new : Link} {k l : Kept} (r : Result TrustedLayers SigstoreError) → Meets is_memory (searched s image a) old new k l r → IfOk r (λ found. FoundCounts old.faults new.faults found)
+search_counted : (s : Context) (image : Reference) (a : RegistryAuth) {old new : Link} {k l : Kept} (r : Result TrustedLayers SigstoreError) → Meets is_memory (searched s image a) old new k l r → IfOk r (λ found. FoundCounts old.faults new.faults found)
 search_counted s image a (Ok found) met = Meets-counts SearchCounts (search_counts s image a) met
 search_counted s image a (Err e) met = tt
 
-pub search_no_memory : (s : Settings) (image : Reference) (a : RegistryAuth) {old new : Link} {k l : Kept} (r : Result TrustedLayers SigstoreError) → Meets is_memory (searched s image a) old new k l r → IfOk r (λ found. HoldsNoMemory found.skipped)
+pub search_no_memory : (s : Context) (image : Reference) (a : RegistryAuth) {old new : Link} {k l : Kept} (r : Result TrustedLayers SigstoreError) → Meets is_memory (searched s image a) old new k l r → IfOk r (λ found. HoldsNoMemory found.skipped)
 search_no_memory s image a (Ok found) met = (search_counted s image a (Ok found) met).no_memory
 search_no_memory s image a (Err e) met = tt
 
-pub search_faults : (s : Settings) (image : Reference) (a : RegistryAuth) {old new : Link} {k l : Kept} (r : Result TrustedLayers SigstoreError) → Meets is_memory (searched s image a) old new k l r → IfOk r (λ found. CountsFaults old.faults new.faults found.skipped)
+pub search_faults : (s : Context) (image : Reference) (a : RegistryAuth) {old new : Link} {k l : Kept} (r : Result TrustedLayers SigstoreError) → Meets is_memory (searched s image a) old new k l r → IfOk r (λ found. CountsFaults old.faults new.faults found.skipped)
 search_faults s image a (Ok found) met = (search_counted s image a (Ok found) met).faults
 search_faults s image a (Err e) met = tt
 
@@ -312,13 +314,13 @@ unless_memory P (refusal.RegistryFetchManifestError name e) h = tt
 unless_memory P (refusal.RegistryPullError name e) h = tt
 unless_memory P refusal.WantOfMemory h = tt
 
-pull_counted : (u : Bool) (stands : SignatureLayer → Bool) (s : Settings) (image : Reference) (a : RegistryAuth) (accepted : List (List ℕ)) {old new : Link} {k l : Kept} (e : PullRefusal) → Meets of_refusal (verified u stands s image a accepted) old new k l (Err e) → OnSkipped (Counted old.faults new.faults) e
+pull_counted : (u : Bool) (stands : SignatureLayer → Bool) (s : Context) (image : Reference) (a : RegistryAuth) (accepted : List (List ℕ)) {old new : Link} {k l : Kept} (e : PullRefusal) → Meets of_refusal (verified u stands s image a accepted) old new k l (Err e) → OnSkipped (Counted old.faults new.faults) e
 pull_counted u stands s image a accepted {old} {new} e met = unless_memory (Counted old.faults new.faults) e (Meets-counts PullCounts (pull_counts u stands s image a accepted) met)
 
-pub pull_no_memory : (u : Bool) (stands : SignatureLayer → Bool) (s : Settings) (image : Reference) (a : RegistryAuth) (accepted : List (List ℕ)) {old new : Link} {k l : Kept} (r : Result VerifiedImage PullRefusal) → Meets of_refusal (verified u stands s image a accepted) old new k l r → IfErr r (λ e. OnSkipped HoldsNoMemory e)
+pub pull_no_memory : (u : Bool) (stands : SignatureLayer → Bool) (s : Context) (image : Reference) (a : RegistryAuth) (accepted : List (List ℕ)) {old new : Link} {k l : Kept} (r : Result VerifiedImage PullRefusal) → Meets of_refusal (verified u stands s image a accepted) old new k l r → IfErr r (λ e. OnSkipped HoldsNoMemory e)
 pull_no_memory u stands s image a accepted (Ok v) met = tt
 pull_no_memory u stands s image a accepted (Err e) met = on_skipped e (λ xs h. h.no_memory) (pull_counted u stands s image a accepted e met)
 
-pub pull_faults : (u : Bool) (stands : SignatureLayer → Bool) (s : Settings) (image : Reference) (a : RegistryAuth) (accepted : List (List ℕ)) {old new : Link} {k l : Kept} (r : Result VerifiedImage PullRefusal) → Meets of_refusal (verified u stands s image a accepted) old new k l r → IfErr r (λ e. OnSkipped (CountsFaults old.faults new.faults) e)
+pub pull_faults : (u : Bool) (stands : SignatureLayer → Bool) (s : Context) (image : Reference) (a : RegistryAuth) (accepted : List (List ℕ)) {old new : Link} {k l : Kept} (r : Result VerifiedImage PullRefusal) → Meets of_refusal (verified u stands s image a accepted) old new k l r → IfErr r (λ e. OnSkipped (CountsFaults old.faults new.faults) e)
 pull_faults u stands s image a accepted (Ok v) met = tt
 pull_faults u stands s image a accepted (Err e) met = on_skipped e (λ xs h. h.faults) (pull_counted u stands s image a accepted e met)

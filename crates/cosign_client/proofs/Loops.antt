@@ -6,6 +6,7 @@ use Rattle.oci_names.specs.declared.reference.Reference.{Reference}
 use Rattle.oci_manifests.specs.declared.descriptor.OciDescriptor.{OciDescriptor}
 use Rattle.oci_manifests.specs.declared.blob.ImageLayer.{ImageLayer}
 use Rattle.oci_protocol.specs.Proto.{◌>>=◌}
+use Rattle.engine_requests.specs.Contexts.{within}
 use Rattle.engine_requests.specs.declared.settings.Settings.{Settings}
 use Rattle.engine_pull.specs.Images.{layer_of}
 use Rattle.sig_registry.specs.declared.error.SigstoreError.{SigstoreError}
@@ -20,14 +21,14 @@ use Rattle.cosign_client.proofs.Exits.{done}
 at_next : {A : Type 0} (xs : List A) (i : ℕ) (x : A) → i < length xs → x ≡ get_or xs i x → drop i xs ≡ x ∷ drop (i + 1) xs
 at_next {A} xs i x lt is = rw add-one (drop-cons xs i x lt ∙ ap (λ (y : A). y ∷ drop (suc i) xs) (sym is))
 
-pub layers_end : {s : Settings} (source : Reference) (xs : List OciDescriptor) (layers : List ImageLayer) {c : Client} {link : Link} → xs ≡ [] → Made is_memory s (layers_row s source xs layers) c c link link (Ok layers)
+pub layers_end : {s : Settings} (moment : ℕ) (source : Reference) (xs : List OciDescriptor) (layers : List ImageLayer) {c : Client} {link : Link} → xs ≡ [] → Made is_memory s (layers_row (within s moment) source xs layers) c c link link (Ok layers)
 unfolding layers_row
-layers_end source xs layers h = rw h done
+layers_end moment source xs layers h = rw h done
 
-pub layers_next : {s : Settings} (source : Reference) (xs : List OciDescriptor) (i : ℕ) (x : OciDescriptor) (layers : List ImageLayer) {c e : Client} {old new : Link} {r : Result (List ImageLayer) SigstoreError} → i < length xs → x ≡ get_or xs i x
-    → Made is_memory s (blob_call s source x.digest >>= (λ content. layers_row s source (drop (i + 1) xs) (layers ++ layer_of x content ∷ []))) c e old new r → Made is_memory s (layers_row s source (drop i xs) layers) c e old new r
+pub layers_next : {s : Settings} (moment : ℕ) (source : Reference) (xs : List OciDescriptor) (i : ℕ) (x : OciDescriptor) (layers : List ImageLayer) {c e : Client} {old new : Link} {r : Result (List ImageLayer) SigstoreError} → i < length xs → x ≡ get_or xs i x
+    → Made is_memory s (blob_call (within s moment) source x.digest >>= (λ content. layers_row (within s moment) source (drop (i + 1) xs) (layers ++ layer_of x content ∷ []))) c e old new r → Made is_memory s (layers_row (within s moment) source (drop i xs) layers) c e old new r
 unfolding layers_row
-layers_next source xs i x layers lt is rest = rw (at_next xs i x lt is) rest
+layers_next moment source xs i x layers lt is rest = rw (at_next xs i x lt is) rest
 
 -- one descriptor more
 pub collected_next : (xs : List OciDescriptor) (i : ℕ) (x : OciDescriptor) (layers : List ImageLayer) (found : TrustedLayers) → i < length xs → x ≡ get_or xs i x → collected (drop i xs) layers found ≡ collected (drop (i + 1) xs) layers (turned x layers found)

@@ -19,7 +19,7 @@ use Rattle.oci_transport.specs.declared.message.Exchange.{Exchange}
 use Rattle.oci_protocol.specs.Proto.{Done, ◌>>=◌}
 use Rattle.oci_protocol.specs.Shows.{Shows, WhereOk}
 use Rattle.oci_protocol.proofs.Showing.{Shows-done, Shows-more, Shows-bind, Shows-next, Shows-step}
-use Rattle.engine_requests.specs.declared.settings.Settings.{Settings}
+use Rattle.engine_requests.specs.Contexts.{Context}
 use Rattle.engine_requests.specs.declared.error.OciDistributionError.{OciDistributionError}
 use Rattle.engine_requests.specs.declared.error.OciDistributionError.TheVariants as engine_refusal
 use Rattle.engine_requests.specs.Errors.{is_memory as engine_is_memory, ◌>>=◌ as ◌before◌}
@@ -65,15 +65,15 @@ unfolding in_words
 words_show P called image p h = Shows-bind (Seen P) (Seen P) p (λ r. Done (worded called (whole_text image) r)) h
     (λ m n c r at. Shows-done (λ s d o b. Seen P m (c ++ d) o b) (worded called (whole_text image) r) (λ o. worded_seen P called (whole_text image) m n o c r at))
 
-pub digest_call_shows : (s : Settings) (image : Reference) (a : RegistryAuth) → Shows (Seen (Answered s image)) (digest_call s image a)
+pub digest_call_shows : (s : Context) (image : Reference) (a : RegistryAuth) → Shows (Seen (Answered s.settings image)) (digest_call s image a)
 unfolding digest_call
-digest_call_shows s image a = words_show (Answered s image) FetchManifest image (fetch_manifest_digest s image a) (digest_shows s image a)
+digest_call_shows s image a = words_show (Answered s.settings image) FetchManifest image (fetch_manifest_digest s image a) (digest_shows s image a)
 
 -- a document of this image
 abbrev IsDocument : Reference → List Exchange → List ℕ × List ℕ → Type 0
 IsDocument image c found = Document image c found.0 found.1
 
-document_call_shows : (s : Settings) (image : Reference) (a : RegistryAuth) (types : List ℕ) → Shows (Seen (IsDocument image)) (document_call s image a types)
+document_call_shows : (s : Context) (image : Reference) (a : RegistryAuth) (types : List ℕ) → Shows (Seen (IsDocument image)) (document_call s image a types)
 unfolding document_call
 document_call_shows s image a types = words_show (IsDocument image) Pull image (pull_manifest_raw s image a types) (raw_shows s image a types)
 
@@ -81,7 +81,7 @@ document_call_shows s image a types = words_show (IsDocument image) Pull image (
 abbrev IsBlob : List ℕ → List Exchange → List ℕ → Type 0
 IsBlob digest c bytes = Body c bytes × Names digest bytes × LastBody c bytes
 
-blob_call_shows : (s : Settings) (image : Reference) (digest : List ℕ) → Shows (Seen (IsBlob digest)) (blob_call s image digest)
+blob_call_shows : (s : Context) (image : Reference) (digest : List ℕ) → Shows (Seen (IsBlob digest)) (blob_call s image digest)
 unfolding blob_call
 blob_call_shows s image digest = words_show (IsBlob digest) Pull image (pull_blob s image digest) (blob_shows s image digest)
 
@@ -149,7 +149,7 @@ one_more x xs got content c d all blob rest = record {
   layers = (record { body = body_before d blob.0; named = blob.1; media_type = refl; annotations = refl }, layers_after c d xs rest.more rest.layers);
 }
 
-layers_show : (s : Settings) (source : Reference) (xs : List OciDescriptor) (got : List ImageLayer) → Shows (Seen (Behind xs got)) (layers_row s source xs got)
+layers_show : (s : Context) (source : Reference) (xs : List OciDescriptor) (got : List ImageLayer) → Shows (Seen (Behind xs got)) (layers_row s source xs got)
 unfolding layers_row
 layers_show s source [] got = done_seen (Behind [] got) got (record { more = []; is = sym (append-nil got); layers = tt })
 layers_show s source (x ∷ xs) got = next_seen (IsBlob x.digest) (Behind (x ∷ xs) got) (blob_call s source x.digest) (λ content. layers_row s source xs (got ++ layer_of x content ∷ [])) (blob_call_shows s source x.digest)
@@ -218,7 +218,7 @@ pub record Links (image : Reference) (digest : List ℕ) (accepted : List (List 
   pub config_body : Body c p.config.content
   pub layer_bodies : EachBody c p.layers
 
-pub image_shows : (s : Settings) (image source : Reference) (digest : List ℕ) (a : RegistryAuth) (accepted : List (List ℕ)) → digest_of source ≡ Some digest → Shows (Seen (Links image digest accepted)) (image_row s image source a accepted)
+pub image_shows : (s : Context) (image source : Reference) (digest : List ℕ) (a : RegistryAuth) (accepted : List (List ℕ)) → digest_of source ≡ Some digest → Shows (Seen (Links image digest accepted)) (image_row s image source a accepted)
 unfolding image_row
 image_shows s image source digest a accepted is = next_seen (IsDocument source) (Links image digest accepted) (document_call s source a manifest_types) _ (document_call_shows s source a manifest_types) (λ c found document.
     step_seen (λ d p. Links image digest accepted (c ++ d) p) (worded Pull (whole_text source) (manifest_in image found.0)) _ (λ manifest read.
@@ -227,7 +227,7 @@ image_shows s image source digest a accepted is = next_seen (IsDocument source) 
     next_seen (Behind manifest.layers []) (λ e p. Links image digest accepted (c ++ (d ++ e)) p) (layers_row s source manifest.layers []) _ (layers_show s source manifest.layers []) (λ e layers behind.
     done_seen (λ f p. Links image digest accepted (c ++ (d ++ (e ++ f))) p) (record { first = found.0; manifest = manifest; config = config_of manifest config; layers = layers })
     (linked s c d e found.0 manifest config layers u document.body (document.named digest is) (worded_ok Pull (whole_text source) (manifest_in image found.0) manifest read) blob (worded_ok Pull (whole_text source) (layers_accepted accepted manifest.layers) u allowed) behind)))))) where
-      linked : (s : Settings) (c d e : List Exchange) (first : List ℕ) (manifest : OciImageManifest) (config : List ℕ) (layers : List ImageLayer) (u : Unit) → Body c first → Names digest first → manifest_in image first ≡ Ok manifest → IsBlob manifest.config.digest d config → layers_accepted accepted manifest.layers ≡ Ok u → Behind manifest.layers [] e layers
+      linked : (s : Context) (c d e : List Exchange) (first : List ℕ) (manifest : OciImageManifest) (config : List ℕ) (layers : List ImageLayer) (u : Unit) → Body c first → Names digest first → manifest_in image first ≡ Ok manifest → IsBlob manifest.config.digest d config → layers_accepted accepted manifest.layers ≡ Ok u → Behind manifest.layers [] e layers
           → Links image digest accepted (c ++ (d ++ (e ++ []))) (record { first = first; manifest = manifest; config = config_of manifest config; layers = layers })
       linked s c d e first manifest config layers u body named read blob allowed behind =
           let asked = both (named_by_reference (digest_of image) first) (λ u. document_read first before image_manifest) manifest read in

@@ -19,6 +19,7 @@ use Rattle.oci_transport.specs.Link.{Link}
 use Rattle.oci_protocol.specs.Runs.{Meets, Told}
 use Rattle.oci_protocol.proofs.Ends.{Ends-any, Ends-bind, Runs-ends}
 use Rattle.oci_protocol.proofs.Showing.{Shows-done, Shows-more, Shows-bind, Meets-shows-ok}
+use Rattle.engine_requests.specs.Contexts.{Context}
 use Rattle.engine_requests.specs.declared.settings.Settings.{Settings}
 use Rattle.engine_pull.specs.declared.image.ImageData.{ImageData}
 use Rattle.oci_engine.specs.Answered.{FirstAsked, Answered}
@@ -132,21 +133,21 @@ image_good d found document (Err e) good = refused_good d found e good
 any_ends : {K A : Type 0} (p : Proto K A) → Ends (λ (a : A). Unit {0}) p
 any_ends p = Ends-any (λ a. Unit {0}) p (λ a. tt)
 
-image_ends : (s : Settings) (tag : Reference) (a : RegistryAuth) (found : TrustedLayers) (document : OciManifest) → Good found.digest found → Ends (OnAnswer (Good found.digest)) (search_image s tag a found document)
+image_ends : (s : Context) (tag : Reference) (a : RegistryAuth) (found : TrustedLayers) (document : OciManifest) → Good found.digest found → Ends (OnAnswer (Good found.digest)) (search_image s tag a found document)
 unfolding Ends
 image_ends s tag a found document good = Ends-bind (λ r. Unit {0}) (OnAnswer (Good found.digest)) (image_call s tag a (payload_type ∷ [])) (λ r. Done (by_image found document r)) (any_ends (image_call s tag a (payload_type ∷ []))) (λ r u. image_good found.digest found document r good)
 
-manifest_ends : (s : Settings) (tag : Reference) (a : RegistryAuth) (found : TrustedLayers) (r : Result (OciManifest × List ℕ) SigstoreError) → Good found.digest found → Ends (OnAnswer (Good found.digest)) (by_manifest s tag a found r)
+manifest_ends : (s : Context) (tag : Reference) (a : RegistryAuth) (found : TrustedLayers) (r : Result (OciManifest × List ℕ) SigstoreError) → Good found.digest found → Ends (OnAnswer (Good found.digest)) (by_manifest s tag a found r)
 unfolding Ends
 manifest_ends s tag a found (Ok document) good = image_ends s tag a found document.0 good
 manifest_ends s tag a found (Err e) good = refused_good found.digest found e good
 
-by_ends : (s : Settings) (tag : Reference) (a : RegistryAuth) (found : TrustedLayers) (b : Bool) → Good found.digest found → Ends (OnAnswer (Good found.digest)) (search_by s tag a found b)
+by_ends : (s : Context) (tag : Reference) (a : RegistryAuth) (found : TrustedLayers) (b : Bool) → Good found.digest found → Ends (OnAnswer (Good found.digest)) (search_by s tag a found b)
 unfolding Ends
 by_ends s tag a found true good = Ends-bind (λ r. Unit {0}) (OnAnswer (Good found.digest)) (manifest_call s tag a) (by_manifest s tag a found) (any_ends (manifest_call s tag a)) (λ r u. manifest_ends s tag a found r good)
 by_ends s tag a found false good = skipping_good found.digest found _ good
 
-tag_ends : (s : Settings) (image : Reference) (a : RegistryAuth) (found : TrustedLayers) → Good found.digest found → Ends (OnAnswer (Good found.digest)) (search_tag s image a found)
+tag_ends : (s : Context) (image : Reference) (a : RegistryAuth) (found : TrustedLayers) → Good found.digest found → Ends (OnAnswer (Good found.digest)) (search_tag s image a found)
 unfolding search_tag
 tag_ends s image a found good = by_ends s (tag_reference image found.digest) a found (reads_back (tag_reference image found.digest)) good
 
@@ -161,15 +162,15 @@ found_of : (s : Settings) (image : Reference) (digest : List ℕ) (c d : List Ex
 found_of s image digest c d m n (Ok found) answered good = record { answered = rw good.digest_is (answered_before s image c d digest answered); fit = rw good.digest_is good.fit }
 found_of s image digest c d m n (Err e) answered good = tt
 
-tag_shows : (s : Settings) (image : Reference) (a : RegistryAuth) (digest : List ℕ) (c : List Exchange) → Answered s image c digest → Shows (Seen (λ d found. Found s image (c ++ d) found)) (search_tag s image a (nothing_yet digest))
+tag_shows : (s : Context) (image : Reference) (a : RegistryAuth) (digest : List ℕ) (c : List Exchange) → Answered s.settings image c digest → Shows (Seen (λ d found. Found s.settings image (c ++ d) found)) (search_tag s image a (nothing_yet digest))
 tag_shows s image a digest c answered = record {
-  shows = λ k l m n d r run. found_of s image digest c d m n r answered (Runs-ends (OnAnswer (Good digest)) (search_tag s image a (nothing_yet digest)) k l m n d r (tag_ends s image a (nothing_yet digest) (record { digest_is = refl; fit = tt })) run);
+  shows = λ k l m n d r run. found_of s.settings image digest c d m n r answered (Runs-ends (OnAnswer (Good digest)) (search_tag s image a (nothing_yet digest)) k l m n d r (tag_ends s image a (nothing_yet digest) (record { digest_is = refl; fit = tt })) run);
 }
 
-search_shows : (s : Settings) (image : Reference) (a : RegistryAuth) → Shows (Seen (Found s image)) (searched s image a)
+search_shows : (s : Context) (image : Reference) (a : RegistryAuth) → Shows (Seen (Found s.settings image)) (searched s image a)
 unfolding searched
-search_shows s image a = next_seen (Answered s image) (Found s image) (digest_call s image a) (λ digest. Done (reading_back (digest_reference image digest)) >> search_tag s image a (nothing_yet digest)) (digest_call_shows s image a)
-    (λ c digest answered. step_seen (λ d found. Found s image (c ++ d) found) (reading_back (digest_reference image digest)) (λ u. search_tag s image a (nothing_yet digest)) (λ u is. tag_shows s image a digest c answered))
+search_shows s image a = next_seen (Answered s.settings image) (Found s.settings image) (digest_call s image a) (λ digest. Done (reading_back (digest_reference image digest)) >> search_tag s image a (nothing_yet digest)) (digest_call_shows s image a)
+    (λ c digest answered. step_seen (λ d found. Found s.settings image (c ++ d) found) (reading_back (digest_reference image digest)) (λ u. search_tag s image a (nothing_yet digest)) (λ u is. tag_shows s image a digest c answered))
 
 -- ---- the pull
 
@@ -215,12 +216,12 @@ completed_seen s meaning image accepted found signature c d m n o (Ok pulled) an
 completed_seen s meaning image accepted found signature c d m n o (Err e) answered signed links = tt
 
 -- the image of a digest for which a layer stands
-standing_shows : {V : Type 0} {H : V → Type 0} (s : Settings) (meaning : Meaning V H) (image : Reference) (a : RegistryAuth) (accepted : List (List ℕ)) (found : TrustedLayers) (first : Option SignatureLayer) (c : List Exchange)
-    → Answered s image c found.digest → ((signature : SignatureLayer) → first ≡ Some signature → StandsFor meaning found.digest signature) → Shows (Seen (λ d v. Sound s meaning image accepted (c ++ d) v)) (by_layer s image a accepted found first)
-standing_shows s meaning image a accepted found None c answered stand = Shows-done (Seen (λ d v. Sound s meaning image accepted (c ++ d) v)) (Err _) (λ m. tt)
-standing_shows s meaning image a accepted found (Some signature) c answered stand = Shows-bind (Seen (Links image found.digest accepted)) (Seen (λ d v. Sound s meaning image accepted (c ++ d) v)) (image_row s image (digest_reference image found.digest) a accepted) (λ r. Done (completed found signature r))
+standing_shows : {V : Type 0} {H : V → Type 0} (s : Context) (meaning : Meaning V H) (image : Reference) (a : RegistryAuth) (accepted : List (List ℕ)) (found : TrustedLayers) (first : Option SignatureLayer) (c : List Exchange)
+    → Answered s.settings image c found.digest → ((signature : SignatureLayer) → first ≡ Some signature → StandsFor meaning found.digest signature) → Shows (Seen (λ d v. Sound s.settings meaning image accepted (c ++ d) v)) (by_layer s image a accepted found first)
+standing_shows s meaning image a accepted found None c answered stand = Shows-done (Seen (λ d v. Sound s.settings meaning image accepted (c ++ d) v)) (Err _) (λ m. tt)
+standing_shows s meaning image a accepted found (Some signature) c answered stand = Shows-bind (Seen (Links image found.digest accepted)) (Seen (λ d v. Sound s.settings meaning image accepted (c ++ d) v)) (image_row s image (digest_reference image found.digest) a accepted) (λ r. Done (completed found signature r))
     (image_shows s image (digest_reference image found.digest) found.digest a accepted refl)
-    (λ m n d r links. Shows-done (λ start e o b. Seen (λ d v. Sound s meaning image accepted (c ++ d) v) m (d ++ e) o b) (completed found signature r) (λ o. completed_seen s meaning image accepted found signature c d m n o r answered (stand signature refl) links))
+    (λ m n d r links. Shows-done (λ start e o b. Seen (λ d v. Sound s.settings meaning image accepted (c ++ d) v) m (d ++ e) o b) (completed found signature r) (λ o. completed_seen s.settings meaning image accepted found signature c d m n o r answered (stand signature refl) links))
 
 -- the first layer that stands does so for the digest
 first_stands : {V : Type 0} {H : V → Type 0} (meaning : Meaning V H) (d : List ℕ) (layers : List SignatureLayer) (signature : SignatureLayer) → 0 < length meaning.policy.constraints → AllFit d layers → find (stands meaning) layers ≡ Some signature → StandsFor meaning d signature
@@ -232,34 +233,34 @@ moved : {V : Type 0} {H : V → Type 0} (s : Settings) (meaning : Meaning V H) (
 moved s meaning image accepted c d m start o (Ok v) h = h
 moved s meaning image accepted c d m start o (Err e) h = tt
 
-searched_shows : {V : Type 0} {H : V → Type 0} (s : Settings) (meaning : Meaning V H) (image : Reference) (a : RegistryAuth) (accepted : List (List ℕ)) → 0 < length meaning.policy.constraints → (c : List Exchange) (m n : ℕ) (r : Result TrustedLayers SigstoreError) → Seen (Found s image) m c n r → Shows (λ start d o b. Seen (Sound s meaning image accepted) m (c ++ d) o b) (by_search (stands meaning) s image a accepted r)
-searched_shows s meaning image a accepted constrained c m n (Err e) found = Shows-done (λ start d o b. Seen (Sound s meaning image accepted) m (c ++ d) o b) (Err _) (λ o. tt)
-searched_shows s meaning image a accepted constrained c m n (Ok found) h = Shows-more (Seen (λ d v. Sound s meaning image accepted (c ++ d) v)) (λ start d o b. Seen (Sound s meaning image accepted) m (c ++ d) o b) (by_layer s image a accepted found (find (stands meaning) found.collected))
+searched_shows : {V : Type 0} {H : V → Type 0} (s : Context) (meaning : Meaning V H) (image : Reference) (a : RegistryAuth) (accepted : List (List ℕ)) → 0 < length meaning.policy.constraints → (c : List Exchange) (m n : ℕ) (r : Result TrustedLayers SigstoreError) → Seen (Found s.settings image) m c n r → Shows (λ start d o b. Seen (Sound s.settings meaning image accepted) m (c ++ d) o b) (by_search (stands meaning) s image a accepted r)
+searched_shows s meaning image a accepted constrained c m n (Err e) found = Shows-done (λ start d o b. Seen (Sound s.settings meaning image accepted) m (c ++ d) o b) (Err _) (λ o. tt)
+searched_shows s meaning image a accepted constrained c m n (Ok found) h = Shows-more (Seen (λ d v. Sound s.settings meaning image accepted (c ++ d) v)) (λ start d o b. Seen (Sound s.settings meaning image accepted) m (c ++ d) o b) (by_layer s image a accepted found (find (stands meaning) found.collected))
     (standing_shows s meaning image a accepted found (find (stands meaning) found.collected) c h.answered (λ signature is. first_stands meaning found.digest found.collected signature constrained h.fit is))
-    (λ start o d r seen. moved s meaning image accepted c d m start o r seen)
+    (λ start o d r seen. moved s.settings meaning image accepted c d m start o r seen)
 
-by_back : {V : Type 0} {H : V → Type 0} (s : Settings) (meaning : Meaning V H) (image : Reference) (a : RegistryAuth) (accepted : List (List ℕ)) → 0 < length meaning.policy.constraints → (b : Bool) → Shows (Seen (Sound s meaning image accepted)) (by_reference (stands meaning) s image a accepted b)
-by_back s meaning image a accepted constrained false = Shows-done (Seen (Sound s meaning image accepted)) (Err _) (λ m. tt)
-by_back s meaning image a accepted constrained true = Shows-bind (Seen (Found s image)) (Seen (Sound s meaning image accepted)) (searched s image a) (by_search (stands meaning) s image a accepted) (search_shows s image a) (λ m n c r found. searched_shows s meaning image a accepted constrained c m n r found)
+by_back : {V : Type 0} {H : V → Type 0} (s : Context) (meaning : Meaning V H) (image : Reference) (a : RegistryAuth) (accepted : List (List ℕ)) → 0 < length meaning.policy.constraints → (b : Bool) → Shows (Seen (Sound s.settings meaning image accepted)) (by_reference (stands meaning) s image a accepted b)
+by_back s meaning image a accepted constrained false = Shows-done (Seen (Sound s.settings meaning image accepted)) (Err _) (λ m. tt)
+by_back s meaning image a accepted constrained true = Shows-bind (Seen (Found s.settings image)) (Seen (Sound s.settings meaning image accepted)) (searched s image a) (by_search (stands meaning) s image a accepted) (search_shows s image a) (λ m n c r found. searched_shows s meaning image a accepted constrained c m n r found)
 
-by_flag : {V : Type 0} {H : V → Type 0} (s : Settings) (meaning : Meaning V H) (image : Reference) (a : RegistryAuth) (accepted : List (List ℕ)) (b : Bool) → has_no_item meaning.policy.constraints ≡ b → Shows (Seen (Sound s meaning image accepted)) (by_policy b (stands meaning) s image a accepted)
-by_flag s meaning image a accepted true is = Shows-done (Seen (Sound s meaning image accepted)) (Err _) (λ m. tt)
+by_flag : {V : Type 0} {H : V → Type 0} (s : Context) (meaning : Meaning V H) (image : Reference) (a : RegistryAuth) (accepted : List (List ℕ)) (b : Bool) → has_no_item meaning.policy.constraints ≡ b → Shows (Seen (Sound s.settings meaning image accepted)) (by_policy b (stands meaning) s image a accepted)
+by_flag s meaning image a accepted true is = Shows-done (Seen (Sound s.settings meaning image accepted)) (Err _) (λ m. tt)
 by_flag s meaning image a accepted false is = by_back s meaning image a accepted (some_constraint meaning.policy.constraints is) (reads_back image)
 
 -- what a pull answers has a chain, and comes of its conversation
-pub verified_shows : {V : Type 0} {H : V → Type 0} (s : Settings) (meaning : Meaning V H) (image : Reference) (a : RegistryAuth) (accepted : List (List ℕ)) → Shows (Seen (Sound s meaning image accepted)) (verified (has_no_item meaning.policy.constraints) (stands meaning) s image a accepted)
+pub verified_shows : {V : Type 0} {H : V → Type 0} (s : Context) (meaning : Meaning V H) (image : Reference) (a : RegistryAuth) (accepted : List (List ℕ)) → Shows (Seen (Sound s.settings meaning image accepted)) (verified (has_no_item meaning.policy.constraints) (stands meaning) s image a accepted)
 unfolding verified
 verified_shows s meaning image a accepted = by_flag s meaning image a accepted (has_no_item meaning.policy.constraints) refl
 
-told_sound : {V : Type 0} {H : V → Type 0} (s : Settings) (meaning : Meaning V H) (image : Reference) (a : RegistryAuth) (accepted : List (List ℕ)) {old new : Link} {k l : Kept} {r : Result VerifiedImage PullRefusal} → Meets of_refusal (verified (has_no_item meaning.policy.constraints) (stands meaning) s image a accepted) old new k l r → IfOk r (λ v. Told (λ c. Sound s meaning image accepted c v) old new)
-told_sound s meaning image a accepted met = Meets-shows-ok (λ m c n v. Sound s meaning image accepted c v) (verified_shows s meaning image a accepted) met
+told_sound : {V : Type 0} {H : V → Type 0} (s : Context) (meaning : Meaning V H) (image : Reference) (a : RegistryAuth) (accepted : List (List ℕ)) {old new : Link} {k l : Kept} {r : Result VerifiedImage PullRefusal} → Meets of_refusal (verified (has_no_item meaning.policy.constraints) (stands meaning) s image a accepted) old new k l r → IfOk r (λ v. Told (λ c. Sound s.settings meaning image accepted c v) old new)
+told_sound s meaning image a accepted met = Meets-shows-ok (λ m c n v. Sound s.settings meaning image accepted c v) (verified_shows s meaning image a accepted) met
 
 -- the chain of what a pull answers
-pub chain_of : {V : Type 0} {H : V → Type 0} (s : Settings) (meaning : Meaning V H) (image : Reference) (a : RegistryAuth) (accepted : List (List ℕ)) {old new : Link} {k l : Kept} (r : Result VerifiedImage PullRefusal) → Meets of_refusal (verified (has_no_item meaning.policy.constraints) (stands meaning) s image a accepted) old new k l r → IfOk r (λ v. Chain meaning image accepted v)
+pub chain_of : {V : Type 0} {H : V → Type 0} (s : Context) (meaning : Meaning V H) (image : Reference) (a : RegistryAuth) (accepted : List (List ℕ)) {old new : Link} {k l : Kept} (r : Result VerifiedImage PullRefusal) → Meets of_refusal (verified (has_no_item meaning.policy.constraints) (stands meaning) s image a accepted) old new k l r → IfOk r (λ v. Chain meaning image accepted v)
 chain_of s meaning image a accepted (Ok v) met = (told_sound s meaning image a accepted met).holds.chain
 chain_of s meaning image a accepted (Err e) met = tt
 
 -- and where it comes from
-pub backed_of : {V : Type 0} {H : V → Type 0} (s : Settings) (meaning : Meaning V H) (image : Reference) (a : RegistryAuth) (accepted : List (List ℕ)) {old new : Link} {k l : Kept} (r : Result VerifiedImage PullRefusal) → Meets of_refusal (verified (has_no_item meaning.policy.constraints) (stands meaning) s image a accepted) old new k l r → IfOk r (λ v. Told (λ c. Backed s image c v) old new)
+pub backed_of : {V : Type 0} {H : V → Type 0} (s : Context) (meaning : Meaning V H) (image : Reference) (a : RegistryAuth) (accepted : List (List ℕ)) {old new : Link} {k l : Kept} (r : Result VerifiedImage PullRefusal) → Meets of_refusal (verified (has_no_item meaning.policy.constraints) (stands meaning) s image a accepted) old new k l r → IfOk r (λ v. Told (λ c. Backed s.settings image c v) old new)
 backed_of s meaning image a accepted (Ok v) met = let told = told_sound s meaning image a accepted met in record { conversation = told.conversation; told = told.told; holds = told.holds.backed }
 backed_of s meaning image a accepted (Err e) met = tt

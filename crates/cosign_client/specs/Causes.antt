@@ -5,7 +5,7 @@ use Rattle.oci_names.specs.References.{whole_text, reads_back}
 use Rattle.oci_auth.specs.declared.auth.RegistryAuth.{RegistryAuth}
 use Rattle.oci_transport.specs.declared.message.Exchange.{Exchange}
 use Rattle.oci_protocol.specs.Runs.{Runs}
-use Rattle.engine_requests.specs.declared.settings.Settings.{Settings}
+use Rattle.engine_requests.specs.Contexts.{Context}
 use Rattle.sig_registry.specs.declared.error.SigstoreError.{SigstoreError}
 use Rattle.sig_registry.specs.declared.error.SigstoreError.TheVariants as sigstore
 use Rattle.sig_registry.specs.Clients.{Kept, Row}
@@ -26,14 +26,14 @@ pub record Ran {A : Type 0} (p : Row A) (c : List Exchange) (r : Result A Sigsto
   pub runs : Runs p before start c end_count after r
 
 -- a digest was answered, by which the image's reference, whose text is this, does not read back
-pub record NoReference (s : Settings) (image : Reference) (a : RegistryAuth) (c : List Exchange) (text : List ℕ) : Type 0 where
+pub record NoReference (s : Context) (image : Reference) (a : RegistryAuth) (c : List Exchange) (text : List ℕ) : Type 0 where
   pub digest : List ℕ
   pub answered : Ran (digest_call s image a) c (Ok digest)
   pub unread : reads_back (digest_reference image digest) ≡ false
   pub text_is : text ≡ whole_text (digest_reference image digest)
 
 -- why a search was refused: only its first step can end it
-abbrev pub SearchCause : Settings → Reference → RegistryAuth → List Exchange → SigstoreError → Type 0
+abbrev pub SearchCause : Context → Reference → RegistryAuth → List Exchange → SigstoreError → Type 0
 SearchCause s image a c (sigstore.OciReferenceNotValidError text) = NoReference s image a c text
 SearchCause s image a c (sigstore.RegistryFetchManifestError name e) = Ran (digest_call s image a) c (Err (sigstore.RegistryFetchManifestError name e))
 SearchCause s image a c (sigstore.RegistryPullError name e) = ⊥
@@ -47,11 +47,11 @@ pub record Unread (image : Reference) (c : List Exchange) (text : List ℕ) : Ty
   pub silent : c ≡ []
 
 -- the search ran and found this
-abbrev pub Found : Settings → Reference → RegistryAuth → List Exchange → TrustedLayers → Type 0
+abbrev pub Found : Context → Reference → RegistryAuth → List Exchange → TrustedLayers → Type 0
 Found s image a c found = Ran (searched s image a) c (Ok found)
 
 -- a layer that the search found stands, and then the image was refused
-pub record ImageRefused (stands : SignatureLayer → Bool) (s : Settings) (image : Reference) (a : RegistryAuth) (accepted : List (List ℕ)) (c : List Exchange) (e : SigstoreError) : Type 0 where
+pub record ImageRefused (stands : SignatureLayer → Bool) (s : Context) (image : Reference) (a : RegistryAuth) (accepted : List (List ℕ)) (c : List Exchange) (e : SigstoreError) : Type 0 where
   pub search : List Exchange
   pub pull : List Exchange
   pub split : c ≡ search ++ pull
@@ -62,7 +62,7 @@ pub record ImageRefused (stands : SignatureLayer → Bool) (s : Settings) (image
   pub refused : Ran (image_row s image (digest_reference image found.digest) a accepted) pull (Err e)
 
 -- why a pull was refused
-abbrev pub PullCause : Bool → (SignatureLayer → Bool) → Settings → Reference → RegistryAuth → List (List ℕ) → List Exchange → PullRefusal → Type 0
+abbrev pub PullCause : Bool → (SignatureLayer → Bool) → Context → Reference → RegistryAuth → List (List ℕ) → List Exchange → PullRefusal → Type 0
 PullCause unconstrained stands s image a accepted c refusal.EmptyPolicy = (unconstrained ≡ true) × (c ≡ [])
 PullCause unconstrained stands s image a accepted c (refusal.OciReferenceNotValidError text) = Unread image c text ⊎ NoReference s image a c text
 PullCause unconstrained stands s image a accepted c (refusal.RegistryFetchManifestError name e) = Ran (digest_call s image a) c (Err (sigstore.RegistryFetchManifestError name e))

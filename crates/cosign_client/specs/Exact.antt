@@ -5,7 +5,7 @@ use Rattle.oci_names.specs.References.{whole_text, reads_back}
 use Rattle.oci_auth.specs.declared.auth.RegistryAuth.{RegistryAuth}
 use Rattle.oci_transport.specs.declared.message.Exchange.{Exchange}
 use Rattle.oci_protocol.specs.Ends.{UnlessMemory}
-use Rattle.engine_requests.specs.declared.settings.Settings.{Settings}
+use Rattle.engine_requests.specs.Contexts.{Context}
 use Rattle.sig_registry.specs.declared.error.SigstoreError.{SigstoreError}
 use Rattle.sig_registry.specs.declared.error.SigstoreError.TheVariants as sigstore
 use Rattle.sig_registry.specs.Calls.{digest_call}
@@ -29,7 +29,7 @@ Decides refused image (Err e) rest r = (r ≡ Err (refused e)) × (rest ≡ [])
 Decides refused image (Ok digest) rest r = reads_back (digest_reference image digest) ≡ false → (r ≡ Err (refused (sigstore.OciReferenceNotValidError (whole_text (digest_reference image digest))))) × (rest ≡ [])
 
 -- the exchanges begin with those of the digest step, whose answer decides so
-pub record BeginsWithDigest {A E : Type 0} (refused : SigstoreError → E) (s : Settings) (image : Reference) (a : RegistryAuth) (c : List Exchange) (r : Result A E) : Type 0 where
+pub record BeginsWithDigest {A E : Type 0} (refused : SigstoreError → E) (s : Context) (image : Reference) (a : RegistryAuth) (c : List Exchange) (r : Result A E) : Type 0 where
   pub step : List Exchange
   pub rest : List Exchange
   pub split : c ≡ step ++ rest

@@ -8,7 +8,7 @@ use Rattle.oci_manifests.specs.declared.manifest.OciImageManifest.{OciImageManif
 use Rattle.oci_manifests.specs.declared.descriptor.OciDescriptor.{OciDescriptor}
 use Rattle.oci_manifests.specs.declared.blob.ImageLayer.{ImageLayer}
 use Rattle.oci_protocol.specs.Proto.{Done, ◌>>=◌, ◌>>◌}
-use Rattle.engine_requests.specs.declared.settings.Settings.{Settings}
+use Rattle.engine_requests.specs.Contexts.{Context}
 use Rattle.engine_requests.specs.declared.error.OciDistributionError.{OciDistributionError}
 use Rattle.engine_requests.specs.Errors.{◌>>=◌ as ◌before◌, ◌>>◌ as ◌and◌}
 use Rattle.engine_requests.specs.Answers.{or_digest_error}
@@ -31,14 +31,14 @@ abbrev pub manifest_in : Reference → List ℕ → Result OciImageManifest OciD
 manifest_in image bytes = named_by_reference (digest_of image) bytes and (document_read bytes before image_manifest)
 
 -- each descriptor's blob, in order
-unfoldable pub layers_row : Settings → Reference → List OciDescriptor → List ImageLayer → Row (List ImageLayer)
+unfoldable pub layers_row : Context → Reference → List OciDescriptor → List ImageLayer → Row (List ImageLayer)
 layers_row s source [] layers = Done (Ok layers)
 layers_row s source (x ∷ xs) layers = do
   content ← blob_call s source x.digest
   layers_row s source xs (layers ++ layer_of x content ∷ [])
 
 -- the document of the source's digest, which is a manifest, and its blobs
-unfoldable pub image_row : Settings → Reference → Reference → RegistryAuth → List (List ℕ) → Row Pulled
+unfoldable pub image_row : Context → Reference → Reference → RegistryAuth → List (List ℕ) → Row Pulled
 image_row s image source a accepted = do
   found ← document_call s source a manifest_types
   manifest ← Done (worded Pull (whole_text source) (manifest_in image found.0))

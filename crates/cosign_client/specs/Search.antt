@@ -11,7 +11,7 @@ use Rattle.oci_manifests.specs.declared.document.OciManifest.TheVariants.{Image,
 use Rattle.oci_manifests.specs.declared.descriptor.OciDescriptor.{OciDescriptor}
 use Rattle.oci_manifests.specs.declared.blob.ImageLayer.{ImageLayer}
 use Rattle.oci_protocol.specs.Proto.{Done, bind, ◌>>=◌, ◌>>◌}
-use Rattle.engine_requests.specs.declared.settings.Settings.{Settings}
+use Rattle.engine_requests.specs.Contexts.{Context}
 use Rattle.engine_pull.specs.declared.image.ImageData.{ImageData}
 use Rattle.sig_registry.specs.declared.error.SigstoreError.{SigstoreError}
 use Rattle.sig_registry.specs.declared.error.SigstoreError.TheVariants as sigstore
@@ -94,19 +94,19 @@ abbrev pub by_image : TrustedLayers → OciManifest → Result ImageData Sigstor
 by_image found document (Err e) = refused_source found e
 by_image found document (Ok image) = Ok (by_document found document image)
 
-abbrev pub search_image : Settings → Reference → RegistryAuth → TrustedLayers → OciManifest → Row TrustedLayers
+abbrev pub search_image : Context → Reference → RegistryAuth → TrustedLayers → OciManifest → Row TrustedLayers
 search_image s tag a found document = bind (image_call s tag a (payload_type ∷ [])) (λ r. Done (by_image found document r))
 
-abbrev pub by_manifest : Settings → Reference → RegistryAuth → TrustedLayers → Result (OciManifest × List ℕ) SigstoreError → Row TrustedLayers
+abbrev pub by_manifest : Context → Reference → RegistryAuth → TrustedLayers → Result (OciManifest × List ℕ) SigstoreError → Row TrustedLayers
 by_manifest s tag a found (Err e) = Done (refused_source found e)
 by_manifest s tag a found (Ok document) = search_image s tag a found document.0
 
-abbrev pub search_by : Settings → Reference → RegistryAuth → TrustedLayers → Bool → Row TrustedLayers
+abbrev pub search_by : Context → Reference → RegistryAuth → TrustedLayers → Bool → Row TrustedLayers
 search_by s tag a found false = Done (Ok (skipping found (Source Tag (NotAReference (whole_text tag)))))
 search_by s tag a found true = bind (manifest_call s tag a) (by_manifest s tag a found)
 
 -- the manifest under the signature tag is asked for, and then the image that it is
-unfoldable pub search_tag : Settings → Reference → RegistryAuth → TrustedLayers → Row TrustedLayers
+unfoldable pub search_tag : Context → Reference → RegistryAuth → TrustedLayers → Row TrustedLayers
 search_tag s image a found = search_by s (tag_reference image found.digest) a found (reads_back (tag_reference image found.digest))
 
 -- ---- the whole search
@@ -123,7 +123,7 @@ abbrev pub reading_back : Reference → Result Unit SigstoreError
 reading_back image = or_not_valid image (reads_back image)
 
 -- the digest of the image, and what the search for its signatures found
-unfoldable pub searched : Settings → Reference → RegistryAuth → Row TrustedLayers
+unfoldable pub searched : Context → Reference → RegistryAuth → Row TrustedLayers
 searched s image a = do
   digest ← digest_call s image a
   Done (reading_back (digest_reference image digest))

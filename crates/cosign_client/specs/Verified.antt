@@ -4,7 +4,7 @@ use Rattle.oci_names.specs.declared.reference.Reference.{Reference}
 use Rattle.oci_names.specs.References.{whole_text, reads_back}
 use Rattle.oci_auth.specs.declared.auth.RegistryAuth.{RegistryAuth}
 use Rattle.oci_protocol.specs.Proto.{Proto, Done, bind}
-use Rattle.engine_requests.specs.declared.settings.Settings.{Settings}
+use Rattle.engine_requests.specs.Contexts.{Context}
 use Rattle.sig_registry.specs.declared.error.SigstoreError.{SigstoreError}
 use Rattle.sig_registry.specs.Clients.{Kept}
 use Rattle.cosign_layers.specs.declared.layer.SignatureLayer.{SignatureLayer}
@@ -38,23 +38,23 @@ completed found signature (Ok pulled) = Ok (verified_image found signature pulle
 completed found signature (Err e) = Err (refused_as e)
 
 -- only where a layer stands, the image is asked for
-abbrev pub by_layer : Settings → Reference → RegistryAuth → List (List ℕ) → TrustedLayers → Option SignatureLayer → Whole VerifiedImage
+abbrev pub by_layer : Context → Reference → RegistryAuth → List (List ℕ) → TrustedLayers → Option SignatureLayer → Whole VerifiedImage
 by_layer s image a accepted found (Some signature) = bind (image_row s image (digest_reference image found.digest) a accepted) (λ r. Done (completed found signature r))
 by_layer s image a accepted found None = Done (Err (refusal.Unsatisfied found.digest found.collected found.skipped))
 
 -- the first of the layers that were found that stands
-abbrev pub by_search : (SignatureLayer → Bool) → Settings → Reference → RegistryAuth → List (List ℕ) → Result TrustedLayers SigstoreError → Whole VerifiedImage
+abbrev pub by_search : (SignatureLayer → Bool) → Context → Reference → RegistryAuth → List (List ℕ) → Result TrustedLayers SigstoreError → Whole VerifiedImage
 by_search stands s image a accepted (Ok found) = by_layer s image a accepted found (find stands found.collected)
 by_search stands s image a accepted (Err e) = Done (Err (refused_as e))
 
-abbrev pub by_reference : (SignatureLayer → Bool) → Settings → Reference → RegistryAuth → List (List ℕ) → Bool → Whole VerifiedImage
+abbrev pub by_reference : (SignatureLayer → Bool) → Context → Reference → RegistryAuth → List (List ℕ) → Bool → Whole VerifiedImage
 by_reference stands s image a accepted true = bind (searched s image a) (by_search stands s image a accepted)
 by_reference stands s image a accepted false = Done (Err (refusal.OciReferenceNotValidError (whole_text image)))
 
-abbrev pub by_policy : Bool → (SignatureLayer → Bool) → Settings → Reference → RegistryAuth → List (List ℕ) → Whole VerifiedImage
+abbrev pub by_policy : Bool → (SignatureLayer → Bool) → Context → Reference → RegistryAuth → List (List ℕ) → Whole VerifiedImage
 by_policy true stands s image a accepted = Done (Err refusal.EmptyPolicy)
 by_policy false stands s image a accepted = by_reference stands s image a accepted (reads_back image)
 
 -- the whole pull, under a policy that has no constraint, or that has some and by which these layers stand
-unfoldable pub verified : Bool → (SignatureLayer → Bool) → Settings → Reference → RegistryAuth → List (List ℕ) → Whole VerifiedImage
+unfoldable pub verified : Bool → (SignatureLayer → Bool) → Context → Reference → RegistryAuth → List (List ℕ) → Whole VerifiedImage
 verified unconstrained stands s image a accepted = by_policy unconstrained stands s image a accepted

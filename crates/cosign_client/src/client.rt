@@ -1,5 +1,6 @@
 // The client that users hold.
 ghost use Rattle.std.specs.Prelude.{◌≡◌, true, false, Err, IfOk, IfErr, IsTrue};
+ghost use Rattle.engine_requests.specs.Contexts.{within};
 ghost use Rattle.oci_names.specs.References.{whole_text, reads_back};
 ghost use Rattle.oci_protocol.specs.Runs.{Meets, Told};
 ghost use Rattle.oci_protocol.specs.Ends.{UnlessMemory};
@@ -53,10 +54,10 @@ impl Client {
         _verifier: &V,
         _judge: &O,
     ) -> Result<TrustedLayers, SigstoreError>
-        ensures run { Meets of_memory (searched (client_state self.old).settings (reference_in source_image.now) (registry_auth auth.now)) (T.state transport.old) (T.state transport.new) (client_state self.old).kept (client_state self.new).kept result }
+        ensures run { Meets of_memory (searched (within (client_state self.old).settings moment) (reference_in source_image.now) (registry_auth auth.now)) (T.state transport.old) (T.state transport.new) (client_state self.old).kept (client_state self.new).kept result }
         ensures settings { (client_state self.new).settings ≡ (client_state self.old).settings }
-        ensures digest { UnlessMemory of_memory (λ r. Told (λ c. BeginsWithDigest unchanged (client_state self.old).settings (reference_in source_image.now) (registry_auth auth.now) c r) (T.state transport.old) (T.state transport.new)) result }
-        ensures causes { IfErr result (λ e. Told (λ c. SearchCause (client_state self.old).settings (reference_in source_image.now) (registry_auth auth.now) c e) (T.state transport.old) (T.state transport.new)) }
+        ensures digest { UnlessMemory of_memory (λ r. Told (λ c. BeginsWithDigest unchanged (within (client_state self.old).settings moment) (reference_in source_image.now) (registry_auth auth.now) c r) (T.state transport.old) (T.state transport.new)) result }
+        ensures causes { IfErr result (λ e. Told (λ c. SearchCause (within (client_state self.old).settings moment) (reference_in source_image.now) (registry_auth auth.now) c e) (T.state transport.old) (T.state transport.new)) }
         ensures no_memory { IfOk result (λ found. HoldsNoMemory found.skipped) }
         ensures faults { IfOk result (λ found. CountsFaults (T.state transport.old).faults (T.state transport.new).faults found.skipped) }
     {
@@ -88,13 +89,13 @@ impl Client {
         verifier: &V,
         _judge: &O,
     ) -> Result<VerifiedImage, PullRefusal>
-        ensures run { Meets is_memory (verified (has_no_item policy.now.constraints) (stands (meaning policy.now (V.valid verifier.now) (λ b. accepts (b.vtable, b.value)))) (client_state self.old).settings (reference_in image.now) (registry_auth auth.now) accepted_media_types.now) (T.state transport.old) (T.state transport.new) (client_state self.old).kept (client_state self.new).kept result }
+        ensures run { Meets is_memory (verified (has_no_item policy.now.constraints) (stands (meaning policy.now (V.valid verifier.now) (λ b. accepts (b.vtable, b.value)))) (within (client_state self.old).settings moment) (reference_in image.now) (registry_auth auth.now) accepted_media_types.now) (T.state transport.old) (T.state transport.new) (client_state self.old).kept (client_state self.new).kept result }
         ensures settings { (client_state self.new).settings ≡ (client_state self.old).settings }
         ensures unconstrained { IsTrue (has_no_item policy.now.constraints) → (result ≡ Err PullRefusal.EmptyPolicy) × (T.state transport.new ≡ T.state transport.old) }
         ensures unread { has_no_item policy.now.constraints ≡ false → reads_back (reference_in image.now) ≡ false → IsRefusedAs (PullRefusal.OciReferenceNotValidError (whole_text (reference_in image.now))) result × (T.state transport.new ≡ T.state transport.old) }
-        ensures digest { has_no_item policy.now.constraints ≡ false → reads_back (reference_in image.now) ≡ true → UnlessMemory is_memory (λ r. Told (λ c. BeginsWithDigest refused_as (client_state self.old).settings (reference_in image.now) (registry_auth auth.now) c r) (T.state transport.old) (T.state transport.new)) result }
+        ensures digest { has_no_item policy.now.constraints ≡ false → reads_back (reference_in image.now) ≡ true → UnlessMemory is_memory (λ r. Told (λ c. BeginsWithDigest refused_as (within (client_state self.old).settings moment) (reference_in image.now) (registry_auth auth.now) c r) (T.state transport.old) (T.state transport.new)) result }
         ensures chain { IfOk result (λ v. Chain (meaning policy.now (V.valid verifier.now) (λ b. accepts (b.vtable, b.value))) (reference_in image.now) accepted_media_types.now v) }
-        ensures causes { IfErr result (λ e. Told (λ c. PullCause (has_no_item policy.now.constraints) (stands (meaning policy.now (V.valid verifier.now) (λ b. accepts (b.vtable, b.value)))) (client_state self.old).settings (reference_in image.now) (registry_auth auth.now) accepted_media_types.now c e) (T.state transport.old) (T.state transport.new)) }
+        ensures causes { IfErr result (λ e. Told (λ c. PullCause (has_no_item policy.now.constraints) (stands (meaning policy.now (V.valid verifier.now) (λ b. accepts (b.vtable, b.value)))) (within (client_state self.old).settings moment) (reference_in image.now) (registry_auth auth.now) accepted_media_types.now c e) (T.state transport.old) (T.state transport.new)) }
         ensures backed { IfOk result (λ v. Told (λ c. Backed (client_state self.old).settings (reference_in image.now) c v) (T.state transport.old) (T.state transport.new)) }
         ensures links { IfOk result (λ v. Links (reference_in image.now) accepted_media_types.now v) }
         ensures no_memory { IfErr result (λ e. OnSkipped HoldsNoMemory e) }

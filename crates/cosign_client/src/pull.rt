@@ -1,5 +1,6 @@
 // The image of a digest for which a signature stands.
 ghost use Rattle.std.specs.Prelude.{◌≡◌, IfOk};
+ghost use Rattle.engine_requests.specs.Contexts.{within};
 ghost use Rattle.oci_names.specs.References.{digest_of};
 ghost use Rattle.engine_requests.specs.declared.settings.Settings.{Settings};
 ghost use Rattle.engine_requests.specs.Errors.{Says as SaysEngine};
@@ -87,7 +88,7 @@ fn pull_layers<C: ClientCapabilities, T: Transport>(
     descriptors: &[OciDescriptor],
     mut layers: List<ImageLayer>,
 ) -> Result<List<ImageLayer>, SigstoreError>
-    ensures { (s : Settings) → Made is_memory s (layers_row s source.now descriptors.now layers) (C.state client.old) (C.state client.new) (T.state transport.old) (T.state transport.new) result }
+    ensures { (s : Settings) → Made is_memory s (layers_row (within s moment) source.now descriptors.now layers) (C.state client.old) (C.state client.new) (T.state transport.old) (T.state transport.new) result }
 {
     for descriptor in descriptors {
         let content = client.pull_blob(alloc, transport, moment, source, descriptor)?;
@@ -108,7 +109,7 @@ pub fn pull_image<C: ClientCapabilities, T: Transport>(
     auth: &RegistryAuth,
     accepted: &[Text],
 ) -> Result<Pulled, SigstoreError>
-    ensures { (s : Settings) → Made is_memory s (image_row s image.now source.now auth.now accepted.now) (C.state client.old) (C.state client.new) (T.state transport.old) (T.state transport.new) result }
+    ensures { (s : Settings) → Made is_memory s (image_row (within s moment) image.now source.now auth.now accepted.now) (C.state client.old) (C.state client.new) (T.state transport.old) (T.state transport.new) result }
 {
     let types = manifest_types(alloc)?;
     let found = client.pull_manifest_raw(alloc, transport, moment, source, auth, types.as_slice())?;

@@ -1,5 +1,6 @@
 // The search for the signatures of an image.
 ghost use Rattle.std.specs.Prelude.{◌≡◌, true, IfOk, option_copied, string_bytes};
+ghost use Rattle.engine_requests.specs.Contexts.{within};
 ghost use Rattle.engine_requests.specs.declared.settings.Settings.{Settings};
 ghost use Rattle.cosign_layers.specs.Rejections.{Says as SaysLayer};
 ghost use Rattle.sig_registry.specs.Errors.{is_memory, Says};
@@ -221,7 +222,7 @@ fn search_image<C: ClientCapabilities, T: Transport>(
     found: TrustedLayers,
     document: &OciManifest,
 ) -> Result<TrustedLayers, SigstoreError>
-    ensures { (s : Settings) → Made is_memory s (search_image s tag.now auth.now found document.now) (C.state client.old) (C.state client.new) (T.state transport.old) (T.state transport.new) result }
+    ensures { (s : Settings) → Made is_memory s (search_image (within s moment) tag.now auth.now found document.now) (C.state client.old) (C.state client.new) (T.state transport.old) (T.state transport.new) result }
 {
     let mut accepted = List::new(alloc);
     accepted.push(Text::new(alloc, PAYLOAD_TYPE)?)?;
@@ -239,7 +240,7 @@ fn search_manifest<C: ClientCapabilities, T: Transport>(
     auth: &RegistryAuth,
     found: TrustedLayers,
 ) -> Result<TrustedLayers, SigstoreError>
-    ensures { (s : Settings) → Made is_memory s (search_by s tag.now auth.now found true) (C.state client.old) (C.state client.new) (T.state transport.old) (T.state transport.new) result }
+    ensures { (s : Settings) → Made is_memory s (search_by (within s moment) tag.now auth.now found true) (C.state client.old) (C.state client.new) (T.state transport.old) (T.state transport.new) result }
 {
     match client.pull_manifest(alloc, transport, moment, tag, auth) {
         Ok(document) => {
@@ -262,7 +263,7 @@ fn search_tag<C: ClientCapabilities, T: Transport>(
     auth: &RegistryAuth,
     found: TrustedLayers,
 ) -> Result<TrustedLayers, SigstoreError>
-    ensures { (s : Settings) → Made is_memory s (search_tag s image.now auth.now found) (C.state client.old) (C.state client.new) (T.state transport.old) (T.state transport.new) result }
+    ensures { (s : Settings) → Made is_memory s (search_tag (within s moment) image.now auth.now found) (C.state client.old) (C.state client.new) (T.state transport.old) (T.state transport.new) result }
 {
     let tag = tag_reference(alloc, image, found.digest.as_str())?;
     let reads_back = tag.reads_back(alloc)?;
@@ -296,7 +297,7 @@ pub fn search<C: ClientCapabilities, T: Transport>(
     image: &Reference,
     auth: &RegistryAuth,
 ) -> Result<TrustedLayers, SigstoreError>
-    ensures { (s : Settings) → Made is_memory s (searched s image.now auth.now) (C.state client.old) (C.state client.new) (T.state transport.old) (T.state transport.new) result }
+    ensures { (s : Settings) → Made is_memory s (searched (within s moment) image.now auth.now) (C.state client.old) (C.state client.new) (T.state transport.old) (T.state transport.new) result }
 {
     let digest = client.fetch_manifest_digest(alloc, transport, moment, image, auth)?;
     let source = digest_reference(alloc, image, digest.as_str())?;

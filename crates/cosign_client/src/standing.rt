@@ -1,5 +1,6 @@
 // The whole pull, whatever the client.
 ghost use Rattle.std.specs.Prelude.{◌≡◌, true, false, Some, Err, IfOk, IsTrue, find};
+ghost use Rattle.engine_requests.specs.Contexts.{within};
 ghost use Rattle.oci_names.specs.References.{reads_back};
 ghost use Rattle.engine_requests.specs.declared.settings.Settings.{Settings};
 ghost use Rattle.sig_registry.specs.Clients.{Made};
@@ -82,7 +83,7 @@ fn pull_signed<C: ClientCapabilities, T: Transport>(
     found: TrustedLayers,
     signature: SignatureLayer,
 ) -> Result<VerifiedImage, PullRefusal>
-    ensures { (s : Settings) → Made is_memory s (by_layer s image.now auth.now accepted.now found (Some signature)) (C.state client.old) (C.state client.new) (T.state transport.old) (T.state transport.new) result }
+    ensures { (s : Settings) → Made is_memory s (by_layer (within s moment) image.now auth.now accepted.now found (Some signature)) (C.state client.old) (C.state client.new) (T.state transport.old) (T.state transport.new) result }
 {
     let source = digest_reference(alloc, image, found.digest.as_str())?;
     match pull_image(
@@ -108,7 +109,7 @@ fn pull_standing<C: ClientCapabilities, T: Transport>(
     found: TrustedLayers,
     first: Option<SignatureLayer>,
 ) -> Result<VerifiedImage, PullRefusal>
-    ensures { (s : Settings) → Made is_memory s (by_layer s image.now auth.now accepted.now found first) (C.state client.old) (C.state client.new) (T.state transport.old) (T.state transport.new) result }
+    ensures { (s : Settings) → Made is_memory s (by_layer (within s moment) image.now auth.now accepted.now found first) (C.state client.old) (C.state client.new) (T.state transport.old) (T.state transport.new) result }
 {
     match first {
         Some(signature) => pull_signed(
@@ -141,7 +142,7 @@ fn pull_searched<C: ClientCapabilities, T: Transport, V: SignatureVerifier>(
     policy: &PullPolicy,
     verifier: &V,
 ) -> Result<VerifiedImage, PullRefusal>
-    ensures { (s : Settings) → Made is_memory s (by_reference (stands (meaning policy.now (V.valid verifier.now) (λ b. accepts (b.vtable, b.value)))) s image.now auth.now accepted.now true) (C.state client.old) (C.state client.new) (T.state transport.old) (T.state transport.new) result }
+    ensures { (s : Settings) → Made is_memory s (by_reference (stands (meaning policy.now (V.valid verifier.now) (λ b. accepts (b.vtable, b.value)))) (within s moment) image.now auth.now accepted.now true) (C.state client.old) (C.state client.new) (T.state transport.old) (T.state transport.new) result }
 {
     match search(alloc, client, transport, moment, image, auth) {
         Ok(found) => {
@@ -166,7 +167,7 @@ fn pull_readable<C: ClientCapabilities, T: Transport, V: SignatureVerifier>(
     policy: &PullPolicy,
     verifier: &V,
 ) -> Result<VerifiedImage, PullRefusal>
-    ensures run { (s : Settings) → Made is_memory s (by_reference (stands (meaning policy.now (V.valid verifier.now) (λ b. accepts (b.vtable, b.value)))) s image.now auth.now accepted.now (reads_back image.now)) (C.state client.old) (C.state client.new) (T.state transport.old) (T.state transport.new) result }
+    ensures run { (s : Settings) → Made is_memory s (by_reference (stands (meaning policy.now (V.valid verifier.now) (λ b. accepts (b.vtable, b.value)))) (within s moment) image.now auth.now accepted.now (reads_back image.now)) (C.state client.old) (C.state client.new) (T.state transport.old) (T.state transport.new) result }
     ensures unread { reads_back image.now ≡ false → T.state transport.new ≡ T.state transport.old }
 {
     let reads_back = image.reads_back(alloc)?;
@@ -199,7 +200,7 @@ pub fn pull_verified<C: ClientCapabilities, T: Transport, V: SignatureVerifier>(
     policy: &PullPolicy,
     verifier: &V,
 ) -> Result<VerifiedImage, PullRefusal>
-    ensures run { (s : Settings) → Made is_memory s (verified (has_no_item policy.now.constraints) (stands (meaning policy.now (V.valid verifier.now) (λ b. accepts (b.vtable, b.value)))) s image.now (registry_auth auth.now) accepted.now) (C.state client.old) (C.state client.new) (T.state transport.old) (T.state transport.new) result }
+    ensures run { (s : Settings) → Made is_memory s (verified (has_no_item policy.now.constraints) (stands (meaning policy.now (V.valid verifier.now) (λ b. accepts (b.vtable, b.value)))) (within s moment) image.now (registry_auth auth.now) accepted.now) (C.state client.old) (C.state client.new) (T.state transport.old) (T.state transport.new) result }
     ensures unconstrained { IsTrue (has_no_item policy.now.constraints) → (result ≡ Err PullRefusal.EmptyPolicy) × (T.state transport.new ≡ T.state transport.old) }
     ensures unread { reads_back image.now ≡ false → T.state transport.new ≡ T.state transport.old }
 {

@@ -1,4 +1,5 @@
 use Rattle.std.proofs.Common.{drop}
+use Rattle.engine_requests.specs.Contexts.{within}
 use Rattle.engine_requests.specs.declared.settings.Settings.{Settings}
 use Rattle.cosign_client.specs.Image.{layers_row}
 use Rattle.cosign_client.proofs.Leads.{Leads}
@@ -6,4 +7,4 @@ use Rattle.cosign_client.proofs.pull.pull_layers.Given as goal
 
 -- what was asked so far leads to the descriptors that are left
 abbrev pub invariant-loop-descriptor : goal.invariant-loop-descriptor
-invariant-loop-descriptor g l = (s : Settings) → Leads s (layers_row s l.source l.descriptors l.fn.layers) (layers_row s l.source (drop l.descriptor-index l.descriptors) l.layers) (g.C.ClientCapabilities.state l.fn.client) (g.C.ClientCapabilities.state l.client) (g.T.Transport.state l.fn.transport) (g.T.Transport.state l.transport)
+invariant-loop-descriptor g l = (s : Settings) → Leads s (layers_row (within s l.moment) l.source l.descriptors l.fn.layers) (layers_row (within s l.moment) l.source (drop l.descriptor-index l.descriptors) l.layers) (g.C.ClientCapabilities.state l.fn.client) (g.C.ClientCapabilities.state l.client) (g.T.Transport.state l.fn.transport) (g.T.Transport.state l.transport)
