@@ -10,8 +10,8 @@ ghost use Rattle.engine_steps.specs.Rows.{realm_asked, registry_asked, token_ste
 
 use crate::asking::{head_after, whole};
 use engine_requests::{
-    OciDistributionError, Settings, Wanted, base_url, read_challenge, read_url, realm_request, registry_address,
-    request_of, token_read,
+    OciDistributionError, Settings, Wanted, base_url, read_challenge, read_url, realm_request,
+    registry_address, request_of, token_read,
 };
 use http_challenges::BearerChallenge;
 use json_values::Copied;
@@ -37,13 +37,7 @@ fn realm_asked<T: Transport>(
     let BearerChallenge { realm, service } = challenge;
     let url = read_url(alloc, realm)?;
     let request = realm_request(alloc, settings, image, auth, op, &service, url)?;
-    let got = whole(
-        alloc,
-        transport,
-        0,
-        &request,
-        settings.max_body_bytes,
-    )?;
+    let got = whole(alloc, transport, 0, &request, settings.max_body_bytes)?;
     let token = token_read(alloc, got.answer)?;
     Ok(token)
 }
@@ -155,16 +149,7 @@ fn token_for<T: Transport>(
     match memory.tokens.get(image, op, moment)? {
         Some(token) => Ok(Some(token)),
         None => {
-            let token = token_asked(
-                alloc,
-                transport,
-                settings,
-                memory,
-                moment,
-                image,
-                op,
-                &auth,
-            )?;
+            let token = token_asked(alloc, transport, settings, memory, moment, image, op, &auth)?;
             Ok(token)
         }
     }

@@ -96,6 +96,7 @@ at_minute_is m n minutes e = by (is_day x && is_clock x) e
   where
     x : Moment
     x = record m { hour = minutes / 60; minute = minutes % 60 }
+
     by : (b : Bool) → (if b then Some x else None) ≡ Some n → IsAt m minutes n
     by true e = subst (IsAt m minutes) (some_is x n e) (refl, omega arith)
     by false e = absurd (none_is n e)
@@ -179,15 +180,18 @@ first_month m h clock none = by (nat_le 2 m.month) refl
   where
     x : Moment
     x = dated m m.year (m.month - 1) 28
+
     some_last : (a b c d : Option Moment) → or_else a (or_else b (or_else c d)) ≡ None → d ≡ None
     some_last None None None d e = e
     some_last None None (Some z) d e = absurd (none_is z (sym e))
     some_last None (Some y) c d e = absurd (none_is y (sym e))
     some_last (Some w) b c d e = absurd (none_is w (sym e))
+
     no_some : (a t : Bool) → a ≡ true → t ≡ true → (if a && t then Some x else None) ≡ None → ⊥
     no_some true true p q e = none_is x (sym e)
     no_some false t p q e = true≢false (sym p)
     no_some true false p q e = true≢false (sym q)
+
     by : (t : Bool) → nat_le 2 m.month ≡ t → m.month ≡ 1
     by true e =
         let few = few_days (pos m.year) (m.month - 1) in
@@ -234,6 +238,7 @@ day_before_is_previous m n h clock e = by (is_day x) (is_clock m) refl refl (on_
   where
     x : Moment
     x = record m { day = m.day - 1 }
+
     by : (a t : Bool) → is_day x ≡ a → is_clock m ≡ t → (o : Option Moment) → on_last_day m m.year (m.month - 1) ≡ o → (zero : Bool) → (m.year == 0) ≡ zero
         → or_else (if a && t then Some x else None) (or_else o (if zero then None else on_last_day m (m.year - 1) 12)) ≡ Some n → IsPrevious m n
     by a false p q o s zero z e = absurd (true≢false (sym clock ∙ q))
