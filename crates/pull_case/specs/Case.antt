@@ -6,9 +6,11 @@ use Rattle.json_values.specs.JsonText.{plain_json_of}
 use Rattle.json_tables.specs.Reading.{◌>>=◌, text_of, u64_of, list_of, required, at_name, only}
 use Rattle.json_tables.specs.Bytes.{bytes_of}
 use Rattle.oci_names.specs.References.{reference_of}
+use Rattle.oci_auth.specs.declared.auth.RegistryAuth.TheVariants.{Anonymous}
 use Rattle.engine_requests.specs.declared.settings.ClientProtocol.{ClientProtocol}
 use Rattle.engine_requests.specs.declared.settings.ClientProtocol.TheVariants.{Http, Https}
 use Rattle.pull_case.specs.Answer.{answer_of}
+use Rattle.pull_case.specs.Auth.{auth_of}
 use Rattle.pull_case.specs.Entries.{constraint_of, signature_of}
 use Rattle.pull_case.specs.Members.{unless_absent, passing}
 use Rattle.pull_case.specs.declared.case.Case.{Case}
@@ -32,21 +34,23 @@ moments_of d = list_of u64_of d >>= passing (λ moments. nat_lt 0 (length moment
 
 -- the members of a case
 abbrev pub members : List (List ℕ)
-members = codes "reference" ∷ codes "protocol" ∷ codes "accepted" ∷ codes "moments" ∷ codes "keys" ∷ codes "constraints" ∷ codes "signatures" ∷ codes "answers" ∷ []
+members = codes "reference" ∷ codes "protocol" ∷ codes "auth" ∷ codes "accepted" ∷ codes "moments" ∷ codes "keys" ∷ codes "constraints" ∷ codes "signatures" ∷ codes "answers" ∷ []
 
--- an object with no members but these; the protocol alone may be absent, which is `https`
+-- an object with no members but these; the protocol may be absent, which is `https`, and the
+-- credentials, which are anonymous
 unfoldable pub case_of : Data → Option Case
 case_of d = do
   known ← only members d
   reference ← required reference_text_of (codes "reference") d
   protocol ← at_name (unless_absent Https protocol_of) (codes "protocol") d
+  auth ← at_name (unless_absent Anonymous auth_of) (codes "auth") d
   accepted ← required (list_of text_of) (codes "accepted") d
   moments ← required moments_of (codes "moments") d
   keys ← required (list_of bytes_of) (codes "keys") d
   constraints ← required (list_of constraint_of) (codes "constraints") d
   signatures ← required (list_of signature_of) (codes "signatures") d
   answers ← required (list_of answer_of) (codes "answers") d
-  Some (record { reference = reference; protocol = protocol; accepted = accepted; moments = moments; keys = keys; constraints = constraints; signatures = signatures; answers = answers })
+  Some (record { reference = reference; protocol = protocol; auth = auth; accepted = accepted; moments = moments; keys = keys; constraints = constraints; signatures = signatures; answers = answers })
 
 -- the case that a JSON text without floats says
 abbrev pub case_in : List ℕ → Option Case

@@ -1,4 +1,5 @@
 pub mod Answer
+pub mod Auth
 pub mod Case
 pub mod Entries
 pub mod Members

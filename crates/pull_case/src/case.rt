@@ -2,12 +2,14 @@ ghost use Rattle.std.specs.Prelude.{◌≡◌, ◌<◌, IfOk, IfSome, IsOk, leng
 ghost use Rattle.oci_names.specs.References.{reference_of};
 ghost use Rattle.pull_case.specs.Case.{case_in};
 
+use crate::credentials::Credentials;
 use crate::entries::Entries;
 use crate::members::{Moments, Protocol, ReferenceText};
 use cosign_layers::{AnnotationVerifier, SignedRow};
 use engine_requests::ClientProtocol;
-use json_tables::{ReadError, Reads, holds_float, only, read_or_none, row8};
+use json_tables::{ReadError, Reads, holds_float, only, read_or_none, row9};
 use json_values::{Blob, List, Text, read_json};
+use oci_auth::RegistryAuth;
 use oci_transport::Recorded;
 use serde_json::Value;
 use std::alloc::{AllocError, Global};
@@ -20,6 +22,8 @@ pub struct Case {
     pub reference: Text,
     /// `"http"` or `"https"`; `https` where the member is absent.
     pub protocol: ClientProtocol,
+    /// `"anonymous"`, `{"basic": [user, password]}` or `{"bearer": token}`; anonymous where the member is absent.
+    pub auth: RegistryAuth,
     /// A list of texts, the media types of layers that are accepted.
     pub accepted: List<Text>,
     /// A list of at least one number, in seconds since 1970, at each of which the image is pulled.
@@ -49,6 +53,7 @@ impl Reads for Case {
             &[
                 "reference",
                 "protocol",
+                "auth",
                 "accepted",
                 "moments",
                 "keys",
@@ -57,20 +62,32 @@ impl Reads for Case {
                 "answers",
             ],
         )?;
-        let (reference, protocol, accepted, moments, keys, constraints, signatures, answers): (
+        let (
+            reference,
+            protocol,
+            auth,
+            accepted,
+            moments,
+            keys,
+            constraints,
+            signatures,
+            answers,
+        ): (
             ReferenceText,
             Protocol,
+            Credentials,
             List<Text>,
             Moments,
             List<Blob>,
             Entries<AnnotationVerifier>,
             Entries<SignedRow>,
             Entries<Recorded>,
-        ) = row8(
+        ) = row9(
             alloc,
             value,
             "reference",
             "protocol",
+            "auth",
             "accepted",
             "moments",
             "keys",
@@ -81,6 +98,7 @@ impl Reads for Case {
         Ok(Case {
             reference: reference.text,
             protocol: protocol.client,
+            auth: auth.shown,
             accepted,
             moments: moments.list,
             keys,

@@ -3,6 +3,7 @@
 
 mod answer;
 mod case;
+mod credentials;
 mod entries;
 mod headers;
 mod members;

@@ -2,6 +2,7 @@ use crate::{Case, policy, read_case};
 use cosign_layers::Constraint;
 use engine_requests::ClientProtocol;
 use json_values::{Blob, Text};
+use oci_auth::RegistryAuth;
 use std::alloc::{AllocError, Global};
 use std::test::Fail;
 
@@ -92,6 +93,43 @@ fn reads_answers(rt: HostRuntime) -> Result<(), Fail> {
 fn reads_an_absent_protocol_as_https(rt: HostRuntime) -> Result<(), Fail> {
     let case = read(rt.alloc(), SHORTEST)?;
     assert!(rt; matches!(case.protocol, ClientProtocol::Https));
+    assert!(rt; matches!(case.auth, RegistryAuth::Anonymous));
+    Ok(())
+}
+
+// The shortest case with these credentials.
+fn with_auth(alloc: Global, auth: &str) -> Result<Text, AllocError> {
+    let mut text = Text::new(
+        alloc,
+        r#"{"reference":"app","accepted":[],"moments":[0],"keys":[],"constraints":[],"signatures":[],"answers":[],"auth":"#,
+    )?;
+    text.push_str(auth)?;
+    text.push_str("}")?;
+    Ok(text)
+}
+
+#[test]
+fn reads_credentials(rt: HostRuntime) -> Result<(), Fail> {
+    let alloc = rt.alloc();
+    for (auth, expected) in [
+        (r#""anonymous""#, "Anonymous"),
+        (r#"{"basic":["u","p"]}"#, "Basic(\"u\", \"<redacted>\")"),
+        (r#"{"bearer":"t"}"#, "Bearer(\"<redacted>\")"),
+    ] {
+        let text = with_auth(alloc, auth)?;
+        let case = read(alloc, text.as_str())?;
+        let shown = format!(in alloc; "{:?}", case.auth)?;
+        assert_eq!(rt; shown.as_str(), expected);
+    }
+    for auth in [
+        "null",
+        r#""basic""#,
+        r#"{"basic":["u"]}"#,
+        r#"{"bearer":"t","basic":["u","p"]}"#,
+    ] {
+        let text = with_auth(alloc, auth)?;
+        assert!(rt; !is_case(alloc, text.as_str().as_bytes())?, "{auth}");
+    }
     Ok(())
 }
 

@@ -1,0 +1,85 @@
+// The credentials of a case.
+ghost use Rattle.std.specs.Option.{option_or};
+ghost use Rattle.serde_json.specs.View.{view};
+ghost use Rattle.json_tables.specs.Outcomes.{Gives};
+ghost use Rattle.oci_auth.specs.declared.auth.RegistryAuth.TheVariants.{Anonymous};
+ghost use Rattle.pull_case.specs.Auth.{basic_of, bearer_of, auth_of};
+ghost use Rattle.pull_case.specs.Members.{unless_absent};
+
+use json_tables::{Member, ReadError, only, required};
+use json_values::Text;
+use oci_auth::RegistryAuth;
+use serde_json::Value;
+use std::alloc::Global;
+use std::marker::Model;
+
+/// What a case shows the registry. A contract sees what is shown.
+#[derive(Drop)]
+pub struct Credentials {
+    pub shown: RegistryAuth,
+}
+
+impl Model for Credentials {
+    ghost use Rattle.oci_auth.specs.declared.auth.RegistryAuth.{RegistryAuth};
+
+    ghost Value = { RegistryAuth };
+
+    ghost view = { λ credentials. credentials.shown };
+}
+
+impl Member for Credentials {
+    ghost found = { unless_absent Anonymous auth_of };
+
+    fn read_member(alloc: Global, member: Option<&Value>) -> Result<Credentials, ReadError> {
+        let Some(value) = member else {
+            return Ok(Credentials {
+                shown: RegistryAuth::Anonymous,
+            });
+        };
+        let shown = read_auth(alloc, value)?;
+        Ok(Credentials { shown })
+    }
+}
+
+#[tactic(auto, unfolding(crate::specs::Auth::auth_of))]
+fn read_auth(alloc: Global, value: &Value) -> Result<RegistryAuth, ReadError>
+    ensures { Gives result (auth_of (view value.now)) }
+{
+    match value {
+        Value::String(text) if text.as_str() == "anonymous" => Ok(RegistryAuth::Anonymous),
+        Value::String(_) => Err(ReadError::Shape),
+        _ => read_object(alloc, value),
+    }
+}
+
+// A user name and a password, or else a token.
+fn read_object(alloc: Global, value: &Value) -> Result<RegistryAuth, ReadError>
+    ensures { Gives result (option_or (basic_of (view value.now)) (bearer_of (view value.now))) }
+{
+    match read_basic(alloc, value) {
+        Ok(auth) => Ok(auth),
+        Err(ReadError::Shape) => {
+            let auth = read_bearer(alloc, value)?;
+            Ok(auth)
+        }
+        Err(error) => Err(error),
+    }
+}
+
+#[tactic(auto, unfolding(crate::specs::Auth::basic_of))]
+fn read_basic(alloc: Global, value: &Value) -> Result<RegistryAuth, ReadError>
+    ensures { Gives result (basic_of (view value.now)) }
+{
+    only(value, &["basic"])?;
+    let (user, password): (Text, Text) = required(alloc, value, "basic")?;
+    Ok(RegistryAuth::Basic(user, password))
+}
+
+#[tactic(auto, unfolding(crate::specs::Auth::bearer_of))]
+fn read_bearer(alloc: Global, value: &Value) -> Result<RegistryAuth, ReadError>
+    ensures { Gives result (bearer_of (view value.now)) }
+{
+    only(value, &["bearer"])?;
+    let token: Text = required(alloc, value, "bearer")?;
+    Ok(RegistryAuth::Bearer(token))
+}
