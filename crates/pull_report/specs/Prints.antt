@@ -53,6 +53,8 @@ violation_print (violation.Status expected got url) =
 abbrev pub distribution_print : OciDistributionError → List ℕ
 distribution_print (distribution.AmbiguousManifest document) =
     spaced (codes "AmbiguousManifest" ∷ bytes_print document ∷ [])
+distribution_print (distribution.AuthenticationFailure body) =
+    spaced (codes "AuthenticationFailure" ∷ bytes_print body ∷ [])
 distribution_print distribution.BodyTooLong = codes "BodyTooLong"
 distribution_print (distribution.DigestError error) = spaced (codes "DigestError" ∷ digest_print error ∷ [])
 distribution_print (distribution.GenericError cause) = spaced (codes "GenericError" ∷ cause_print cause ∷ [])
@@ -65,6 +67,8 @@ distribution_print (distribution.ManifestParsingError document) =
 distribution_print distribution.PullNoLayersError = codes "PullNoLayersError"
 distribution_print (distribution.RegistryError envelope url) =
     spaced (codes "RegistryError" ∷ envelope_print envelope ∷ quoted_text url ∷ [])
+distribution_print (distribution.RegistryTokenDecodeError body) =
+    spaced (codes "RegistryTokenDecodeError" ∷ bytes_print body ∷ [])
 distribution_print (distribution.ServerError code url message) =
     spaced (codes "ServerError" ∷ decimal code ∷ quoted_text url ∷ bytes_print message ∷ [])
 distribution_print distribution.SinkFault = codes "SinkFault"

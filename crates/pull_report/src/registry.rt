@@ -62,6 +62,9 @@ impl Printed for OciDistributionError {
             OciDistributionError::AmbiguousManifest(document) => {
                 print1(alloc, out, "AmbiguousManifest", document)
             }
+            OciDistributionError::AuthenticationFailure(body) => {
+                print1(alloc, out, "AuthenticationFailure", body)
+            }
             OciDistributionError::BodyTooLong => word(out, "BodyTooLong"),
             OciDistributionError::DigestError(error) => print1(alloc, out, "DigestError", error),
             OciDistributionError::GenericError(cause) => print1(alloc, out, "GenericError", cause),
@@ -77,6 +80,9 @@ impl Printed for OciDistributionError {
             OciDistributionError::PullNoLayersError => word(out, "PullNoLayersError"),
             OciDistributionError::RegistryError { envelope, url } => {
                 print2(alloc, out, "RegistryError", envelope, url)
+            }
+            OciDistributionError::RegistryTokenDecodeError(body) => {
+                print1(alloc, out, "RegistryTokenDecodeError", body)
             }
             OciDistributionError::ServerError { code, url, message } => {
                 print3(alloc, out, "ServerError", code, url, message)

@@ -121,6 +121,16 @@ fn errors_about_documents_are_printed_with_their_lengths(rt: HostRuntime) -> Res
     )?;
     assert_print(
         &rt,
+        OciDistributionError::AuthenticationFailure(document.copy(alloc)?),
+        "AuthenticationFailure 19",
+    )?;
+    assert_print(
+        &rt,
+        OciDistributionError::RegistryTokenDecodeError(document.copy(alloc)?),
+        "RegistryTokenDecodeError 19",
+    )?;
+    assert_print(
+        &rt,
         OciDistributionError::VersionedParsingError(document),
         "VersionedParsingError 19",
     )
