@@ -7,7 +7,8 @@ use Rattle.std.specs.declared.alloc.Global.{Global}
 use Rattle.std.specs.declared.dyn_box.DynBox.{DynBox}
 use Rattle.oci_names.specs.declared.reference.Reference.{Reference}
 use Rattle.oci_names.specs.References.{reference_of}
-use Rattle.oci_auth.specs.declared.auth.RegistryAuth.TheVariants.{Anonymous}
+use Rattle.oci_auth.specs.declared.auth.RegistryAuth.{RegistryAuth}
+use Rattle.engine_requests.specs.Contexts.{within}
 use Rattle.oci_transport.specs.declared.message.Exchange.{Exchange}
 use Rattle.sig_registry.specs.Clients.{Kept, Client}
 use Rattle.cosign_layers.specs.Accepts.{has_no_item, has_annotations, accepts}
@@ -47,11 +48,11 @@ policy_is policy case keys constraints = rw (← keys, ← constraints) refl
 
 -- the row of a policy that a case gives is the case's
 row_same : {V : Type 0} {H : V → Type 0} (policy : PullPolicy V H) (own : DynBox V Global H → SignatureLayer → Bool) (case : Case) (image : Reference) → policy ≡ record { keys = case.keys; constraints = annotation_constraints case.constraints }
-    → row_by (meaning policy (valid_in (record { rows = case.signatures })) own) (settings_by case.protocol) image case.accepted ≡ row_of case image
+    → row_by (meaning policy (valid_in (record { rows = case.signatures })) own) (settings_by case.protocol) image case.auth case.accepted ≡ row_of case image
 row_same {V} {H} policy own case image is =
-    ap (λ (p : PullPolicy V H). row_by (meaning p (valid_in (record { rows = case.signatures })) own) (settings_by case.protocol) image case.accepted) is
-    ∙ ap (λ (b : Bool). λ (moment : ℕ). verified b (stands (meaning (record { keys = case.keys; constraints = annotation_constraints case.constraints }) (valid_in (record { rows = case.signatures })) own)) (settings_by case.protocol) image Anonymous case.accepted) (no_item_same V ⊥ H (λ v. ⊥) case.constraints)
-    ∙ ap (λ (f : SignatureLayer → Bool). λ (moment : ℕ). verified (has_no_item (policy_of case).constraints) f (settings_by case.protocol) image Anonymous case.accepted) (fun_ext (λ layer. stands_same V ⊥ H (λ v. ⊥) own (λ box layer. false) case.keys case.constraints (valid_in (record { rows = case.signatures })) layer))
+    ap (λ (p : PullPolicy V H). row_by (meaning p (valid_in (record { rows = case.signatures })) own) (settings_by case.protocol) image case.auth case.accepted) is
+    ∙ ap (λ (b : Bool). λ (moment : ℕ). verified b (stands (meaning (record { keys = case.keys; constraints = annotation_constraints case.constraints }) (valid_in (record { rows = case.signatures })) own)) (within (settings_by case.protocol) moment) image case.auth case.accepted) (no_item_same V ⊥ H (λ v. ⊥) case.constraints)
+    ∙ ap (λ (f : SignatureLayer → Bool). λ (moment : ℕ). verified (has_no_item (policy_of case).constraints) f (within (settings_by case.protocol) moment) image case.auth case.accepted) (fun_ext (λ layer. stands_same V ⊥ H (λ v. ⊥) own (λ box layer. false) case.keys case.constraints (valid_in (record { rows = case.signatures })) layer))
 
 sound_result : (case : Case) (image : Reference) (m n : ℕ) (c : List Exchange) (r : Result VerifiedImage PullRefusal) → Seen (Sound (settings_by case.protocol) (meaning_of case) image case.accepted) m c n r → SoundResult case image c r
 sound_result case image m n c (Ok v) h = h
@@ -59,12 +60,12 @@ sound_result case image m n c (Err e) h = tt
 
 each_sound : (case : Case) (image : Reference) (k l : Kept) (m n : ℕ) (talks : List Talk) → InTurn (row_of case image) k m talks l n → EachSound case image talks
 each_sound case image k l m n [] h = tt
-each_sound case image k l m n (talk ∷ talks) h = (sound_result case image m h.1 talk.conversation talk.result ((verified_shows (settings_by case.protocol) (meaning_of case) image Anonymous case.accepted).shows k h.0 m h.1 talk.conversation talk.result h.2), each_sound case image h.0 l h.1 n talks h.3)
+each_sound case image k l m n (talk ∷ talks) h = (sound_result case image m h.1 talk.conversation talk.result ((verified_shows (within (settings_by case.protocol) talk.moment) (meaning_of case) image case.auth case.accepted).shows k h.0 m h.1 talk.conversation talk.result h.2), each_sound case image h.0 l h.1 n talks h.3)
 
 -- what was played of a case is its report
 pub reports_case : {V : Type 0} {H : V → Type 0} (policy : PullPolicy V H) (own : DynBox V Global H → SignatureLayer → Bool) (case : Case) (image : Reference) (l : Kept) (made : Report)
     → reference_of case.reference ≡ Ok image → policy.keys ≡ case.keys → policy.constraints ≡ annotation_constraints case.constraints
-    → Played (row_by (meaning policy (valid_in (record { rows = case.signatures })) own) (settings_by case.protocol) image case.accepted) case.answers case.moments fresh l made → ReportsCase case made
+    → Played (row_by (meaning policy (valid_in (record { rows = case.signatures })) own) (settings_by case.protocol) image case.auth case.accepted) case.answers case.moments fresh l made → ReportsCase case made
 reports_case policy own case image l made reads keys constraints played =
     let turn = subst (λ row. InTurn row fresh 0 played.talks l played.faults) (row_same policy own case image (policy_is policy case keys constraints)) played.in_turn in
     record {
@@ -85,11 +86,11 @@ reports_case policy own case image l made reads keys constraints played =
     }
 
 -- the same, of a client that was made fresh
-pub reports_fresh : {V : Type 0} {H : V → Type 0} (policy : PullPolicy V H) (own : DynBox V Global H → SignatureLayer → Bool) (case : Case) (image : Reference) (client : Client) (moments : List ℕ) (l : Kept) (made : Report)
-    → client ≡ record { settings = settings_by case.protocol; kept = fresh } → moments ≡ case.moments
+pub reports_fresh : {V : Type 0} {H : V → Type 0} (policy : PullPolicy V H) (own : DynBox V Global H → SignatureLayer → Bool) (case : Case) (image : Reference) (a : RegistryAuth) (client : Client) (moments : List ℕ) (l : Kept) (made : Report)
+    → client ≡ record { settings = settings_by case.protocol; kept = fresh } → moments ≡ case.moments → a ≡ case.auth
     → reference_of case.reference ≡ Ok image → policy.keys ≡ case.keys → policy.constraints ≡ annotation_constraints case.constraints
-    → Played (row_by (meaning policy (valid_in (record { rows = case.signatures })) own) client.settings image case.accepted) case.answers moments client.kept l made → ReportsCase case made
-reports_fresh policy own case image client moments l made is moments_are reads keys constraints played = reports_case policy own case image l made reads keys constraints (rw (is, moments_are) at played)
+    → Played (row_by (meaning policy (valid_in (record { rows = case.signatures })) own) client.settings image a case.accepted) case.answers moments client.kept l made → ReportsCase case made
+reports_fresh policy own case image a client moments l made is moments_are auth_is reads keys constraints played = reports_case policy own case image l made reads keys constraints (rw (is, moments_are, auth_is) at played)
 
 pub ok_weaker : {A E : Type 0} {P Q : A → Type 0} (r : Result A E) → ((a : A) → P a → Q a) → IfOk r P → IfOk r Q
 ok_weaker (Ok a) more h = more a h

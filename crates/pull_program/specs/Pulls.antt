@@ -1,14 +1,14 @@
 -- The pulls of a case: one at each of its moments, by one client, over the case's recorded answers.
 use Rattle.std.specs.Prelude.{◌≡◌, ℕ, Bool, true, false, not, IsTrue, ◌&&◌, List, [], ◌∷◌, map, flat_map, Result, Ok, Err, codes}
-use Rattle.std.specs.FinMap as map_of
 use Rattle.oci_transport.specs.Link.{AnsweredBy}
 use Rattle.oci_transport.specs.Calm.{calm}
 use Rattle.oci_transport.specs.Playback.{answering}
 use Rattle.oci_transport.specs.declared.message.Exchange.{Exchange}
 use Rattle.oci_names.specs.declared.reference.Reference.{Reference}
 use Rattle.oci_names.specs.References.{reference_of}
-use Rattle.oci_auth.specs.declared.auth.RegistryAuth.TheVariants.{Anonymous}
+use Rattle.oci_auth.specs.Memory.{fresh as nothing_kept}
 use Rattle.oci_protocol.specs.Runs.{Runs}
+use Rattle.engine_requests.specs.Contexts.{within}
 use Rattle.engine_requests.specs.declared.settings.ClientProtocol.{ClientProtocol}
 use Rattle.engine_requests.specs.declared.settings.Settings.{Settings}
 use Rattle.sig_registry.specs.Clients.{Kept}
@@ -75,11 +75,11 @@ settings_by protocol = record { protocol = protocol; user_agent = codes "oci-cli
 
 -- a client that keeps nothing yet
 abbrev pub fresh : Kept
-fresh = record { credentials = map_of.empty }
+fresh = nothing_kept 60
 
 -- the pull of a case's image at a moment
 abbrev pub row_of : Case → Reference → ℕ → Whole VerifiedImage
-row_of case image moment = verified (has_no_item (policy_of case).constraints) (stands (meaning_of case)) (settings_by case.protocol) image Anonymous case.accepted
+row_of case image moment = verified (has_no_item (policy_of case).constraints) (stands (meaning_of case)) (within (settings_by case.protocol) moment) image case.auth case.accepted
 
 -- each image that was answered has a chain that holds, and comes of its conversation
 abbrev pub SoundResult : Case → Reference → List Exchange → Result VerifiedImage PullRefusal → Type 0

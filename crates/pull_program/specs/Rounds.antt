@@ -8,7 +8,8 @@ use Rattle.oci_transport.specs.declared.message.Exchange.{Exchange}
 use Rattle.oci_transport.specs.declared.recorded.Recorded.{Recorded}
 use Rattle.oci_transport.specs.declared.script.Script.{Script}
 use Rattle.oci_names.specs.declared.reference.Reference.{Reference}
-use Rattle.oci_auth.specs.declared.auth.RegistryAuth.TheVariants.{Anonymous}
+use Rattle.oci_auth.specs.declared.auth.RegistryAuth.{RegistryAuth}
+use Rattle.engine_requests.specs.Contexts.{within}
 use Rattle.engine_requests.specs.declared.settings.Settings.{Settings}
 use Rattle.sig_registry.specs.Clients.{Kept}
 use Rattle.cosign_layers.specs.Accepts.{has_no_item}
@@ -20,9 +21,9 @@ use Rattle.cosign_client.specs.declared.verified.PullRefusal.{PullRefusal}
 use Rattle.pull_program.specs.declared.report.Report.{Report}
 use Rattle.pull_program.specs.Pulls.{Talk, moment_of, joined, reports, all_answered, InTurn}
 
--- the pull of an image at a moment, by these settings and this policy
-abbrev pub row_by : {V : Type 0} {H : V → Type 0} → Meaning V H → Settings → Reference → List (List ℕ) → ℕ → Whole VerifiedImage
-row_by meaning s image accepted moment = verified (has_no_item meaning.policy.constraints) (stands meaning) s image Anonymous accepted
+-- the pull of an image at a moment, by these settings, credentials and this policy
+abbrev pub row_by : {V : Type 0} {H : V → Type 0} → Meaning V H → Settings → Reference → RegistryAuth → List (List ℕ) → ℕ → Whole VerifiedImage
+row_by meaning s image a accepted moment = verified (has_no_item meaning.policy.constraints) (stands meaning) (within s moment) image a accepted
 
 -- whether memory was wanting
 abbrev pub is_wanting : Result VerifiedImage PullRefusal → Bool

@@ -2,6 +2,7 @@
 ghost use Rattle.std.specs.Prelude.{◌≡◌, ◌++◌, ◌||◌, false, not, Ok, IsOk, IfOk, OnOk};
 ghost use Rattle.oci_transport.specs.Script.{state_of};
 ghost use Rattle.oci_names.specs.References.{reference_of};
+ghost use Rattle.sig_registry.specs.Conversions.{registry_auth};
 ghost use Rattle.sig_registry.specs.Direct.{reference_in};
 ghost use Rattle.cosign_layers.specs.Rows.{valid_in};
 ghost use Rattle.cosign_layers.specs.Standing.{meaning};
@@ -55,6 +56,7 @@ fn add_report(
 #[derive(Drop)]
 struct Terms {
     image: OciReference,
+    auth: Auth,
     accepted: List<Text>,
     policy: PullPolicy,
     verifier: TableVerifier,
@@ -69,7 +71,7 @@ fn pull_at(
     moment: u64,
     report: &mut Report,
 ) -> Result<(), AllocError>
-    ensures round { OnOk result (Round (row_by (meaning terms.now.policy (valid_in terms.now.verifier) (λ b. accepts (b.vtable, b.value))) (client_state client.old).settings (reference_in terms.now.image) terms.now.accepted) moment (state_of script.old) (state_of script.new) (client_state client.old).kept (client_state client.new).kept report.old report.new) }
+    ensures round { OnOk result (Round (row_by (meaning terms.now.policy (valid_in terms.now.verifier) (λ b. accepts (b.vtable, b.value))) (client_state client.old).settings (reference_in terms.now.image) (registry_auth terms.now.auth) terms.now.accepted) moment (state_of script.old) (state_of script.new) (client_state client.old).kept (client_state client.new).kept report.old report.new) }
     ensures settings { (client_state client.new).settings ≡ (client_state client.old).settings }
     ensures calm { OnOk result (IsCalm script.new) }
 {
@@ -79,7 +81,7 @@ fn pull_at(
         script,
         moment,
         &terms.image,
-        &Auth::Anonymous,
+        &terms.auth,
         terms.accepted.as_slice(),
         &terms.policy,
         &terms.verifier,
@@ -97,7 +99,7 @@ fn pull_each(
     terms: &Terms,
     moments: &[u64],
 ) -> Result<Report, AllocError>
-    ensures { IfOk result (Played (row_by (meaning terms.now.policy (valid_in terms.now.verifier) (λ b. accepts (b.vtable, b.value))) (client_state client.old).settings (reference_in terms.now.image) terms.now.accepted) answers moments.now (client_state client.old).kept (client_state client.new).kept) }
+    ensures { IfOk result (Played (row_by (meaning terms.now.policy (valid_in terms.now.verifier) (λ b. accepts (b.vtable, b.value))) (client_state client.old).settings (reference_in terms.now.image) (registry_auth terms.now.auth) terms.now.accepted) answers moments.now (client_state client.old).kept (client_state client.new).kept) }
 {
     let mut script = Script::new(alloc, answers);
     let mut report = Report {
@@ -140,6 +142,7 @@ pub fn pull_case(alloc: Global, case: Case) -> Result<Report, AllocError>
 {
     let terms = Terms {
         image: image_in(alloc, case.reference.as_str())?,
+        auth: Auth::from_registry(alloc, &case.auth)?,
         accepted: case.accepted,
         policy: policy(alloc, case.keys, case.constraints.as_slice())?,
         verifier: TableVerifier {

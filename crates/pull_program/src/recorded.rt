@@ -224,3 +224,24 @@ fn a_refused_image_of_signatures_is_skipped(rt: HostRuntime) -> Result<(), Fail>
     }
     Ok(())
 }
+
+const AUTH_CASE: &str =
+    r#"{"reference":"localhost:5000/app:v1","protocol":"http","auth":{"basic":["user","secret"]},"accepted":[],"moments":[100],"keys":["k1"],"constraints":[{"annotations":{}}],"signatures":[],"answers":["#;
+
+/// A challenge, the token of its realm, and a refused digest: the token is kept for no further request.
+const AUTH_ANSWERS: &str =
+    r#"{"status":401,"headers":[["www-authenticate","Bearer realm=\"http://auth.example/token\""]]},{"status":200,"pieces":["{\"token\":\"t1\"}"]},{"status":401,"headers":[["docker-content-digest","sha256:ab"]]}]}"#;
+
+#[test]
+fn a_realm_is_asked_with_the_credentials_of_a_case(rt: HostRuntime) -> Result<(), Fail> {
+    let mut case = Text::new(rt.alloc(), AUTH_CASE)?;
+    case.push_str(AUTH_ANSWERS)?;
+    assert_refused(
+        &rt,
+        case.as_str(),
+        &[
+            "moment 100\nGET http://localhost:5000/v2/\nGET http://auth.example/token?scope=repository%3Aapp%3Apull\nHEAD http://localhost:5000/v2/app/manifests/v1\n",
+            "refused RegistryFetchManifestError \"localhost:5000/app:v1\" UnauthorizedError \"http://localhost:5000/v2/app/manifests/v1\"\n",
+        ],
+    )
+}
