@@ -349,13 +349,13 @@ fn blobs(
     let image = Reference::parse(alloc, "r.example/app:v1")?;
     let mut client = client(alloc)?;
     client.store_auth_if_needed("r.example", auth)?;
-    let mut found = 0;
+    let mut found: usize = 0;
     for moment in moments {
         if client
             .pulled_blob(alloc, script, *moment, &image, LAYER_DIGEST)
             .is_ok()
         {
-            found = found + 1;
+            found = found.saturating_add(1);
         }
     }
     Ok(found)
