@@ -4,7 +4,7 @@ use crate::recorded::{
 };
 use json_values::{Blob, Copied, List, Text};
 use oci_auth::RegistryAuth;
-use oci_engine::{Client, ClientConfig};
+use oci_engine::{Client, ClientConfig, ImageData};
 use oci_manifests::OciDescriptor;
 use oci_transport::{HeaderError, Headers, Recorded, Script};
 use sig_registry::{Auth, ClientCapabilities, OciClient, OciReference, SigstoreError};
@@ -67,12 +67,12 @@ fn raw(alloc: Global, script: &mut Script) -> Option<Blob> {
     Some(bytes)
 }
 
-fn configuration(alloc: Global, script: &mut Script) -> Option<Blob> {
+fn pulled(alloc: Global, script: &mut Script) -> Option<ImageData> {
     let mut client = client(alloc).ok()?;
     let image = image(alloc)?;
     let mut accepted = List::new(alloc);
     accepted.push(Text::new(alloc, LAYER_TYPE).ok()?).ok()?;
-    let found = client
+    client
         .pull(
             alloc,
             script,
@@ -81,8 +81,7 @@ fn configuration(alloc: Global, script: &mut Script) -> Option<Blob> {
             &RegistryAuth::Anonymous,
             accepted.as_slice(),
         )
-        .ok()?;
-    Some(found.config.content)
+        .ok()
 }
 
 fn descriptor(alloc: Global, digest: &str) -> Result<OciDescriptor, AllocError> {
@@ -132,7 +131,8 @@ fn each_reading_call_answers_what_the_registry_said(rt: HostRuntime) -> Result<(
             (LAYER_DIGEST, "hello world"),
         ],
     )?;
-    assert!(rt; is_bytes(configuration(alloc, &mut whole), "{}"));
+    let found = pulled(alloc, &mut whole);
+    assert!(rt; found.is_some_and(|it| it.config.content.as_slice() == b"{}".as_slice()));
     Ok(())
 }
 
