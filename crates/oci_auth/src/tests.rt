@@ -80,6 +80,9 @@ fn tokens_expire_at_these_moments(rt: HostRuntime) -> Result<(), Fail> {
         ("e30.eyJleHAiOi0xfQ.signature", None),
         ("e30.eyJleHAiOjE4NDQ2NzQ0MDczNzA5NTUxNjE2fQ.s", None),
         ("e30.eyJleHAiOjEuNX0.s", None),
+        ("e30.eyJleHAiOjFlM30.s", None),
+        ("e30.eyJleHAiOjIwMDAsImEiOiI/Pz4ifQ.s", None),
+        ("e30.eyJleHAiOjIwMDB9IHg.s", None),
         ("e30.eyJhIjoxLjV9.s", None),
         ("e30.eyJleHAiOiIxMDMwIn0.s", None),
         ("e30.W10.s", None),
@@ -92,6 +95,10 @@ fn tokens_expire_at_these_moments(rt: HostRuntime) -> Result<(), Fail> {
     }
     let last = bearer_token_cache_expiration(rt.alloc(), "opaque", 60, u64::MAX)?;
     assert_eq!(rt; last, Some(u64::MAX));
+    for (token, expected) in [("e30.e30.s", Some(87400)), ("opaque", Some(101000))] {
+        let until = bearer_token_cache_expiration(rt.alloc(), token, 100_000, 1000)?;
+        assert_eq!(rt; until, expected, "at {token}");
+    }
     Ok(())
 }
 
