@@ -1,4 +1,5 @@
-//! Tests that go through the client's crates from the outside: the engine's calls, and the search and the pull.
+//! Tests that go through the client's crates from the outside: the engine's calls, the calls that the search for
+//! signatures uses, and the search and the pull.
 #![tactic(auto)]
 
 #[cfg(test)]
@@ -7,3 +8,5 @@ mod cosign;
 mod engine;
 #[cfg(test)]
 mod recorded;
+#[cfg(test)]
+mod registry;
