@@ -1,3 +1,4 @@
+pub mod Equalities
 pub mod Escapes
 pub mod Fronts
 pub mod Halves

@@ -1,4 +1,4 @@
-ghost use Rattle.std.specs.Prelude.{◌≡◌, ◌<◌, ◌≤◌, OnOk, OnErr, IfOk, IfErr, length, slice_get, map as list_map};
+ghost use Rattle.std.specs.Prelude.{◌≡◌, ◌↔◌, IsTrue, ◌<◌, ◌≤◌, OnOk, OnErr, IfOk, IfErr, length, slice_get, map as list_map};
 ghost use Rattle.std.specs.Option.{option_copied};
 ghost use Rattle.std.specs.FinMap as map;
 ghost use Rattle.std.specs.FinMap.Entries.{find};
@@ -85,6 +85,28 @@ impl<V: Copied + Drop> Copied for TextMap<V> {
             entries: copies_of(alloc, self.entries.as_slice())?,
         })
     }
+}
+
+/// Equality is that of the names and of their values.
+impl<V: PartialEq + Drop> PartialEq for TextMap<V> {
+    ghost use Rattle.json_values.specs.Equalities.{IsEquality, is_same_map, maps_partial};
+
+    ghost eq = { is_same_map V.eq };
+
+    ghost laws = { maps_partial V.laws };
+
+    fn eq(&self, other: &TextMap<V>) -> bool
+        ensures value { result ≡ is_same_map V.eq self.now other.now }
+        ensures same { IsEquality V.eq → IsTrue result ↔ (self.now ≡ other.now) }
+    {
+        self.entries() == other.entries()
+    }
+}
+
+impl<V: Eq + Drop> Eq for TextMap<V> {
+    ghost use Rattle.json_values.specs.Equalities.{maps};
+
+    ghost laws = { maps V.Eq.laws };
 }
 
 fn copies_of<V: Copied + Drop>(

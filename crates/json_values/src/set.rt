@@ -1,4 +1,4 @@
-ghost use Rattle.std.specs.Prelude.{◌≡◌, OnOk, OnErr, slice_get};
+ghost use Rattle.std.specs.Prelude.{◌≡◌, ◌↔◌, IsTrue, OnOk, OnErr, slice_get};
 ghost use Rattle.std.specs.Option.{option_copied};
 ghost use Rattle.std.specs.FinMap as map;
 
@@ -69,4 +69,28 @@ impl Copied for TextSet {
             inner: self.inner.copy(alloc)?,
         })
     }
+}
+
+/// Equality is that of the names.
+impl PartialEq for TextSet {
+    ghost use Rattle.std.specs.Cmp.{partial_equiv_from_equiv};
+    ghost use Rattle.json_values.specs.Equalities.{is_same_set, sets};
+
+    ghost eq = { is_same_set };
+
+    ghost laws = { partial_equiv_from_equiv sets };
+
+    #[tactic(auto, using(crate::proofs::Equalities::sets_decided))]
+    fn eq(&self, other: &TextSet) -> bool
+        ensures value { result ≡ is_same_set self.now other.now }
+        ensures same { IsTrue result ↔ (self.now ≡ other.now) }
+    {
+        self.inner == other.inner
+    }
+}
+
+impl Eq for TextSet {
+    ghost use Rattle.json_values.specs.Equalities.{sets};
+
+    ghost laws = { sets };
 }

@@ -67,6 +67,24 @@ fn names_stand_in_the_order_of_their_bytes(rt: HostRuntime) -> Result<(), Fail> 
 
 // The example of RFC 8785, 3.2.2.2.
 #[test]
+fn maps_and_sets_are_compared_by_what_they_hold(rt: HostRuntime) -> Result<(), Fail> {
+    let alloc = rt.alloc();
+    let mut map = Annotations::new(alloc);
+    map.insert(Text::new(alloc, "b")?, Text::new(alloc, "1")?)?;
+    let mut other = map.copy(alloc)?;
+    assert!(rt; map == other);
+    other.insert(Text::new(alloc, "b")?, Text::new(alloc, "2")?)?;
+    assert!(rt; map != other);
+    let mut set = TextSet::new(alloc);
+    set.insert(Text::new(alloc, "b")?)?;
+    let mut longer = set.copy(alloc)?;
+    assert!(rt; set == longer);
+    longer.insert(Text::new(alloc, "a")?)?;
+    assert!(rt; set != longer);
+    Ok(())
+}
+
+#[test]
 fn a_text_is_written_with_its_escapes(rt: HostRuntime) -> Result<(), Fail> {
     let quoted = write_quoted(rt.alloc(), "\u{20ac}$\u{f}\nA'B\"\\\\\"/")?;
     assert_eq!(rt;
