@@ -11,7 +11,7 @@ use serde_json::Value;
 use std::alloc::{AllocError, Global};
 
 /// How a container is started (OCI image specification, config.md, `config`).
-#[derive(Debug, Drop)]
+#[derive(Debug, PartialEq, Eq, Drop)]
 pub struct Config {
     pub user: Option<Text>,
     pub exposed_ports: Option<TextSet>,

@@ -13,7 +13,7 @@ use serde_json::Value;
 use std::alloc::{AllocError, Global};
 
 /// The configuration file of an image (OCI image specification, config.md).
-#[derive(Debug, Drop)]
+#[derive(Debug, PartialEq, Eq, Drop)]
 pub struct ConfigFile {
     pub created: Option<Time>,
     pub author: Option<Text>,

@@ -106,3 +106,18 @@ fn a_configuration_gives_its_file(rt: HostRuntime) -> Result<(), Fail> {
     assert!(rt; ConfigFile::from_config(alloc, &list).is_err_and(|e| e == ConfigError::Unreadable));
     Ok(())
 }
+
+fn file_in(alloc: Global, text: &str) -> Result<ConfigFile, Fail> {
+    Ok(ConfigFile::read(alloc, &Value::from_str(alloc, text)?)?)
+}
+
+#[test]
+fn files_are_compared_by_all_that_they_hold(rt: HostRuntime) -> Result<(), Fail> {
+    let alloc = rt.alloc();
+    let file = file_in(alloc, FILE)?;
+    assert!(rt; file.copy(alloc)? == file);
+    let mut other = file.copy(alloc)?;
+    other.config = None;
+    assert!(rt; other != file);
+    Ok(())
+}

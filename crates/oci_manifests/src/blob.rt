@@ -10,7 +10,7 @@ use json_values::{Annotations, Blob, Copied, Text, copies3};
 use std::alloc::{AllocError, Global};
 
 /// A layer: its bytes, their media type and its annotations.
-#[derive(Debug, Drop)]
+#[derive(Debug, PartialEq, Eq, Drop)]
 pub struct ImageLayer {
     pub content: Blob,
     pub media_type: Text,

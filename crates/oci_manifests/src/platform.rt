@@ -9,7 +9,7 @@ use serde_json::Value;
 use std::alloc::{AllocError, Global};
 
 /// The platform that an image runs on (OCI image specification, image-index.md).
-#[derive(Debug, Drop)]
+#[derive(Debug, PartialEq, Eq, Drop)]
 pub struct Platform {
     pub architecture: Text,
     pub os: Text,

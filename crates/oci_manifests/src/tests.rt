@@ -233,6 +233,17 @@ fn a_layer_names_its_bytes(rt: HostRuntime) -> Result<(), Fail> {
 }
 
 #[test]
+fn layers_are_compared_by_all_that_they_hold(rt: HostRuntime) -> Result<(), Fail> {
+    let alloc = rt.alloc();
+    let layer = ImageLayer::oci_v1(alloc, Blob::new(alloc, b"hello world")?, None)?;
+    let same = ImageLayer::oci_v1(alloc, Blob::new(alloc, b"hello world")?, None)?;
+    assert!(rt; layer == same);
+    let zipped = ImageLayer::oci_v1_gzip(alloc, Blob::new(alloc, b"hello world")?, None)?;
+    assert!(rt; layer != zipped);
+    Ok(())
+}
+
+#[test]
 fn knows_the_media_types_of_manifests(rt: HostRuntime) {
     assert!(rt;
         is_manifest_media_type("application/vnd.docker.distribution.manifest.list.v2+json")
