@@ -1,5 +1,10 @@
+pub mod Arranging
+pub mod Compact
 pub mod Feeds
+pub mod Maps
+pub mod PipedBack
 pub mod Puts
+pub mod ReadBack
 pub mod Refusals
 pub mod Texts
 pub mod Walks

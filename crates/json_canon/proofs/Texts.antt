@@ -23,7 +23,7 @@ both : (a b : Bool) → (a && b) ≡ true → (a ≡ true) × (b ≡ true)
 both true b e = (refl, e)
 both false b e = cc
 
-small : (z : ℤ) → IsTrue (in_range z) → mag z < 2 ^ 63
+pub small : (z : ℤ) → IsTrue (in_range z) → mag z < 2 ^ 63
 small (pos n) is = let top : n ≤ 9007199254740991 = leb-true n 9007199254740991 is in omega (arith, top)
 small (negsuc n) is = let low : n ≤ 9007199254740990 = leb-true n 9007199254740990 (both (nat_le n 9007199254740990) true is).0 in omega (arith, low)
 

@@ -1,6 +1,8 @@
+pub mod AsMaps
 pub mod Feeding
 pub mod Outcomes
 pub mod Serializers
+pub mod TextLaws
 pub use Rattle.json_events.specs.Canonical
 pub use Rattle.json_events.specs.Drafts
 pub use Rattle.json_events.specs.Events

@@ -2,6 +2,7 @@
 #![tactic(auto)]
 
 mod feed;
+mod laws;
 mod serializer;
 mod walk;
 mod whole;
@@ -15,6 +16,7 @@ pub use json_values::{
     TextSet, ToValue, copies2, copies3, copies4, copies5, copies6, copies7, put_all, read_json,
     write_quoted,
 };
+pub use laws::texts_tell_values;
 pub use serializer::JcsSerializer;
 pub use whole::{pipe, to_string, to_vec, to_writer};
 

@@ -1,6 +1,7 @@
 ghost use Rattle.std.specs.Prelude.{◌≡◌, ◌≤◌, IfOk, OnOk, IsUtf8};
 ghost use Rattle.serde_json.specs.View.{view};
 ghost use Rattle.json_canon.specs.Outcomes.{GivesText, WritesText, PipesText};
+ghost use Rattle.json_canon.specs.TextLaws.{PipesBack};
 ghost use Rattle.json_events.specs.Values.{IsValue};
 
 use crate::feed::feed;
@@ -44,8 +45,17 @@ pub fn to_writer<V: ToValue, K: Sink>(
     written
 }
 
-/// The canonical text of a JSON text. `Unreadable` exactly where it is no JSON, or nests deeper than 127.
+/// The canonical text of a JSON text. `Unreadable` exactly where it is no JSON, or nests deeper than 127. A
+/// canonical text is given back as it stands.
 pub fn pipe(alloc: Global, json: &str) -> Result<Text, CanonError>
+    ensures text { PipesText result json.now }
+    ensures canonical { PipesBack result json.now }
+{
+    let text = piped(alloc, json);
+    text
+}
+
+fn piped(alloc: Global, json: &str) -> Result<Text, CanonError>
     ensures { PipesText result json.now }
 {
     match read_json(alloc, json.as_bytes())? {
