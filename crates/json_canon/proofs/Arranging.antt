@@ -1,9 +1,37 @@
 -- Members in an order of their names, whatever order they came in.
 use Rattle.std.proofs.Common.{◌≡◌, ◌≢◌, ℕ, List, Ordering, Less, Equal, Greater, refl, ap, ◌∙◌}
 use Rattle.std.specs.Cmp.{IsTotalOrder, alike_right}
-use Rattle.std.specs.Ordering.{ordering_reverse}
-use Rattle.serde_json.specs.Data.{Data, Members, no_members, member}
-use Rattle.json_canon.specs.AsMaps.{Order, place}
+use Rattle.std.specs.Ordering.{match_ordering, ordering_reverse}
+use Rattle.serde_json.specs.Data.{Data, null, boolean, number, string, array, object, Items, no_items, item, Members, no_members, member}
+use Rattle.serde_json.specs.Find.{as_integer}
+use Rattle.json_canon.specs.AsMaps.{whole_or}
+
+-- an order of names
+abbrev pub Order : Type 0
+Order = List ℕ → List ℕ → Ordering
+
+-- the members, with d at k
+abbrev pub place : Order → List ℕ → Data → Members → Members
+place R k d no_members = member k d no_members
+place R k d (member l e ms) = match_ordering (R k l) (member k d (member l e ms)) (member l d ms) (member l e (place R k d ms))
+
+abbrev mutual
+  -- the value with the members of each object in this order
+  pub arranged : Order → Data → Data
+  arranged R null = null
+  arranged R (boolean b) = boolean b
+  arranged R (number n) = number (whole_or n (as_integer n))
+  arranged R (string s) = string s
+  arranged R (array ds) = array (arranged_items R ds)
+  arranged R (object ms) = object (arranged_members R ms)
+
+  pub arranged_items : Order → Items → Items
+  arranged_items R no_items = no_items
+  arranged_items R (item d ds) = item (arranged R d) (arranged_items R ds)
+
+  pub arranged_members : Order → Members → Members
+  arranged_members R no_members = no_members
+  arranged_members R (member k d ms) = place R k (arranged R d) (arranged_members R ms)
 
 module _ {R : Order} (total : IsTotalOrder R) where
   -- of three names, where two stand to the third

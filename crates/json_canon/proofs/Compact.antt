@@ -13,7 +13,8 @@ use Rattle.json_values.proofs.Escapes.{quoted-same}
 use Rattle.json_events.specs.Canonical.{Canonical, CanonicalItems, CanonicalMembers, Entry, Rises, entry_text, truth_text, array_text, object_text}
 use Rattle.json_events.specs.Units.{by_units}
 use Rattle.json_events.proofs.Unique.{unique}
-use Rattle.json_canon.specs.AsMaps.{place, whole, whole_or, arranged, arranged_items, arranged_members}
+use Rattle.json_canon.specs.AsMaps.{whole, whole_or}
+use Rattle.json_canon.proofs.Arranging.{place, arranged, arranged_items, arranged_members}
 use Rattle.json_canon.proofs.Maps.{Apart, AreApart, ItemsApart, MembersApart, by_units_total, apart_arranged}
 
 abbrev pub by_names : Data → Data
@@ -147,6 +148,3 @@ mutual
 
 pub by_names_text : (d : Data) (t : List ℕ) → AreApart d → Canonical d t → t ≡ compact_text (by_names d)
 by_names_text d t a is = unique d t _ is (canonical_by_names d t a is)
-
-pub canonical_from : (d : Data) (t : List ℕ) → AreApart d → Canonical d t → Canonical d (compact_text (by_names d))
-canonical_from = canonical_by_names

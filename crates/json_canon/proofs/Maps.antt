@@ -1,19 +1,19 @@
 -- A value and its objects as maps, in whatever order.
 use Rattle.std.proofs.Common.{◌≡◌, ◌≢◌, ℕ, List, Ordering, Less, Equal, Greater, refl, sym, ap, ◌∙◌, pos, negsuc, IsUtf8}
 use Rattle.std.specs.Cmp.{IsTotalOrder, tied_back}
-use Rattle.std.specs.Cmp.Lexicographic.{nat_list_cmp_total}
+use Rattle.std.specs.Cmp.Lexicographic.{slice_cmp, nat_list_cmp_total}
 use Rattle.std.specs.FinMap.{slice_cmp-IsAntisymmetric, nat_cmp-IsAntisymmetric}
-use Rattle.std.specs.Ordering.{match_ordering}
+use Rattle.std.specs.Ordering.{nat_cmp, match_ordering}
 use Rattle.std.specs.Prelude.{⊤}
 use Rattle.std.proofs.lemmas.Cmp.{on_total}
-use Rattle.serde_json.specs.Data.{Num, unsigned, negative, float, Data, null, boolean, number, string, array, object, Items, no_items, item, Members, no_members, member}
+use Rattle.serde_json.specs.Data.{Num, unsigned, negative, float, Data, null, boolean, number, string, array, object, Items, no_items, item, Members, no_members, member, put}
 use Rattle.serde_json.specs.Find.{as_integer}
 use Rattle.json_values.specs.Places.{by_bytes}
 use Rattle.json_events.specs.Units.{units, by_units}
 use Rattle.json_events.specs.Values.{IsValue, AreValues, AreMembers, IsOther}
 use Rattle.json_events.proofs.Utf16.{same_units}
-use Rattle.json_canon.specs.AsMaps.{Order, place, whole_or, arranged, arranged_items, arranged_members}
-use Rattle.json_canon.proofs.Arranging.{commute}
+use Rattle.json_canon.specs.AsMaps.{whole_or, put_all, as_maps, items_as_maps, members_as_maps}
+use Rattle.json_canon.proofs.Arranging.{Order, place, arranged, arranged_items, arranged_members, commute}
 
 -- names that both orders tell apart
 abbrev pub Told : List ℕ → List ℕ → Type 0
@@ -166,3 +166,47 @@ module _ {R S : Order} (over : IsTelling R) (under : IsTelling S) where
     members_again no_members a = refl
     members_again (member k d ms) a =
         across k (arranged S d) (arranged_members S ms) (apart_arranged S k ms a.0) ∙ (λ i. place R k (again d a.1 i) (members_again ms a.2 i))
+
+-- ---- members that are put one after another are in the order of their bytes
+
+put_place : (k : List ℕ) (d : Data) (ms : Members) → put k d ms ≡ place by_bytes k d ms
+put_place k d no_members = refl
+put_place k d (member l e ms) = ap (λ rest. match_ordering (slice_cmp nat_cmp k l) (member k d (member l e ms)) (member l d ms) (member l e rest)) (put_place k d ms)
+
+-- the members as they are put, after those that were found
+abbrev pub taken : Members → Members → Members
+taken no_members found = found
+taken (member k d ms) found = taken ms (put k (arranged by_bytes d) found)
+
+put_either : (k l : List ℕ) (d e : Data) (ms : Members) → Told k l → put k d (put l e ms) ≡ put l e (put k d ms)
+put_either k l d e ms told =
+    put_place k d (put l e ms) ∙ ap (place by_bytes k d) (put_place l e ms) ∙ commute by_bytes_tells.total k l d e ms (by_bytes_tells.tells k l told)
+    ∙ sym (put_place l e (put k d ms) ∙ ap (place by_bytes l e) (put_place k d ms))
+
+taken_later : (k : List ℕ) (d : Data) (ms found : Members) → Apart k ms → put k d (taken ms found) ≡ taken ms (put k d found)
+taken_later k d no_members found apart = refl
+taken_later k d (member l e ms) found apart =
+    taken_later k d ms (put l (arranged by_bytes e) found) apart.1 ∙ ap (taken ms) (put_either k l d (arranged by_bytes e) found apart.0)
+
+pub taken_all : (ms : Members) → MembersApart ms → taken ms no_members ≡ arranged_members by_bytes ms
+taken_all no_members a = refl
+taken_all (member k d ms) a =
+    sym (taken_later k (arranged by_bytes d) ms no_members a.0) ∙ ap (put k (arranged by_bytes d)) (taken_all ms a.2) ∙ put_place k (arranged by_bytes d) (arranged_members by_bytes ms)
+
+mutual
+  pub maps_in_order : (d : Data) → AreApart d → as_maps d ≡ arranged by_bytes d
+  maps_in_order null a = refl
+  maps_in_order (boolean b) a = refl
+  maps_in_order (number n) a = refl
+  maps_in_order (string s) a = refl
+  maps_in_order (array ds) a = ap array (items_in_order ds a)
+  maps_in_order (object ms) a = ap object (members_taken ms no_members a ∙ taken_all ms a)
+
+  items_in_order : (ds : Items) → ItemsApart ds → items_as_maps ds ≡ arranged_items by_bytes ds
+  items_in_order no_items a = refl
+  items_in_order (item d ds) a = λ i. item (maps_in_order d a.0 i) (items_in_order ds a.1 i)
+
+  members_taken : (ms found : Members) → MembersApart ms → put_all (members_as_maps ms) found ≡ taken ms found
+  members_taken no_members found a = refl
+  members_taken (member k d ms) found a =
+      ap (λ e. put_all (members_as_maps ms) (put k e found)) (maps_in_order d a.1) ∙ members_taken ms (put k (arranged by_bytes d) found) a.2

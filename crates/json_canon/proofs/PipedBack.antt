@@ -16,13 +16,13 @@ use Rattle.json_canon.specs.AsMaps.{as_maps}
 use Rattle.json_canon.specs.Outcomes.{PipesText, Pipes}
 use Rattle.json_canon.specs.TextLaws.{TextsTell, TextsReadBack, GivesBack, PipesBack}
 use Rattle.json_canon.proofs.Compact.{by_names, by_names_text}
-use Rattle.json_canon.proofs.Maps.{AreApart, value_apart, still_apart, again, by_bytes_tells, by_units_tells}
+use Rattle.json_canon.proofs.Maps.{AreApart, value_apart, still_apart, again, by_bytes_tells, by_units_tells, maps_in_order}
 use Rattle.json_canon.proofs.ReadBack.{spells, one_value, read_shallow, read_deep, maps_unrefused}
 use Rattle.json_canon.proofs.Texts.{canonical_utf8}
 
 -- the order of the names' units is the same, whatever order was before
 named_maps : (d : Data) → AreApart d → by_names (as_maps d) ≡ by_names d
-named_maps d a = again by_units_tells by_bytes_tells d a
+named_maps d a = ap by_names (maps_in_order d a) ∙ again by_units_tells by_bytes_tells d a
 
 pub texts_tell : TextsTell
 texts_tell d e t u value other is also =
@@ -64,12 +64,12 @@ text_back d t u value is p =
     let a = value_apart d value in
     let found = read_value d t p.value value is p.read in
     let canonical : Canonical (as_maps d) u = subst (λ v. Canonical v u) found.1 p.canonical in
-    (by_names_text (as_maps d) u (still_apart by_bytes_tells d a) canonical ∙ ap compact_text (named_maps d a) ∙ sym (by_names_text d t a is), found.0)
+    (by_names_text (as_maps d) u (subst AreApart (sym (maps_in_order d a)) (still_apart by_bytes_tells d a)) canonical ∙ ap compact_text (named_maps d a) ∙ sym (by_names_text d t a is), found.0)
 
 unrefused : (d : Data) (t : List ℕ) (v : Data) (e : CanonError) → IsValue d → Canonical d t → json_of t ≡ Some v → refused v ≡ Some e → ⊥
 unrefused d t v e value is read refuses =
     let found = read_value d t v value is read in
-    let some : None ≡ Some e = sym (maps_unrefused d t is) ∙ ap refused (sym found.1) ∙ refuses in
+    let some : None ≡ Some e = sym (maps_unrefused d t (value_apart d value) is) ∙ ap refused (sym found.1) ∙ refuses in
     cc
 
 pub piped_back : (r : Result (List ℕ) CanonError) (t : List ℕ) → PipesText r t → PipesBack r t

@@ -1,7 +1,6 @@
 -- A canonical text is read as its value.
 use Rattle.std.proofs.Common.{◌≡◌, ◌≢◌, ℕ, suc, ◌+◌, ◌<◌, ◌≤◌, ℤ, pos, negsuc, List, [], ◌∷◌, IsTrue, Ordering, Less, Equal, Greater, Option, Some, None, option_map, option_and_then, refl, sym, ap, subst, ◌∙◌, arith, append-nil}
-use Rattle.std.specs.Cmp.Lexicographic.{slice_cmp}
-use Rattle.std.specs.Ordering.{nat_cmp, match_ordering}
+use Rattle.std.specs.Ordering.{match_ordering}
 use Rattle.std.specs.Prelude.{⊤, max, if◌then◌else◌}
 use Rattle.json.specs.Json as json
 use Rattle.json.specs.Lex.{tokens}
@@ -26,10 +25,10 @@ use Rattle.json_events.specs.Refused.{refused, refused_items, refused_members, r
 use Rattle.json_events.specs.Units.{by_units}
 use Rattle.json_events.specs.declared.error.CanonError.{CanonError}
 use Rattle.json_events.specs.declared.error.CanonError.TheVariants.{IntegerOutOfRange}
-use Rattle.json_canon.specs.AsMaps.{Order, place, whole, whole_or, arranged, arranged_items, arranged_members, as_maps}
-use Rattle.json_canon.proofs.Arranging.{commute}
+use Rattle.json_canon.specs.AsMaps.{whole, whole_or, as_maps}
+use Rattle.json_canon.proofs.Arranging.{Order, place, arranged, arranged_items, arranged_members}
 use Rattle.json_canon.proofs.Compact.{by_names, by_names_text}
-use Rattle.json_canon.proofs.Maps.{Apart, AreApart, ItemsApart, MembersApart, IsTelling, by_bytes_tells, by_units_tells, apart_arranged, still_apart, again}
+use Rattle.json_canon.proofs.Maps.{Apart, AreApart, ItemsApart, MembersApart, IsTelling, by_bytes_tells, by_units_tells, apart_arranged, still_apart, again, taken, taken_all, maps_in_order}
 use Rattle.json_canon.proofs.Texts.{small}
 
 -- ---- numbers that are read as they stand
@@ -131,36 +130,17 @@ mutual
   members_unrefused no_members p = refl
   members_unrefused (member k d ms) p = none_both _ _ (unrefused d p.0) (members_unrefused ms p.1)
 
-pub maps_unrefused : (d : Data) (t : List ℕ) → Canonical d t → refused (as_maps d) ≡ None
-maps_unrefused d t is = unrefused (as_maps d) (plain_arranged by_bytes d t is)
+pub maps_unrefused : (d : Data) (t : List ℕ) → AreApart d → Canonical d t → refused (as_maps d) ≡ None
+maps_unrefused d t a is = ap refused (maps_in_order d a) ∙ unrefused (arranged by_bytes d) (plain_arranged by_bytes d t is)
 
--- ---- members are read one after another
-
-put_place : (k : List ℕ) (d : Data) (ms : Members) → put k d ms ≡ place by_bytes k d ms
-put_place k d no_members = refl
-put_place k d (member l e ms) = ap (λ rest. match_ordering (slice_cmp nat_cmp k l) (member k d (member l e ms)) (member l d ms) (member l e rest)) (put_place k d ms)
-
--- the members as they are read, after those that were found
-abbrev taken : Members → Members → Members
-taken no_members found = found
-taken (member k d ms) found = taken ms (place by_bytes k (as_maps d) found)
-
-taken_later : (k : List ℕ) (d : Data) (ms found : Members) → Apart k ms → place by_bytes k d (taken ms found) ≡ taken ms (place by_bytes k d found)
-taken_later k d no_members found apart = refl
-taken_later k d (member l e ms) found apart =
-    taken_later k d ms (place by_bytes l (as_maps e) found) apart.1
-    ∙ ap (taken ms) (commute by_bytes_tells.total k l d (as_maps e) found (by_bytes_tells.tells k l apart.0))
-
-taken_all : (ms : Members) → MembersApart ms → taken ms no_members ≡ arranged_members by_bytes ms
-taken_all no_members a = refl
-taken_all (member k d ms) a = sym (taken_later k (as_maps d) ms no_members a.0) ∙ ap (place by_bytes k (as_maps d)) (taken_all ms a.2)
+-- ---- what is read of the JSON
 
 read_whole : (z : ℤ) → IsTrue (in_range z) → option_map number (number_of (number_text (whole z))) ≡ Some (number (whole_or (whole z) (as_integer (whole z))))
 read_whole (pos n) is = let fits = small (pos n) is in ap (option_map number) (number_of-decimal n (omega (arith, fits)))
 read_whole (negsuc n) is = let fits = small (negsuc n) is in ap (option_map number) (number_of-negative n (omega (arith, fits)))
 
 mutual
-  reads : (d : Data) → IsPlain d → AreApart d → of_json (outline d) ≡ Some (as_maps d)
+  reads : (d : Data) → IsPlain d → AreApart d → of_json (outline d) ≡ Some (arranged by_bytes d)
   reads null p a = refl
   reads (boolean b) p a = refl
   reads (number n) p a = subst (λ m. option_map number (number_of (number_text m)) ≡ Some (number (whole_or m (as_integer m)))) (sym p.1) (read_whole p.0 p.2)
@@ -175,9 +155,7 @@ mutual
   reads_members : (ms found : Members) → ArePlainMembers ms → MembersApart ms → of_members (members_outline ms) found ≡ Some (taken ms found)
   reads_members no_members found p a = refl
   reads_members (member k d ms) found p a =
-      ap (option_and_then (λ e. of_members (members_outline ms) (put k e found))) (reads d p.0 a.1)
-      ∙ ap (of_members (members_outline ms)) (put_place k (as_maps d) found)
-      ∙ reads_members ms (place by_bytes k (as_maps d) found) p.1 a.2
+      ap (option_and_then (λ e. of_members (members_outline ms) (put k e found))) (reads d p.0 a.1) ∙ reads_members ms (put k (arranged by_bytes d) found) p.1 a.2
 
 -- ---- depths
 
@@ -244,7 +222,7 @@ spells d t a is =
     record {
       json = outline named;
       tokens = ap tokens (by_names_text d t a is ∙ sym (print-outline named)) ∙ tokens-print _ (ArePrintable-json_tokens (outline named) (has_numbers named plain));
-      reads = reads named plain apart ∙ ap Some (again by_bytes_tells by_units_tells d a);
+      reads = reads named plain apart ∙ ap Some (again by_bytes_tells by_units_tells d a ∙ sym (maps_in_order d a));
       deep = outline_depth named ∙ arranged_depth by_units_tells d a;
     }
 

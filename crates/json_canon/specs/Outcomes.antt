@@ -8,6 +8,7 @@ use Rattle.json_events.specs.declared.error.CanonError.{CanonError}
 use Rattle.json_events.specs.declared.error.CanonError.TheVariants.{Float, IntegerOutOfRange, Unreadable, SinkFault, WantOfMemory}
 use Rattle.json_events.specs.Canonical.{Canonical}
 use Rattle.json_events.specs.Refused.{refused}
+use Rattle.json_events.specs.Values.{IsValue}
 
 -- the refusal is that of the first number with no text, unless memory ran out
 abbrev pub RefusesValue : CanonError → Data → Type 0
@@ -49,6 +50,7 @@ WritesText (Err e) d old new = RefusesWriting e d old new
 pub record Pipes (bytes text : List ℕ) : Type 0 where
   pub value : Data
   pub read : json_of bytes ≡ Some value
+  pub is : IsValue value
   pub canonical : Canonical value text
 
 pub record PipeRefuses (e : CanonError) (bytes : List ℕ) : Type 0 where

@@ -1,4 +1,5 @@
-ghost use Rattle.std.specs.Prelude.{◌≡◌, ◌≤◌};
+ghost use Rattle.std.specs.Prelude.{◌≡◌, ◌≤◌, OnOk};
+ghost use Rattle.json_events.specs.Values.{IsValue};
 ghost use Rattle.json_canon.specs.Outcomes.{WritesText};
 
 use crate::whole::to_writer;
@@ -16,6 +17,7 @@ pub struct JcsSerializer<K> {
 impl<K: Sink> JcsSerializer<K> {
     ghost use Rattle.json_canon.specs.Serializers.{sink_of};
 
+    /// A serializer that puts into this sink.
     pub fn new(alloc: Global, sink: K) -> JcsSerializer<K>
         ensures { sink_of result ≡ sink }
     {
@@ -25,11 +27,13 @@ impl<K: Sink> JcsSerializer<K> {
     /// As `to_writer`, whatever the calls before it answered.
     pub fn serialize<V: ToValue>(&mut self, value: &V) -> Result<(), CanonError>
         ensures text { WritesText result (V.written value.now) (K.state (sink_of self.old)) (K.state (sink_of self.new)) }
+        ensures value { OnOk result (IsValue (V.written value.now)) }
         ensures count { (K.state (sink_of self.old)).faults ≤ (K.state (sink_of self.new)).faults }
     {
         to_writer(self.alloc, value, &mut self.sink)
     }
 
+    /// The sink, with what was put.
     pub fn into_inner(self) -> K
         ensures { result ≡ sink_of self }
     {

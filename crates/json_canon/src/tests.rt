@@ -1,7 +1,7 @@
 use crate::plain::write_value;
 use crate::{
     Annotations, Blob, CanonError, JcsSerializer, List, MemorySink, PlainSink, Sink, Text, pipe,
-    to_string, to_vec, to_writer,
+    texts_tell_values, to_string, to_vec, to_writer,
 };
 use serde_json::Value;
 use std::alloc::{AllocError, Global};
@@ -35,6 +35,7 @@ fn texts_have_no_space_and_names_in_order(rt: HostRuntime) -> Result<(), Fail> {
         assert_eq!(rt; pipe(rt.alloc(), json)?.as_str(), want);
         assert_eq!(rt; pipe(rt.alloc(), want)?.as_str(), want, "at its text");
     }
+    texts_tell_values();
     Ok(())
 }
 

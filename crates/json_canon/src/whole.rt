@@ -1,4 +1,5 @@
-ghost use Rattle.std.specs.Prelude.{◌≡◌, ◌≤◌, IfOk, OnOk, IsUtf8};
+// The canonical text of a whole value, by its events.
+ghost use Rattle.std.specs.Prelude.{◌≤◌, IfOk, OnOk, IsUtf8};
 ghost use Rattle.serde_json.specs.View.{view};
 ghost use Rattle.json_canon.specs.Outcomes.{GivesText, WritesText, PipesText};
 ghost use Rattle.json_canon.specs.TextLaws.{PipesBack};
@@ -14,7 +15,8 @@ use std::alloc::Global;
 /// The canonical text of a value (RFC 8785, 3.2). `Float` or `IntegerOutOfRange` is that of the first
 /// number that has no text: items by place, members by the bytes of their names.
 pub fn to_vec<V: ToValue>(alloc: Global, value: &V) -> Result<Blob, CanonError>
-    ensures { GivesText result (V.written value.now) }
+    ensures text { GivesText result (V.written value.now) }
+    ensures value { OnOk result (IsValue (V.written value.now)) }
 {
     let value = value.to_value(alloc)?;
     let text = text_of(alloc, &value)?;
@@ -23,7 +25,8 @@ pub fn to_vec<V: ToValue>(alloc: Global, value: &V) -> Result<Blob, CanonError>
 
 /// As `to_vec`.
 pub fn to_string<V: ToValue>(alloc: Global, value: &V) -> Result<Text, CanonError>
-    ensures { GivesText result (V.written value.now) }
+    ensures text { GivesText result (V.written value.now) }
+    ensures value { OnOk result (IsValue (V.written value.now)) }
 {
     let value = value.to_value(alloc)?;
     let text = string_of(alloc, &value)?;
@@ -38,6 +41,7 @@ pub fn to_writer<V: ToValue, K: Sink>(
     sink: &mut K,
 ) -> Result<(), CanonError>
     ensures text { WritesText result (V.written value.now) (K.state sink.old) (K.state sink.new) }
+    ensures value { OnOk result (IsValue (V.written value.now)) }
     ensures count { (K.state sink.old).faults ≤ (K.state sink.new).faults }
 {
     let value = value.to_value(alloc)?;
@@ -55,6 +59,7 @@ pub fn pipe(alloc: Global, json: &str) -> Result<Text, CanonError>
     text
 }
 
+// `canonical` of `pipe` follows from this clause alone.
 fn piped(alloc: Global, json: &str) -> Result<Text, CanonError>
     ensures { PipesText result json.now }
 {
@@ -84,6 +89,7 @@ fn put_text<K: Sink>(alloc: Global, sink: &mut K, value: &Value) -> Result<(), C
 
 fn text_of(alloc: Global, value: &Value) -> Result<Blob, CanonError>
     ensures text { GivesText result (view value.now) }
+    ensures value { OnOk result (IsValue (view value.now)) }
     ensures utf8 { IfOk result (λ t. IsUtf8 t) }
 {
     let mut sink = PlainSink::new(alloc);
@@ -92,7 +98,8 @@ fn text_of(alloc: Global, value: &Value) -> Result<Blob, CanonError>
 }
 
 fn string_of(alloc: Global, value: &Value) -> Result<Text, CanonError>
-    ensures { GivesText result (view value.now) }
+    ensures text { GivesText result (view value.now) }
+    ensures value { OnOk result (IsValue (view value.now)) }
 {
     let bytes = text_of(alloc, value)?;
     match std::str::from_utf8(bytes.as_slice()) {
