@@ -30,7 +30,7 @@ no_case_ends : (s : Status) (bytes : List ℕ) (old new : Spring) (before after 
 no_case_ends status.Done bytes old new before after told short none h = absurd (no_case_served told none h.served)
 no_case_ends status.Refused bytes old new before after told short none h = absurd (no_case_served told none h.served)
 no_case_ends status.Usage bytes old new before after told short none h = absurd h
-no_case_ends status.NotACase bytes old new before after told short none h = inl refl
+no_case_ends status.UnreadableInput bytes old new before after told short none h = inl refl
 no_case_ends status.SourceFault bytes old new before after told short none h = inr (inr (refl, h.0))
 no_case_ends status.SinkFault bytes old new before after told short none h = absurd (no_case_served told none h.0.served)
 no_case_ends status.WantOfMemory bytes old new before after told short none h = inr (inl refl)
@@ -40,7 +40,7 @@ long_ends : (s : Status) (bytes : List ℕ) (old new : Spring) (before after : T
 long_ends status.Done bytes old new before after told long h = absurd (long_served told long h.served)
 long_ends status.Refused bytes old new before after told long h = absurd (long_served told long h.served)
 long_ends status.Usage bytes old new before after told long h = absurd h
-long_ends status.NotACase bytes old new before after told long h = let short = short_read told h.0.read in absurd (omega (arith, short, long))
+long_ends status.UnreadableInput bytes old new before after told long h = let short = short_read told h.0.read in absurd (omega (arith, short, long))
 long_ends status.SourceFault bytes old new before after told long h = inr (inr (refl, h.0))
 long_ends status.SinkFault bytes old new before after told long h = absurd (long_served told long h.0.served)
 long_ends status.WantOfMemory bytes old new before after told long h = inr (inl refl)
@@ -57,7 +57,7 @@ not_usage : (s : Status) (old new : Spring) (before after : Tray) → SaysPull s
 not_usage status.Done old new before after h is = cc
 not_usage status.Refused old new before after h is = cc
 not_usage status.Usage old new before after h is = h
-not_usage status.NotACase old new before after h is = cc
+not_usage status.UnreadableInput old new before after h is = cc
 not_usage status.SourceFault old new before after h is = cc
 not_usage status.SinkFault old new before after h is = cc
 not_usage status.WantOfMemory old new before after h is = cc

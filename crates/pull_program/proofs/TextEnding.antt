@@ -28,7 +28,7 @@ no_json_ends : (s : Status) (bytes : List ℕ) (old new : Spring) (before after 
 no_json_ends status.Done bytes old new before after told short none h = absurd (no_json_shown told none h.shown)
 no_json_ends status.Refused bytes old new before after told short none h = absurd (no_json_shown told none h.shown)
 no_json_ends status.Usage bytes old new before after told short none h = absurd h
-no_json_ends status.NotACase bytes old new before after told short none h = inl refl
+no_json_ends status.UnreadableInput bytes old new before after told short none h = inl refl
 no_json_ends status.SourceFault bytes old new before after told short none h = inr (inr (refl, h.0))
 no_json_ends status.SinkFault bytes old new before after told short none h = absurd (no_json_shown told none h.0.shown)
 no_json_ends status.WantOfMemory bytes old new before after told short none h = inr (inl refl)
@@ -38,7 +38,7 @@ long_text_ends : (s : Status) (bytes : List ℕ) (old new : Spring) (before afte
 long_text_ends status.Done bytes old new before after told long h = absurd (long_shown told long h.shown)
 long_text_ends status.Refused bytes old new before after told long h = absurd (long_shown told long h.shown)
 long_text_ends status.Usage bytes old new before after told long h = absurd h
-long_text_ends status.NotACase bytes old new before after told long h = let short = short_read told h.0.read in absurd (omega (arith, short, long))
+long_text_ends status.UnreadableInput bytes old new before after told long h = let short = short_read told h.0.read in absurd (omega (arith, short, long))
 long_text_ends status.SourceFault bytes old new before after told long h = inr (inr (refl, h.0))
 long_text_ends status.SinkFault bytes old new before after told long h = absurd (long_shown told long h.0.shown)
 long_text_ends status.WantOfMemory bytes old new before after told long h = inr (inl refl)
@@ -55,7 +55,7 @@ pub not_usage_text : (s : Status) (old new : Spring) (before after : Tray) → S
 not_usage_text status.Done old new before after h is = cc
 not_usage_text status.Refused old new before after h is = cc
 not_usage_text status.Usage old new before after h is = h
-not_usage_text status.NotACase old new before after h is = cc
+not_usage_text status.UnreadableInput old new before after h is = cc
 not_usage_text status.SourceFault old new before after h is = cc
 not_usage_text status.SinkFault old new before after h is = cc
 not_usage_text status.WantOfMemory old new before after h is = cc

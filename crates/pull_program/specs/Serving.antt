@@ -30,7 +30,7 @@ pub record IsCase (case : Case) (old new : Spring) : Type 0 where
 
 -- why there is no case
 abbrev pub Unread : Status → Spring → Spring → Type 0
-Unread status.NotACase old new = NoCase old new
+Unread status.UnreadableInput old new = NoCase old new
 Unread status.SourceFault old new = Rose old.faults new.faults
 Unread status.TooLong old new = IsPast input_limit old.left
 Unread status.WantOfMemory old new = Unit {0}
@@ -73,7 +73,7 @@ abbrev pub SaysPull : Status → Spring → Spring → Tray → Tray → Type 0
 SaysPull status.Done old new before after = Delivered false old new before after
 SaysPull status.Refused old new before after = Delivered true old new before after
 SaysPull status.Usage old new before after = ⊥
-SaysPull status.NotACase old new before after = NoCase old new × (after ≡ before)
+SaysPull status.UnreadableInput old new before after = NoCase old new × (after ≡ before)
 SaysPull status.SourceFault old new before after = Rose old.faults new.faults × (after ≡ before)
 SaysPull status.SinkFault old new before after = Begun old new before after × Rose before.faults after.faults
 SaysPull status.WantOfMemory old new before after = (after ≡ before) ⊎ Begun old new before after

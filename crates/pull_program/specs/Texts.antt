@@ -29,7 +29,7 @@ pub record IsJson (value : Data) (old new : Spring) : Type 0 where
 
 -- why there is no value
 abbrev pub NoValue : Status → Spring → Spring → Type 0
-NoValue status.NotACase old new = NoJson old new
+NoValue status.UnreadableInput old new = NoJson old new
 NoValue status.SourceFault old new = Rose old.faults new.faults
 NoValue status.TooLong old new = IsPast input_limit old.left
 NoValue status.WantOfMemory old new = Unit {0}
@@ -76,7 +76,7 @@ abbrev pub SaysCanon : Status → Spring → Spring → Tray → Tray → Type 0
 SaysCanon status.Done old new before after = Printed false old new before after
 SaysCanon status.Refused old new before after = Printed true old new before after
 SaysCanon status.Usage old new before after = ⊥
-SaysCanon status.NotACase old new before after = NoJson old new × (after ≡ before)
+SaysCanon status.UnreadableInput old new before after = NoJson old new × (after ≡ before)
 SaysCanon status.SourceFault old new before after = Rose old.faults new.faults × (after ≡ before)
 SaysCanon status.SinkFault old new before after = PrintBegun old new before after × Rose before.faults after.faults
 SaysCanon status.WantOfMemory old new before after = (after ≡ before) ⊎ PrintBegun old new before after

@@ -15,7 +15,7 @@ abbrev pub code_of : Status → ℕ
 code_of status.Done = 0
 code_of status.Refused = 1
 code_of status.Usage = 2
-code_of status.NotACase = 3
+code_of status.UnreadableInput = 3
 code_of status.SourceFault = 4
 code_of status.SinkFault = 5
 code_of status.WantOfMemory = 6

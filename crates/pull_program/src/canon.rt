@@ -2,9 +2,8 @@
 ghost use Rattle.std.specs.Prelude.{◌≡◌, true, IfOk};
 ghost use Rattle.pull_program.specs.Texts.{ReadsJson, Prints, SaysCanon};
 
-use crate::report::Report;
-use crate::serving::{INPUT_LIMIT, deliver};
-use crate::status::Status;
+use crate::report::{Report, deliver};
+use crate::status::{INPUT_LIMIT, Status};
 use json_canon::{CanonError, to_vec};
 use json_values::{Blob, Json, Sink, read_json};
 use pull_edge::{ReadRefusal, Source, read_all};
@@ -22,7 +21,7 @@ fn read_value<S: Source>(alloc: Global, source: &mut S) -> Result<Json, Status>
     };
     match read_json(alloc, input.as_slice()) {
         Ok(Some(value)) => Ok(value),
-        Ok(None) => Err(Status::NotACase),
+        Ok(None) => Err(Status::UnreadableInput),
         Err(_) => Err(Status::WantOfMemory),
     }
 }

@@ -1,22 +1,19 @@
 // From the words and the input to the status.
 ghost use Rattle.std.specs.Prelude.{◌≡◌, ◌↔◌, None};
 ghost use Rattle.pull_program.specs.declared.status.Status.{Status};
-ghost use Rattle.pull_program.specs.Serving.{ReadsCase, Puts, SaysPull, Says, Ends};
+ghost use Rattle.pull_program.specs.Serving.{ReadsCase, SaysPull, Says, Ends};
 ghost use Rattle.pull_program.specs.Texts.{TextEnds};
 ghost use Rattle.pull_program.specs.Words.{word_of, code_of};
 
 use crate::canon::serve_canon;
 use crate::pulls::pull_case;
-use crate::report::Report;
-use crate::status::Status;
+use crate::report::deliver;
+use crate::status::{INPUT_LIMIT, Status};
 use crate::words::{Word, word_of};
-use json_values::{Sink, SinkError, Text, put_all};
+use json_values::{Sink, Text};
 use pull_case::{Case, read_case};
 use pull_edge::{ReadRefusal, Source, read_all};
 use std::alloc::Global;
-
-/// How many bytes the input may have.
-pub(crate) const INPUT_LIMIT: u64 = 67108864;
 
 // The case in the input.
 fn read_input<S: Source>(alloc: Global, source: &mut S) -> Result<Case, Status>
@@ -30,24 +27,8 @@ fn read_input<S: Source>(alloc: Global, source: &mut S) -> Result<Case, Status>
     };
     match read_case(alloc, input.as_slice()) {
         Ok(Some(case)) => Ok(case),
-        Ok(None) => Err(Status::NotACase),
+        Ok(None) => Err(Status::UnreadableInput),
         Err(_) => Err(Status::WantOfMemory),
-    }
-}
-
-// Writes a report.
-pub(crate) fn deliver<K: Sink>(sink: &mut K, report: &Report) -> Status
-    ensures { Puts result report.now (K.state sink.old) (K.state sink.new) }
-{
-    match put_all(sink, report.bytes.as_slice()) {
-        Ok(()) => {
-            if report.refused {
-                return Status::Refused;
-            }
-            Status::Done
-        }
-        Err(SinkError::Failed) => Status::SinkFault,
-        Err(SinkError::WantOfMemory) => Status::WantOfMemory,
     }
 }
 
@@ -66,12 +47,7 @@ fn serve_pull<S: Source, K: Sink>(alloc: Global, source: &mut S, sink: &mut K) -
 }
 
 /// Does what the words ask for, with the input of the source and output to the sink.
-pub fn serve<S: Source, K: Sink>(
-    alloc: Global,
-    words: &[Text],
-    source: &mut S,
-    sink: &mut K,
-) -> Status
+fn serve<S: Source, K: Sink>(alloc: Global, words: &[Text], source: &mut S, sink: &mut K) -> Status
     ensures { Says result words.now (S.state source.old) (S.state source.new) (K.state sink.old) (K.state sink.new) }
 {
     match word_of(words) {

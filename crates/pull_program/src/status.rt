@@ -2,6 +2,9 @@
 ghost use Rattle.std.specs.Prelude.{◌≡◌};
 ghost use Rattle.pull_program.specs.Words.{code_of};
 
+/// How many bytes the input may have.
+pub(crate) const INPUT_LIMIT: u64 = 67108864;
+
 /// How the program ended.
 #[derive(Clone, Copy, Debug, PartialEq, Eq)]
 pub enum Status {
@@ -12,7 +15,7 @@ pub enum Status {
     /// The words are no form that the program takes. Nothing was read or written.
     Usage,
     /// The input is no case, or no JSON. Nothing was written.
-    NotACase,
+    UnreadableInput,
     /// The source failed. Nothing was written.
     SourceFault,
     /// The sink failed. A front of the output went out.
@@ -32,7 +35,7 @@ impl Status {
             Status::Done => 0,
             Status::Refused => 1,
             Status::Usage => 2,
-            Status::NotACase => 3,
+            Status::UnreadableInput => 3,
             Status::SourceFault => 4,
             Status::SinkFault => 5,
             Status::WantOfMemory => 6,
