@@ -1,4 +1,4 @@
-.PHONY: test run rows bench allocations hostile
+.PHONY: test run program rows bench allocations hostile
 
 # Proves every crate, runs the tests, and tries the edits that must be refused.
 test:
@@ -8,23 +8,25 @@ test:
 run:
 	cd crates/pull_program && rt run -- pull < stdin
 
-# Builds the program, and runs it over the recorded cases.
-rows:
+# Builds the program, which has to answer the image of the stored case.
+program:
 	cd crates/pull_program && rt run -- pull < stdin > /dev/null
+
+# Runs it over the recorded cases.
+rows: program
 	tests/rows/run
 
 # Measures ratios within one run.
-bench:
-	cd crates/pull_program && rt run -- pull < stdin > /dev/null
+bench: program
+	cd crates/docs_bench && rt run -- documents < stdin > /dev/null
 	python3 bench/run.py
 	python3 bench/canon.py
+	python3 bench/documents.py
 
 # Makes each allocation of the stored run fail in turn.
-allocations:
-	cd crates/pull_program && rt run -- pull < stdin > /dev/null
+allocations: program
 	tests/allocations
 
-# Builds the program, and runs it over registries that answer badly.
-hostile:
-	cd crates/pull_program && rt run -- pull < stdin > /dev/null
+# Runs it over registries that answer badly.
+hostile: program
 	tests/hostile

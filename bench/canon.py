@@ -1,21 +1,17 @@
 #!/usr/bin/env python3
 """Measures `canon` on generated JSON that is deep, wide or full of strings, each by itself.
 
-Time is that of the processor. It is told as a ratio to Python's `json`, which reads the same text and prints it with
-sorted names in the same run, and as the growth from an eighth of the text to the whole, where 8 is linear.
+Time is that of the processor. It is told as a ratio to a program that reads the same text by `serde_json` and prints it
+in the same run, and as the growth from an eighth of the text to the whole, where 8 is linear.
 """
 import json
 import os
 import subprocess
-import sys
 import tempfile
-
-# Nothing is left beside the program.
-sys.dont_write_bytecode = True
 
 HERE = os.path.dirname(os.path.abspath(__file__))
 PROGRAM = os.path.join(HERE, "../crates/pull_program/out/pull_program")
-PLAIN = "import json,sys;sys.stdout.write(json.dumps(json.load(sys.stdin),sort_keys=True,separators=(',',':'),ensure_ascii=False))"
+PLAIN = os.path.join(HERE, "../crates/docs_bench/out/docs_bench")
 MEGABYTES = 32
 RUNS = 3
 
@@ -57,22 +53,34 @@ def seconds(words, path):
     return least
 
 
-def measured(item, size):
+def check(text, path):
+    """Python's sorted names are in the order of their units, since all are ASCII, and it escapes what RFC 8785 escapes."""
+    with open(path, "rb") as stdin:
+        written = subprocess.run([PROGRAM, "canon"], stdin=stdin, stdout=subprocess.PIPE, check=True).stdout
+    wanted = json.dumps(json.loads(text), sort_keys=True, separators=(",", ":"), ensure_ascii=False) + "\n"
+    if written.decode() != wanted:
+        raise SystemExit("the text is not the canonical one")
+
+
+def measured(item, size, ways):
+    """The time of each of these ways over a text of about this size, and its length."""
     with tempfile.NamedTemporaryFile("w", encoding="utf-8") as stored:
-        stored.write(text_of(item, size))
+        text = text_of(item, size)
+        stored.write(text)
         stored.flush()
-        length = os.path.getsize(stored.name)
-        return seconds([PROGRAM, "canon"], stored.name), seconds([sys.executable, "-c", PLAIN], stored.name), length
+        check(text, stored.name)
+        return [seconds(words, stored.name) for words in ways], os.path.getsize(stored.name)
 
 
 def main():
     for item in (deep, wide, strings):
-        small, _, _ = measured(item, MEGABYTES * 1000000 // 8)
-        large, plain, length = measured(item, MEGABYTES * 1000000)
+        (small,), _ = measured(item, MEGABYTES * 1000000 // 8, [[PROGRAM, "canon"]])
+        (large, plain), length = measured(item, MEGABYTES * 1000000, [[PROGRAM, "canon"], [PLAIN, "json"]])
         print(
-            f"{item.__name__}: {length} bytes, {length / large / 1e6:.1f} MB/s, {large / plain:.2f} times Python's json,"
+            f"{item.__name__}: {length} bytes, {length / large / 1e6:.1f} MB/s, {large / plain:.2f} times serde_json,"
             f" growth {large / small:.1f} for 8 times the text"
         )
 
 
-main()
+if __name__ == "__main__":
+    main()

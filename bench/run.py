@@ -63,4 +63,5 @@ def main():
     print(f"memory: {memory / len(stdin):.2f} bytes held at once for each byte of the case")
 
 
-main()
+if __name__ == "__main__":
+    main()

@@ -1,0 +1,56 @@
+#!/usr/bin/env python3
+"""Measures how long a manifest of many layers takes to be read and written back by its table.
+
+Time is told in runs of the same program that reads and prints it as plain JSON, within one run.
+"""
+import json
+import os
+import subprocess
+import tempfile
+import time
+
+HERE = os.path.dirname(os.path.abspath(__file__))
+PROGRAM = os.path.join(HERE, "../crates/docs_bench/out/docs_bench")
+LAYERS = 10000
+RUNS = 9
+
+
+def descriptor(media_type, number, size):
+    return {"mediaType": media_type, "digest": f"sha256:{number:064x}", "size": size}
+
+
+def manifest():
+    layers = [
+        descriptor("application/vnd.oci.image.layer.v1.tar+gzip", number, 1000 + number)
+        for number in range(LAYERS)
+    ]
+    config = descriptor("application/vnd.oci.image.config.v1+json", LAYERS, 7023)
+    media_type = "application/vnd.oci.image.manifest.v1+json"
+    return {"schemaVersion": 2, "mediaType": media_type, "config": config, "layers": layers}
+
+
+def measured(word, path):
+    """The least time of some runs in seconds, and what was written."""
+    times = []
+    for _ in range(RUNS):
+        with open(path, "rb") as stdin:
+            begun = time.monotonic()
+            written = subprocess.run([PROGRAM, word], stdin=stdin, stdout=subprocess.PIPE, check=True).stdout
+        times.append(time.monotonic() - begun)
+    return min(times), written
+
+
+def main():
+    text = json.dumps(manifest(), separators=(",", ":"))
+    with tempfile.NamedTemporaryFile("w") as case:
+        case.write(text)
+        case.flush()
+        documents, written = measured("documents", case.name)
+        plain, printed = measured("json", case.name)
+    if written != printed or json.loads(written) != manifest():
+        raise SystemExit("the manifest is not written back")
+    print(f"{LAYERS} layers, {len(text)} bytes: {documents / plain:.2f} times reading and printing plain JSON")
+
+
+if __name__ == "__main__":
+    main()

@@ -1,0 +1,65 @@
+//! Reads a manifest from standard input and writes it back: by its table (`documents`), or as plain JSON (`json`).
+//!
+//! It ends with 2 for other words, with 3 where the input is no manifest or no JSON, with 4 and 5 where it could not be
+//! read or written, and with 6 where memory was wanting.
+#![tactic(auto)]
+
+mod ways;
+
+use json_values::{Blob, put_all};
+use pull_edge::{StdSink, StdSource, read_all};
+use std::alloc::{AllocError, Global};
+use std::env::{self, Env};
+use std::io;
+use std::process::ExitCode;
+use ways::{json_again, manifest_again};
+
+// What the program reads is held as a whole; the longest input is that of `pull_program`.
+const MOST_BYTES: u64 = 67108864;
+
+#[derive(Clone, Copy)]
+enum Way {
+    Documents,
+    Json,
+}
+
+// The way that the first word names.
+fn first_word<R: Env + Alloc>(rt: &R) -> io::Result<Option<Way>> {
+    let Some(word) = env::args(rt)?.nth(1) else {
+        return Ok(None);
+    };
+    Ok(match word.as_str() {
+        "documents" => Some(Way::Documents),
+        "json" => Some(Way::Json),
+        _ => None,
+    })
+}
+
+fn again(alloc: Global, way: Way, bytes: &[u8]) -> Result<Option<Blob>, AllocError> {
+    match way {
+        Way::Documents => manifest_again(alloc, bytes),
+        Way::Json => json_again(alloc, bytes),
+    }
+}
+
+fn main(rt: HostRuntime) -> ExitCode {
+    let alloc = rt.alloc();
+    let way = match first_word(&rt) {
+        Ok(Some(way)) => way,
+        Ok(None) => return ExitCode::from(2),
+        Err(_) => return ExitCode::from(6),
+    };
+    let Ok(bytes) = read_all(alloc, &mut StdSource::new(rt.stdin()), MOST_BYTES) else {
+        return ExitCode::from(4);
+    };
+    let Ok(found) = again(alloc, way, bytes.as_slice()) else {
+        return ExitCode::from(6);
+    };
+    let Some(text) = found else {
+        return ExitCode::from(3);
+    };
+    match put_all(&mut StdSink::new(rt.stdout()), text.as_slice()) {
+        Ok(()) => ExitCode::from(0),
+        Err(_) => ExitCode::from(5),
+    }
+}

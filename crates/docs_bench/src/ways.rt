@@ -1,0 +1,57 @@
+ghost use Rattle.std.specs.Prelude.{◌≡◌, IfOk, Some, false};
+ghost use Rattle.serde_json.specs.View.{view};
+ghost use Rattle.serde_json.specs.Written.{has_float, compact_text};
+ghost use Rattle.oci_manifests.specs.Manifest.{manifest_written};
+ghost use Rattle.docs_bench.specs.Ways.{PrintsJson, manifest_again};
+
+use json_tables::{holds_float, read_or_none};
+use json_values::{Blob, ToValue, read_json};
+use oci_docs::OciImageManifest;
+use serde_json::Value;
+use std::alloc::{AllocError, Global};
+
+/// The text of the JSON that the bytes say; none where they say none.
+pub fn json_again(alloc: Global, bytes: &[u8]) -> Result<Option<Blob>, AllocError>
+    ensures { IfOk result (λ found. PrintsJson bytes.now found) }
+{
+    let Some(json) = read_json(alloc, bytes)? else {
+        return Ok(None);
+    };
+    let text = compact(alloc, json.value())?;
+    Ok(Some(text))
+}
+
+/// The text of the manifest that they say; none where they say none.
+pub fn manifest_again(alloc: Global, bytes: &[u8]) -> Result<Option<Blob>, AllocError>
+    ensures { IfOk result (λ found. found ≡ manifest_again bytes.now) }
+{
+    let Some(json) = read_json(alloc, bytes)? else {
+        return Ok(None);
+    };
+    if holds_float(json.value()) {
+        return Ok(None);
+    }
+    let found: Option<OciImageManifest> = read_or_none(alloc, json.value())?;
+    let Some(manifest) = found else {
+        return Ok(None);
+    };
+    let text = written(alloc, &manifest)?;
+    Ok(Some(text))
+}
+
+fn written(alloc: Global, manifest: &OciImageManifest) -> Result<Blob, AllocError>
+    ensures { IfOk result (λ text. text ≡ compact_text (manifest_written manifest.now)) }
+{
+    let value = manifest.to_value(alloc)?;
+    let text = compact(alloc, &value)?;
+    Ok(text)
+}
+
+fn compact(alloc: Global, value: &Value) -> Result<Blob, AllocError>
+    ensures { IfOk result (λ text. has_float (view value.now) ≡ false
+        → text ≡ compact_text (view value.now)) }
+{
+    let text = value.to_string(alloc)?;
+    let bytes = Blob::new(alloc, text.as_str().as_bytes())?;
+    Ok(bytes)
+}
