@@ -1,4 +1,3 @@
 pub mod Cases
 pub mod Ending
 pub mod Rounding
-pub mod TextEnding

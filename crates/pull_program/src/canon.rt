@@ -1,24 +1,22 @@
 // The word `canon`: the canonical text of the JSON in the input.
 ghost use Rattle.std.specs.Prelude.{◌≡◌, true, IfOk};
-ghost use Rattle.pull_program.specs.Texts.{ReadsJson, Prints, SaysCanon};
+ghost use Rattle.json_values.specs.JsonText.{json_of};
+ghost use Rattle.pull_program.specs.Inputs.{ReadsInput};
+ghost use Rattle.pull_program.specs.Texts.{Prints, SaysCanon};
 
+use crate::input::read_bytes;
 use crate::report::{Report, deliver};
-use crate::status::{INPUT_LIMIT, Status};
+use crate::status::Status;
 use json_canon::{CanonError, to_vec};
 use json_values::{Blob, Json, Sink, read_json};
-use pull_edge::{ReadRefusal, Source, read_all};
+use pull_edge::Source;
 use std::alloc::{AllocError, Global};
 
 // The JSON in the input.
 fn read_value<S: Source>(alloc: Global, source: &mut S) -> Result<Json, Status>
-    ensures { ReadsJson result (S.state source.old) (S.state source.new) }
+    ensures { ReadsInput json_of result (S.state source.old) (S.state source.new) }
 {
-    let input = match read_all(alloc, source, INPUT_LIMIT) {
-        Ok(input) => input,
-        Err(ReadRefusal::TooLong) => return Err(Status::TooLong),
-        Err(ReadRefusal::SourceFault) => return Err(Status::SourceFault),
-        Err(ReadRefusal::WantOfMemory) => return Err(Status::WantOfMemory),
-    };
+    let input = read_bytes(alloc, source)?;
     match read_json(alloc, input.as_slice()) {
         Ok(Some(value)) => Ok(value),
         Ok(None) => Err(Status::UnreadableInput),

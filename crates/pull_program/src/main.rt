@@ -5,6 +5,7 @@
 mod canon;
 #[cfg(test)]
 mod faults;
+mod input;
 mod pulls;
 #[cfg(test)]
 mod recorded;

@@ -1,5 +1,5 @@
 // What was written, and how it goes out.
-ghost use Rattle.pull_program.specs.Serving.{Puts};
+ghost use Rattle.pull_program.specs.Inputs.{Puts};
 
 use crate::status::Status;
 use json_values::{Blob, Sink, SinkError, put_all};

@@ -6,25 +6,21 @@ ghost use Rattle.pull_program.specs.Texts.{TextEnds};
 ghost use Rattle.pull_program.specs.Words.{word_of, code_of};
 
 use crate::canon::serve_canon;
+use crate::input::read_bytes;
 use crate::pulls::pull_case;
 use crate::report::deliver;
-use crate::status::{INPUT_LIMIT, Status};
+use crate::status::Status;
 use crate::words::{Word, word_of};
 use json_values::{Sink, Text};
 use pull_case::{Case, read_case};
-use pull_edge::{ReadRefusal, Source, read_all};
+use pull_edge::Source;
 use std::alloc::Global;
 
 // The case in the input.
 fn read_input<S: Source>(alloc: Global, source: &mut S) -> Result<Case, Status>
     ensures { ReadsCase result (S.state source.old) (S.state source.new) }
 {
-    let input = match read_all(alloc, source, INPUT_LIMIT) {
-        Ok(input) => input,
-        Err(ReadRefusal::TooLong) => return Err(Status::TooLong),
-        Err(ReadRefusal::SourceFault) => return Err(Status::SourceFault),
-        Err(ReadRefusal::WantOfMemory) => return Err(Status::WantOfMemory),
-    };
+    let input = read_bytes(alloc, source)?;
     match read_case(alloc, input.as_slice()) {
         Ok(Some(case)) => Ok(case),
         Ok(None) => Err(Status::UnreadableInput),

@@ -2,9 +2,6 @@
 ghost use Rattle.std.specs.Prelude.{◌≡◌};
 ghost use Rattle.pull_program.specs.Words.{code_of};
 
-/// How many bytes the input may have.
-pub(crate) const INPUT_LIMIT: u64 = 67108864;
-
 /// How the program ended.
 #[derive(Clone, Copy, Debug, PartialEq, Eq)]
 pub enum Status {

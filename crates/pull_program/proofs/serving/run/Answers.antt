@@ -1,5 +1,4 @@
-use Rattle.pull_program.proofs.Ending.{says_ends, says_usage}
-use Rattle.pull_program.proofs.TextEnding.{text_ends}
+use Rattle.pull_program.proofs.Ending.{says_ends, says_usage, text_ends}
 use Rattle.pull_program.proofs.serving.run.Goals as goal
 
 pub returns-clause-other_words : goal.returns-clause-other_words
