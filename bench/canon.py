@@ -2,7 +2,8 @@
 """Measures `canon` on generated JSON that is deep, wide or full of strings, each by itself.
 
 Time is that of the processor. It is told as a ratio to a program that reads the same text by `serde_json` and prints it
-in the same run, and as the growth from an eighth of the text to the whole, where 8 is linear.
+in the same run, and as the growth from an eighth of the text to the whole, where 8 is linear. A last line tells what nesting
+costs: the same long text inside many objects, in times of it inside one.
 """
 import json
 import os
@@ -14,6 +15,7 @@ PROGRAM = os.path.join(HERE, "../crates/pull_program/out/pull_program")
 PLAIN = os.path.join(HERE, "../crates/docs_bench/out/docs_bench")
 MEGABYTES = 32
 RUNS = 3
+NESTED = 120
 
 
 def deep(place):
@@ -72,6 +74,14 @@ def measured(item, size, ways):
         return [seconds(words, stored.name) for words in ways], os.path.getsize(stored.name)
 
 
+def inside(depth, size):
+    """The time over a long text inside this many objects, one in the other."""
+    with tempfile.NamedTemporaryFile("w", encoding="utf-8") as stored:
+        stored.write('{"next":' * depth + json.dumps("x" * size) + "}" * depth)
+        stored.flush()
+        return seconds([PROGRAM, "canon"], stored.name)
+
+
 def main():
     for item in (deep, wide, strings):
         (small,), _ = measured(item, MEGABYTES * 1000000 // 8, [[PROGRAM, "canon"]])
@@ -80,6 +90,8 @@ def main():
             f"{item.__name__}: {length} bytes, {length / large / 1e6:.1f} MB/s, {large / plain:.2f} times serde_json,"
             f" growth {large / small:.1f} for 8 times the text"
         )
+    size = MEGABYTES * 1000000 // 2
+    print(f"a text of {size} bytes inside {NESTED} objects: {inside(NESTED, size) / inside(1, size):.1f} times inside one")
 
 
 if __name__ == "__main__":
