@@ -1,5 +1,5 @@
 -- A list of events that was taken to its end is that of a value.
-use Rattle.std.proofs.Common.{◌≡◌, ◌≢◌, ℕ, ℤ, pos, List, [], ◌∷◌, ◌++◌, Bool, true, false, ◌||◌, if◌then◌else◌, Option, Some, None, refl, sym, ap, subst, ◌∙◌, inl, inr, append_assoc, append-nil, IsUtf8, Equal}
+use Rattle.std.proofs.Common.{◌≡◌, ◌≢◌, ℕ, ℤ, pos, List, [], ◌∷◌, ◌++◌, Bool, true, false, ◌||◌, if◌then◌else◌, Option, Some, None, refl, sym, ap, subst, ◌∙◌, inl, inr, append_assoc, IsUtf8}
 use Rattle.std.specs.Cmp.{tied_itself}
 use Rattle.std.specs.Cmp.Lexicographic.{nat_list_cmp_total}
 use Rattle.std.specs.Fmt.{signed_decimal}
@@ -13,18 +13,18 @@ use Rattle.json_events.specs.declared.property.JsonProperty.{JsonProperty}
 use Rattle.json_events.specs.declared.spot.Spot.{Spot}
 use Rattle.json_events.specs.declared.spot.Spot.TheVariants.{Items as AtItems, ItemDue, ItemDone, Names, ValueDue, ValueDone, Whole, Finished}
 use Rattle.json_events.specs.Canonical.{in_range}
-use Rattle.json_events.specs.Drafts.{Level, Draft, Turn, refused as refuses, moves, turned, act, fresh, writes, at, after_value, where_due, is_at, only_at, ends_member}
-use Rattle.json_events.specs.Events.{Event, whole_value, array_begins, item_begins, item_ends, array_ends, object_begins, string_event, member_ends, object_ends, finishes}
+use Rattle.json_events.specs.Drafts.{Level, Draft, Turn, refused as refuses, moves, turned, act, fresh, writes, at, after_value, where_due, is_at, ends_member}
+use Rattle.json_events.specs.Events.{Event, array_begins, item_begins, item_ends, array_ends, object_begins, member_ends, object_ends, finishes}
 use Rattle.json_events.specs.Laws.{FinishedSpells}
 use Rattle.json_events.specs.Members.{property}
 use Rattle.json_events.specs.Refused.{refused, refused_items, refused_members, refused_by, first_of_two}
-use Rattle.json_events.specs.Spelling.{spelled, spelled_items, spelled_members, number_event, AreTexts, IsText}
+use Rattle.json_events.specs.Spelling.{spelled, spelled_items, spelled_members, number_event, AreTexts}
 use Rattle.json_events.specs.Units.{units, by_units}
 use Rattle.json_events.specs.Values.{IsValue, AreValues, AreMembers, IsOther}
 use Rattle.json_events.specs.WellNested.{Scalar, a_null, a_truth, a_whole, a_float, a_string, a_fragment, Tree, scalar, array, object, Trees, no_trees, and_tree, Fields, no_fields, and_field, nested, nested_items, nested_fields, name_events, has_field}
 use Rattle.json_events.proofs.Keeping.{by_key}
 use Rattle.json_events.proofs.Spelled.{going}
-use Rattle.json_events.proofs.Passing.{after, after-append, stays, Passes, AtSpot, InPlace, NoMembers, FieldsIn, ties, array_begin, item_begin, item_end, object_begin, items_passes, fields_passes, name_passes, named, tree_passes}
+use Rattle.json_events.proofs.Passing.{after, after-append, stays, Passes, AtSpot, InPlace, NoMembers, FieldsIn, ties, array_begin, item_begin, object_begin, items_passes, fields_passes, name_passes, named, tree_passes}
 use Rattle.json_events.proofs.Fitting.{fits, Opens, same_spot}
 use Rattle.json_events.proofs.Causes.{unrefused, going_is}
 

@@ -1,5 +1,5 @@
 // The members of an object, in the order of their names' units (RFC 8785, 3.2.3).
-ghost use Rattle.std.specs.Prelude.{◌≡◌, ◌++◌, OnOk};
+ghost use Rattle.std.specs.Prelude.{◌≡◌, ◌++◌, IfOk, OnOk};
 ghost use Rattle.serde_json.specs.Written.{comma_if};
 ghost use Rattle.json_events.specs.Members.{kept_object, kept_text};
 
@@ -10,19 +10,20 @@ use std::collections::BTreeSet;
 
 pub(crate) type Members = BTreeSet<JsonProperty>;
 
-/// Writes the object of these members.
-pub(crate) fn append_object(out: &mut Blob, members: &Members) -> Result<(), AllocError>
-    ensures { OnOk result (out.new ≡ out.old ++ kept_object members.now.keys) }
+/// A text, and the object of these members after it.
+pub(crate) fn with_object(text: Blob, members: Members) -> Result<Blob, AllocError>
+    ensures { IfOk result (λ t. t ≡ text ++ kept_object members.keys) }
 {
-    out.append(b"{")?;
+    let mut whole = text;
+    whole.append(b"{")?;
     let mut later = false;
-    for member in members.iter() {
-        append_comma(out, later)?;
-        append_member(out, member)?;
+    for member in members {
+        append_comma(&mut whole, later)?;
+        whole = with_member(whole, member)?;
         later = true;
     }
-    out.append(b"}")?;
-    Ok(())
+    whole.append(b"}")?;
+    Ok(whole)
 }
 
 /// A comma, where something stands before.
@@ -35,11 +36,12 @@ fn append_comma(out: &mut Blob, later: bool) -> Result<(), AllocError>
     Ok(())
 }
 
-fn append_member(out: &mut Blob, member: &JsonProperty) -> Result<(), AllocError>
-    ensures { OnOk result (out.new ≡ out.old ++ kept_text member.now) }
+fn with_member(text: Blob, member: JsonProperty) -> Result<Blob, AllocError>
+    ensures { IfOk result (λ t. t ≡ text ++ kept_text member) }
 {
-    out.append(member.key.as_slice())?;
-    out.append(b":")?;
-    out.append(member.value.as_slice())?;
-    Ok(())
+    let mut whole = text;
+    whole.append(member.key.as_slice())?;
+    whole.append(b":")?;
+    let whole = whole.join(member.value)?;
+    Ok(whole)
 }

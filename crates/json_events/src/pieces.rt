@@ -6,7 +6,7 @@ ghost use Rattle.json_events.specs.States.{draft_of, level_of};
 ghost use Rattle.json_events.specs.Turns.{Tries, Closes};
 
 use crate::error::CanonError;
-use crate::members::{Members, append_object};
+use crate::members::{Members, with_object};
 use crate::spot::Spot;
 use crate::state::{Container, State};
 use json_values::{Blob, Sink, SinkError, put_all};
@@ -40,22 +40,23 @@ pub(crate) fn write_object<K: Sink>(
     alloc: Global,
     state: &mut State,
     sink: &mut K,
-    members: &Members,
+    members: Members,
 ) -> Result<(), CanonError>
-    ensures tries { Tries (writes (kept_object members.now.keys) (draft_of state.old)) result (draft_of state.new) (K.state sink.old) (K.state sink.new) }
+    ensures tries { Tries (writes (kept_object members.keys) (draft_of state.old)) result (draft_of state.new) (K.state sink.old) (K.state sink.new) }
     ensures count { (K.state sink.old).faults ≤ (K.state sink.new).faults }
 {
     if state.inner.held {
-        match append_object(&mut state.text, members) {
-            Ok(()) => return Ok(()),
+        let text = mem::replace(&mut state.text, Blob::empty(alloc));
+        match with_object(text, members) {
+            Ok(text) => state.text = text,
             Err(_) => return Err(CanonError::WantOfMemory),
         }
+        return Ok(());
     }
-    let mut object = Blob::empty(alloc);
-    match append_object(&mut object, members) {
-        Ok(()) => {}
+    let object = match with_object(Blob::empty(alloc), members) {
+        Ok(object) => object,
         Err(_) => return Err(CanonError::WantOfMemory),
-    }
+    };
     match put_all(sink, object.as_slice()) {
         Ok(()) => Ok(()),
         Err(SinkError::Failed) => Err(CanonError::SinkFault),

@@ -2,7 +2,7 @@ use crate::{
     CanonError, JcsFormatter, JsonProperty, events_write, first_refusal_has_its_cause, one_text,
     order_of_names, refused_integer,
 };
-use json_values::{Blob, List, MemorySink, PlainSink, Sink};
+use json_values::{Blob, List, MemorySink, PlainSink, Sink, Text};
 use std::alloc::{AllocError, Global};
 use std::cmp::Ordering;
 use std::test::Fail;
@@ -86,6 +86,32 @@ fn what_stands_in_no_object_goes_out_at_once(rt: HostRuntime) -> Result<(), Fail
         assert_eq!(rt; sink.taken(), taken.as_bytes(), "at {events}");
         assert_eq!(rt; f.member_text(), text.as_bytes(), "at {events}");
     }
+    Ok(())
+}
+
+// A text of this length is moved from object to object, and what comes before it is put in front.
+#[test]
+fn a_long_text_inside_objects_keeps_its_place(rt: HostRuntime) -> Result<(), Fail> {
+    let mut long = Text::new(rt.alloc(), "")?;
+    for _ in 0..400u16 {
+        long.push_str("x")?;
+    }
+    let mut expected = Text::new(rt.alloc(), "")?;
+    let mut sink = PlainSink::new(rt.alloc());
+    let mut f = JcsFormatter::new(rt.alloc());
+    for _ in 0..3u8 {
+        play(&mut f, &mut sink, "{<d>:[(n)(")?;
+        expected.push_str("{\"\u{1f600}\":true,\"\u{fb33}\":[null,")?;
+    }
+    f.write_string(&mut sink, long.as_str())?;
+    expected.push_str("\"")?;
+    expected.push_str(long.as_str())?;
+    expected.push_str("\"")?;
+    for _ in 0..3u8 {
+        play(&mut f, &mut sink, ")];<g>:t;}")?;
+        expected.push_str("]}")?;
+    }
+    assert_eq!(rt; sink.taken(), expected.as_str().as_bytes());
     Ok(())
 }
 

@@ -125,7 +125,7 @@ pub(crate) fn end_object<K: Sink>(
         around,
     } = object;
     state.text = around;
-    let written = write_object(alloc, state, sink, &members);
+    let written = write_object(alloc, state, sink, members);
     written
 }
 

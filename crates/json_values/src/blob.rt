@@ -1,21 +1,30 @@
-ghost use Rattle.std.specs.Prelude.{◌≡◌, ◌++◌, ◌↔◌, [], IfOk, IsTrue, OnOk, OnErr};
+ghost use Rattle.std.specs.Prelude.{◌≡◌, ◌+◌, ◌≤◌, ◌++◌, ◌↔◌, [], length, IfOk, IsTrue, OnOk, OnErr};
+ghost use Rattle.std.proofs.Math.Seq.{paste};
 
 use crate::copied::Copied;
 use std::alloc::{AllocError, Global};
+use std::fmt;
 use std::marker::Model;
 
+// A text up to this length is copied sooner than room is made before it.
+const SHORT: usize = 256;
+
 /// Bytes. A contract sees the list of them.
-#[derive(Debug, Drop)]
+#[derive(Drop)]
 pub struct Blob {
+    // The bytes stand from `start` on. What is before is room for bytes that come in front of them.
     inner: Vec<u8>,
+    start: usize,
 }
 
 impl Model for Blob {
-    ghost use Rattle.std.specs.Prelude.{ℕ, List};
+    ghost use Rattle.std.specs.Prelude.{ℕ, ◌≤◌, List, drop, vec_len};
 
     ghost Value = { List ℕ };
 
-    ghost view = { λ b. b.inner.items };
+    ghost view = { λ b. drop b.start b.inner.items };
+
+    ghost invariant = { λ b. b.start ≤ vec_len b.inner };
 }
 
 impl Blob {
@@ -24,6 +33,7 @@ impl Blob {
     {
         Ok(Blob {
             inner: Vec::from_slice(alloc, bytes)?,
+            start: 0,
         })
     }
 
@@ -33,6 +43,7 @@ impl Blob {
     {
         Blob {
             inner: Vec::new(alloc),
+            start: 0,
         }
     }
 
@@ -40,7 +51,10 @@ impl Blob {
     pub fn from_vec(bytes: Vec<u8>) -> Blob
         ensures { result ≡ bytes.items }
     {
-        Blob { inner: bytes }
+        Blob {
+            inner: bytes,
+            start: 0,
+        }
     }
 
     /// Adds bytes at the end.
@@ -54,7 +68,58 @@ impl Blob {
     pub fn as_slice(&self) -> &[u8]
         ensures { result.now ≡ self.now }
     {
-        self.inner.as_slice()
+        &self.inner[self.start..]
+    }
+
+    /// These bytes, and those of `next` after them. Of two long ones the shorter is copied, so that bytes
+    /// that are joined to others again and again are not copied each time.
+    pub fn join(self, next: Blob) -> Result<Blob, AllocError>
+        ensures { IfOk result (λ b. b ≡ self ++ next) }
+    {
+        let mut first = self;
+        let mut second = next;
+        if second.len() <= SHORT || second.len() <= first.len() {
+            first.append(second.as_slice())?;
+            return Ok(first);
+        }
+        second.prepend(first.as_slice())?;
+        Ok(second)
+    }
+
+    fn len(&self) -> usize
+        ensures { result ≡ length self.now }
+    {
+        self.as_slice().len()
+    }
+
+    // Where the room is too small, the bytes move, and leave room for as many again.
+    fn prepend(&mut self, bytes: &[u8]) -> Result<(), AllocError>
+        requires { length bytes.now ≤ length self.old }
+        ensures { OnOk result (self.new ≡ bytes.now ++ self.old) }
+    {
+        if self.start < bytes.len() {
+            let end = self.inner.len();
+            self.inner.extend_from_within(self.start..)?;
+            self.start = end;
+        }
+        let start = self.start - bytes.len();
+        write_at(self.inner.as_mut_slice(), start, bytes);
+        self.start = start;
+        Ok(())
+    }
+}
+
+fn write_at(all: &mut [u8], start: usize, bytes: &[u8])
+    requires { start + length bytes.now ≤ length all.old }
+    ensures { all.new ≡ paste all.old start bytes.now (length bytes.now) }
+{
+    all[start..start + bytes.len()].copy_from_slice(bytes);
+}
+
+impl fmt::Debug for Blob {
+    fn fmt<W: fmt::Write>(&self, f: &mut fmt::Formatter<W>) -> fmt::Result {
+        let bytes = self.as_slice();
+        write!(f, "Blob({bytes:?})")
     }
 }
 

@@ -18,6 +18,23 @@ fn texts_and_bytes_grow_and_copy(rt: HostRuntime) -> Result<(), Fail> {
 }
 
 #[test]
+fn joined_bytes_stand_in_their_order(rt: HostRuntime) -> Result<(), Fail> {
+    let alloc = rt.alloc();
+    let short = Blob::new(alloc, b"ab")?.join(Blob::new(alloc, b"c")?)?;
+    assert_eq!(rt; short.as_slice(), b"abc".as_slice());
+    let mut long = Blob::new(alloc, [b'x'; 600].as_slice())?;
+    for _ in 0..400u16 {
+        long = Blob::new(alloc, b"[{")?.join(long)?;
+        long.append(b"}]")?;
+    }
+    assert_eq!(rt; long.as_slice().len(), 2200);
+    assert!(rt; long.as_slice().starts_with(b"[{[{"));
+    assert_eq!(rt; &long.as_slice()[798..804], b"[{xxxx".as_slice());
+    assert!(rt; long.as_slice().ends_with(b"}]}]"));
+    Ok(())
+}
+
+#[test]
 fn lists_keep_their_order(rt: HostRuntime) -> Result<(), Fail> {
     let mut list = List::new(rt.alloc());
     for number in [3u64, 1, 2] {
