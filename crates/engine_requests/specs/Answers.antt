@@ -1,5 +1,5 @@
 -- What is made of a whole answer (OCI distribution specification, "Error Codes", "Pulling manifests").
-use Rattle.std.specs.Prelude.{ℕ, Bool, true, false, List, Option, Some, None, Result, Ok, Err, codes, if◌then◌else◌, nat_eq, nat_le, nat_lt, ◌&&◌, not, bytes_eq, option_and_then}
+use Rattle.std.specs.Prelude.{ℕ, Bool, List, Option, Some, None, Result, Ok, Err, codes, if◌then◌else◌, nat_eq, nat_le, nat_lt, ◌&&◌, not, bytes_eq, option_and_then}
 use Rattle.json_values.specs.JsonText.{plain_json_of}
 use Rattle.oci_digests.specs.Checks.{header_digest as digest_in, validated}
 use Rattle.oci_digests.specs.Parts.{parts_of}

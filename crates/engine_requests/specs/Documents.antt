@@ -1,5 +1,5 @@
 -- How a document is read (OCI image specification, "Image Manifest", "Image Index").
-use Rattle.std.specs.Prelude.{ℕ, pos, Bool, true, false, List, Option, Some, None, Result, Ok, Err, is_some, ◌&&◌, if◌then◌else◌, option_and_then}
+use Rattle.std.specs.Prelude.{ℕ, pos, Bool, List, Option, Some, None, Result, Ok, Err, is_some, ◌&&◌, if◌then◌else◌, option_and_then}
 use Rattle.std.specs.Ordering.{int_eq}
 use Rattle.serde_json.specs.Data.{Data}
 use Rattle.json_values.specs.JsonText.{json_of, is_plain}

@@ -1,6 +1,6 @@
 // Why a call of the registry's client was refused.
 ghost use Rattle.std.specs.Prelude.{◌≡◌};
-ghost use Rattle.engine_requests.specs.Errors.{is_memory};
+ghost use Rattle.engine_requests.specs.Errors.{is_memory, name_of};
 
 use json_values::{Blob, Text};
 use oci_digests::DigestError;
@@ -75,7 +75,9 @@ impl OciDistributionError {
     }
 
     /// The name of the variant.
-    pub fn name(&self) -> &'static str {
+    pub fn name(&self) -> &'static str
+        ensures { result.now ≡ name_of self.now }
+    {
         match self {
             OciDistributionError::AmbiguousManifest(_) => "AmbiguousManifest",
             OciDistributionError::AuthenticationFailure(_) => "AuthenticationFailure",
@@ -109,8 +111,13 @@ impl OciDistributionError {
 }
 
 impl Display for OciDistributionError {
+    ghost use Rattle.std.specs.Prelude.{Some};
+
+    ghost output = { λ e. Some (name_of e) };
+
     fn fmt<W: fmt::Write>(&self, f: &mut Formatter<W>) -> fmt::Result {
-        f.write_str(self.name())
+        let name = self.name();
+        write!(f, "{name}")
     }
 }
 
