@@ -13,14 +13,23 @@ use std::alloc::{AllocError, Global};
 /// How a container is started (OCI image specification, config.md, `config`).
 #[derive(Debug, PartialEq, Eq, Drop)]
 pub struct Config {
+    /// The user, and perhaps the group, that the process runs as: `User`.
     pub user: Option<Text>,
+    /// The ports that the container offers, as `8080/tcp`: `ExposedPorts`.
     pub exposed_ports: Option<TextSet>,
+    /// Environment variables, as `NAME=value`: `Env`.
     pub env: Option<List<Text>>,
+    /// The arguments that are given where the caller gives none: `Cmd`.
     pub cmd: Option<List<Text>>,
+    /// The command that starts the container: `Entrypoint`.
     pub entrypoint: Option<List<Text>>,
+    /// The directories in which the container writes data of its own: `Volumes`.
     pub volumes: Option<TextSet>,
+    /// The directory that the process begins in: `WorkingDir`.
     pub working_dir: Option<Text>,
+    /// Texts by name, for any use: `Labels`.
     pub labels: Option<Annotations>,
+    /// The signal that ends the container, as `SIGTERM`: `StopSignal`.
     pub stop_signal: Option<Text>,
 }
 

@@ -15,12 +15,19 @@ use std::alloc::{AllocError, Global};
 /// The configuration file of an image (OCI image specification, config.md).
 #[derive(Debug, PartialEq, Eq, Drop)]
 pub struct ConfigFile {
+    /// When the image was made.
     pub created: Option<Time>,
+    /// Who made the image.
     pub author: Option<Text>,
+    /// The processor that the programs are for, as `amd64`.
     pub architecture: Text,
+    /// The operating system that the programs are for, as `linux`.
     pub os: Text,
+    /// How a container of the image is started.
     pub config: Option<Config>,
+    /// The layers of the file system.
     pub rootfs: Rootfs,
+    /// How each layer came to be, from the lowest upward.
     pub history: Option<List<History>>,
 }
 

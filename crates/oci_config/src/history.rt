@@ -13,9 +13,13 @@ use std::alloc::{AllocError, Global};
 /// A step by which an image was made (OCI image specification, config.md, `history`).
 #[derive(Debug, Drop)]
 pub struct History {
+    /// When the step was made.
     pub created: Option<Time>,
+    /// Who made the step.
     pub author: Option<Text>,
+    /// The command that made the step.
     pub created_by: Option<Text>,
+    /// A remark on the step.
     pub comment: Option<Text>,
     /// Whether the step left the file system as it was.
     pub empty_layer: Option<bool>,

@@ -18,6 +18,7 @@ pub const ROOTFS_TYPE: &'static str = "layers";
 pub struct Rootfs {
     /// The member `type`.
     pub kind: Text,
+    /// The digests of the layers before they were packed, from the lowest upward.
     pub diff_ids: List<Text>,
 }
 
