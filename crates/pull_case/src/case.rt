@@ -41,6 +41,30 @@ pub struct Case {
     pub answers: List<Recorded>,
 }
 
+const NAMES: &[&str] = &[
+    "reference",
+    "protocol",
+    "auth",
+    "accepted",
+    "moments",
+    "keys",
+    "constraints",
+    "signatures",
+    "answers",
+];
+
+type Members = (
+    ReferenceText,
+    Protocol,
+    Credentials,
+    List<Text>,
+    Moments,
+    List<Blob>,
+    Entries<AnnotationVerifier>,
+    Entries<SignedRow>,
+    Entries<Recorded>,
+);
+
 impl Reads for Case {
     ghost use Rattle.pull_case.specs.Case.{case_of};
 
@@ -48,20 +72,7 @@ impl Reads for Case {
 
     #[tactic(auto, unfolding(crate::specs::Case::case_of))]
     fn read_value(alloc: Global, value: &Value) -> Result<Case, ReadError> {
-        only(
-            value,
-            &[
-                "reference",
-                "protocol",
-                "auth",
-                "accepted",
-                "moments",
-                "keys",
-                "constraints",
-                "signatures",
-                "answers",
-            ],
-        )?;
+        only(value, NAMES)?;
         let (
             reference,
             protocol,
@@ -72,17 +83,7 @@ impl Reads for Case {
             constraints,
             signatures,
             answers,
-        ): (
-            ReferenceText,
-            Protocol,
-            Credentials,
-            List<Text>,
-            Moments,
-            List<Blob>,
-            Entries<AnnotationVerifier>,
-            Entries<SignedRow>,
-            Entries<Recorded>,
-        ) = row9(
+        ): Members = row9(
             alloc,
             value,
             "reference",
