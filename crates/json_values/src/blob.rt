@@ -1,5 +1,4 @@
 ghost use Rattle.std.specs.Prelude.{◌≡◌, ◌+◌, ◌≤◌, ◌++◌, ◌↔◌, [], length, IfOk, IsTrue, OnOk, OnErr};
-ghost use Rattle.std.proofs.Math.Seq.{paste};
 
 use crate::copied::Copied;
 use std::alloc::{AllocError, Global};
@@ -78,18 +77,13 @@ impl Blob {
     {
         let mut first = self;
         let mut second = next;
-        if second.len() <= SHORT || second.len() <= first.len() {
+        let length = second.as_slice().len();
+        if length <= SHORT || length <= first.as_slice().len() {
             first.append(second.as_slice())?;
             return Ok(first);
         }
         second.prepend(first.as_slice())?;
         Ok(second)
-    }
-
-    fn len(&self) -> usize
-        ensures { result ≡ length self.now }
-    {
-        self.as_slice().len()
     }
 
     // Where the room is too small, the bytes move, and leave room for as many again.
@@ -103,17 +97,10 @@ impl Blob {
             self.start = end;
         }
         let start = self.start - bytes.len();
-        write_at(self.inner.as_mut_slice(), start, bytes);
+        self.inner[start..self.start].copy_from_slice(bytes);
         self.start = start;
         Ok(())
     }
-}
-
-fn write_at(all: &mut [u8], start: usize, bytes: &[u8])
-    requires { start + length bytes.now ≤ length all.old }
-    ensures { all.new ≡ paste all.old start bytes.now (length bytes.now) }
-{
-    all[start..start + bytes.len()].copy_from_slice(bytes);
 }
 
 impl fmt::Debug for Blob {
