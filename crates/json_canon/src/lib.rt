@@ -18,7 +18,7 @@ pub use json_values::{
 };
 pub use laws::texts_tell_values;
 pub use serializer::JcsSerializer;
-pub use whole::{pipe, to_string, to_vec, to_writer};
+pub use whole::{json_to_vec, pipe, to_string, to_vec, to_writer};
 
 #[cfg(test)]
 mod plain;

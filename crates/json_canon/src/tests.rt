@@ -1,7 +1,7 @@
 use crate::plain::write_value;
 use crate::{
-    Annotations, Blob, CanonError, JcsSerializer, List, MemorySink, PlainSink, Sink, Text, pipe,
-    texts_tell_values, to_string, to_vec, to_writer,
+    Annotations, Blob, CanonError, JcsSerializer, Json, List, MemorySink, PlainSink, Sink, Text,
+    json_to_vec, pipe, texts_tell_values, to_string, to_vec, to_writer,
 };
 use serde_json::Value;
 use std::alloc::{AllocError, Global};
@@ -222,6 +222,11 @@ fn the_plain_program_writes_the_same(rt: HostRuntime) -> Result<(), Fail> {
             to_vec(rt.alloc(), &value)?.as_slice(),
             plain.as_slice(),
             "at {number}"
+        );
+        assert_eq!(rt;
+            json_to_vec(rt.alloc(), &Json::new(value))?.as_slice(),
+            plain.as_slice(),
+            "at {number}, with no copy"
         );
     }
     Ok(())

@@ -8,7 +8,7 @@ ghost use Rattle.json_events.specs.Values.{IsValue};
 use crate::feed::feed;
 use crate::walk::refusal;
 use json_events::{CanonError, JcsFormatter};
-use json_values::{Blob, PlainSink, Sink, Text, ToValue, read_json};
+use json_values::{Blob, Json, PlainSink, Sink, Text, ToValue, read_json};
 use serde_json::Value;
 use std::alloc::Global;
 
@@ -20,6 +20,15 @@ pub fn to_vec<V: ToValue>(alloc: Global, value: &V) -> Result<Blob, CanonError>
 {
     let value = value.to_value(alloc)?;
     let text = text_of(alloc, &value)?;
+    Ok(text)
+}
+
+/// As `to_vec`, of a JSON value that is there already: none of it is copied.
+pub fn json_to_vec(alloc: Global, json: &Json) -> Result<Blob, CanonError>
+    ensures text { GivesText result json.now }
+    ensures value { OnOk result (IsValue json.now) }
+{
+    let text = text_of(alloc, json.value())?;
     Ok(text)
 }
 

@@ -7,7 +7,7 @@ ghost use Rattle.pull_program.specs.Texts.{Prints, SaysCanon};
 use crate::input::read_bytes;
 use crate::report::{Report, deliver};
 use crate::status::Status;
-use json_canon::{CanonError, to_vec};
+use json_canon::{CanonError, json_to_vec};
 use json_values::{Blob, Json, Sink, read_json};
 use pull_edge::Source;
 use std::alloc::{AllocError, Global};
@@ -28,7 +28,7 @@ fn read_value<S: Source>(alloc: Global, source: &mut S) -> Result<Json, Status>
 fn print(alloc: Global, value: &Json) -> Result<Report, AllocError>
     ensures { IfOk result (λ r. Prints value.now r.refused r.bytes) }
 {
-    match to_vec(alloc, value) {
+    match json_to_vec(alloc, value) {
         Ok(text) => {
             let mut bytes = text;
             bytes.append(b"\n")?;
