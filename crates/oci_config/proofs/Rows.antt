@@ -1,5 +1,5 @@
 -- What is refused by a row is refused by the document that is made of it.
-use Rattle.std.proofs.Common.{◌≡◌, true, false, Option, Some, None, is_some, Result, Ok, Err, IsErr, true≢false, refl, sym, ap, subst}
+use Rattle.std.proofs.Common.{◌≡◌, Option, Some, None, is_some, Result, Ok, Err, IsErr, true≢false, refl, sym, ap, subst}
 use Rattle.serde_json.specs.Data.{Data}
 use Rattle.json_tables.specs.Reading.{◌>>=◌, text_of, list_of, map_of, set_of, unless_null, at_name}
 use Rattle.json_tables.specs.Rows.{row9}

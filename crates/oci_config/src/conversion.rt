@@ -59,16 +59,27 @@ fn file_in(alloc: Global, bytes: &[u8]) -> Result<Option<ConfigFile>, AllocError
 
 /// A configuration that holds a file.
 pub trait FromConfigFile: Sized {
+    ghost use Rattle.std.specs.Prelude.{ℕ, List, Option};
+    ghost use Rattle.std.specs.FinMap.{FinMap};
+    ghost use Rattle.json_values.specs.Places.{by_bytes};
+    ghost use Rattle.oci_config.specs.declared.file.ConfigFile.{ConfigFile};
+
+    /// What holds this file, with these annotations.
+    ghost holding: { ConfigFile → Option (FinMap by_bytes (List ℕ)) → Self };
+
     /// The compact text of the file's value, under OCI's configuration type.
     fn oci_v1_from_config_file(
         alloc: Global,
         config_file: &ConfigFile,
         annotations: Option<Annotations>,
-    ) -> Result<Self, AllocError>;
+    ) -> Result<Self, AllocError>
+        ensures { IfOk result (λ config. config ≡ holding config_file.now annotations) };
 }
 
 impl FromConfigFile for Config {
     ghost use Rattle.oci_manifests.specs.declared.media_types.TheConstants.{IMAGE_CONFIG_MEDIA_TYPE};
+
+    ghost holding = { λ file annotations. record { content = file_text file; media_type = IMAGE_CONFIG_MEDIA_TYPE.now; annotations = annotations } };
 
     fn oci_v1_from_config_file(
         alloc: Global,
