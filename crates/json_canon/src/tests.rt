@@ -200,7 +200,7 @@ fn generated(alloc: Global, number: usize) -> Result<Text, AllocError> {
     ];
     let mut text = Text::new(alloc, "7")?;
     let mut left = number;
-    for _ in 0..3 {
+    for _ in 0..4 {
         let (front, back) = wraps[left % 4];
         let mut wrapped = Text::new(alloc, front)?;
         wrapped.push_str(text.as_str())?;
@@ -213,7 +213,7 @@ fn generated(alloc: Global, number: usize) -> Result<Text, AllocError> {
 
 #[test]
 fn the_plain_program_writes_the_same(rt: HostRuntime) -> Result<(), Fail> {
-    for number in 0..64 {
+    for number in 0..256 {
         let json = generated(rt.alloc(), number)?;
         let value = Value::from_str(rt.alloc(), json.as_str())?;
         let mut plain = Blob::empty(rt.alloc());
