@@ -142,6 +142,20 @@ fn values_are_written(rt: HostRuntime) -> Result<(), Fail> {
     Ok(())
 }
 
+// The text that a cache of pulled manifests is asked by.
+#[test]
+fn members_of_settings_are_sorted(rt: HostRuntime) -> Result<(), Fail> {
+    let settings = Value::from_str(
+        rt.alloc(),
+        "{\"image\":\"docker.io/library/busybox:latest\",\"auth\":\"Anonymous\",\"accepted_media_types\":[]}",
+    )?;
+    assert_eq!(rt;
+        to_vec(rt.alloc(), &settings)?.as_slice(),
+        b"{\"accepted_media_types\":[],\"auth\":\"Anonymous\",\"image\":\"docker.io/library/busybox:latest\"}".as_slice()
+    );
+    Ok(())
+}
+
 #[test]
 fn a_sink_that_fails_is_told(rt: HostRuntime) -> Result<(), Fail> {
     let mut failing = List::new(rt.alloc());
