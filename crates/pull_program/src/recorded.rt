@@ -1,8 +1,15 @@
 // Pulls over recorded answers of which one is wrong, each with the whole report.
 use crate::serving::run;
+use cosign_client::{Client, PullRefusal, VerifiedImage};
+use cosign_layers::{NoCertificates, PullPolicy, TableVerifier};
 use json_values::{Blob, List, PlainSink, Text};
+use oci_engine::{ClientConfig, ClientProtocol};
+use oci_transport::{Recorded, Script};
+use pull_case::{Case, policy, read_case};
 use pull_edge::PlainSource;
-use std::alloc::Global;
+use pull_report::write_report;
+use sig_registry::{Auth, OciClient, OciReference};
+use std::alloc::{AllocError, Global};
 use std::process::Abort;
 use std::test::Fail;
 
@@ -221,6 +228,107 @@ fn a_refused_image_of_signatures_is_skipped(rt: HostRuntime) -> Result<(), Fail>
                 HEAD_LINES, TAG_LINES, TAG_LINES, *asked, UNPULLED, *print, "\n",
             ],
         )?;
+    }
+    Ok(())
+}
+
+// A client that takes no body of more than five bytes: a case has no member for that.
+fn limited_client(alloc: Global) -> Result<Client, AllocError> {
+    let mut config = ClientConfig::default(alloc)?;
+    config.protocol = ClientProtocol::Http;
+    config.max_body_bytes = 5;
+    Ok(Client {
+        registry_client: OciClient::new(oci_engine::Client::new(alloc, config)),
+    })
+}
+
+fn pulled(
+    alloc: Global,
+    client: &mut Client,
+    script: &mut Script,
+    image: &OciReference,
+    policy: &PullPolicy,
+    verifier: &TableVerifier,
+) -> Result<VerifiedImage, PullRefusal> {
+    client.verified_pull(
+        alloc,
+        script,
+        100,
+        image,
+        &Auth::Anonymous,
+        &[],
+        policy,
+        verifier,
+        &NoCertificates,
+    )
+}
+
+fn written(
+    alloc: Global,
+    script: &Script,
+    outcome: &Result<VerifiedImage, PullRefusal>,
+) -> Result<Blob, AllocError> {
+    let mut report = Blob::empty(alloc);
+    let conversation = script.conversation().as_slice();
+    write_report(alloc, &mut report, 100, conversation, outcome)?;
+    Ok(report)
+}
+
+// The report of this pull.
+fn report_of(
+    alloc: Global,
+    client: &mut Client,
+    script: &mut Script,
+    image: &OciReference,
+    policy: &PullPolicy,
+    verifier: &TableVerifier,
+) -> Result<Blob, AllocError> {
+    let outcome = pulled(alloc, client, script, image, policy, verifier);
+    written(alloc, script, &outcome)
+}
+
+// The report of a pull over these answers, by a client that takes short bodies alone.
+fn limited_report(
+    alloc: Global,
+    answers: List<Recorded>,
+    policy: &PullPolicy,
+) -> Result<Blob, Fail> {
+    let mut client = limited_client(alloc)?;
+    let image = OciReference::parse(alloc, "localhost:5000/app:v1")?;
+    let verifier = TableVerifier {
+        rows: List::new(alloc),
+    };
+    let mut script = Script::new(alloc, answers);
+    let report = report_of(alloc, &mut client, &mut script, &image, policy, &verifier)?;
+    Ok(report)
+}
+
+// The same of a case.
+fn limited_pull(alloc: Global, case: Case) -> Result<Blob, Fail> {
+    let policy = policy(alloc, case.keys, case.constraints.as_slice())?;
+    limited_report(alloc, case.answers, &policy)
+}
+
+#[test]
+fn a_body_over_the_limit_is_skipped(rt: HostRuntime) -> Result<(), Fail> {
+    for (answer, print) in [
+        (
+            r#"{"status":200,"pieces":["x","2","3","4","5"]}"#,
+            "VersionedParsingError 5",
+        ),
+        (
+            r#"{"status":200,"pieces":["x","2","3","4","5","6"]}"#,
+            "BodyTooLong",
+        ),
+    ] {
+        let text = case_of(rt.alloc(), &[TOKEN, NAMED, TOKEN, answer])?;
+        let case = read_case(rt.alloc(), text.as_str().as_bytes())?.ok_or("no case")?;
+        let report = limited_pull(rt.alloc(), case)?;
+        let mut want = Text::new(rt.alloc(), HEAD_LINES)?;
+        for part in [TAG_LINES, UNSATISFIED, print, "\n"] {
+            want.push_str(part)?;
+        }
+        assert_eq!(rt; report.as_slice(), want.as_str().as_bytes(), "{answer}");
     }
     Ok(())
 }
