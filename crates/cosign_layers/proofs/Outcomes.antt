@@ -13,14 +13,13 @@ use Rattle.cosign_layers.specs.Payload.{content_of}
 use Rattle.cosign_layers.specs.Rejections.{◌>>=◌, Says, is_memory}
 use Rattle.cosign_layers.specs.declared.certificate.CertificateSignature.{CertificateSignature}
 use Rattle.cosign_layers.specs.declared.layer.LayerKind.{LayerKind}
-use Rattle.cosign_layers.specs.declared.layer.LayerKind.TheVariants.{Payload}
 use Rattle.cosign_layers.specs.declared.layer.SignatureLayer.{SignatureLayer}
 use Rattle.cosign_layers.specs.declared.layer.SimpleSigning.{SimpleSigning}
 use Rattle.cosign_layers.specs.declared.log_entry.LogEntryBundle.{LogEntryBundle}
 use Rattle.cosign_layers.specs.declared.rejection.LayerPart.TheVariants.{Content, Signature, LogEntry, Certificate}
 use Rattle.cosign_layers.specs.declared.rejection.LayerRejection.{LayerRejection}
 use Rattle.cosign_layers.specs.declared.rejection.LayerRejection.TheVariants.{DigestMismatch, Unreadable, OtherDigest, NoSignature, UnknownLogKey, BadLogSignature, NoLogEntry, NotVouched, LayerNotPulled, WantOfMemory}
-use Rattle.cosign_layers.proofs.Layers.{layer_with, joined, gives}
+use Rattle.cosign_layers.proofs.Layers.{layer_with, joined}
 
 -- ---- the tests, as facts
 

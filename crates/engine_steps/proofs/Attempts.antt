@@ -1,10 +1,10 @@
 -- One request for a blob, each outcome.
-use Rattle.std.proofs.Common.{◌≡◌, ◌≤◌, ◌<◌, inl, inr, ℕ, Bool, true, false, List, [], ◌∷◌, ◌++◌, Option, Some, None, Result, Ok, Err, length, refl, sym, ap, ◌∙◌, subst, append_assoc, append-nil, arith}
+use Rattle.std.proofs.Common.{◌≡◌, ◌≤◌, ◌<◌, inl, inr, ℕ, Bool, true, false, List, [], ◌∷◌, ◌++◌, Option, Some, None, Result, Ok, Err, length, refl, sym, ap, ◌∙◌, append_assoc, append-nil, arith}
 use Rattle.std.specs.Prelude.{MatchBool, bytes_eq, nat_eq, if◌then◌else◌}
 use Rattle.std.specs.Result.{IsErrAnd}
 use Rattle.std.proofs.lemmas.Result.{err_from_is_err_and}
 use Rattle.json_values.specs.Counts.{Rose}
-use Rattle.json_values.specs.Tray.{Tray, Adds}
+use Rattle.json_values.specs.Tray.{Tray}
 use Rattle.json_values.proofs.Sinks.{adds_none}
 use Rattle.oci_transport.specs.Link.{Link, Extends, Steady, answer_of}
 use Rattle.oci_transport.specs.declared.message.Request.{Request}
@@ -16,12 +16,12 @@ use Rattle.oci_digests.specs.declared.both.Digesters.{Digesters}
 use Rattle.oci_digests.specs.Both.{BothHold}
 use Rattle.oci_digests.specs.Names.{digest_text}
 use Rattle.oci_digests.specs.declared.error.DigestError.{DigestError}
-use Rattle.oci_protocol.specs.Proto.{Unread, Within, Piped, limit_of, Done, ◌>>=◌}
+use Rattle.oci_protocol.specs.Proto.{Piped, limit_of, Done, ◌>>=◌}
 use Rattle.oci_protocol.specs.Follow.{Reaches, Misses, Cuts}
 use Rattle.oci_protocol.specs.Poured.{Pours, PoursFront}
 use Rattle.oci_protocol.specs.Runs.{Meets, Told, Performs, Breaks, Outcome}
-use Rattle.oci_protocol.proofs.Laws.{Meets-ok, Meets-err}
-use Rattle.oci_protocol.proofs.Extending.{Extends-more, Extends-still, Extends-untold, Steady-more, Steady-none}
+use Rattle.oci_protocol.proofs.Laws.{Meets-err}
+use Rattle.oci_protocol.proofs.Extending.{Extends-more, Extends-still, Extends-untold, Steady-more}
 use Rattle.oci_protocol.proofs.Following.{reached_headed, reached_answered, reached_long, reached_failed, reached_spilled, reached_cut, missed, cut}
 use Rattle.engine_requests.specs.declared.error.OciDistributionError.{OciDistributionError}
 use Rattle.engine_requests.specs.declared.error.OciDistributionError.TheVariants as refusal
@@ -35,7 +35,7 @@ use Rattle.engine_requests.specs.Errors.{is_memory, Says, SaysError, ◌>>◌}
 use Rattle.engine_requests.specs.Answers.{refused_answer, is_success, is_client_error, by_envelope, envelope_in}
 use Rattle.engine_requests.specs.Blobs.{plan_of, compared, given_compared, both_compared, given_algorithm}
 use Rattle.engine_steps.specs.Rows.{Row}
-use Rattle.engine_steps.specs.Blobs.{reading_by, blob_reading, unread_by, read_by, blob_reply, attempt, IsFront, filled, Spills}
+use Rattle.engine_steps.specs.Blobs.{reading_by, blob_reading, unread_by, read_by, blob_reply, attempt, IsFront, Spills}
 use Rattle.engine_steps.proofs.Exits.{said, and_then}
 
 -- what a call told, where it met a protocol

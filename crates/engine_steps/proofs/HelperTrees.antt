@@ -1,5 +1,5 @@
 -- The ways to ask, each outcome of them.
-use Rattle.std.proofs.Common.{◌≡◌, ◌≤◌, ◌<◌, ℕ, List, Some, None, Ok, Err, length, refl}
+use Rattle.std.proofs.Common.{◌≡◌, ◌≤◌, ◌<◌, ℕ, List, Some, Ok, Err, length, refl}
 use Rattle.oci_transport.specs.Link.{Link, Steady, answer_of}
 use Rattle.json_values.specs.Counts.{Rose}
 use Rattle.oci_transport.specs.declared.message.Request.{Request}

@@ -1,5 +1,5 @@
 -- The answer that is read where its header names a digest, each outcome.
-use Rattle.std.proofs.Common.{◌≡◌, ◌≤◌, ◌<◌, ℕ, Bool, true, false, arith, List, Option, Some, None, Result, Ok, Err, length, refl, ap, ◌∙◌}
+use Rattle.std.proofs.Common.{◌≡◌, ◌≤◌, ◌<◌, ℕ, Bool, true, false, arith, List, Option, Some, Result, Ok, Err, length, refl, ap, ◌∙◌}
 use Rattle.std.specs.Prelude.{MatchBool}
 use Rattle.std.specs.Result.{IsErrAnd}
 use Rattle.std.proofs.lemmas.Result.{err_from_is_err_and}
@@ -11,7 +11,7 @@ use Rattle.oci_auth.specs.declared.memory.Memory.{Memory}
 use Rattle.oci_protocol.specs.Proto.{Unread, limit_of, Done}
 use Rattle.oci_protocol.specs.Follow.{Reaches, Misses, Cuts}
 use Rattle.oci_protocol.specs.Runs.{Meets}
-use Rattle.oci_protocol.proofs.Laws.{Meets-ok, Meets-err}
+use Rattle.oci_protocol.proofs.Laws.{Meets-err}
 use Rattle.oci_protocol.proofs.Following.{reached_headed, reached_answered, reached_long, reached_failed, reached_cut, missed, cut}
 use Rattle.oci_protocol.proofs.Extending.{Steady-none}
 use Rattle.engine_requests.specs.declared.error.OciDistributionError.{OciDistributionError}
@@ -19,7 +19,7 @@ use Rattle.engine_requests.specs.declared.error.OciDistributionError.TheVariants
 use Rattle.engine_requests.specs.Errors.{is_memory, Says}
 use Rattle.engine_requests.specs.Answers.{header_digest}
 use Rattle.engine_steps.specs.declared.asking.Named.{Named}
-use Rattle.engine_steps.specs.declared.asking.Named.TheVariants.{ByHeader, Unnamed}
+use Rattle.engine_steps.specs.declared.asking.Named.TheVariants.{ByHeader}
 use Rattle.engine_steps.specs.Rows.{named_after, named_reading, reading_named, unread_named, read_named, named_reply}
 use Rattle.engine_steps.proofs.Exits.{said}
 

@@ -1,5 +1,5 @@
 -- One request for a blob, and what a sink took of it.
-use Rattle.std.specs.Prelude.{◌≡◌, ◌≤◌, ◌⊎◌, ℕ, List, [], ◌∷◌, ◌++◌, Option, Some, None, Result, Ok, Err}
+use Rattle.std.specs.Prelude.{◌≡◌, ◌≤◌, ◌⊎◌, ℕ, List, [], ◌∷◌, ◌++◌, Some, Result, Ok, Err}
 use Rattle.json_values.specs.Counts.{Rose}
 use Rattle.json_values.specs.Tray.{Tray, Adds}
 use Rattle.oci_transport.specs.Link.{Link}

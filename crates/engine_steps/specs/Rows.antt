@@ -1,9 +1,9 @@
 -- The steps of the client's calls, in the words of the OCI distribution specification. A row is a
 -- protocol whose refusals end it.
-use Rattle.std.specs.Prelude.{◌≡◌, ℕ, Bool, true, false, List, [], Option, Some, None, Result, Ok, Err}
+use Rattle.std.specs.Prelude.{ℕ, Bool, true, false, List, [], Option, Some, None, Result, Ok, Err}
 use Rattle.std.specs.FinMap as map
 use Rattle.url.specs.Parts.{Parts, serialize}
-use Rattle.oci_transport.specs.Link.{Link, answer_of}
+use Rattle.oci_transport.specs.Link.{answer_of}
 use Rattle.oci_transport.specs.Urls.{targets, request_url}
 use Rattle.oci_transport.specs.declared.message.Request.{Request}
 use Rattle.oci_transport.specs.declared.message.AnswerHead.{AnswerHead}
@@ -25,12 +25,10 @@ use Rattle.oci_auth.specs.declared.token_type.RegistryTokenType.TheVariants as t
 use Rattle.http_challenges.specs.declared.bearer.BearerChallenge.{BearerChallenge}
 use Rattle.oci_protocol.specs.Proto.{Reading, Unread, Within, Reply, Headed, Answered, Failed, TooLong, SinkFailed, read_within, read_none, Proto, Done, Recall, Keep, bind, ◌>>=◌, ◌>>◌}
 use Rattle.oci_protocol.specs.Follow.{follow}
-use Rattle.oci_protocol.specs.Runs.{Meets, head_part}
 use Rattle.engine_requests.specs.declared.answers.Got.{Got}
 use Rattle.engine_requests.specs.declared.settings.Settings.{Settings}
 use Rattle.engine_requests.specs.declared.error.OciDistributionError.{OciDistributionError}
 use Rattle.engine_requests.specs.declared.error.OciDistributionError.TheVariants as refusal
-use Rattle.engine_requests.specs.Errors.{is_memory}
 use Rattle.engine_requests.specs.Addresses.{registry_text, base_text, url_read}
 use Rattle.engine_requests.specs.Contexts.{Context}
 use Rattle.engine_requests.specs.Requests.{request_of}

@@ -1,8 +1,8 @@
 -- A map of what reads back reads back.
-use Rattle.std.proofs.Common.{◌≡◌, ℕ, List, [], ◌∷◌, ◌++◌, T, Bool, false, ◌||◌, ◌&&◌, Option, Some, Ordering, Greater, is_lt, refl, sym, ap, subst, ◌∙◌, append_assoc}
+use Rattle.std.proofs.Common.{◌≡◌, ℕ, List, [], ◌∷◌, ◌++◌, T, false, ◌||◌, Option, Some, Greater, is_lt, refl, sym, ap, subst, ◌∙◌, append_assoc}
 use Rattle.std.specs.FinMap as fin
 use Rattle.std.specs.FinMap.{from_sorted}
-use Rattle.std.specs.FinMap.Entries.{is_sorted, below_all, by_order}
+use Rattle.std.specs.FinMap.Entries.{below_all, by_order}
 use Rattle.serde_json.specs.Data.{Data}
 use Rattle.serde_json.specs.Written.{has_float, members_have_float}
 use Rattle.json_values.specs.Places.{by_bytes, Sorted}

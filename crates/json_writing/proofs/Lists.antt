@@ -2,11 +2,11 @@
 use Rattle.std.proofs.Common.{◌≡◌, ℕ, ◌+◌, ◌<◌, List, [], ◌∷◌, ◌++◌, length, get_or, take, map, All, Bool, false, ◌||◌, Option, Some, refl, sym, ap, subst, ◌∙◌}
 use Rattle.std.specs.List.{list_any}
 use Rattle.std.proofs.lemmas.Bool.{or_parts}
-use Rattle.std.proofs.lemmas.List.Elements.{All-head, All-tail, All-push, All-nil}
+use Rattle.std.proofs.lemmas.List.Elements.{All-head, All-tail, All-push}
 use Rattle.serde_json.specs.declared.value.Value.{Value}
 use Rattle.serde_json.specs.Data.{Data}
 use Rattle.serde_json.specs.View.{view, items_of}
-use Rattle.serde_json.specs.Written.{has_float, items_have_float}
+use Rattle.serde_json.specs.Written.{items_have_float}
 use Rattle.json_values.specs.Writing.{listed}
 use Rattle.json_values.proofs.Fronts.{front_more, values_written}
 use Rattle.json_tables.specs.Reading.{◌>>=◌, items_by, list_of}

@@ -1,5 +1,5 @@
 -- Why a call was refused whose values cannot stand in a header, for each call.
-use Rattle.std.proofs.Common.{◌≡◌, ℕ, Bool, true, false, List, [], ◌∷◌, ◌++◌, Option, Some, None, Result, Ok, Err, refl}
+use Rattle.std.proofs.Common.{ℕ, Bool, true, false, List, [], ◌∷◌, ◌++◌, Option, Some, None, Result, Ok, Err, refl}
 use Rattle.std.specs.Prelude.{if◌then◌else◌, bytes_eq}
 use Rattle.url.specs.Parts.{Parts}
 use Rattle.oci_transport.specs.declared.message.Request.{Request}
@@ -16,10 +16,10 @@ use Rattle.oci_auth.specs.declared.memory.Memory.{Memory}
 use Rattle.oci_auth.specs.declared.token_type.RegistryOperation.TheVariants.{Pull}
 use Rattle.oci_manifests.specs.declared.descriptor.OciDescriptor.{OciDescriptor}
 use Rattle.oci_manifests.specs.declared.blob.ImageLayer.{ImageLayer}
-use Rattle.oci_protocol.specs.Proto.{Reply, Headed, Answered, Failed, TooLong, SinkFailed, read_within, Done, ◌>>=◌, ◌>>◌}
+use Rattle.oci_protocol.specs.Proto.{Reply, Headed, Answered, Failed, TooLong, SinkFailed, read_within, ◌>>=◌, ◌>>◌}
 use Rattle.oci_protocol.specs.Runs.{head_part}
 use Rattle.oci_protocol.specs.Safe.{Safe}
-use Rattle.engine_requests.specs.Contexts.{Context, within}
+use Rattle.engine_requests.specs.Contexts.{Context}
 use Rattle.engine_requests.specs.declared.settings.Settings.{Settings}
 use Rattle.engine_requests.specs.declared.answers.Got.{Got}
 use Rattle.engine_requests.specs.declared.blobs.Expected.{Expected}
@@ -38,11 +38,11 @@ use Rattle.engine_steps.specs.Rows.{Row, store, whole_reply, whole, named_readin
 use Rattle.engine_steps.specs.Blobs.{blob_reading, unread_by, read_by, blob_reply, attempt}
 use Rattle.engine_pull.specs.Pulls.{document, digest_by, pull_manifest_raw, fetch_manifest_digest, pull_manifest, pull_blob}
 use Rattle.engine_pull.specs.Images.{image_manifest, layers_accepted, layer_of, pull_layers, pull}
-use Rattle.engine_pull.proofs.NoSink.{IsPlain, Plain, into_plain}
+use Rattle.engine_pull.proofs.NoSink.{Plain, into_plain}
 use Rattle.engine_pull.proofs.Quiet.{refused_plain, accepted_plain, digest_plain, found_plain, read_document_plain, kind_plain, layers_plain}
 use Rattle.oci_engine.specs.Held.{Entry, pulling}
 use Rattle.oci_engine.proofs.Keeping.{Keeps}
-use Rattle.oci_engine.proofs.Shown.{Free, HeaderCause, Ended, plain_cause, ended_plain, safe_done, safe_next, safe_follow, prepared_safe, store_safe, plain_step, plain_last, url_first}
+use Rattle.oci_engine.proofs.Shown.{Free, Ended, safe_done, safe_next, safe_follow, prepared_safe, store_safe, plain_step, plain_last, url_first}
 
 -- the protocol keeps to it, and its refusals have their causes
 abbrev pub Sound : Entry → Settings → List ℕ → {A : Type 0} → Memory → List Exchange → Row A → Type 0

@@ -7,7 +7,6 @@ use Rattle.json_values.specs.Tray.{Tray}
 use Rattle.oci_transport.specs.Headers.{Fields, added, held, is_header_value}
 use Rattle.oci_transport.specs.Link.{Link}
 use Rattle.oci_transport.specs.Urls.{request_url}
-use Rattle.oci_transport.specs.declared.message.Request.{Request}
 use Rattle.oci_transport.specs.declared.message.Method.{Method}
 use Rattle.oci_transport.specs.declared.message.Method.TheVariants.{Get, Head}
 use Rattle.oci_names.specs.declared.reference.Reference.{Reference}

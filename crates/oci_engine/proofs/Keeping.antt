@@ -1,5 +1,5 @@
 -- What a client keeps in a call: credentials and tokens that the call may show.
-use Rattle.std.proofs.Common.{◌≡◌, ◌⊎◌, inl, inr, ℕ, Bool, true, false, cond, List, [], ◌∷◌, ◌++◌, Option, Some, None, Result, Ok, Err, refl, sym, ap, subst, ◌∙◌, append_assoc, append-nil}
+use Rattle.std.proofs.Common.{◌≡◌, inl, inr, ℕ, Bool, true, false, cond, List, [], ◌∷◌, ◌++◌, Option, Some, None, sym, ap, subst, ◌∙◌, append_assoc}
 use Rattle.std.specs.Prelude.{is_some, nat_le, if◌then◌else◌, option_and_then}
 use Rattle.std.specs.Option.{option_map_or}
 use Rattle.std.specs.FinMap as map
@@ -7,10 +7,9 @@ use Rattle.std.specs.FinMap.{FinMap, get-insert}
 use Rattle.std.specs.Cmp.Lexicographic.{nat_list_cmp_total}
 use Rattle.json_values.specs.Places.{by_bytes}
 use Rattle.oci_transport.specs.declared.message.Exchange.{Exchange}
-use Rattle.oci_names.specs.declared.reference.Reference.{Reference}
 use Rattle.oci_names.specs.References.{resolved_registry}
-use Rattle.oci_auth.specs.Caches.{key_of, kept_until, kept_token, with_token, given_at, token_at}
-use Rattle.oci_auth.specs.Keys.{Key, inserted, kept_under}
+use Rattle.oci_auth.specs.Caches.{key_of, kept_until, kept_token, given_at, token_at}
+use Rattle.oci_auth.specs.Keys.{Key, inserted}
 use Rattle.oci_auth.specs.Memory.{stored}
 use Rattle.oci_auth.specs.declared.auth.RegistryAuth.{RegistryAuth}
 use Rattle.oci_auth.specs.declared.cache.TokenCache.{TokenCache}
@@ -19,7 +18,7 @@ use Rattle.oci_auth.specs.declared.memory.Memory.{Memory}
 use Rattle.oci_auth.specs.declared.token_type.RegistryTokenType.{RegistryTokenType}
 use Rattle.oci_auth.proofs.Places.{is_kept}
 use Rattle.engine_steps.specs.Rows.{with_kept}
-use Rattle.oci_engine.specs.Held.{Entry, IsAuth, OfAuth, WasKept, GivenIn, IsHeld}
+use Rattle.oci_engine.specs.Held.{Entry, IsAuth, GivenIn, IsHeld}
 
 -- what is kept after these exchanges
 pub record Keeps (x : Entry) (l : Memory) (c : List Exchange) : Type 0 where

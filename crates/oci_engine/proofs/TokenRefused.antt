@@ -25,7 +25,7 @@ use Rattle.oci_auth.specs.declared.memory.Memory.{Memory}
 use Rattle.oci_auth.specs.declared.token.RegistryToken.{RegistryToken}
 use Rattle.oci_auth.specs.declared.token_type.RegistryOperation.{RegistryOperation}
 use Rattle.oci_auth.specs.declared.token_type.RegistryTokenType.{RegistryTokenType}
-use Rattle.oci_protocol.specs.Proto.{Reading, limit_of, Reply, Headed, Answered, Failed, TooLong, SinkFailed, Unread, Piped, read_none, read_within, Done, ◌>>=◌}
+use Rattle.oci_protocol.specs.Proto.{Reading, limit_of, Reply, Headed, Answered, Failed, TooLong, SinkFailed, Piped, read_none, read_within, Done, ◌>>=◌}
 use Rattle.oci_protocol.specs.Runs.{Runs, Meets, Told, head_part}
 use Rattle.oci_protocol.specs.Shows.{Shows, ByAnswer, Heard}
 use Rattle.oci_protocol.proofs.Showing.{done_run, Shows-done, Shows-more, Shows-each, Shows-step, Shows-last, Shows-recall, Shows-keep, Shows-follow}
@@ -42,7 +42,7 @@ use Rattle.engine_requests.specs.Addresses.{url_or, url_read, base_text}
 use Rattle.engine_requests.specs.Requests.{with_header, with_accept, with_token, headers_of, request_of, bare_request}
 use Rattle.engine_requests.specs.Tokens.{wanted, realm_url, realm_request, decoded, token_read}
 use Rattle.engine_steps.specs.Rows.{Row, recalled, keep, store, with_kept, shown_text, whole_reply, whole, head_reply, head_after, realm_asked, fetched, registry_asked, token_step, kept_text, token_given}
-use Rattle.oci_engine.specs.TokenCauses.{LastIs, WithAnswer, HasBadAuth, TokenCause}
+use Rattle.oci_engine.specs.TokenCauses.{LastIs, WithAnswer, TokenCause}
 use Rattle.oci_engine.proofs.Asking.{with_ok}
 use Rattle.oci_engine.proofs.Causing.{status_is, status_other}
 use Rattle.oci_engine.proofs.Counting.{refusal_told, fault_last}

@@ -1,11 +1,10 @@
 -- What is written is read back.
-use Rattle.std.proofs.Common.{◌≡◌, ℕ, List, Bool, false, Option, Some, None, option_map, codes, refl, sym, ap, ◌∙◌}
+use Rattle.std.proofs.Common.{◌≡◌, ℕ, List, false, Option, Some, None, option_map, refl}
 use Rattle.serde_json.specs.Data.{Data, string, number, unsigned}
 use Rattle.serde_json.specs.Find.{get, of_integer}
-use Rattle.serde_json.specs.Written.{has_float}
 use Rattle.json_values.specs.Writing.{listed, map_written}
 use Rattle.json_tables.specs.Reading.{text_of, u8_of, i64_of, list_of, map_of, present, unless_null}
-use Rattle.json_writing.specs.Fields.{fields, fields_have_float}
+use Rattle.json_writing.specs.Fields.{fields}
 use Rattle.json_writing.specs.Again.{ReadsAgain, MemberReadsAgain}
 use Rattle.json_writing.proofs.Members.{among, or_else, or_else-none, get-fields, fields_plain}
 use Rattle.oci_manifests.specs.declared.descriptor.OciDescriptor.{OciDescriptor}

@@ -1,9 +1,8 @@
 -- Errors and envelopes that are written read back.
-use Rattle.std.proofs.Common.{◌≡◌, ℕ, List, Bool, false, ◌||◌, Option, Some, None, map, codes, refl, sym, ap, ◌∙◌}
+use Rattle.std.proofs.Common.{◌≡◌, ℕ, List, false, Some, None, map, refl}
 use Rattle.std.specs.List.{list_any}
 use Rattle.serde_json.specs.Data.{Data, string}
 use Rattle.serde_json.specs.Find.{get}
-use Rattle.serde_json.specs.Written.{has_float}
 use Rattle.json_values.specs.Writing.{listed}
 use Rattle.json_tables.specs.Reading.{list_of, present}
 use Rattle.json_writing.specs.Again.{ReadsAgain, MemberReadsAgain}
@@ -12,7 +11,7 @@ use Rattle.oci_manifests.specs.declared.error_code.OciErrorCode.{OciErrorCode}
 use Rattle.oci_manifests.specs.declared.error_code.OciErrorCode.TheVariants.{BlobUnknown, BlobUploadInvalid, BlobUploadUnknown, DigestInvalid, ManifestBlobUnknown, ManifestInvalid, ManifestUnknown, ManifestUnverified, NameInvalid, NameUnknown, NotFound, SizeInvalid, TagInvalid, Unauthorized, Denied, Unsupported, Toomanyrequests, Other}
 use Rattle.oci_manifests.specs.declared.envelope.OciError.{OciError}
 use Rattle.oci_manifests.specs.declared.envelope.OciEnvelope.{OciEnvelope}
-use Rattle.oci_manifests.specs.ErrorCode.{known_code, code_of, code_by, code_text, code_written, normal_code}
+use Rattle.oci_manifests.specs.ErrorCode.{known_code, code_of, code_text, code_written, normal_code}
 use Rattle.oci_manifests.specs.Envelope.{error_of, error_fields, error_written, normal_error, detail_has_float, envelope_of, envelope_fields, envelope_written, normal_envelope, details_have_float}
 
 code_reads : (code : OciErrorCode) → code_of (string (code_text code)) ≡ Some (normal_code code)

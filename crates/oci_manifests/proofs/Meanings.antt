@@ -1,10 +1,10 @@
 -- A document that is written has no second meaning.
-use Rattle.std.proofs.Common.{◌≡◌, Option, Some, None, Ok, codes, refl, sym, ap, ◌∙◌}
+use Rattle.std.proofs.Common.{◌≡◌, Option, Some, None, Ok, codes, refl, ap, ◌∙◌}
 use Rattle.serde_json.specs.Data.{Data}
 use Rattle.serde_json.specs.Find.{get}
 use Rattle.json_tables.specs.Reading.{◌>>=◌, text_of, u8_of, list_of, map_of, required, optional}
 use Rattle.json_tables.specs.Outcomes.{ReadsDocument}
-use Rattle.json_writing.proofs.Members.{or_else-none, get-fields}
+use Rattle.json_writing.proofs.Members.{get-fields}
 use Rattle.oci_manifests.specs.declared.manifest.OciImageManifest.{OciImageManifest}
 use Rattle.oci_manifests.specs.declared.index.OciImageIndex.{OciImageIndex}
 use Rattle.oci_manifests.specs.declared.document.OciManifest.TheVariants.{Image, ImageIndex}

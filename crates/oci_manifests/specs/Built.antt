@@ -1,5 +1,5 @@
 -- The manifests that are made here.
-use Rattle.std.specs.Prelude.{ℕ, List, [], Option, Some, None, map, length, pos}
+use Rattle.std.specs.Prelude.{ℕ, List, [], Option, None, map, length, pos}
 use Rattle.json_tables.specs.Reading.{Map}
 use Rattle.oci_digests.specs.Names.{digest_text}
 use Rattle.oci_digests.specs.declared.digester.Algorithm.TheVariants.{Sha256}

@@ -275,7 +275,7 @@ fn written(
 }
 
 // The report of this pull.
-fn report_of(
+fn written_report(
     alloc: Global,
     client: &mut Client,
     script: &mut Script,
@@ -299,11 +299,11 @@ fn limited_report(
         rows: List::new(alloc),
     };
     let mut script = Script::new(alloc, answers);
-    let report = report_of(alloc, &mut client, &mut script, &image, policy, &verifier)?;
+    let report = written_report(alloc, &mut client, &mut script, &image, policy, &verifier)?;
     Ok(report)
 }
 
-// The same of a case.
+// The report of a case that the limited client pulls.
 fn limited_pull(alloc: Global, case: Case) -> Result<Blob, Fail> {
     let policy = policy(alloc, case.keys, case.constraints.as_slice())?;
     limited_report(alloc, case.answers, &policy)

@@ -1,4 +1,3 @@
-use Rattle.std.proofs.Common.{sym, ◌∙◌}
 use Rattle.engine_steps.proofs.Exits.{refused, wanting, and_then, done, stores_as, keeps_text}
 use Rattle.engine_steps.specs.Rows.{token_given}
 use Rattle.engine_steps.proofs.given.token_given.Goals as goal

@@ -1,4 +1,4 @@
-use Rattle.std.proofs.Common.{◌≡◌, ap, ◌∙◌}
+use Rattle.std.proofs.Common.{◌∙◌}
 use Rattle.json_nfc.proofs.Plain.{text_of_composed}
 use Rattle.json_nfc.proofs.text.composed_text.Goals as goal
 

@@ -1,4 +1,3 @@
-use Rattle.std.proofs.Common.{List}
 use Rattle.engine_pull.specs.Pulls.{fetch_manifest_digest}
 use Rattle.engine_requests.specs.Contexts.{within}
 use Rattle.sig_registry.specs.Calls.{digest_call}

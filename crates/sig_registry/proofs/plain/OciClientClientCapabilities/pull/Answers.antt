@@ -1,4 +1,3 @@
-use Rattle.std.proofs.Common.{List}
 use Rattle.engine_pull.specs.Images.{pull}
 use Rattle.engine_requests.specs.Contexts.{within}
 use Rattle.sig_registry.specs.Calls.{image_call}

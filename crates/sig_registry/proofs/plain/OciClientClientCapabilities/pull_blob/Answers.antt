@@ -1,4 +1,4 @@
-use Rattle.std.proofs.Common.{List, sym}
+use Rattle.std.proofs.Common.{sym}
 use Rattle.engine_pull.specs.Pulls.{pull_blob}
 use Rattle.engine_requests.specs.Contexts.{within}
 use Rattle.sig_registry.specs.Calls.{blob_call}

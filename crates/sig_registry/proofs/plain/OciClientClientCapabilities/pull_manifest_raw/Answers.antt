@@ -1,4 +1,3 @@
-use Rattle.std.proofs.Common.{List}
 use Rattle.engine_pull.specs.Pulls.{pull_manifest_raw}
 use Rattle.engine_requests.specs.Requests.{listed}
 use Rattle.engine_requests.specs.Contexts.{within}
