@@ -10,8 +10,6 @@ mod policy;
 mod read;
 mod rejection;
 mod standing;
-#[cfg(test)]
-mod tests;
 mod verifier;
 
 pub use certificate::{CertificateSignature, Evidence, NoCertificates, Offline, Vouched};

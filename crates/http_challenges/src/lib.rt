@@ -9,6 +9,3 @@ mod split;
 
 pub use bearer::{BearerChallenge, ChallengeError};
 pub use challenge::{Challenge, challenges};
-
-#[cfg(test)]
-mod tests;

@@ -19,8 +19,3 @@ pub use json_values::{
 pub use laws::texts_tell_values;
 pub use serializer::JcsSerializer;
 pub use whole::{json_to_vec, pipe, to_string, to_vec, to_writer};
-
-#[cfg(test)]
-mod plain;
-#[cfg(test)]
-mod tests;

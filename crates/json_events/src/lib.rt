@@ -21,6 +21,3 @@ pub use formatter::JcsFormatter;
 pub use laws::{events_write, first_refusal_has_its_cause, one_text, order_of_names};
 pub use property::JsonProperty;
 pub use scalars::refused_integer;
-
-#[cfg(test)]
-mod tests;

@@ -6,6 +6,3 @@ mod values;
 
 pub use text::composed_text;
 pub use values::compose;
-
-#[cfg(test)]
-mod tests;

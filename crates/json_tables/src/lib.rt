@@ -27,6 +27,3 @@ pub use objects::{an_object, only};
 pub use paths::text_at;
 pub use reads::Reads;
 pub use rows::{row2, row3, row4, row5, row6};
-
-#[cfg(test)]
-mod tests;

@@ -31,6 +31,3 @@ pub use set::TextSet;
 pub use sink::{Sink, SinkError, put_all};
 pub use text::Text;
 pub use to_value::ToValue;
-
-#[cfg(test)]
-mod tests;

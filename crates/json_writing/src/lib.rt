@@ -12,6 +12,3 @@ pub use long_objects::{object6, object7, object9};
 pub use objects::{object1, object2, object3, object5};
 pub use unless_empty::{Holder, UnlessEmpty};
 pub use writes::{Lasting, Writes};
-
-#[cfg(test)]
-mod tests;

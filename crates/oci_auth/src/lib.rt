@@ -16,6 +16,3 @@ pub use expiration::bearer_token_cache_expiration;
 pub use memory::{Memory, store};
 pub use token::{RegistryToken, TokenError};
 pub use token_type::{RegistryOperation, RegistryTokenType};
-
-#[cfg(test)]
-mod tests;

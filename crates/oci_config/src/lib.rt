@@ -11,6 +11,3 @@ pub use conversion::{ConfigError, FromConfigFile};
 pub use file::ConfigFile;
 pub use history::History;
 pub use rootfs::{ROOTFS_TYPE, Rootfs};
-
-#[cfg(test)]
-mod tests;

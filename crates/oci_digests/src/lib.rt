@@ -7,8 +7,6 @@ mod digest;
 mod digester;
 mod error;
 mod names;
-#[cfg(test)]
-mod tests;
 
 pub use both::Digesters;
 pub use checks::{digest_header_value, named_algorithm, validate_digest};

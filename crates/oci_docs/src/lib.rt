@@ -33,6 +33,3 @@ pub use written::manifest_text;
 
 /// The bytes of a configuration that says nothing.
 pub const CONFIG_DATA: &'static str = "{}";
-
-#[cfg(test)]
-mod tests;

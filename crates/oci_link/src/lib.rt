@@ -14,6 +14,3 @@ pub use oci_transport::{
     registry_url, request_url, targets,
 };
 pub use plain::plain_paths_read;
-
-#[cfg(test)]
-mod tests;

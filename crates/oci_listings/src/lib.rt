@@ -6,6 +6,3 @@ mod tags;
 
 pub use catalog::CatalogResponse;
 pub use tags::TagResponse;
-
-#[cfg(test)]
-mod tests;

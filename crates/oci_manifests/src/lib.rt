@@ -45,6 +45,3 @@ pub use media_types::{
 pub use oci_digests::{names_digest, sha256_digest};
 pub use platform::Platform;
 pub use versioned::{Versioned, is_manifest_media_type};
-
-#[cfg(test)]
-mod tests;

@@ -10,6 +10,3 @@ mod reference;
 pub use parse_error::ParseError;
 pub use platform::{Arch, Os};
 pub use reference::Reference;
-
-#[cfg(test)]
-mod tests;

@@ -6,6 +6,3 @@ mod piped;
 
 pub use followed::{Reached, reach};
 pub use piped::{PourError, pour};
-
-#[cfg(test)]
-mod tests;

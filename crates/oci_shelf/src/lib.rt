@@ -13,6 +13,3 @@ pub use faulty::FaultyShelf;
 pub use shelf::{Shelf, ShelfBlobs, ShelfDocument, ShelfDocuments};
 pub use table::answer;
 pub use transport::ShelfTransport;
-
-#[cfg(test)]
-mod tests;

@@ -9,6 +9,3 @@ mod time;
 mod writer;
 
 pub use time::Time;
-
-#[cfg(test)]
-mod tests;

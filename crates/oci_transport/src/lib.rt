@@ -18,6 +18,3 @@ pub use redirects::redirected;
 pub use script::Script;
 pub use transport::{LinkError, Transport};
 pub use urls::{UrlError, registry_url, request_url, targets};
-
-#[cfg(test)]
-mod tests;

@@ -11,6 +11,3 @@ mod pull_policy;
 
 pub use case::{Case, read_case};
 pub use pull_policy::policy;
-
-#[cfg(test)]
-mod tests;

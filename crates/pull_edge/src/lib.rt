@@ -17,6 +17,3 @@ pub use reading::{ReadRefusal, read_all};
 pub use source::{Failed, Source};
 pub use std_sink::StdSink;
 pub use std_source::StdSource;
-
-#[cfg(test)]
-mod tests;

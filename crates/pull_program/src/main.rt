@@ -3,17 +3,11 @@
 #![tactic(auto)]
 
 mod canon;
-#[cfg(test)]
-mod faults;
 mod input;
 mod pulls;
-#[cfg(test)]
-mod recorded;
 mod report;
 mod serving;
 mod status;
-#[cfg(test)]
-mod tests;
 mod words;
 
 use json_values::{List, Text};

@@ -10,6 +10,3 @@ mod search;
 mod values;
 
 pub use report::write_report;
-
-#[cfg(test)]
-mod tests;
