@@ -40,6 +40,7 @@ bench: program
 	python3 bench/run.py
 	python3 bench/canon.py
 	python3 bench/documents.py
+	python3 bench/signatures.py
 
 # Makes each allocation of the stored run fail in turn.
 allocations: program
