@@ -35,7 +35,8 @@ header_digest (Some value) = if is_header_text value then Ok (Some value) else E
 
 -- the text, where it is that of the hash of the body by this algorithm
 abbrev pub checked_by : Algorithm → List ℕ → List ℕ → Result (List ℕ) DigestError
-checked_by a body text = if bytes_eq text (digest_text a body) then Ok text else Err (VerificationError text (digest_text a body))
+checked_by a body text =
+    if bytes_eq text (digest_text a body) then Ok text else Err (VerificationError text (digest_text a body))
 
 -- the text, where it names the body by the algorithm that it begins with
 abbrev pub checked : List ℕ → List ℕ → Result (List ℕ) DigestError
@@ -49,7 +50,8 @@ both_checked body header reference =
     else and_then (checked body reference) (λ _. checked body header)
 
 -- where both texts have parts, both are checked
-abbrev pub both_validated : Option (List ℕ × List ℕ) → Option (List ℕ × List ℕ) → Result (List ℕ) DigestError → Result (List ℕ) DigestError
+abbrev pub both_validated : Option (List ℕ × List ℕ) → Option (List ℕ × List ℕ) → Result (List ℕ) DigestError
+    → Result (List ℕ) DigestError
 both_validated None reference answer = Err MissingAlgorithm
 both_validated (Some header) None answer = Err MissingAlgorithm
 both_validated (Some header) (Some reference) answer = answer

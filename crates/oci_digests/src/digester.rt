@@ -10,8 +10,11 @@ use std::alloc::{AllocError, Global};
 /// The registered algorithms of the OCI image specification (descriptor.md, "Registered algorithms"), and SHA-384.
 #[derive(Clone, Copy, Debug, PartialEq, Eq)]
 pub enum Algorithm {
+    /// SHA-256, 64 hexadecimal digits.
     Sha256,
+    /// SHA-384, 96 hexadecimal digits.
     Sha384,
+    /// SHA-512, 128 hexadecimal digits.
     Sha512,
 }
 
@@ -56,6 +59,7 @@ impl Digester {
         Digester { hasher }
     }
 
+    /// Hashes the next piece of the bytes.
     pub fn update(&mut self, piece: &[u8])
         ensures { (a : _) (m : List ℕ) → Holds self.old a m
             → Holds self.new a (m ++ piece.now) }
@@ -67,7 +71,7 @@ impl Digester {
         }
     }
 
-    /// The text of what came in. Afterwards the digester is as new.
+    /// The digest text of what came in. Afterwards the digester is as new.
     pub fn finalize(&mut self, alloc: Global) -> Result<Text, AllocError>
         ensures text { (a : _) (m : List ℕ) → Holds self.old a m
             → IfOk result (λ text. text ≡ digest_text a m) }

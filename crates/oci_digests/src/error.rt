@@ -9,18 +9,24 @@ use thiserror::Error;
 #[derive(Debug, Drop, Error)]
 pub enum DigestError {
     /// A digest header that is not text: a byte of it is neither 0x09 nor from 0x20 to 0x7E.
-    #[error("the digest header is not text")]
+    #[error("the digest header is not text: ask the registry for visible ASCII")]
     InvalidHeader(Blob),
     /// The text before the first colon, which names none of the algorithms.
-    #[error("the digest's algorithm is not supported")]
+    #[error("the digest's algorithm is not supported: give sha256, sha384 or sha512")]
     UnsupportedAlgorithm(Text),
     /// The digest text has no colon.
-    #[error("the digest names no algorithm")]
+    #[error("the digest names no algorithm: give algorithm:digits")]
     MissingAlgorithm,
     /// The digest that was given is not the one that was computed.
-    #[error("the digest does not name the bytes")]
-    VerificationError { expected: Text, actual: Text },
-    #[error("out of memory")]
+    #[error("the digest does not name the bytes: do not use them")]
+    VerificationError {
+        /// The text that was given.
+        expected: Text,
+        /// The text that was computed.
+        actual: Text,
+    },
+    /// The allocator had no memory.
+    #[error("out of memory: free some and try again")]
     WantOfMemory,
 }
 

@@ -12,7 +12,6 @@ use Rattle.oci_protocol.specs.Proto.{Reading, Unread, Within, Piped, limit_of, R
 use Rattle.oci_protocol.specs.Runs.{head_part, IsReply, Runs}
 use Rattle.oci_protocol.specs.Ends.{Ends}
 use Rattle.oci_protocol.specs.Follow.{unread_if, turned, go_if, turn, follow}
-use Rattle.oci_protocol.specs.Lift.{lifted}
 use Rattle.oci_protocol.specs.Drive.{reply_of, reply_to, Driven, driven, Drives, Spilt}
 use Rattle.oci_protocol.proofs.Ends.{Runs-ends}
 use Rattle.oci_protocol.proofs.Laws.{Runs-count}
@@ -62,13 +61,6 @@ driven-bind t (Ask request reading next) f place k = driven-bind t (next (reply_
 driven-bind t (Recall next) f place k = driven-bind t (next k) f place k
 driven-bind t (Keep kept rest) f place k = driven-bind t rest f place kept
 
-pub driven-lifted : {K C A : Type 0} (t : Answering) (p : Proto K A) (x : C) (place : ℕ) (k : K) → driven t (lifted p) place (k, x) ≡ record { place = (driven t p place k).place; kept = ((driven t p place k).kept, x); answer = (driven t p place k).answer }
-unfolding driven lifted
-driven-lifted t (Done a) x place k = refl
-driven-lifted t (Ask request reading next) x place k = driven-lifted t (next (reply_to reading (t.answer place request))) x (suc place) k
-driven-lifted t (Recall next) x place k = driven-lifted t (next k) x place k
-driven-lifted t (Keep kept rest) x place k = driven-lifted t rest x place kept
-
 pub Drives-done : {K A E : Type 0} {t : Answering} {place : ℕ} {k : K} {a : A} → Drives {E = E} t (Done (Ok a)) place place k k a
 unfolding driven
 Drives-done = record { drives = refl }
@@ -79,9 +71,6 @@ Drives-next {t = t} {p = p} f {place = place} {k = k} first second = record { dr
 -- a part whose refusal is looked at, where there is none
 pub Drives-caught : {K A B E F : Type 0} {t : Answering} {p : Proto K (Result A E)} (f : Result A E → Proto K (Result B F)) {place mid after : ℕ} {k l j : K} {a : A} {b : B} → Drives t p place mid k l a → Drives t (f (Ok a)) mid after l j b → Drives t (bind p f) place after k j b
 Drives-caught {t = t} {p = p} f {place = place} {k = k} first second = record { drives = driven-bind t p f place k ∙ (rw first.drives second.drives) }
-
-pub Drives-lifted : {K C A E : Type 0} {t : Answering} {p : Proto K (Result A E)} {x : C} {place after : ℕ} {k l : K} {a : A} → Drives t p place after k l a → Drives t (lifted p) place after (k, x) (l, x) a
-Drives-lifted {K} {C} {A} {E} {t = t} {p = p} {x = x} {place = place} {k = k} h = record { drives = driven-lifted t p x place k ∙ ap (λ (d : Driven K (Result A E)). record { place = d.place; kept = (d.kept, x); answer = d.answer }) h.drives }
 
 pub Drives-recall : {K A E : Type 0} {t : Answering} (next : K → Proto K (Result A E)) {place after : ℕ} {k l : K} {a : A} → Drives t (next k) place after k l a → Drives t (Recall next) place after k l a
 unfolding driven

@@ -4,15 +4,11 @@ pub mod Ending
 pub mod Ends
 pub mod Extending
 pub mod Following
-pub mod Guards
+pub mod Keeping
 pub mod Laws
-pub mod Lift
-pub mod Only
 pub mod Parts
 pub mod Pouring
 pub mod Reaching
 pub mod Safety
 pub mod Showing
-pub mod Spilling
 pub mod Trailing
-pub mod Turning

@@ -1,8 +1,6 @@
 pub mod Drive
 pub mod Ends
 pub mod Follow
-pub mod Guards
-pub mod Lift
 pub mod Poured
 pub mod Proto
 pub mod Runs

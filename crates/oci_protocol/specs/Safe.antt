@@ -1,4 +1,4 @@
-use Rattle.std.specs.Prelude.{◌≡◌, ◌≢◌, ◌⊎◌, ℕ, List, [], ◌∷◌, ◌++◌}
+use Rattle.std.specs.Prelude.{ℕ, List, [], ◌∷◌, ◌++◌}
 use Rattle.oci_transport.specs.declared.message.Request.{Request}
 use Rattle.oci_transport.specs.declared.message.Exchange.{Exchange}
 use Rattle.oci_protocol.specs.Proto.{Reply, Proto, Done, Ask, Recall, Keep}
@@ -15,10 +15,3 @@ Safe P I Q k seen (Keep kept rest) = I kept seen × Safe P I Q kept seen rest
 abbrev pub EachAfter : (List Exchange → Request → Type 0) → List Exchange → List Exchange → Type 0
 EachAfter P seen [] = Unit {0}
 EachAfter P seen (e ∷ c) = P seen e.request × EachAfter P (seen ++ e ∷ []) c
-
--- this answer comes only where the reply to the last request was this one
-unfoldable pub OnlyAfter : {K A : Type 0} → Reply → A → Proto K A → Type 0
-OnlyAfter cause a (Done x) = x ≢ a
-OnlyAfter cause a (Ask request reading next) = (reply : Reply) → (reply ≡ cause) ⊎ OnlyAfter cause a (next reply)
-OnlyAfter {K} cause a (Recall next) = (k : K) → OnlyAfter cause a (next k)
-OnlyAfter cause a (Keep kept rest) = OnlyAfter cause a rest

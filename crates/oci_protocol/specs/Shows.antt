@@ -12,6 +12,10 @@ use Rattle.oci_protocol.specs.Trails.{Settles}
 pub record Shows {K A : Type 0} (Q : ℕ → List Exchange → ℕ → A → Type 0) (p : Proto K A) : Type 0 where
   pub shows : (k l : K) (m n : ℕ) (c : List Exchange) (a : A) → Runs p k m c n l a → Q m c n a
 
+-- The same, also of what is kept before it and after it.
+pub record ShowsKept {K A : Type 0} (Q : K → ℕ → List Exchange → ℕ → K → A → Type 0) (p : Proto K A) : Type 0 where
+  pub shows : (k l : K) (m n : ℕ) (c : List Exchange) (a : A) → Runs p k m c n l a → Q k m c n l a
+
 -- this is so where it answers, and that where it refuses
 abbrev pub ByAnswer : {A E : Type 0} → (ℕ → List Exchange → ℕ → A → Type 0) → (ℕ → List Exchange → ℕ → E → Type 0) → ℕ → List Exchange → ℕ → Result A E → Type 0
 ByAnswer P R m c n (Ok a) = P m c n a
