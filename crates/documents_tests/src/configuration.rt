@@ -47,7 +47,13 @@ fn what_is_no_file_is_refused(rt: HostRuntime) {
     let late =
         r#"{"created":"2015-10-31T22:22:60Z","architecture":"","os":"","rootfs":{"type":"","diff_ids":[]}}"#;
     assert!(rt; is_refused(rt.alloc(), late, ReadError::Shape));
-    assert!(rt; is_refused(rt.alloc(), r#"{"architecture":"","os":""}"#, ReadError::Shape));
+    assert!(rt;
+        is_refused(
+            rt.alloc(),
+            r#"{"architecture":"","os":""}"#,
+            ReadError::Shape
+        )
+    );
     assert!(rt; is_refused(rt.alloc(), r#"{"x":[{"y":1.5}]}"#, ReadError::Float));
 }
 
@@ -74,9 +80,19 @@ fn history_is_read(alloc: Global, text: &str) -> bool {
 
 #[test]
 fn parts_of_a_file_are_read(rt: HostRuntime) {
-    assert!(rt; config_is_read(rt.alloc(), r#"{"Entrypoint":["e"],"StopSignal":"SIGTERM","WorkingDir":"/"}"#));
+    assert!(rt;
+        config_is_read(
+            rt.alloc(),
+            r#"{"Entrypoint":["e"],"StopSignal":"SIGTERM","WorkingDir":"/"}"#
+        )
+    );
     assert!(rt; rootfs_is_read(rt.alloc(), r#"{"diff_ids":["sha256:l"],"type":"layers"}"#));
-    assert!(rt; history_is_read(rt.alloc(), r#"{"author":"a","comment":"c","empty_layer":false}"#));
+    assert!(rt;
+        history_is_read(
+            rt.alloc(),
+            r#"{"author":"a","comment":"c","empty_layer":false}"#
+        )
+    );
 }
 
 fn config_has_nothing(alloc: Global) -> Result<bool, AllocError> {

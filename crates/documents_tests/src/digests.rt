@@ -117,7 +117,14 @@ fn is_mismatch(alloc: Global, header: Option<&str>, reference: Option<&str>, wan
 fn a_body_is_checked_against_each_digest(rt: HostRuntime) {
     assert!(rt; is_mismatch(rt.alloc(), Some(EMPTY_256), Some(ABC_256), EMPTY_256));
     assert!(rt; is_mismatch(rt.alloc(), Some(MD5), Some(EMPTY_256), EMPTY_256));
-    assert!(rt; is_mismatch(rt.alloc(), Some(ABC_256), Some("sha512:invalid"), "sha512:invalid"));
+    assert!(rt;
+        is_mismatch(
+            rt.alloc(),
+            Some(ABC_256),
+            Some("sha512:invalid"),
+            "sha512:invalid"
+        )
+    );
     assert!(rt; validate_digest(rt.alloc(), b"abc", Some(MD5), None).is_err());
 }
 

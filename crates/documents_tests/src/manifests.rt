@@ -47,7 +47,13 @@ fn a_document_has_one_meaning(rt: HostRuntime) {
         r#"{"schemaVersion":2,"config":{"mediaType":"a","digest":"b","size":1},"layers":[],"manifests":[]}"#;
     assert!(rt; is_refused(rt.alloc(), both, ReadError::Ambiguous));
     assert!(rt; is_refused(rt.alloc(), r#"{"schemaVersion":2.5}"#, ReadError::Float));
-    assert!(rt; is_refused(rt.alloc(), r#"{"schemaVersion":256,"manifests":[]}"#, ReadError::Shape));
+    assert!(rt;
+        is_refused(
+            rt.alloc(),
+            r#"{"schemaVersion":256,"manifests":[]}"#,
+            ReadError::Shape
+        )
+    );
 }
 
 fn image_is_read(alloc: Global) -> bool {
@@ -68,8 +74,10 @@ fn index_is_read(alloc: Global) -> bool {
 
 fn document_is_copied(alloc: Global) -> Result<bool, AllocError> {
     match OciManifest::read(alloc, &json(alloc, r#"{"schemaVersion":2,"manifests":[]}"#)) {
-        Ok(document) => Ok(document.copy(alloc)?.content_type()
-            == "application/vnd.docker.distribution.manifest.list.v2+json"),
+        Ok(document) => Ok(
+            document.copy(alloc)?.content_type()
+                == "application/vnd.docker.distribution.manifest.list.v2+json",
+        ),
         Err(_) => Ok(false),
     }
 }
@@ -111,9 +119,24 @@ fn version_is_read(alloc: Global) -> bool {
 
 #[test]
 fn parts_of_documents_are_read(rt: HostRuntime) {
-    assert!(rt; descriptor_is_read(rt.alloc(), r#"{"annotations":{"a":"b"},"digest":"d","mediaType":"m","size":1,"urls":["u"]}"#));
-    assert!(rt; entry_is_read(rt.alloc(), r#"{"digest":"d","mediaType":"m","platform":{"architecture":"arm","os":"linux"},"size":1}"#));
-    assert!(rt; platform_is_read(rt.alloc(), r#"{"architecture":"arm","features":[],"os":"linux","os.features":["a"],"os.version":"1","variant":"v7"}"#));
+    assert!(rt;
+        descriptor_is_read(
+            rt.alloc(),
+            r#"{"annotations":{"a":"b"},"digest":"d","mediaType":"m","size":1,"urls":["u"]}"#
+        )
+    );
+    assert!(rt;
+        entry_is_read(
+            rt.alloc(),
+            r#"{"digest":"d","mediaType":"m","platform":{"architecture":"arm","os":"linux"},"size":1}"#
+        )
+    );
+    assert!(rt;
+        platform_is_read(
+            rt.alloc(),
+            r#"{"architecture":"arm","features":[],"os":"linux","os.features":["a"],"os.version":"1","variant":"v7"}"#
+        )
+    );
     assert!(rt; version_is_read(rt.alloc()));
 }
 
@@ -171,9 +194,25 @@ fn code_is_known(alloc: Global) -> Result<bool, AllocError> {
 #[test]
 fn errors_are_written_with_all_members(rt: HostRuntime) {
     let want = r#"{"code":"TOOMANYREQUESTS","detail":[1],"message":""}"#;
-    assert!(rt; error_is_written(rt.alloc(), r#"{"code":"TOOMANYREQUESTS","detail":[1]}"#, want));
-    assert!(rt; envelope_is_read(rt.alloc(), r#"{"errors":[{"code":"DENIED","detail":null,"message":""}]}"#));
-    assert!(rt; !envelope_is_read(rt.alloc(), r#"{"errors":[{"code":"DENIED","detail":null,"message":null}]}"#));
+    assert!(rt;
+        error_is_written(
+            rt.alloc(),
+            r#"{"code":"TOOMANYREQUESTS","detail":[1]}"#,
+            want
+        )
+    );
+    assert!(rt;
+        envelope_is_read(
+            rt.alloc(),
+            r#"{"errors":[{"code":"DENIED","detail":null,"message":""}]}"#
+        )
+    );
+    assert!(rt;
+        !envelope_is_read(
+            rt.alloc(),
+            r#"{"errors":[{"code":"DENIED","detail":null,"message":null}]}"#
+        )
+    );
     assert!(rt; holds(code_is_known(rt.alloc())));
 }
 
@@ -181,8 +220,7 @@ fn built(alloc: Global) -> Result<OciImageManifest, AllocError> {
     let layer = ImageLayer::oci_v1(alloc, Blob::new(alloc, b"hello world")?, None)?;
     let config = Config::oci_v1(alloc, Blob::new(alloc, b"{}")?, None)?;
     let mut manifest = OciImageManifest::build(alloc, &[layer], &config, None)?;
-    manifest.media_type =
-        Some(Text::new(alloc, "application/vnd.oci.image.manifest.v1+json")?);
+    manifest.media_type = Some(Text::new(alloc, "application/vnd.oci.image.manifest.v1+json")?);
     Ok(manifest)
 }
 
@@ -206,7 +244,11 @@ fn layers_are_compared(alloc: Global) -> Result<bool, AllocError> {
 }
 
 fn layer_names_its_bytes(alloc: Global) -> Result<bool, AllocError> {
-    let layer = ImageLayer::new(Blob::new(alloc, b"hello world")?, Text::new(alloc, "a")?, None);
+    let layer = ImageLayer::new(
+        Blob::new(alloc, b"hello world")?,
+        Text::new(alloc, "a")?,
+        None,
+    );
     let digest = layer.sha256_digest(alloc)?;
     let want = "sha256:b94d27b9934d3e08a52e52d7da7dabfac484efe37a5380ee9088f7ace2efcde9";
     Ok(digest.as_str() == want)
@@ -271,6 +313,12 @@ fn tags_are_a_list_or_null(rt: HostRuntime) {
 
 #[test]
 fn a_catalog_is_a_list_of_repositories(rt: HostRuntime) {
-    assert!(rt; are_repositories(rt.alloc(), r#"{"repositories":["a","b/c"],"next":null}"#, Some(2)));
+    assert!(rt;
+        are_repositories(
+            rt.alloc(),
+            r#"{"repositories":["a","b/c"],"next":null}"#,
+            Some(2)
+        )
+    );
     assert!(rt; are_repositories(rt.alloc(), r#"{"repositories":null}"#, None));
 }

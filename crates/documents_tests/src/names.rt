@@ -25,13 +25,29 @@ fn is_read(alloc: Global, text: &str, whole: &str, resolved: &str) -> bool {
 #[test]
 fn texts_are_read_as_these_references(rt: HostRuntime) {
     for (text, whole, resolved) in [
-        ("busybox", "docker.io/library/busybox:latest", "index.docker.io"),
-        ("index.docker.io/busybox", "docker.io/library/busybox:latest", "index.docker.io"),
+        (
+            "busybox",
+            "docker.io/library/busybox:latest",
+            "index.docker.io",
+        ),
+        (
+            "index.docker.io/busybox",
+            "docker.io/library/busybox:latest",
+            "index.docker.io",
+        ),
         ("team/app", "docker.io/team/app:latest", "index.docker.io"),
-        ("test.com:5000", "docker.io/library/test.com:5000", "index.docker.io"),
+        (
+            "test.com:5000",
+            "docker.io/library/test.com:5000",
+            "index.docker.io",
+        ),
         ("localhost/app", "localhost/app:latest", "localhost"),
         ("test:5000/repo:tag", "test:5000/repo:tag", "test:5000"),
-        ("r.io/a.b_c__d--e---f:_T.x-y", "r.io/a.b_c__d--e---f:_T.x-y", "r.io"),
+        (
+            "r.io/a.b_c__d--e---f:_T.x-y",
+            "r.io/a.b_c__d--e---f:_T.x-y",
+            "r.io",
+        ),
         ("R.IO/app", "R.IO/app:latest", "R.IO"),
     ] {
         assert!(rt; is_read(rt.alloc(), text, whole, resolved), "at {text}");
@@ -48,8 +64,18 @@ fn is_refused(alloc: Global, text: &str, want: ParseError) -> bool {
 #[test]
 fn texts_out_of_form_are_refused(rt: HostRuntime) {
     for text in [
-        "a:t/b", "Uppercase:tag", "-app", "a___b", "a//b", "app:", "app@sha256:", "r.io:/app",
-        "[::1]:5000/app", ":justtag", "app@sha256:ab@sha256:ab", "app@sha++256:ab",
+        "a:t/b",
+        "Uppercase:tag",
+        "-app",
+        "a___b",
+        "a//b",
+        "app:",
+        "app@sha256:",
+        "r.io:/app",
+        "[::1]:5000/app",
+        ":justtag",
+        "app@sha256:ab@sha256:ab",
+        "app@sha++256:ab",
     ] {
         let refused = is_refused(rt.alloc(), text, ParseError::ReferenceInvalidFormat);
         assert!(rt; refused, "at {text}");
@@ -72,7 +98,12 @@ fn lengthened(alloc: Global, front: &str, letter: &str, count: usize) -> Result<
     Ok(long)
 }
 
-fn ends_at(alloc: Global, front: &str, count: usize, refusal: ParseError) -> Result<bool, AllocError> {
+fn ends_at(
+    alloc: Global,
+    front: &str,
+    count: usize,
+    refusal: ParseError,
+) -> Result<bool, AllocError> {
     let longest = lengthened(alloc, front, "f", count)?;
     let longer = lengthened(alloc, front, "f", count + 1)?;
     let read = Reference::parse(alloc, longest.as_str()).is_ok();
@@ -88,7 +119,11 @@ fn lengths_end_at_255_and_128_characters(rt: HostRuntime) {
 
 #[test]
 fn digests_have_the_digits_of_their_algorithm(rt: HostRuntime) {
-    for (front, count) in [("app@sha256:", 64), ("a:t@sha384:", 96), ("r.io/app@sha512:", 128)] {
+    for (front, count) in [
+        ("app@sha256:", 64),
+        ("a:t@sha384:", 96),
+        ("r.io/app@sha512:", 128),
+    ] {
         let ends = holds(ends_at(rt.alloc(), front, count, ParseError::DigestInvalidLength));
         assert!(rt; ends, "at {front}");
     }
