@@ -50,16 +50,28 @@ unless_shown : (b : Bool) (o : Option Moment) → Shown o → Shown (if b then N
 unless_shown true o so = tt
 unless_shown false o so = so
 
+day_shown : (m : Moment) (year month day : ℕ) → Shown (on_day m year month day)
+day_shown m year month day = checked_shown (dated m year month day)
+
 last_day_shown : (m : Moment) (year month : ℕ) → Shown (on_last_day m year month)
-last_day_shown m year month = or_shown _ _ (checked_shown _) (or_shown _ _ (checked_shown _) (or_shown _ _ (checked_shown _) (checked_shown _)))
+last_day_shown m year month =
+    or_shown (on_day m year month 31) (or_else (on_day m year month 30) (or_else (on_day m year month 29) (on_day m year month 28))) (day_shown m year month 31)
+    (or_shown (on_day m year month 30) (or_else (on_day m year month 29) (on_day m year month 28)) (day_shown m year month 30)
+    (or_shown (on_day m year month 29) (on_day m year month 28) (day_shown m year month 29) (day_shown m year month 28)))
 
 day_after_shown : (m : Moment) → Shown (day_after m)
-day_after_shown m = or_shown _ _ (checked_shown _) (or_shown _ _ (checked_shown _) (checked_shown _))
+day_after_shown m =
+    let month = on_day m m.year (m.month + 1) 1 in
+    let year = on_day m (m.year + 1) 1 1 in
+    or_shown (on_day m m.year m.month (m.day + 1)) (or_else month year) (day_shown m m.year m.month (m.day + 1))
+    (or_shown month year (day_shown m m.year (m.month + 1) 1) (day_shown m (m.year + 1) 1 1))
 
 day_before_shown : (m : Moment) → Shown (day_before m)
 day_before_shown m =
-    or_shown _ _ (checked_shown _)
-    (or_shown _ _ (last_day_shown m m.year (m.month - 1)) (unless_shown (m.year == 0) _ (last_day_shown m (m.year - 1) 12)))
+    let month = on_last_day m m.year (m.month - 1) in
+    let year = if m.year == 0 then None else on_last_day m (m.year - 1) 12 in
+    or_shown (on_day m m.year m.month (m.day - 1)) (or_else month year) (day_shown m m.year m.month (m.day - 1))
+    (or_shown month year (last_day_shown m m.year (m.month - 1)) (unless_shown (m.year == 0) (on_last_day m (m.year - 1) 12) (last_day_shown m (m.year - 1) 12)))
 
 no_day_there : (o : Option Moment) (k : ℕ) → Shown o → k < 1440 → at_minute_of o k ≡ None → o ≡ None
 no_day_there None k so small e = refl

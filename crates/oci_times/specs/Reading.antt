@@ -65,7 +65,8 @@ has_fraction text = slice_index text 0 == 46
 abbrev pub fraction_length : List ℕ → Option ℕ
 fraction_length text =
     if has_fraction text
-    then (if nat_le 1 (digit_count (drop 1 text)) && nat_le (digit_count (drop 1 text)) 9 then Some (digit_count (drop 1 text) + 1) else None)
+    then (if nat_le 1 (digit_count (drop 1 text)) && nat_le (digit_count (drop 1 text)) 9
+    then Some (digit_count (drop 1 text) + 1) else None)
     else Some 0
 
 abbrev pub nanoseconds : List ℕ → ℕ

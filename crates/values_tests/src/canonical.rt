@@ -1,9 +1,7 @@
 // The canonical texts of whole values.
 use crate::plain::write_value;
 use crate::values::{failing_at, holds};
-use json_canon::{
-    CanonError, JcsSerializer, json_to_vec, pipe, to_string, to_vec, to_writer,
-};
+use json_canon::{CanonError, JcsSerializer, json_to_vec, pipe, to_string, to_vec, to_writer};
 use json_values::{Blob, Json, PlainSink, Sink, Text, ToValue};
 use serde_json::Value;
 use std::alloc::{AllocError, Global};
@@ -89,7 +87,10 @@ fn each_control_character_has_its_escape(rt: HostRuntime) {
         "\\u001a", "\\u001b", "\\u001c", "\\u001d", "\\u001e", "\\u001f", " ", "!", "\\\"",
     ];
     for (code, escape) in escapes.iter().enumerate() {
-        assert!(rt; holds(is_escaped(rt.alloc(), code as u32, *escape)), "at {code}");
+        assert!(rt;
+            holds(is_escaped(rt.alloc(), code as u32, *escape)),
+            "at {code}"
+        );
     }
 }
 

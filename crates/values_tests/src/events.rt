@@ -78,7 +78,10 @@ fn what_stands_in_no_object_goes_out_at_once(rt: HostRuntime) {
         ("{}.", "{}"),
         ("[(t", "[true"),
         ("[(n)(s)(1)].", "[null,\"\\n\",9007199254740991]"),
-        ("[({<d>:n;<g>:t;})].", "[{\"\u{1f600}\":true,\"\u{fb33}\":null}]"),
+        (
+            "[({<d>:n;<g>:t;})].",
+            "[{\"\u{1f600}\":true,\"\u{fb33}\":null}]",
+        ),
     ] {
         assert!(rt; writes(rt.alloc(), events, taken, ""), "at {events}");
     }

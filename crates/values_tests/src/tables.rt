@@ -62,7 +62,12 @@ fn is_read(alloc: Global, text: &str, want: &[u8]) -> bool {
 fn bytes_read_as_a_text_or_in_base64(rt: HostRuntime) {
     assert!(rt; is_read(rt.alloc(), "\"sig1\"", b"sig1"));
     assert!(rt; is_read(rt.alloc(), "{\"base64\":\"c2lnMQ==\"}", b"sig1"));
-    for text in ["{\"base64\":\"c2lnMQ\"}", "{\"base64\":\"c2lnMQ==\",\"a\":1}", "{}", "null"] {
+    for text in [
+        "{\"base64\":\"c2lnMQ\"}",
+        "{\"base64\":\"c2lnMQ==\",\"a\":1}",
+        "{}",
+        "null",
+    ] {
         assert!(rt; !reads::<Blob>(rt.alloc(), text), "at {text}");
     }
 }

@@ -3,6 +3,7 @@ use json_values::{
     Annotations, Blob, Copied, Json, List, MemorySink, PlainSink, Sink, SinkError, Text, TextSet,
     ToValue, put_all, read_json, write_quoted,
 };
+use json_writing::Holder;
 use serde_json::Value;
 use std::alloc::{AllocError, Global};
 

@@ -2,7 +2,7 @@
 use crate::values::holds;
 use json_tables::Reads;
 use json_values::{Annotations, Json, List, Text, TextSet};
-use json_writing::{Holder, Required, UnlessEmpty, Writes, object, put_field};
+use json_writing::{Required, UnlessEmpty, Writes, object, put_field};
 use serde_json::{Map, Value};
 use std::alloc::{AllocError, Global};
 
@@ -89,17 +89,9 @@ fn set_reads_back(alloc: Global) -> Result<bool, AllocError> {
     }
 }
 
-fn holders_may_be_empty(alloc: Global) -> Result<bool, AllocError> {
-    let map = map_of(alloc)?;
-    let set = set_of(alloc)?;
-    let none = Annotations::new(alloc).is_empty() && TextSet::new(alloc).is_empty();
-    Ok(none && !map.is_empty() && !set.is_empty())
-}
-
 #[test]
 fn what_is_written_reads_back(rt: HostRuntime) {
     assert!(rt; holds(fields_are_put(rt.alloc())));
     assert!(rt; holds(map_reads_back(rt.alloc())));
     assert!(rt; holds(set_reads_back(rt.alloc())));
-    assert!(rt; holds(holders_may_be_empty(rt.alloc())));
 }
