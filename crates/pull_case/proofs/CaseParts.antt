@@ -1,5 +1,5 @@
 -- What holds of each case.
-use Rattle.std.proofs.Common.{◌≡◌, codes, ℕ, ◌<◌, List, Bool, true, nat_lt, if◌then◌else◌, length, Option, Some, None, Result, Ok, Err, IfSome, IsOk, is_ok, refl, arith}
+use Rattle.std.proofs.Common.{◌≡◌, codes, ℕ, ◌<◌, List, Bool, true, nat_lt, if◌then◌else◌, length, Option, Some, None, Result, Ok, Err, IfSome, IsOk, is_ok, refl, ap, ◌∙◌, arith}
 use Rattle.std.proofs.lemmas.Bool.Decides.{nat_tests}
 use Rattle.std.specs.Prelude.{⊤}
 use Rattle.serde_json.specs.Data.{Data}
@@ -45,49 +45,42 @@ has_moments None moments e = cc
 has_moments (Some d) moments e =
     let h = passed (λ ms. nat_lt 0 (length ms)) (list_of u64_of d) moments e in grind (arith, nat_tests)
 
+-- what was made of a member that reads
+step : {A B : Type 0} (o : Option A) (f : A → Option B) (b : B) → (o >>= f) ≡ Some b → (a : A) × (o ≡ Some a) × (f a ≡ Some b)
+step None f b e = absurd (cc e)
+step (Some a) f b e = (a, refl, e)
+
+same : {A : Type 0} (a b : A) → Some a ≡ Some b → a ≡ b
+same a b e = cc e
+
 -- the members of a case are what was read for them
-named : (of_known : Option ⊤) (of_reference : Option (List ℕ)) (of_protocol : Option ClientProtocol) (of_auth : Option RegistryAuth) (of_accepted : Option (List (List ℕ))) (of_moments : Option (List ℕ)) (of_keys : Option (List (List ℕ))) (of_constraints : Option (List AnnotationVerifier)) (of_signatures : Option (List SignedRow)) (of_answers : Option (List Recorded))
-    → IfSome {T = Case} (do
-      known ← of_known
-      reference ← of_reference
-      protocol ← of_protocol
-      auth ← of_auth
-      accepted ← of_accepted
-      moments ← of_moments
-      keys ← of_keys
-      constraints ← of_constraints
-      signatures ← of_signatures
-      answers ← of_answers
-      Some (record { reference = reference; protocol = protocol; auth = auth; accepted = accepted; moments = moments; keys = keys; constraints = constraints; signatures = signatures; answers = answers }))
-    (λ case. (of_reference ≡ Some case.reference) × (of_moments ≡ Some case.moments))
-named None of_reference of_protocol of_auth of_accepted of_moments of_keys of_constraints of_signatures of_answers = tt
-named (Some known) None of_protocol of_auth of_accepted of_moments of_keys of_constraints of_signatures of_answers = tt
-named (Some known) (Some reference) None of_auth of_accepted of_moments of_keys of_constraints of_signatures of_answers = tt
-named (Some known) (Some reference) (Some protocol) None of_accepted of_moments of_keys of_constraints of_signatures of_answers = tt
-named (Some known) (Some reference) (Some protocol) (Some auth) None of_moments of_keys of_constraints of_signatures of_answers = tt
-named (Some known) (Some reference) (Some protocol) (Some auth) (Some accepted) None of_keys of_constraints of_signatures of_answers = tt
-named (Some known) (Some reference) (Some protocol) (Some auth) (Some accepted) (Some moments) None of_constraints of_signatures of_answers = tt
-named (Some known) (Some reference) (Some protocol) (Some auth) (Some accepted) (Some moments) (Some keys) None of_signatures of_answers = tt
-named (Some known) (Some reference) (Some protocol) (Some auth) (Some accepted) (Some moments) (Some keys) (Some constraints) None of_answers = tt
-named (Some known) (Some reference) (Some protocol) (Some auth) (Some accepted) (Some moments) (Some keys) (Some constraints) (Some signatures) None = tt
-named (Some known) (Some reference) (Some protocol) (Some auth) (Some accepted) (Some moments) (Some keys) (Some constraints) (Some signatures) (Some answers) = (refl, refl)
-
-members_of : (d : Data) → IfSome (case_of d) (λ case. (required reference_text_of (codes "reference") d ≡ Some case.reference) × (required moments_of (codes "moments") d ≡ Some case.moments))
+members_of : (d : Data) (case : Case) → case_of d ≡ Some case → (required reference_text_of (codes "reference") d ≡ Some case.reference) × (required moments_of (codes "moments") d ≡ Some case.moments)
 unfolding case_of
-members_of d =
-    named (only members d) (required reference_text_of (codes "reference") d) (at_name (unless_absent Https protocol_of) (codes "protocol") d) (at_name (unless_absent Anonymous auth_of) (codes "auth") d)
-    (required (list_of text_of) (codes "accepted") d) (required moments_of (codes "moments") d) (required (list_of bytes_of) (codes "keys") d)
-    (required (list_of constraint_of) (codes "constraints") d) (required (list_of signature_of) (codes "signatures") d) (required (list_of answer_of) (codes "answers") d)
+members_of d case e =
+    let known = step _ _ _ e in
+    let reference = step _ _ _ known.2 in
+    let protocol = step _ _ _ reference.2 in
+    let auth = step _ _ _ protocol.2 in
+    let accepted = step _ _ _ auth.2 in
+    let moments = step _ _ _ accepted.2 in
+    let limit = step _ _ _ moments.2 in
+    let keys = step _ _ _ limit.2 in
+    let constraints = step _ _ _ keys.2 in
+    let signatures = step _ _ _ constraints.2 in
+    let answers = step _ _ _ signatures.2 in
+    let made = same _ _ answers.2 in
+    (reference.1 ∙ ap (λ (c : Case). Some c.reference) made, moments.1 ∙ ap (λ (c : Case). Some c.moments) made)
 
--- what follows from what holds of a value that is there
-follows : {A : Type 0} (P Q : A → Type 0) (o : Option A) → IfSome o P → ((a : A) → P a → Q a) → IfSome o Q
-follows P Q None h f = tt
-follows P Q (Some a) h f = f a h
+found : (d : Data) (P : Case → Type 0) → ((case : Case) → case_of d ≡ Some case → P case) → IfSome (case_of d) P
+found d P h = by_case (case_of d) refl where
+  by_case : (o : Option Case) → case_of d ≡ o → IfSome o P
+  by_case None e = tt
+  by_case (Some case) e = h case e
 
 pub case_parses : (d : Data) → IfSome (case_of d) (λ case. IsOk (reference_of case.reference))
 case_parses d =
-    follows _ _ (case_of d) (members_of d) (λ case h. reads_as_reference (get (codes "reference") d) case.reference h.0)
+    found d _ (λ case e. reads_as_reference (get (codes "reference") d) case.reference (members_of d case e).0)
 
 pub case_timed : (d : Data) → IfSome (case_of d) (λ case. 0 < length case.moments)
 case_timed d =
-    follows _ _ (case_of d) (members_of d) (λ case h. has_moments (get (codes "moments") d) case.moments h.1)
+    found d _ (λ case e. has_moments (get (codes "moments") d) case.moments (members_of d case e).1)
