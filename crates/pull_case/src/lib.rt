@@ -7,7 +7,7 @@ mod credentials;
 mod entries;
 mod headers;
 mod members;
-mod pull_policy;
+mod policy;
 
 pub use case::{Case, read_case};
-pub use pull_policy::policy;
+pub use policy::case_policy;

@@ -1,7 +1,7 @@
 -- Reading a source to its end, of at most so many bytes.
-use Rattle.std.specs.Prelude.{◌≡◌, ℕ, ◌≤◌, ◌<◌, List, length, Result, Ok, Err}
+use Rattle.std.specs.Prelude.{ℕ, ◌≤◌, ◌<◌, List, length, Result, Ok, Err}
 use Rattle.std.specs.Io.KnownBytes.{IsAtEnd}
-use Rattle.json_values.specs.Counts.{Rose}
+use Rattle.json_values.specs.Counts.{Rose, Stays}
 use Rattle.pull_edge.specs.Source.{Spring, Takes}
 use Rattle.pull_edge.specs.declared.reading.ReadRefusal.{ReadRefusal}
 use Rattle.pull_edge.specs.declared.reading.ReadRefusal.TheVariants.{TooLong, SourceFault, WantOfMemory}
@@ -20,7 +20,7 @@ TakesMore limit old new = (front : List ℕ) × Takes front old new × (limit < 
 
 -- What was taken, by how the reading ended. The count of faults rises where the source failed, and stays otherwise.
 abbrev pub Reads : ℕ → Result (List ℕ) ReadRefusal → Spring → Spring → Type 0
-Reads limit (Ok bytes) old new = TakesAll bytes old new × (length bytes ≤ limit) × (new.faults ≡ old.faults)
-Reads limit (Err TooLong) old new = TakesMore limit old new × (new.faults ≡ old.faults)
+Reads limit (Ok bytes) old new = TakesAll bytes old new × (length bytes ≤ limit) × Stays old.faults new.faults
+Reads limit (Err TooLong) old new = TakesMore limit old new × Stays old.faults new.faults
 Reads limit (Err SourceFault) old new = TakesWithin limit old new × Rose old.faults new.faults
-Reads limit (Err WantOfMemory) old new = TakesWithin limit old new × (new.faults ≡ old.faults)
+Reads limit (Err WantOfMemory) old new = TakesWithin limit old new × Stays old.faults new.faults

@@ -1,7 +1,6 @@
 //! Where a program's bytes come from and go to: sources in memory, standard input and standard output.
 #![tactic(auto)]
 
-mod decimal;
 mod give;
 mod memory_source;
 mod plain_source;
@@ -10,7 +9,6 @@ mod source;
 mod std_sink;
 mod std_source;
 
-pub use decimal::write_decimal;
 pub use memory_source::MemorySource;
 pub use plain_source::PlainSource;
 pub use reading::{ReadRefusal, read_all};

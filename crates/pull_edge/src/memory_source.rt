@@ -1,6 +1,6 @@
 ghost use Rattle.std.specs.Prelude.{◌≡◌, ◌≤◌, ◌<◌, length, take, Some, Contains, IfOk, OnOk, OnErr};
 ghost use Rattle.std.specs.Io.KnownBytes.{Keeps, IsAtEnd};
-ghost use Rattle.json_values.specs.Counts.{Rose, raised};
+ghost use Rattle.json_values.specs.Counts.{Rose, Stays, raised};
 
 use crate::give::give;
 use crate::source::{Failed, Source};
@@ -50,7 +50,7 @@ impl Source for MemorySource {
         ensures end { IfOk result (λ n. n ≡ 0 → 0 < length room.new → IsAtEnd (spring self.new).left) }
         ensures stays { OnErr result (Keeps (spring self.old).left (spring self.new).left) }
         ensures fault { OnErr result (Rose (spring self.old).faults (spring self.new).faults) }
-        ensures served { OnOk result ((spring self.new).faults ≡ (spring self.old).faults) }
+        ensures served { OnOk result (Stays (spring self.old).faults (spring self.new).faults) }
         ensures raised { OnErr result ((spring self.new).faults ≡ raised (spring self.old).faults) }
         ensures calls { calls_of self.new ≡ raised (calls_of self.old) }
         ensures failing { failing_of self.new ≡ failing_of self.old }

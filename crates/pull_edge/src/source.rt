@@ -1,7 +1,7 @@
 // Where bytes come from.
 ghost use Rattle.std.specs.Prelude.{◌≡◌, ◌≤◌, ◌<◌, length, take, IfOk, OnOk, OnErr};
 ghost use Rattle.std.specs.Io.KnownBytes.{Keeps, IsAtEnd};
-ghost use Rattle.json_values.specs.Counts.{Rose};
+ghost use Rattle.json_values.specs.Counts.{Rose, Stays};
 ghost use Rattle.pull_edge.specs.Source.{Spring, Takes};
 
 use json_values::Copied;
@@ -34,7 +34,7 @@ pub trait Source {
         ensures end { IfOk result (λ n. n ≡ 0 → 0 < length room.new → IsAtEnd (state self.new).left) }
         ensures stays { OnErr result (Keeps (state self.old).left (state self.new).left) }
         ensures fault { OnErr result (Rose (state self.old).faults (state self.new).faults) }
-        ensures served { OnOk result ((state self.new).faults ≡ (state self.old).faults) };
+        ensures served { OnOk result (Stays (state self.old).faults (state self.new).faults) };
 
     /// How often it failed, up to the greatest count.
     fn faults(&self) -> u64

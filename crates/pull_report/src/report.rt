@@ -4,9 +4,8 @@ ghost use Rattle.pull_report.specs.Report.{image_lines, search_lines, refusal_li
 
 use crate::lines::{print_line, text_line, write_lines};
 use cosign_client::{PullRefusal, VerifiedImage};
-use json_values::Blob;
+use json_values::{Blob, write_decimal};
 use oci_transport::Exchange;
-use pull_edge::write_decimal;
 use std::alloc::{AllocError, Global};
 
 fn write_image(alloc: Global, out: &mut Blob, image: &VerifiedImage) -> Result<(), AllocError>
@@ -36,6 +35,8 @@ fn write_search(alloc: Global, out: &mut Blob, refusal: &PullRefusal) -> Result<
     Ok(())
 }
 
+/// Adds the lines of a refusal at the end of `out`: its print behind `refused`, and of a search without a layer that
+/// stands what was collected and what was skipped.
 pub fn write_refusal(alloc: Global, out: &mut Blob, refusal: &PullRefusal) -> Result<(), AllocError>
     ensures { OnOk result (out.new ≡ out.old ++ refusal_lines refusal.now) }
 {

@@ -2,9 +2,8 @@
 ghost use Rattle.std.specs.Prelude.{◌≡◌, ◌++◌, OnOk, decimal};
 
 use crate::printed::{Printed, word};
-use json_values::{Blob, Text, write_quoted};
+use json_values::{Blob, Text, write_decimal, write_quoted};
 use oci_manifests::OciEnvelope;
-use pull_edge::write_decimal;
 use std::alloc::{AllocError, Global};
 
 /// A number in decimal.

@@ -1,0 +1,4 @@
+pub mod Cases
+pub mod Inputs
+pub mod Rounding
+pub mod Statuses

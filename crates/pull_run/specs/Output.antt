@@ -1,0 +1,19 @@
+-- How what was made went out.
+use Rattle.std.specs.Prelude.{◌≡◌, true, false}
+use Rattle.json_values.specs.Counts.{Rose, Stays}
+use Rattle.json_values.specs.Tray.{Tray, Adds, AddsPart}
+use Rattle.pull_run.specs.declared.report.Report.{Report}
+use Rattle.pull_run.specs.declared.status.Status.{Status}
+use Rattle.pull_run.specs.declared.status.Status.TheVariants as status
+
+-- by the status; the count of the sink's faults rises where it failed, and stays otherwise
+abbrev pub Puts : Status → Report → Tray → Tray → Type 0
+Puts status.Done made before after =
+    (made.refused ≡ false) × Adds made.bytes before after × Stays before.faults after.faults
+Puts status.Refused made before after =
+    (made.refused ≡ true) × Adds made.bytes before after × Stays before.faults after.faults
+Puts status.SinkFault made before after =
+    AddsPart made.bytes before after × Rose before.faults after.faults
+Puts status.WantOfMemory made before after =
+    AddsPart made.bytes before after × Stays before.faults after.faults
+Puts other made before after = ⊥
