@@ -4,7 +4,7 @@ use Rattle.std.specs.List.{list_all}
 use Rattle.std.proofs.lemmas.List.Sums.{list_all-from_AllPass}
 use Rattle.std.proofs.lemmas.Bool.Decides.{nat_tests}
 use Rattle.http_header.specs.FieldName.{IsFieldName, is_field_name}
-use Rattle.http_header.specs.Token.{is_token_byte, token_test, lowercase}
+use Rattle.http_header.specs.Token.{is_token_byte, token_test}
 use Rattle.http_header.proofs.TokenLemmas.{IsFieldName-from_test}
 use Rattle.oci_transport.specs.Headers.{Fields, added, held, is_header_value}
 use Rattle.pull_case.specs.Answer.{with_header}
@@ -73,28 +73,28 @@ name_fails name h = not_true (is_field_name name) (λ e. h (IsFieldName-from_tes
 name_given : (name : List ℕ) → ((IsFieldName name → ⊥) → ⊥) → is_field_name name ≡ true
 name_given name h = not_false (is_field_name name) (λ e. h (λ n. both (is_field_name name) (name_passes name n) e))
 
-header_added : (m : Fields) (name value : List ℕ) → ((IsFieldName name → ⊥) → ⊥) → is_header_value value ≡ true → held m < 1000 → with_header m (name, value) ≡ Some (added m (lowercase name) value)
+header_added : (m : Fields) (name value : List ℕ) → ((IsFieldName name → ⊥) → ⊥) → is_header_value value ≡ true → held m < 1000 → with_header m (name, value) ≡ Some (added m name value)
 header_added m name value named valued room =
-    passes (is_field_name name) (is_header_value value) (nat_lt (held m) 1000) (added m (lowercase name) value)
+    passes (is_field_name name) (is_header_value value) (nat_lt (held m) 1000) (added m name value)
     (name_given name named) valued (below (held m) 1000 room)
 
 pub bad_name : (m : Fields) (name value : List ℕ) → (IsFieldName name → ⊥) → with_header m (name, value) ≡ None
 bad_name m name value h =
-    first_fails (is_field_name name) (is_header_value value) (nat_lt (held m) 1000) (added m (lowercase name) value) (name_fails name h)
+    first_fails (is_field_name name) (is_header_value value) (nat_lt (held m) 1000) (added m name value) (name_fails name h)
 
 bad_value : (m : Fields) (name value : List ℕ) → is_header_value value ≡ false → with_header m (name, value) ≡ None
 bad_value m name value h =
-    second_fails (is_field_name name) (is_header_value value) (nat_lt (held m) 1000) (added m (lowercase name) value) h
+    second_fails (is_field_name name) (is_header_value value) (nat_lt (held m) 1000) (added m name value) h
 
 too_many : (m : Fields) (name value : List ℕ) → 1000 ≤ held m → with_header m (name, value) ≡ None
 too_many m name value h =
-    third_fails (is_field_name name) (is_header_value value) (nat_lt (held m) 1000) (added m (lowercase name) value) (not_below (held m) 1000 h)
+    third_fails (is_field_name name) (is_header_value value) (nat_lt (held m) 1000) (added m name value) (not_below (held m) 1000 h)
 
 -- what is given is no refusal
 pub ok_is_no_err : {A E : Type 0} {x : A} {e : E} → Ok x ≡ Err e → ⊥
 ok_is_no_err h = cc
 
 -- what was added is what the header gives
-pub new_headers : (m new : Fields) (name value given : List ℕ) → given ≡ value → ((IsFieldName name → ⊥) → ⊥) → is_header_value given ≡ true → held m < 1000 → new ≡ added m (lowercase name) given → with_header m (name, value) ≡ Some new
+pub new_headers : (m new : Fields) (name value given : List ℕ) → given ≡ value → ((IsFieldName name → ⊥) → ⊥) → is_header_value given ≡ true → held m < 1000 → new ≡ added m name given → with_header m (name, value) ≡ Some new
 new_headers m new name value given same named valued room is =
-    header_added m name value named (ap is_header_value (sym same) ∙ valued) room ∙ ap Some (sym (is ∙ ap (added m (lowercase name)) same))
+    header_added m name value named (ap is_header_value (sym same) ∙ valued) room ∙ ap Some (sym (is ∙ ap (added m name) same))

@@ -5,7 +5,6 @@ use Rattle.std.specs.Str.{bytes_eq}
 use Rattle.std.proofs.Math.Nat.{zero-lt-suc}
 use Rattle.std.proofs.lemmas.List.Elements.{All-nil, All-cons}
 use Rattle.http_header.specs.FieldName.{is_field_name}
-use Rattle.http_header.specs.Token.{lowercase}
 use Rattle.serde_json.specs.Data.{Data, string}
 use Rattle.json_tables.specs.Reading.{◌>>=◌, text_of, u16_of, list_of, pair_of, required, at_name, only}
 use Rattle.json_tables.specs.Bytes.{bytes_of}
@@ -25,7 +24,7 @@ status_of d = u16_of d >>= passing (λ n. nat_le 100 n && nat_le n 999)
 abbrev pub with_header : Fields → List ℕ × List ℕ → Option Fields
 with_header fields header =
     if is_field_name header.0 && is_header_value header.1 && nat_lt (held fields) 1000
-    then Some (added fields (lowercase header.0) header.1) else None
+    then Some (added fields header.0 header.1) else None
 
 -- the headers with these behind them, one after another
 abbrev pub with_headers : Fields → List (List ℕ × List ℕ) → Option Fields
