@@ -1,11 +1,11 @@
 -- What is written through a formatter whose options have no effect.
-use Rattle.std.proofs.Common.{◌≡◌, ℕ, zero, suc, List, [], ◌∷◌, ◌++◌, Bool, true, true≢false, Option, Some, Result, Ok, Err, codes, refl, sym, ap, subst, ◌∙◌, arith}
+use Rattle.std.proofs.Common.{◌≡◌, ℕ, suc, List, [], ◌∷◌, ◌++◌, true, true≢false, Option, Some, Result, Ok, Err, codes, refl, sym, ap, subst, ◌∙◌, arith}
 use Rattle.std.proofs.lemmas.Bool.Decides.{nat_tests}
 use Rattle.std.proofs.lemmas.List.Folds.{concat-append}
 use Rattle.std.specs.List.{FoldsTo, concat, list_all}
 use Rattle.std.specs.Char.{is_ascii}
 use Rattle.std.specs.Str.{IsAscii}
-use Rattle.std.specs.Fmt.{IsFlush, WritesInCalls, HasWrittenStyled, WritesText, debug_str, ◌++?◌}
+use Rattle.std.specs.Fmt.{IsFlush, HasWrittenStyled, WritesText, debug_str, ◌++?◌}
 use Rattle.std.specs.Prelude.{OnOk}
 use Rattle.std.specs.Result.{IsOk}
 use Rattle.std.specs.declared.fmt.Error.{Error}

@@ -1,4 +1,4 @@
-use Rattle.std.proofs.Common.{◌≡◌, rules, subst, sym}
+use Rattle.std.proofs.Common.{◌≡◌, rules, subst}
 use Rattle.std.specs.Fmt.{HasWrittenStyled}
 use Rattle.oci_auth.specs.Shown.{shown_basic}
 use Rattle.oci_auth.proofs.Formatters.{written, basic_text}
