@@ -18,7 +18,7 @@ use Rattle.oci_protocol.specs.Runs.{Meets}
 use Rattle.engine_requests.specs.Errors.{is_memory}
 use Rattle.engine_steps.specs.Rows.{Row}
 use Rattle.engine_pull.specs.declared.image.ImageData.{ImageData}
-use Rattle.engine_pull.specs.Pulls.{pull_manifest, pull_blob}
+use Rattle.engine_pull.specs.Pulls.{pull_manifest, held_blob}
 
 -- the manifest of an image; an index has none without a resolver of platforms
 abbrev pub image_manifest : OciManifest → Result OciImageManifest OciDistributionError
@@ -51,7 +51,7 @@ config_of manifest content = record { content = content; media_type = manifest.c
 unfoldable pub pull_layers : Context → Reference → List OciDescriptor → List ImageLayer → Row (List ImageLayer)
 pull_layers s image [] layers = Done (Ok layers)
 pull_layers s image (x ∷ xs) layers = do
-  content ← pull_blob s image x.digest
+  content ← held_blob s image x.digest
   pull_layers s image xs (layers ++ layer_of x content ∷ [])
 
 -- an image whose layers are of these types
@@ -59,7 +59,7 @@ unfoldable pub pull : Context → Reference → RegistryAuth → List (List ℕ)
 pull s image a accepted = do
   found ← pull_manifest s image a
   manifest ← Done (image_manifest found.0)
-  config ← pull_blob s image manifest.config.digest
+  config ← held_blob s image manifest.config.digest
   Done (layers_accepted accepted manifest.layers)
   layers ← pull_layers s image manifest.layers []
   Done (Ok (record { layers = layers; digest = Some found.1; config = config_of manifest config; manifest = Some manifest }))

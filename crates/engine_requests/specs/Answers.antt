@@ -17,6 +17,10 @@ use Rattle.engine_requests.specs.declared.error.OciDistributionError.{OciDistrib
 use Rattle.engine_requests.specs.declared.error.OciDistributionError.TheVariants as refusal
 use Rattle.engine_requests.specs.Errors.{◌>>=◌}
 
+-- the header in which a registry names the digest of what it answers
+abbrev pub digest_header : List ℕ
+digest_header = codes "docker-content-digest"
+
 abbrev pub is_success : ℕ → Bool
 is_success status = nat_le 200 status && nat_lt status 300
 
@@ -49,7 +53,7 @@ or_digest_error (Err e) = Err (refusal.DigestError e)
 
 -- the digest that the header names, where it names one
 abbrev pub header_digest : Fields → Result (Option (List ℕ)) OciDistributionError
-header_digest headers = or_digest_error (digest_in (first_of (codes "docker-content-digest") headers))
+header_digest headers = or_digest_error (digest_in (first_of digest_header headers))
 
 -- the digest of a body, which every digest that is given names
 abbrev pub body_digest : List ℕ → Option (List ℕ) → Option (List ℕ) → Result (List ℕ) OciDistributionError

@@ -1,5 +1,5 @@
 -- How the answer to a blob's request is read (OCI distribution specification, "Pulling blobs").
-use Rattle.std.specs.Prelude.{ℕ, Bool, true, false, List, Option, Some, None, Result, Ok, Err, codes, if◌then◌else◌, bytes_eq}
+use Rattle.std.specs.Prelude.{ℕ, Bool, true, false, List, Option, Some, None, Result, Ok, Err, if◌then◌else◌, bytes_eq}
 use Rattle.oci_digests.specs.Names.{digest_text}
 use Rattle.oci_digests.specs.Checks.{header_digest as digest_in, and_then}
 use Rattle.oci_digests.specs.Parts.{named_algorithm}
@@ -14,7 +14,7 @@ use Rattle.engine_requests.specs.declared.blobs.Plan.TheVariants.{Refuse, Judge,
 use Rattle.engine_requests.specs.declared.error.OciDistributionError.{OciDistributionError}
 use Rattle.engine_requests.specs.declared.error.OciDistributionError.TheVariants as refusal
 use Rattle.engine_requests.specs.Errors.{◌>>◌}
-use Rattle.engine_requests.specs.Answers.{is_success}
+use Rattle.engine_requests.specs.Answers.{digest_header, is_success}
 
 -- a digest text with its algorithm
 abbrev pub digest_expected : List ℕ → Result Expected DigestError
@@ -38,7 +38,7 @@ planned (Err e) = Refuse e
 
 -- the header's digest is looked at, then the descriptor's, then the status
 abbrev pub plan_in : List ℕ → AnswerHead → Result Plan DigestError
-plan_in digest head = and_then (digest_in (first_of (codes "docker-content-digest") head.headers)) (plan_by (is_success head.status) digest)
+plan_in digest head = and_then (digest_in (first_of digest_header head.headers)) (plan_by (is_success head.status) digest)
 
 unfoldable pub plan_of : List ℕ → AnswerHead → Plan
 plan_of digest head = planned (plan_in digest head)

@@ -12,7 +12,7 @@ use Rattle.oci_digests.specs.declared.error.DigestError.{DigestError}
 use Rattle.oci_digests.specs.declared.error.DigestError.TheVariants.{InvalidHeader, MissingAlgorithm, UnsupportedAlgorithm, VerificationError, WantOfMemory}
 use Rattle.engine_requests.specs.declared.error.OciDistributionError.{OciDistributionError}
 use Rattle.engine_requests.specs.declared.error.OciDistributionError.TheVariants as refusal
-use Rattle.engine_requests.specs.Answers.{or_digest_error, header_digest, agreed}
+use Rattle.engine_requests.specs.Answers.{digest_header, or_digest_error, header_digest, agreed}
 use Rattle.oci_engine.specs.Causes.{Claimed, DigestCause}
 
 -- why a text names no algorithm
@@ -81,11 +81,11 @@ validated_cause Given answer (Some h) (Some r) e named given is = both_parts Giv
 
 -- ---- the header
 
-by_text : (Given : List ℕ → Type 0) (answer : Answer) (value : List ℕ) (e : DigestError) (b : Bool) → first_of (codes "docker-content-digest") answer.headers ≡ Some value → is_header_text value ≡ b → ◌≡◌ {A = Result (Option (List ℕ)) DigestError} (if b then Ok (Some value) else Err (InvalidHeader value)) (Err e) → DigestCause Given answer e
+by_text : (Given : List ℕ → Type 0) (answer : Answer) (value : List ℕ) (e : DigestError) (b : Bool) → first_of digest_header answer.headers ≡ Some value → is_header_text value ≡ b → ◌≡◌ {A = Result (Option (List ℕ)) DigestError} (if b then Ok (Some value) else Err (InvalidHeader value)) (Err e) → DigestCause Given answer e
 by_text Given answer value e true first test is = absurd (cc is)
 by_text Given answer value e false first test is = let same : InvalidHeader value ≡ e = cc is in subst (DigestCause Given answer) same (first, test)
 
-pub header_cause : (Given : List ℕ → Type 0) (answer : Answer) (o : Option (List ℕ)) (e : DigestError) → first_of (codes "docker-content-digest") answer.headers ≡ o → digest_in o ≡ Err e → DigestCause Given answer e
+pub header_cause : (Given : List ℕ → Type 0) (answer : Answer) (o : Option (List ℕ)) (e : DigestError) → first_of digest_header answer.headers ≡ o → digest_in o ≡ Err e → DigestCause Given answer e
 header_cause Given answer None e first is = absurd (cc is)
 header_cause Given answer (Some []) e first is = absurd (cc is)
 header_cause Given answer (Some (b ∷ bs)) e first is = by_text Given answer (b ∷ bs) e (is_header_text (b ∷ bs)) first refl is

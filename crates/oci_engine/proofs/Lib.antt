@@ -11,6 +11,7 @@ pub mod Ended
 pub mod Exact
 pub mod ImageRefused
 pub mod Keeping
+pub mod Plain
 pub mod Reasons
 pub mod Refused
 pub mod Results

@@ -29,9 +29,11 @@ use Rattle.engine_requests.specs.declared.error.GenericCause.TheVariants.{Header
 use Rattle.engine_requests.specs.declared.error.SpecViolation.TheVariants.{Status}
 use Rattle.engine_requests.specs.declared.error.OciDistributionError.{OciDistributionError}
 use Rattle.engine_requests.specs.declared.error.OciDistributionError.TheVariants as refusal
-use Rattle.engine_requests.specs.Answers.{is_success, is_client_error, envelope_in, header_digest}
+use Rattle.engine_requests.specs.Addresses.{registry_text, manifest_text, blob_text}
+use Rattle.engine_requests.specs.Answers.{digest_header, is_success, is_client_error, envelope_in, header_digest}
 use Rattle.engine_requests.specs.Errors.{is_memory}
 use Rattle.engine_requests.specs.Documents.{document_read}
+use Rattle.engine_steps.specs.Blobs.{Destination, IntoSink, IntoMemory}
 use Rattle.engine_pull.specs.Images.{is_accepted}
 use Rattle.oci_engine.specs.Answered.{Body}
 use Rattle.oci_engine.specs.Held.{Entry, IsHeld}
@@ -100,7 +102,7 @@ abbrev pub SameAlgorithm : List ℕ → List ℕ → Type 0
 SameAlgorithm a b = (name : List ℕ) × (x : List ℕ) × (y : List ℕ) × (parts_of a ≡ Some (name, x)) × (parts_of b ≡ Some (name, y))
 
 abbrev pub DigestCause : (List ℕ → Type 0) → Answer → DigestError → Type 0
-DigestCause Given answer (digest_refusal.InvalidHeader value) = (first_of (codes "docker-content-digest") answer.headers ≡ Some value) × (is_header_text value ≡ false)
+DigestCause Given answer (digest_refusal.InvalidHeader value) = (first_of digest_header answer.headers ≡ Some value) × (is_header_text value ≡ false)
 DigestCause Given answer digest_refusal.MissingAlgorithm = (text : List ℕ) × Claimed Given answer text × (parts_of text ≡ None)
 DigestCause Given answer (digest_refusal.UnsupportedAlgorithm name) = (text : List ℕ) × (rest : List ℕ) × Claimed Given answer text × (parts_of text ≡ Some (name, rest)) × (algorithm_of name ≡ None)
 DigestCause Given answer (digest_refusal.VerificationError expected actual) = Claimed Given answer expected × (expected ≢ actual) × (Computed expected answer.body actual ⊎ ((header_digest answer.headers ≡ Ok (Some actual)) × SameAlgorithm actual expected))
@@ -148,15 +150,23 @@ HasBadToken x c = (token : RegistryTokenType) × IsHeld x c token × (is_header_
 abbrev pub BadHeader : Entry → Settings → List ℕ → List Exchange → Type 0
 BadHeader x s types c = HasBadHeader s types ⊎ HasBadToken x c
 
--- Why a call was refused. Of an answer the refusal speaks so, and of a value that cannot stand in a
--- header so. Memory may be wanting anywhere.
-abbrev pub Cause : (List ℕ → Answer → OciDistributionError → Type 0) → (List Exchange → Type 0) → Settings → List Exchange → ℕ → OciDistributionError → Type 0
-Cause Of Bad s c now (refusal.UrlParseError text) = request_url text ≡ None
-Cause Of Bad s c now (refusal.GenericError HeaderText) = Bad c
-Cause Of Bad s c now refusal.BodyTooLong = LastTooLong c s.max_body_bytes
-Cause Of Bad s c now refusal.TransportFault = LastFailed c now
-Cause Of Bad s c now refusal.WantOfMemory = Unit {0}
-Cause Of Bad s c now e = ByLast (λ address answer. Of address answer e) c
+-- Why a call was refused. A text that is no URL is one of these; of an answer the refusal speaks so,
+-- and of a value that cannot stand in a header so. Memory may be wanting anywhere.
+abbrev pub Cause : (List ℕ → Type 0) → (List ℕ → Answer → OciDistributionError → Type 0) → (List Exchange → Type 0) → Settings → List Exchange → ℕ → OciDistributionError → Type 0
+Cause Text Of Bad s c now (refusal.UrlParseError text) = (request_url text ≡ None) × Text text
+Cause Text Of Bad s c now (refusal.GenericError HeaderText) = Bad c
+Cause Text Of Bad s c now refusal.BodyTooLong = LastTooLong c s.max_body_bytes
+Cause Text Of Bad s c now refusal.TransportFault = LastFailed c now
+Cause Text Of Bad s c now refusal.WantOfMemory = Unit {0}
+Cause Text Of Bad s c now e = ByLast (λ address answer. Of address answer e) c
+
+-- the address of the registry, or of the image's manifest
+abbrev pub ManifestUrl : Settings → Reference → List ℕ → Type 0
+ManifestUrl s image text = (text ≡ registry_text s image) ⊎ (text ≡ manifest_text s image)
+
+-- the address of the registry, or of the blob
+abbrev pub BlobUrl : Settings → Reference → List ℕ → List ℕ → Type 0
+BlobUrl s image digest text = (text ≡ registry_text s image) ⊎ (text ≡ blob_text s image digest)
 
 -- the digest that a reference has
 abbrev pub OwnDigest : Reference → List ℕ → Type 0
@@ -166,15 +176,15 @@ OwnDigest image text = digest_of image ≡ Some text
 abbrev pub AskedDigest : List ℕ → List ℕ → Type 0
 AskedDigest digest text = text ≡ digest
 
--- of a blob that is answered: no sink of the caller's can fail
-abbrev pub BlobCause : (List Exchange → Type 0) → Settings → List ℕ → List Exchange → ℕ → OciDistributionError → Type 0
-BlobCause Bad s digest c now refusal.SinkFault = ⊥
-BlobCause Bad s digest c now e = Cause (AnswerCause (AskedDigest digest)) Bad s c now e
+-- only a call that has a sink can find that it failed; the count of its faults is not told here
+abbrev pub SinkMayFail : Destination → Type 0
+SinkMayFail IntoSink = Unit {0}
+SinkMayFail IntoMemory = ⊥
 
--- of a blob that goes into the caller's sink: the count of the sink's faults is not told here
-abbrev pub PouredCause : (List Exchange → Type 0) → Settings → List ℕ → List Exchange → ℕ → OciDistributionError → Type 0
-PouredCause Bad s digest c now refusal.SinkFault = Unit {0}
-PouredCause Bad s digest c now e = BlobCause Bad s digest c now e
+-- of a blob
+abbrev pub BlobCause : (List ℕ → Type 0) → Destination → (List Exchange → Type 0) → Settings → List ℕ → List Exchange → ℕ → OciDistributionError → Type 0
+BlobCause Text to Bad s digest c now refusal.SinkFault = SinkMayFail to
+BlobCause Text to Bad s digest c now e = Cause Text (AnswerCause (AskedDigest digest)) Bad s c now e
 
 -- the manifest was read from an answer's body
 pub record ManifestRead (c : List Exchange) (manifest : OciImageManifest) : Type 0 where
@@ -192,6 +202,11 @@ pub record ReadDigest (c : List Exchange) (text : List ℕ) : Type 0 where
 abbrev pub ImageDigest : Reference → List Exchange → List ℕ → Type 0
 ImageDigest image c text = OwnDigest image text ⊎ ReadDigest c text
 
+-- the address of the registry, of the image's manifest, or of a blob that a descriptor in a manifest
+-- that was read names
+abbrev pub ImageUrl : Settings → Reference → List Exchange → List ℕ → Type 0
+ImageUrl s image c text = ManifestUrl s image text ⊎ ((digest : List ℕ) × ReadDigest c digest × (text ≡ blob_text s image digest))
+
 -- a layer of a manifest that was read is of this media type, which is not accepted
 pub record NotAccepted (accepted : List (List ℕ)) (c : List Exchange) (kind : List ℕ) : Type 0 where
   pub manifest : OciImageManifest
@@ -201,13 +216,13 @@ pub record NotAccepted (accepted : List (List ℕ)) (c : List Exchange) (kind : 
   pub media_type : layer.media_type ≡ kind
   pub other : is_accepted accepted kind ≡ false
 
--- of a whole image, whose blobs are answered too
+-- of a whole image, whose blobs are held
 abbrev pub ImageCause : (List Exchange → Type 0) → Settings → Reference → List (List ℕ) → List Exchange → ℕ → OciDistributionError → Type 0
 ImageCause Bad s image accepted c now refusal.ImageIndexParsingNoPlatformResolverError = ByLast (λ address answer. (index : OciImageIndex) × (document_read answer.body ≡ Ok (ImageIndex index))) c
 ImageCause Bad s image accepted c now refusal.PullNoLayersError = (manifest : OciImageManifest) × ManifestRead c manifest × (manifest.layers ≡ [])
 ImageCause Bad s image accepted c now (refusal.IncompatibleLayerMediaTypeError kind) = NotAccepted accepted c kind
 ImageCause Bad s image accepted c now refusal.SinkFault = ⊥
-ImageCause Bad s image accepted c now e = Cause (DocumentCause (ImageDigest image c)) Bad s c now e
+ImageCause Bad s image accepted c now e = Cause (ImageUrl s image c) (DocumentCause (ImageDigest image c)) Bad s c now e
 
 -- ---- refusals that must come
 
