@@ -1,12 +1,18 @@
-.PHONY: test run program rows bench allocations hostile
+.PHONY: test run try program rows claims gate wrong-bodies bench allocations hostile
 
-# Proves every crate, runs the tests, and tries the edits that must be refused.
+# Proves every crate, tries the wrong bodies that must be refused, runs the tests, the stored runs and the recorded cases.
 test:
 	rt ci
+	tests/rows/run
+	tests/claims
 
-# Pulls the image of the stored case, and shows the report.
+# Proves the program, pulls the image of the stored case, and shows the report.
 run:
 	cd crates/pull_program && rt run -- pull < stdin
+
+# The same without any proof: a first look.
+try:
+	cd crates/pull_program && rt try -- pull < stdin
 
 # Builds the program, which has to answer the image of the stored case.
 program:
@@ -16,12 +22,25 @@ program:
 rows: program
 	tests/rows/run
 
+# Sees that each clause that the READMEs name stands on the call that they name it for.
+claims:
+	tests/claims
+
+# What the gate costs from nothing: processor minutes of proofs, tests and edits, and the longest chain of crates.
+gate:
+	tests/cost
+
+# Tries the wrong bodies that stand outside the gate: make wrong-bodies CRATES="oci_names oci_link".
+wrong-bodies:
+	tests/wrong-bodies $(CRATES)
+
 # Measures ratios within one run.
 bench: program
 	cd crates/docs_bench && rt run -- documents < stdin > /dev/null
 	python3 bench/run.py
 	python3 bench/canon.py
 	python3 bench/documents.py
+	python3 bench/signatures.py
 
 # Makes each allocation of the stored run fail in turn.
 allocations: program

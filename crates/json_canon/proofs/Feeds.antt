@@ -8,7 +8,7 @@ use Rattle.json_values.proofs.Sinks.{adds_more}
 use Rattle.json_events.specs.declared.error.CanonError.{CanonError}
 use Rattle.json_events.specs.declared.error.CanonError.TheVariants.{SinkFault, WantOfMemory}
 use Rattle.json_events.specs.Drafts.{Stage, step, run}
-use Rattle.json_events.specs.Events.{Event, item_begins, item_ends, array_ends, name_begins, string_event, name_ends, member_begins, member_ends, object_ends}
+use Rattle.json_events.specs.Events.{Event, begin_array_value, end_array_value, end_array, begin_object_key, write_string, end_object_key, begin_object_value, end_object_value, end_object}
 use Rattle.json_canon.specs.Feeding.{Ran, Fed}
 use Rattle.json_events.specs.Spelling.{spelled, spelled_items, spelled_members}
 use Rattle.json_events.specs.Turns.{Taken, Answers, answer, Breaks}
@@ -140,22 +140,22 @@ up_to_end all left r old now new before tray after so fed = subst (λ l. Fed l r
 
 -- what is left of an array and of an object
 abbrev pub items_left : Items → List Event
-items_left ds = spelled_items ds ++ array_ends ∷ []
+items_left ds = spelled_items ds ++ end_array ∷ []
 
 abbrev pub members_left : Members → List Event
-members_left ms = spelled_members ms ++ object_ends ∷ []
+members_left ms = spelled_members ms ++ end_object ∷ []
 
-pub item_left : (d : Data) (ds : Items) → items_left (item d ds) ≡ (item_begins ∷ (spelled d ++ item_ends ∷ [])) ++ items_left ds
-item_left d ds = ap (λ l. item_begins ∷ l) (append_assoc (spelled d) (item_ends ∷ spelled_items ds) (array_ends ∷ []) ∙ sym (append_assoc (spelled d) (item_ends ∷ []) (items_left ds)))
+pub item_left : (d : Data) (ds : Items) → items_left (item d ds) ≡ (begin_array_value ∷ (spelled d ++ end_array_value ∷ [])) ++ items_left ds
+item_left d ds = ap (λ l. begin_array_value ∷ l) (append_assoc (spelled d) (end_array_value ∷ spelled_items ds) (end_array ∷ []) ∙ sym (append_assoc (spelled d) (end_array_value ∷ []) (items_left ds)))
 
 abbrev pub name_events : List ℕ → List Event
-name_events k = name_begins ∷ string_event k ∷ name_ends ∷ []
+name_events k = begin_object_key ∷ write_string k ∷ end_object_key ∷ []
 
 abbrev pub value_events : Data → List Event
-value_events d = member_begins ∷ (spelled d ++ member_ends ∷ [])
+value_events d = begin_object_value ∷ (spelled d ++ end_object_value ∷ [])
 
 pub member_left : (k : List ℕ) (d : Data) (ms : Members) → members_left (member k d ms) ≡ name_events k ++ (value_events d ++ members_left ms)
-member_left k d ms = ap (λ l. name_begins ∷ string_event k ∷ name_ends ∷ member_begins ∷ l) (append_assoc (spelled d) (member_ends ∷ spelled_members ms) (object_ends ∷ []) ∙ sym (append_assoc (spelled d) (member_ends ∷ []) (members_left ms)))
+member_left k d ms = ap (λ l. begin_object_key ∷ write_string k ∷ end_object_key ∷ begin_object_value ∷ l) (append_assoc (spelled d) (end_object_value ∷ spelled_members ms) (end_object ∷ []) ∙ sym (append_assoc (spelled d) (end_object_value ∷ []) (members_left ms)))
 
 -- three calls in a row
 pub stop_second : (xs ys rest : List Event) (e : CanonError) (u : Unit {0}) (old mid new : Stage) (before tray after : Tray) → Fed xs (Ok u) old mid before tray → before.faults ≤ tray.faults → Fed {X = Unit {0}} ys (Err e) mid new tray after

@@ -1,6 +1,8 @@
 -- A value with its objects as maps.
 use Rattle.std.specs.Prelude.{ℤ, pos, negsuc, Option, Some, None}
-use Rattle.serde_json.specs.Data.{Num, unsigned, negative, Data, null, boolean, number, string, array, object, Items, no_items, item, Members, no_members, member, put}
+use Rattle.serde_json.specs.Data.{Num, unsigned, negative, Data, null, boolean, number, string}
+use Rattle.serde_json.specs.Data.{array, object, Items, no_items, item, Members, no_members, member}
+use Rattle.serde_json.specs.Data.{put}
 use Rattle.serde_json.specs.Find.{as_integer}
 
 -- a whole number as it is read: unsigned, unless it is negative
@@ -18,8 +20,8 @@ put_all no_members found = found
 put_all (member k d ms) found = put_all ms (put k d found)
 
 abbrev mutual
-  -- the value as `serde_json` reads it: the names of each object once, in the order of their bytes, and whole numbers as
-  -- they are read
+  -- the value as `serde_json` reads it: the names of each object once, in the order of their bytes, and whole
+  -- numbers as they are read
   pub as_maps : Data → Data
   as_maps null = null
   as_maps (boolean b) = boolean b

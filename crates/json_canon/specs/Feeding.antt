@@ -14,4 +14,5 @@ pub record Ran (xs : List Event) (old new : Stage) (before after : Tray) : Type 
 -- they were taken, up to the first that was refused, or they were broken off
 abbrev pub Fed : {X : Type 0} → List Event → Result X CanonError → Stage → Stage → Tray → Tray → Type 0
 Fed xs (Ok x) old new before after = Ran xs old new before after × (new.refusal ≡ None)
-Fed xs (Err e) old new before after = (Ran xs old new before after × (new.refusal ≡ Some e)) ⊎ Breaks (run xs old).out e before after
+Fed xs (Err e) old new before after =
+    (Ran xs old new before after × (new.refusal ≡ Some e)) ⊎ Breaks (run xs old).out e before after

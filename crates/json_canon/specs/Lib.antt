@@ -10,6 +10,7 @@ pub use Rattle.json_events.specs.Formatters
 pub use Rattle.json_events.specs.Laws
 pub use Rattle.json_events.specs.Refused
 pub use Rattle.json_events.specs.Spelling
+pub use Rattle.json_events.specs.TextSoFar
 pub use Rattle.json_events.specs.Turns
 pub use Rattle.json_events.specs.Units
 pub use Rattle.json_events.specs.Values

@@ -5,7 +5,9 @@ use Rattle.json_values.specs.Counts.{Rose}
 use Rattle.json_values.specs.JsonText.{json_of}
 use Rattle.json_values.specs.Tray.{Tray, Adds, AddsFront}
 use Rattle.json_events.specs.declared.error.CanonError.{CanonError}
-use Rattle.json_events.specs.declared.error.CanonError.TheVariants.{Float, IntegerOutOfRange, Unreadable, SinkFault, WantOfMemory}
+use Rattle.json_events.specs.declared.error.CanonError.TheVariants.{Float, IntegerOutOfRange}
+use Rattle.json_events.specs.declared.error.CanonError.TheVariants.{Unreadable, SinkFault}
+use Rattle.json_events.specs.declared.error.CanonError.TheVariants.{WantOfMemory}
 use Rattle.json_events.specs.Canonical.{Canonical}
 use Rattle.json_events.specs.Refused.{refused}
 use Rattle.json_events.specs.Values.{IsValue}

@@ -1,5 +1,6 @@
 -- Laws of canonical texts and the values that they tell.
-use Rattle.std.specs.Prelude.{◌≡◌, ◌↔◌, ◌≤◌, ◌<◌, ℕ, List, Some, None, Result, Ok, Err, ⊤, nat_le, if◌then◌else◌}
+use Rattle.std.specs.Prelude.{◌≡◌, ◌↔◌, ◌≤◌, ◌<◌, ℕ, List, Some, None, Result, Ok, Err, ⊤, nat_le}
+use Rattle.std.specs.Prelude.{if◌then◌else◌}
 use Rattle.serde_json.specs.Data.{Data, depth}
 use Rattle.serde_json.specs.Read.{max_depth}
 use Rattle.json_values.specs.JsonText.{json_of}
@@ -11,11 +12,13 @@ use Rattle.json_canon.specs.AsMaps.{as_maps}
 
 -- values have one text exactly if they are equal, with objects as maps
 abbrev pub TextsTell : Type 0
-TextsTell = (d e : Data) (t u : List ℕ) → IsValue d → IsValue e → Canonical d t → Canonical e u → (t ≡ u) ↔ (as_maps d ≡ as_maps e)
+TextsTell = (d e : Data) (t u : List ℕ) → IsValue d → IsValue e → Canonical d t → Canonical e u
+    → (t ≡ u) ↔ (as_maps d ≡ as_maps e)
 
 -- a text is read as its value, unless that nests too deep
 abbrev pub TextsReadBack : Type 0
-TextsReadBack = (d : Data) (t : List ℕ) → IsValue d → Canonical d t → json_of t ≡ (if nat_le (depth d) max_depth then Some (as_maps d) else None)
+TextsReadBack = (d : Data) (t : List ℕ) → IsValue d → Canonical d t
+    → json_of t ≡ (if nat_le (depth d) max_depth then Some (as_maps d) else None)
 
 -- why a text of the value is not given back
 abbrev pub RefusesBack : CanonError → Data → Type 0

@@ -2,7 +2,9 @@
 ghost use Rattle.std.specs.Prelude.{◌≤◌, [], ◌∷◌, ◌++◌};
 ghost use Rattle.serde_json.specs.Data.{number, array, object};
 ghost use Rattle.serde_json.specs.View.{view, number_view, items_view, members_view};
-ghost use Rattle.json_events.specs.Events.{item_begins, item_ends, name_begins, string_event, name_ends, member_begins, member_ends};
+ghost use Rattle.json_events.specs.Events.{begin_array_value, end_array_value, begin_object_key};
+ghost use Rattle.json_events.specs.Events.{write_string, end_object_key, begin_object_value};
+ghost use Rattle.json_events.specs.Events.{end_object_value};
 ghost use Rattle.json_canon.specs.Feeding.{Fed};
 ghost use Rattle.json_events.specs.Formatters.{stage_of};
 ghost use Rattle.json_events.specs.Spelling.{spelled};
@@ -17,7 +19,8 @@ pub(crate) fn feed<K: Sink>(
     sink: &mut K,
     value: &Value,
 ) -> Result<(), CanonError>
-    ensures fed { Fed (spelled (view value.now)) result (stage_of formatter.old) (stage_of formatter.new) (K.state sink.old) (K.state sink.new) }
+    ensures fed { Fed (spelled (view value.now)) result (stage_of formatter.old)
+        (stage_of formatter.new) (K.state sink.old) (K.state sink.new) }
     ensures count { (K.state sink.old).faults ≤ (K.state sink.new).faults }
 {
     match value {
@@ -54,7 +57,8 @@ fn feed_items<K: Sink>(
     sink: &mut K,
     items: &Vec<Value>,
 ) -> Result<(), CanonError>
-    ensures fed { Fed (spelled (array (items_view items.now.items))) result (stage_of formatter.old) (stage_of formatter.new) (K.state sink.old) (K.state sink.new) }
+    ensures fed { Fed (spelled (array (items_view items.now.items))) result (stage_of formatter.old)
+        (stage_of formatter.new) (K.state sink.old) (K.state sink.new) }
     ensures count { (K.state sink.old).faults ≤ (K.state sink.new).faults }
 {
     formatter.begin_array(sink)?;
@@ -71,7 +75,8 @@ fn feed_item<K: Sink>(
     sink: &mut K,
     item: &Value,
 ) -> Result<(), CanonError>
-    ensures fed { Fed (item_begins ∷ (spelled (view item.now) ++ item_ends ∷ [])) result (stage_of formatter.old) (stage_of formatter.new) (K.state sink.old) (K.state sink.new) }
+    ensures fed { Fed (begin_array_value ∷ (spelled (view item.now) ++ end_array_value ∷ [])) result
+        (stage_of formatter.old) (stage_of formatter.new) (K.state sink.old) (K.state sink.new) }
     ensures count { (K.state sink.old).faults ≤ (K.state sink.new).faults }
 {
     formatter.begin_array_value(sink)?;
@@ -86,7 +91,8 @@ fn feed_members<K: Sink>(
     sink: &mut K,
     members: &Map<String, Value>,
 ) -> Result<(), CanonError>
-    ensures fed { Fed (spelled (object (members_view members.now.entries))) result (stage_of formatter.old) (stage_of formatter.new) (K.state sink.old) (K.state sink.new) }
+    ensures fed { Fed (spelled (object (members_view members.now.entries))) result
+        (stage_of formatter.old) (stage_of formatter.new) (K.state sink.old) (K.state sink.new) }
     ensures count { (K.state sink.old).faults ≤ (K.state sink.new).faults }
 {
     formatter.begin_object(sink)?;
@@ -104,7 +110,9 @@ fn feed_member<K: Sink>(
     sink: &mut K,
     member: &Value,
 ) -> Result<(), CanonError>
-    ensures fed { Fed (member_begins ∷ (spelled (view member.now) ++ member_ends ∷ [])) result (stage_of formatter.old) (stage_of formatter.new) (K.state sink.old) (K.state sink.new) }
+    ensures fed { Fed (begin_object_value ∷ (spelled (view member.now) ++ end_object_value ∷ []))
+        result (stage_of formatter.old) (stage_of formatter.new) (K.state sink.old)
+        (K.state sink.new) }
     ensures count { (K.state sink.old).faults ≤ (K.state sink.new).faults }
 {
     formatter.begin_object_value(sink)?;
@@ -118,7 +126,8 @@ fn feed_name<K: Sink>(
     sink: &mut K,
     name: &str,
 ) -> Result<(), CanonError>
-    ensures fed { Fed (name_begins ∷ string_event name.now ∷ name_ends ∷ []) result (stage_of formatter.old) (stage_of formatter.new) (K.state sink.old) (K.state sink.new) }
+    ensures fed { Fed (begin_object_key ∷ write_string name.now ∷ end_object_key ∷ []) result
+        (stage_of formatter.old) (stage_of formatter.new) (K.state sink.old) (K.state sink.new) }
     ensures count { (K.state sink.old).faults ≤ (K.state sink.new).faults }
 {
     formatter.begin_object_key(sink)?;
@@ -132,7 +141,8 @@ fn feed_number<K: Sink>(
     sink: &mut K,
     whole: &Number,
 ) -> Result<(), CanonError>
-    ensures fed { Fed (spelled (number (number_view whole.now))) result (stage_of formatter.old) (stage_of formatter.new) (K.state sink.old) (K.state sink.new) }
+    ensures fed { Fed (spelled (number (number_view whole.now))) result (stage_of formatter.old)
+        (stage_of formatter.new) (K.state sink.old) (K.state sink.new) }
     ensures count { (K.state sink.old).faults ≤ (K.state sink.new).faults }
 {
     match whole.as_i128() {

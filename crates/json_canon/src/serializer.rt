@@ -26,7 +26,8 @@ impl<K: Sink> JcsSerializer<K> {
 
     /// As `to_writer`, whatever the calls before it answered.
     pub fn serialize<V: ToValue>(&mut self, value: &V) -> Result<(), CanonError>
-        ensures text { WritesText result (V.written value.now) (K.state (sink_of self.old)) (K.state (sink_of self.new)) }
+        ensures text { WritesText result (V.written value.now) (K.state (sink_of self.old))
+            (K.state (sink_of self.new)) }
         ensures value { OnOk result (IsValue (V.written value.now)) }
         ensures count { (K.state (sink_of self.old)).faults ≤ (K.state (sink_of self.new)).faults }
     {

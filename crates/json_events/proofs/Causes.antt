@@ -11,10 +11,10 @@ use Rattle.json_events.specs.declared.spot.Spot.{Spot}
 use Rattle.json_events.specs.declared.spot.Spot.TheVariants.{Start, Whole, Finished, Items, ItemDue, ItemDone, Names, NameDue, NameDone, Named, ValueDue, ValueDone}
 use Rattle.json_events.specs.Canonical.{in_range, truth_text}
 use Rattle.json_events.specs.Drafts.{Level, Draft, Turn, refused, moves, Stage, turned, act, run, fresh, writes, at, after_value, level, opened, where_due, where_around, is_at, only_at, places, begins_item, ends_array, ends_object, ends_member}
-use Rattle.json_events.specs.Events.{Event, null_value, truth_value, whole_value, float_value, string_event, raw_fragment, array_begins, item_begins, item_ends, array_ends, object_begins, name_begins, name_ends, member_begins, member_ends, object_ends, finishes}
-use Rattle.json_events.specs.Laws.{RefusedByCause, RefusalStays}
+use Rattle.json_events.specs.Events.{Event, write_null, write_bool, write_integer, write_float, write_string, write_raw_fragment, begin_array, begin_array_value, end_array_value, end_array, begin_object, begin_object_key, end_object_key, begin_object_value, end_object_value, end_object, finish}
+use Rattle.json_events.specs.Laws.{FirstBad, RefusalStays}
 use Rattle.json_events.specs.Members.{property, kept_object}
-use Rattle.json_events.specs.WellNested.{a_null, a_float, a_whole, a_fragment, Tree, scalar, array, object, Trees, and_tree, Fields, and_field, nested, nested_items, nested_fields, name_events, has_field, Begins, ComesTwice, Cause}
+use Rattle.json_events.specs.WellNested.{a_null, a_float, a_whole, a_fragment, Tree, scalar, array, object, Trees, and_tree, Fields, and_field, nested, nested_items, nested_fields, name_events, has_field, Begins, ComesTwice, Cause, IsGood, IsBad}
 use Rattle.json_events.proofs.Keeping.{by_key}
 use Rattle.json_events.proofs.Spelled.{going, written, run-append}
 use Rattle.json_events.proofs.Passing.{after, after-append, stays, run_refused, front_passes, ties, Passes, and_then, NoMembers, object_begin, FieldsIn, fields_passes, tree_passes, field_ready}
@@ -31,29 +31,29 @@ record Ends (xs : List Event) : Type 0 where
 ends_more : (xs ys : List Event) → Ends (xs ++ ys) → Ends xs
 ends_more xs ys e = record { tree = e.tree; rest = ys ++ e.rest; is = sym (append_assoc xs ys e.rest) ∙ e.is }
 
-ends_items : (ts : Trees) (xs : List Event) → xs ≡ array_begins ∷ nested_items ts → Ends xs
-ends_items ts xs is = record { tree = array ts; rest = array_ends ∷ []; is = ap (λ l. l ++ array_ends ∷ []) is }
+ends_items : (ts : Trees) (xs : List Event) → xs ≡ begin_array ∷ nested_items ts → Ends xs
+ends_items ts xs is = record { tree = array ts; rest = end_array ∷ []; is = ap (λ l. l ++ end_array ∷ []) is }
 
-ends_item : (ts : Trees) (t : Tree) (xs : List Event) → xs ≡ array_begins ∷ (nested_items ts ++ item_begins ∷ nested t) → Ends xs
-ends_item ts t xs is = ends_more xs (item_ends ∷ []) (ends_items (and_tree ts t) (xs ++ item_ends ∷ []) (longer_array ts (item_begins ∷ nested t) (item_ends ∷ []) xs is))
+ends_item : (ts : Trees) (t : Tree) (xs : List Event) → xs ≡ begin_array ∷ (nested_items ts ++ begin_array_value ∷ nested t) → Ends xs
+ends_item ts t xs is = ends_more xs (end_array_value ∷ []) (ends_items (and_tree ts t) (xs ++ end_array_value ∷ []) (longer_array ts (begin_array_value ∷ nested t) (end_array_value ∷ []) xs is))
 
-ends_item_due : (ts : Trees) (xs : List Event) → xs ≡ array_begins ∷ (nested_items ts ++ item_begins ∷ []) → Ends xs
-ends_item_due ts xs is = ends_more xs (null_value ∷ []) (ends_item ts (scalar a_null) (xs ++ null_value ∷ []) (longer_array ts (item_begins ∷ []) (null_value ∷ []) xs is))
+ends_item_due : (ts : Trees) (xs : List Event) → xs ≡ begin_array ∷ (nested_items ts ++ begin_array_value ∷ []) → Ends xs
+ends_item_due ts xs is = ends_more xs (write_null ∷ []) (ends_item ts (scalar a_null) (xs ++ write_null ∷ []) (longer_array ts (begin_array_value ∷ []) (write_null ∷ []) xs is))
 
-ends_names : (fs : Fields) (xs : List Event) → xs ≡ object_begins ∷ nested_fields fs → Ends xs
-ends_names fs xs is = record { tree = object fs; rest = object_ends ∷ []; is = ap (λ l. l ++ object_ends ∷ []) is }
+ends_names : (fs : Fields) (xs : List Event) → xs ≡ begin_object ∷ nested_fields fs → Ends xs
+ends_names fs xs is = record { tree = object fs; rest = end_object ∷ []; is = ap (λ l. l ++ end_object ∷ []) is }
 
-member_over : (fs : Fields) (n : List ℕ) (t : Tree) (xs : List Event) → xs ≡ object_begins ∷ (nested_fields fs ++ (name_events n ++ nested t)) → xs ++ member_ends ∷ [] ≡ object_begins ∷ nested_fields (and_field fs n t)
-member_over fs n t xs is = longer_object fs (name_events n ++ nested t) (member_ends ∷ []) xs is ∙ ap (λ l. object_begins ∷ (nested_fields fs ++ l)) (append_assoc (name_events n) (nested t) (member_ends ∷ []))
+member_over : (fs : Fields) (n : List ℕ) (t : Tree) (xs : List Event) → xs ≡ begin_object ∷ (nested_fields fs ++ (name_events n ++ nested t)) → xs ++ end_object_value ∷ [] ≡ begin_object ∷ nested_fields (and_field fs n t)
+member_over fs n t xs is = longer_object fs (name_events n ++ nested t) (end_object_value ∷ []) xs is ∙ ap (λ l. begin_object ∷ (nested_fields fs ++ l)) (append_assoc (name_events n) (nested t) (end_object_value ∷ []))
 
-ends_member_done : (fs : Fields) (n : List ℕ) (t : Tree) (xs : List Event) → xs ≡ object_begins ∷ (nested_fields fs ++ (name_events n ++ nested t)) → Ends xs
-ends_member_done fs n t xs is = ends_more xs (member_ends ∷ []) (ends_names (and_field fs n t) (xs ++ member_ends ∷ []) (member_over fs n t xs is))
+ends_member_done : (fs : Fields) (n : List ℕ) (t : Tree) (xs : List Event) → xs ≡ begin_object ∷ (nested_fields fs ++ (name_events n ++ nested t)) → Ends xs
+ends_member_done fs n t xs is = ends_more xs (end_object_value ∷ []) (ends_names (and_field fs n t) (xs ++ end_object_value ∷ []) (member_over fs n t xs is))
 
-ends_member_due : (fs : Fields) (n : List ℕ) (xs : List Event) → xs ≡ object_begins ∷ (nested_fields fs ++ name_events n) → Ends xs
-ends_member_due fs n xs is = ends_more xs (null_value ∷ []) (ends_member_done fs n (scalar a_null) (xs ++ null_value ∷ []) (longer_object fs (name_events n) (null_value ∷ []) xs is))
+ends_member_due : (fs : Fields) (n : List ℕ) (xs : List Event) → xs ≡ begin_object ∷ (nested_fields fs ++ name_events n) → Ends xs
+ends_member_due fs n xs is = ends_more xs (write_null ∷ []) (ends_member_done fs n (scalar a_null) (xs ++ write_null ∷ []) (longer_object fs (name_events n) (write_null ∷ []) xs is))
 
-ends_from : (fs : Fields) (n : List ℕ) (a b xs : List Event) → a ++ b ≡ name_events n → xs ≡ object_begins ∷ (nested_fields fs ++ a) → Ends xs
-ends_from fs n a b xs parts is = ends_more xs b (ends_member_due fs n (xs ++ b) (longer_object fs a b xs is ∙ ap (λ l. object_begins ∷ (nested_fields fs ++ l)) parts))
+ends_from : (fs : Fields) (n : List ℕ) (a b xs : List Event) → a ++ b ≡ name_events n → xs ≡ begin_object ∷ (nested_fields fs ++ a) → Ends xs
+ends_from fs n a b xs parts is = ends_more xs b (ends_member_due fs n (xs ++ b) (longer_object fs a b xs is ∙ ap (λ l. begin_object ∷ (nested_fields fs ++ l)) parts))
 
 ends : (q : Spot) (n : List ℕ) (ms : List JsonProperty) (xs : List Event) → Within q n ms xs → Ends xs
 ends Start n ms xs w = absurd w
@@ -63,9 +63,9 @@ ends Items n ms xs w = ends_items w.0 xs w.1
 ends ItemDue n ms xs w = ends_item_due w.0 xs w.1
 ends ItemDone n ms xs w = ends_item w.0 w.1 xs w.2
 ends Names n ms xs w = ends_names w.0 xs w.2
-ends NameDue n ms xs w = ends_from w.0 [] (name_begins ∷ []) (string_event [] ∷ name_ends ∷ member_begins ∷ []) xs refl w.2
-ends NameDone n ms xs w = ends_from w.0 n (name_begins ∷ string_event n ∷ []) (name_ends ∷ member_begins ∷ []) xs refl w.2
-ends Named n ms xs w = ends_from w.0 n (name_begins ∷ string_event n ∷ name_ends ∷ []) (member_begins ∷ []) xs refl w.2
+ends NameDue n ms xs w = ends_from w.0 [] (begin_object_key ∷ []) (write_string [] ∷ end_object_key ∷ begin_object_value ∷ []) xs refl w.2
+ends NameDone n ms xs w = ends_from w.0 n (begin_object_key ∷ write_string n ∷ []) (end_object_key ∷ begin_object_value ∷ []) xs refl w.2
+ends Named n ms xs w = ends_from w.0 n (begin_object_key ∷ write_string n ∷ end_object_key ∷ []) (begin_object_value ∷ []) xs refl w.2
 ends ValueDue n ms xs w = ends_member_due w.0 n xs w.2
 ends ValueDone n ms xs w = ends_member_done w.0 n w.1 xs w.3
 
@@ -73,8 +73,8 @@ begins_more : (xs ys : List Event) → Begins (xs ++ ys) → Begins xs
 begins_more xs ys b = record { value = b.value; rest = ys ++ b.rest; is = sym (append_assoc xs ys b.rest) ∙ b.is }
 
 outside_begins : (q : Spot) (n : List ℕ) (ms : List JsonProperty) (xs : List Event) → Opens q n ms [] xs → Begins xs
-outside_begins Start n ms xs is = record { value = scalar a_null; rest = null_value ∷ finishes ∷ []; is = ap (λ l. l ++ null_value ∷ finishes ∷ []) is }
-outside_begins Whole n ms xs so = record { value = so.0; rest = finishes ∷ []; is = ap (λ l. l ++ finishes ∷ []) so.1 }
+outside_begins Start n ms xs is = record { value = scalar a_null; rest = write_null ∷ finish ∷ []; is = ap (λ l. l ++ write_null ∷ finish ∷ []) is }
+outside_begins Whole n ms xs so = record { value = so.0; rest = finish ∷ []; is = ap (λ l. l ++ finish ∷ []) so.1 }
 outside_begins Finished n ms xs so = record { value = so.0; rest = []; is = append-nil xs ∙ so.1 }
 outside_begins Items n ms xs so = absurd so
 outside_begins ItemDue n ms xs so = absurd so
@@ -136,43 +136,43 @@ piece_why xs x piece d = due_why xs x d.inner.spot (after_value d.inner.spot) (�
 arrives_begins : (xs : List Event) (d : Draft) (s : Spot) (t : Tree) → after_value d.inner.spot ≡ Some s → Fits xs d → Begins (xs ++ nested t)
 arrives_begins xs d s t due so = opens_begins d.outer s d.inner.name d.inner.members (xs ++ nested t) (arrives d.inner.spot s d.inner.name d.inner.members d.outer xs t due so)
 
-twice : (xs : List Event) (n : List ℕ) (ms : List JsonProperty) (ls : List Level) → ties n ms ≡ true → Opens ValueDone n ms ls xs → Why xs member_ends DuplicateKey
+twice : (xs : List Event) (n : List ℕ) (ms : List JsonProperty) (ls : List Level) → ties n ms ≡ true → Opens ValueDone n ms ls xs → Why xs end_object_value DuplicateKey
 twice xs n ms [] has so = absurd so
 twice xs n ms (l ∷ ls) has so =
     let w = so.4 in (
-      subst Begins (sym (ap (λ y. y ++ member_ends ∷ []) so.3 ∙ append_assoc so.0 so.1 (member_ends ∷ [])))
-          (ends_begins so.0 (so.1 ++ member_ends ∷ []) (λ t. opens_begins ls l.spot l.name l.members (so.0 ++ nested t) (arrives so.2 l.spot l.name l.members ls so.0 t so.5 so.6))
-          (ends_names (and_field w.0 n w.1) (so.1 ++ member_ends ∷ []) (member_over w.0 n w.1 so.1 w.3))),
+      subst Begins (sym (ap (λ y. y ++ end_object_value ∷ []) so.3 ∙ append_assoc so.0 so.1 (end_object_value ∷ [])))
+          (ends_begins so.0 (so.1 ++ end_object_value ∷ []) (λ t. opens_begins ls l.spot l.name l.members (so.0 ++ nested t) (arrives so.2 l.spot l.name l.members ls so.0 t so.5 so.6))
+          (ends_names (and_field w.0 n w.1) (so.1 ++ end_object_value ∷ []) (member_over w.0 n w.1 so.1 w.3))),
       (refl, record { before = so.0; fields = w.0; name = n; value = w.1; is = so.3 ∙ ap (λ l. so.0 ++ l) w.3; has = sym (w.2 n) ∙ has }),
     )
 
-member_why : (xs : List Event) (d : Draft) → d.inner.spot ≡ ValueDone → Fits xs d → TurnWhy xs member_ends (ends_member d)
+member_why : (xs : List Event) (d : Draft) → d.inner.spot ≡ ValueDone → Fits xs d → TurnWhy xs end_object_value (ends_member d)
 member_why xs d is so =
-    choice_why xs member_ends (ties d.inner.name d.inner.members) (refused DuplicateKey)
+    choice_why xs end_object_value (ties d.inner.name d.inner.members) (refused DuplicateKey)
     (moves (record d { text = []; inner = record d.inner { spot = Names; members = insert_key by_key d.inner.members (property (d.inner.name, d.text)) } }) [])
     (λ has. twice xs d.inner.name d.inner.members d.outer has (subst (λ r. Opens r d.inner.name d.inner.members d.outer xs) is so)) (λ once. tt)
 
 act_why : (x : Event) (d : Draft) (xs : List Event) → Fits xs d → TurnWhy xs x (act x d)
-act_why null_value d xs so = piece_why xs null_value (codes "null") d
-act_why (truth_value b) d xs so = piece_why xs (truth_value b) (truth_text b) d
-act_why (whole_value z) d xs so =
-    due_why xs (whole_value z) d.inner.spot (after_value d.inner.spot) (λ s. if in_range z then writes (signed_decimal z) (at s d) else refused IntegerOutOfRange) refl
-    (λ s due. choice_why xs (whole_value z) (in_range z) _ _ (λ within. write_why xs (whole_value z) (signed_decimal z) (at s d)) (λ past. (arrives_begins xs d s (scalar (a_whole z)) due so, (z, refl, past))))
-act_why float_value d xs so = due_why xs float_value d.inner.spot (after_value d.inner.spot) (λ s. refused Float) refl (λ s due. (arrives_begins xs d s (scalar a_float) due so, refl))
-act_why (string_event k) d xs so = choice_why xs (string_event k) (is_at d.inner.spot NameDue) _ _ (λ is. tt) (λ is. piece_why xs (string_event k) (quoted_text k) d)
-act_why raw_fragment d xs so = due_why xs raw_fragment d.inner.spot (after_value d.inner.spot) (λ s. refused RawFragment) refl (λ s due. (arrives_begins xs d s (scalar a_fragment) due so, refl))
-act_why array_begins d xs so =
-    due_why xs array_begins d.inner.spot (after_value d.inner.spot) (λ s. writes (91 ∷ []) (opened (level Items d.inner.held []) (at s d))) refl (λ s due. write_why xs array_begins (91 ∷ []) (opened (level Items d.inner.held []) (at s d)))
-act_why item_begins d xs so = only_why xs item_begins d Items (begins_item d) (λ is. write_why xs item_begins (comma_if d.inner.begun) (record d { inner = record d.inner { spot = ItemDue; begun = true } }))
-act_why item_ends d xs so = only_why xs item_ends d ItemDone (moves (at Items d) []) (λ is. tt)
-act_why array_ends d xs so = only_why xs array_ends d Items (ends_array d) (λ is. around_why xs array_ends d.outer _ (λ l ls. write_why xs array_ends (93 ∷ []) (record d { inner = l; outer = ls })))
-act_why object_begins d xs so = due_why xs object_begins d.inner.spot (after_value d.inner.spot) (λ s. moves (record (opened (level Names true d.text) (at s d)) { text = [] }) []) refl (λ s due. tt)
-act_why name_begins d xs so = only_why xs name_begins d Names (moves (at NameDue d) []) (λ is. tt)
-act_why name_ends d xs so = only_why xs name_ends d NameDone (moves (at Named d) []) (λ is. tt)
-act_why member_begins d xs so = only_why xs member_begins d Named (moves (at ValueDue d) []) (λ is. tt)
-act_why member_ends d xs so = only_why xs member_ends d ValueDone (ends_member d) (λ is. member_why xs d is so)
-act_why object_ends d xs so = only_why xs object_ends d Names (ends_object d) (λ is. around_why xs object_ends d.outer _ (λ l ls. write_why xs object_ends (kept_object d.inner.members) (record { text = d.inner.around; inner = l; outer = ls })))
-act_why finishes d xs so = only_why xs finishes d Whole (moves (at Finished d) []) (λ is. tt)
+act_why write_null d xs so = piece_why xs write_null (codes "null") d
+act_why (write_bool b) d xs so = piece_why xs (write_bool b) (truth_text b) d
+act_why (write_integer z) d xs so =
+    due_why xs (write_integer z) d.inner.spot (after_value d.inner.spot) (λ s. if in_range z then writes (signed_decimal z) (at s d) else refused IntegerOutOfRange) refl
+    (λ s due. choice_why xs (write_integer z) (in_range z) _ _ (λ within. write_why xs (write_integer z) (signed_decimal z) (at s d)) (λ past. (arrives_begins xs d s (scalar (a_whole z)) due so, (z, refl, past))))
+act_why write_float d xs so = due_why xs write_float d.inner.spot (after_value d.inner.spot) (λ s. refused Float) refl (λ s due. (arrives_begins xs d s (scalar a_float) due so, refl))
+act_why (write_string k) d xs so = choice_why xs (write_string k) (is_at d.inner.spot NameDue) _ _ (λ is. tt) (λ is. piece_why xs (write_string k) (quoted_text k) d)
+act_why write_raw_fragment d xs so = due_why xs write_raw_fragment d.inner.spot (after_value d.inner.spot) (λ s. refused RawFragment) refl (λ s due. (arrives_begins xs d s (scalar a_fragment) due so, refl))
+act_why begin_array d xs so =
+    due_why xs begin_array d.inner.spot (after_value d.inner.spot) (λ s. writes (91 ∷ []) (opened (level Items d.inner.held []) (at s d))) refl (λ s due. write_why xs begin_array (91 ∷ []) (opened (level Items d.inner.held []) (at s d)))
+act_why begin_array_value d xs so = only_why xs begin_array_value d Items (begins_item d) (λ is. write_why xs begin_array_value (comma_if d.inner.begun) (record d { inner = record d.inner { spot = ItemDue; begun = true } }))
+act_why end_array_value d xs so = only_why xs end_array_value d ItemDone (moves (at Items d) []) (λ is. tt)
+act_why end_array d xs so = only_why xs end_array d Items (ends_array d) (λ is. around_why xs end_array d.outer _ (λ l ls. write_why xs end_array (93 ∷ []) (record d { inner = l; outer = ls })))
+act_why begin_object d xs so = due_why xs begin_object d.inner.spot (after_value d.inner.spot) (λ s. moves (record (opened (level Names true d.text) (at s d)) { text = [] }) []) refl (λ s due. tt)
+act_why begin_object_key d xs so = only_why xs begin_object_key d Names (moves (at NameDue d) []) (λ is. tt)
+act_why end_object_key d xs so = only_why xs end_object_key d NameDone (moves (at Named d) []) (λ is. tt)
+act_why begin_object_value d xs so = only_why xs begin_object_value d Named (moves (at ValueDue d) []) (λ is. tt)
+act_why end_object_value d xs so = only_why xs end_object_value d ValueDone (ends_member d) (λ is. member_why xs d is so)
+act_why end_object d xs so = only_why xs end_object d Names (ends_object d) (λ is. around_why xs end_object d.outer _ (λ l ls. write_why xs end_object (kept_object d.inner.members) (record { text = d.inner.around; inner = l; outer = ls })))
+act_why finish d xs so = only_why xs finish d Whole (moves (at Finished d) []) (λ is. tt)
 
 -- ---- the event after events that were taken
 
@@ -235,9 +235,9 @@ one_of : (o : Option Spot) (e : CanonError) → (where_due o (λ s. refused e) �
 one_of None e = inl refl
 one_of (Some s) e = inr refl
 
-past_range : (z : ℤ) (d : Draft) → in_range z ≡ false → (act (whole_value z) d ≡ refused NotWellNested) ⊎ (act (whole_value z) d ≡ refused IntegerOutOfRange)
+past_range : (z : ℤ) (d : Draft) → in_range z ≡ false → (act (write_integer z) d ≡ refused NotWellNested) ⊎ (act (write_integer z) d ≡ refused IntegerOutOfRange)
 past_range z d past =
-    let turn : act (whole_value z) d ≡ where_due (after_value d.inner.spot) (λ s. refused IntegerOutOfRange) = ap (λ b. where_due (after_value d.inner.spot) (λ s. if b then writes (signed_decimal z) (at s d) else refused IntegerOutOfRange)) past in
+    let turn : act (write_integer z) d ≡ where_due (after_value d.inner.spot) (λ s. refused IntegerOutOfRange) = ap (λ b. where_due (after_value d.inner.spot) (λ s. if b then writes (signed_decimal z) (at s d) else refused IntegerOutOfRange)) past in
     elim (one_of (after_value d.inner.spot) IntegerOutOfRange) [ inl is ↦ inl (turn ∙ is) | inr is ↦ inr (turn ∙ is) ]
 
 -- ---- a name that comes twice
@@ -260,32 +260,32 @@ record Ready (fs : Fields) (k : List ℕ) (l : Level) : Type 0 where
   has : (q : List ℕ) → ties q l.members ≡ has_field q fs
 
 object_ready : (fs : Fields) (k : List ℕ) (t : Tree) (d : Draft) (s : Spot) → after_value d.inner.spot ≡ Some s
-    → Passes (Ready fs k) ((at s d).inner ∷ d.outer) (after (object_begins ∷ (nested_fields fs ++ (name_events k ++ nested t))) (going d))
+    → Passes (Ready fs k) ((at s d).inner ∷ d.outer) (after (begin_object ∷ (nested_fields fs ++ (name_events k ++ nested t))) (going d))
 object_ready fs k t d s due =
     let ls = (at s d).inner ∷ d.outer in
-    and_then (object_begins ∷ []) (nested_fields fs ++ (name_events k ++ nested t)) d NoMembers (Ready fs k) ls ls (object_begin d s due)
+    and_then (begin_object ∷ []) (nested_fields fs ++ (name_events k ++ nested t)) d NoMembers (Ready fs k) ls ls (object_begin d s due)
     (λ e begun out. and_then (nested_fields fs) (name_events k ++ nested t) e (FieldsIn fs) (Ready fs k) e.outer ls (fields_passes fs e begun)
     (λ f so around. field_ready k t f ls (Ready fs k) (λ g here. tree_passes t g ValueDone (ap after_value here)) so.spot (around ∙ out)
     (λ l spot name members. record { spot = spot; name = name; has = λ q. ap (ties q) members ∙ so.has q })))
 
-ready_refused : (fs : Fields) (k : List ℕ) (ls : List Level) (s : Stage) → has_field k fs ≡ true → s.refusal ≡ None → Passes (Ready fs k) ls s → act member_ends s.draft ≡ refused DuplicateKey
+ready_refused : (fs : Fields) (k : List ℕ) (ls : List Level) (s : Stage) → has_field k fs ≡ true → s.refusal ≡ None → Passes (Ready fs k) ls s → act end_object_value s.draft ≡ refused DuplicateKey
 ready_refused fs k ls s has none (inr stop) = let all : Some stop.why ≡ None = sym stop.is ∙ none in cc
 ready_refused fs k ls s has none (inl goes) =
     let g = goes.new in
     let same : s.draft ≡ g = ap (λ t. t.draft) goes.is in
     let twice : ties g.inner.name g.inner.members ≡ true = goes.inner.has g.inner.name ∙ ap (λ n. has_field n fs) goes.inner.name ∙ has in
     let new = record g { text = []; inner = record g.inner { spot = Names; members = insert_key by_key g.inner.members (property (g.inner.name, g.text)) } } in
-    ap (act member_ends) same ∙ ap (λ q. if is_at q ValueDone then ends_member g else refused NotWellNested) goes.inner.spot ∙ ap (λ c. if c then refused DuplicateKey else moves new []) twice
+    ap (act end_object_value) same ∙ ap (λ q. if is_at q ValueDone then ends_member g else refused NotWellNested) goes.inner.spot ∙ ap (λ c. if c then refused DuplicateKey else moves new []) twice
 
-comes_twice : (xs : List Event) → (after xs fresh).refusal ≡ None → ComesTwice xs → (after (xs ++ member_ends ∷ []) fresh).refusal ≡ Some DuplicateKey
+comes_twice : (xs : List Event) → (after xs fresh).refusal ≡ None → ComesTwice xs → (after (xs ++ end_object_value ∷ []) fresh).refusal ≡ Some DuplicateKey
 comes_twice xs none so =
-    let ys = object_begins ∷ (nested_fields so.fields ++ (name_events so.name ++ nested so.value)) in
+    let ys = begin_object ∷ (nested_fields so.fields ++ (name_events so.name ++ nested so.value)) in
     let whole : (after (so.before ++ ys) fresh).refusal ≡ None = ap (λ l. (after l fresh).refusal) (sym so.is) ∙ none in
     let first = unrefused so.before ys whole in
     let d = (after so.before fresh).draft in
     let there : after xs fresh ≡ after ys (going d) = ap (λ l. after l fresh) so.is ∙ after-append so.before ys fresh ∙ ap (after ys) (going_is (after so.before fresh) first) in
     let due = due_at (after_value d.inner.spot) (λ t. moves (record (opened (level Names true d.text) (at t d)) { text = [] }) []) d (nested_fields so.fields ++ (name_events so.name ++ nested so.value)) (sym (ap (λ s. s.refusal) there) ∙ none) in
-    is_refused xs member_ends none DuplicateKey
+    is_refused xs end_object_value none DuplicateKey
     (ready_refused so.fields so.name ((at due.0 d).inner ∷ d.outer) (after xs fresh) so.has none
     (subst (λ s. Passes (Ready so.fields so.name) ((at due.0 d).inner ∷ d.outer) s) (sym there) (object_ready so.fields so.name so.value d due.0 due.1)))
 
@@ -306,8 +306,45 @@ is_caused Unreadable xs x none cause = absurd cause
 is_caused SinkFault xs x none cause = absurd cause
 is_caused WantOfMemory xs x none cause = absurd cause
 
-pub refused_by_cause : RefusedByCause
-refused_by_cause xs x none e = (cause_of xs x none e, is_caused e xs x none)
+good_so_far : (xs : List Event) → (after xs fresh).refusal ≡ None → IsGood xs
+good_so_far xs none before later x e is cause =
+    let whole : (after (before ++ x ∷ later) fresh).refusal ≡ None = ap (λ l. (after l fresh).refusal) (sym is) ∙ none in
+    let there = unrefused (before ++ x ∷ []) later (ap (λ l. (after l fresh).refusal) (append_assoc before (x ∷ []) later) ∙ whole) in
+    let all : Some e ≡ None = sym (is_caused e before x (unrefused before (x ∷ later) whole) cause) ∙ there in
+    cc
+
+first_next : (o : Option CanonError) (before : List Event) (x : Event) (xs : List Event) (e : CanonError) → (after before fresh).refusal ≡ None → (after (before ++ x ∷ []) fresh).refusal ≡ o
+    → (after (before ++ x ∷ xs) fresh).refusal ≡ Some e → (o ≡ None → IsBad (before ++ x ∷ xs) e) → IsBad (before ++ x ∷ xs) e
+first_next None before x xs e none there is more = more refl
+first_next (Some c) before x xs e none there is more =
+    let s = after (before ++ x ∷ []) fresh in
+    let whole : after (before ++ x ∷ xs) fresh ≡ s = ap (λ l. after l fresh) (sym (append_assoc before (x ∷ []) xs)) ∙ after-append (before ++ x ∷ []) xs fresh ∙ stays xs s c there in
+    record { before = before; bad = x; later = xs; is = refl; good = good_so_far before none; cause = cause_of before x none e (sym (ap (λ t. t.refusal) whole) ∙ is) }
+
+-- the first refusal of more events
+first_from : (xs before : List Event) (e : CanonError) → (after before fresh).refusal ≡ None → (after (before ++ xs) fresh).refusal ≡ Some e → IsBad (before ++ xs) e
+first_from [] before e none is = let all : None ≡ Some e = sym none ∙ ap (λ l. (after l fresh).refusal) (sym (append-nil before)) ∙ is in cc
+first_from (x ∷ xs) before e none is =
+    let o = (after (before ++ x ∷ []) fresh).refusal in
+    first_next o before x xs e none refl is
+    (λ there. subst (λ l. IsBad l e) (append_assoc before (x ∷ []) xs) (first_from xs (before ++ x ∷ []) e there (ap (λ l. (after l fresh).refusal) (append_assoc before (x ∷ []) xs) ∙ is)))
+
+good_unrefused : (o : Option CanonError) (xs : List Event) → (after xs fresh).refusal ≡ o → IsGood xs → o ≡ None
+good_unrefused None xs is good = refl
+good_unrefused (Some e) xs is good = let bad = first_from xs [] e refl is in absurd (good bad.before bad.later bad.bad e bad.is bad.cause)
+
+bad_refused : (xs : List Event) (e : CanonError) → IsBad xs e → (after xs fresh).refusal ≡ Some e
+bad_refused xs e bad =
+    let before = bad.before in
+    let s = after (before ++ bad.bad ∷ []) fresh in
+    let none : (after before fresh).refusal ≡ None = good_unrefused _ before refl bad.good in
+    let there : s.refusal ≡ Some e = is_caused e before bad.bad none bad.cause in
+    let whole : after xs fresh ≡ s = ap (λ l. after l fresh) (bad.is ∙ sym (append_assoc before (bad.bad ∷ []) bad.later)) ∙ after-append (before ++ bad.bad ∷ []) bad.later fresh ∙ stays bad.later s e there in
+    ap (λ t. t.refusal) whole ∙ there
+
+pub first_is_bad : FirstBad
+first_is_bad xs None = (good_so_far xs, good_unrefused _ xs refl)
+first_is_bad xs (Some e) = (first_from xs [] e refl, bad_refused xs e)
 
 pub refusal_stays : RefusalStays
 refusal_stays xs ys e is =

@@ -12,7 +12,7 @@ use Rattle.json_events.specs.declared.spot.Spot.{Spot}
 use Rattle.json_events.specs.declared.spot.Spot.TheVariants.{Start, Whole, Finished, Items, ItemDue, ItemDone, Names, NameDue, NameDone, Named, ValueDue, ValueDone}
 use Rattle.json_events.specs.Canonical.{in_range, truth_text}
 use Rattle.json_events.specs.Drafts.{Level, Draft, Turn, refused, moves, step, turned, act, fresh, writes, at, after_value, level, opened, where_due, where_around, spot_index, is_at, only_at, places, begins_item, ends_array, ends_object, ends_member}
-use Rattle.json_events.specs.Events.{Event, null_value, truth_value, whole_value, float_value, string_event, raw_fragment, array_begins, item_begins, item_ends, array_ends, object_begins, name_begins, name_ends, member_begins, member_ends, object_ends, finishes}
+use Rattle.json_events.specs.Events.{Event, write_null, write_bool, write_integer, write_float, write_string, write_raw_fragment, begin_array, begin_array_value, end_array_value, end_array, begin_object, begin_object_key, end_object_key, begin_object_value, end_object_value, end_object, finish}
 use Rattle.json_events.specs.Members.{property, kept_object}
 use Rattle.json_events.specs.Units.{by_units}
 use Rattle.json_events.specs.WellNested.{a_null, a_truth, a_whole, a_string, Tree, scalar, array, object, Trees, no_trees, and_tree, Fields, no_fields, and_field, nested, nested_items, nested_fields, name_events, has_field}
@@ -24,7 +24,7 @@ use Rattle.json_events.proofs.Passing.{ties, ties_more, after, stays}
 abbrev pub Outside : Spot → List Event → Type 0
 Outside Start xs = xs ≡ []
 Outside Whole xs = (t : Tree) × (xs ≡ nested t)
-Outside Finished xs = (t : Tree) × (xs ≡ nested t ++ finishes ∷ [])
+Outside Finished xs = (t : Tree) × (xs ≡ nested t ++ finish ∷ [])
 Outside q xs = ⊥
 
 -- the members so far, whose names these are
@@ -32,20 +32,20 @@ abbrev pub Has : List JsonProperty → Fields → Type 0
 Has ms fs = (k : List ℕ) → ties k ms ≡ has_field k fs
 
 abbrev of_array : Trees → List Event → List Event
-of_array ts more = array_begins ∷ (nested_items ts ++ more)
+of_array ts more = begin_array ∷ (nested_items ts ++ more)
 
 abbrev of_object : Fields → List Event → List Event
-of_object fs more = object_begins ∷ (nested_fields fs ++ more)
+of_object fs more = begin_object ∷ (nested_fields fs ++ more)
 
 -- the events since an unclosed container began
 abbrev pub Within : Spot → List ℕ → List JsonProperty → List Event → Type 0
-Within Items n ms xs = (ts : Trees) × (xs ≡ array_begins ∷ nested_items ts)
-Within ItemDue n ms xs = (ts : Trees) × (xs ≡ of_array ts (item_begins ∷ []))
-Within ItemDone n ms xs = (ts : Trees) × (t : Tree) × (xs ≡ of_array ts (item_begins ∷ nested t))
-Within Names n ms xs = (fs : Fields) × Has ms fs × (xs ≡ object_begins ∷ nested_fields fs)
-Within NameDue n ms xs = (fs : Fields) × Has ms fs × (xs ≡ of_object fs (name_begins ∷ []))
-Within NameDone n ms xs = (fs : Fields) × Has ms fs × (xs ≡ of_object fs (name_begins ∷ string_event n ∷ []))
-Within Named n ms xs = (fs : Fields) × Has ms fs × (xs ≡ of_object fs (name_begins ∷ string_event n ∷ name_ends ∷ []))
+Within Items n ms xs = (ts : Trees) × (xs ≡ begin_array ∷ nested_items ts)
+Within ItemDue n ms xs = (ts : Trees) × (xs ≡ of_array ts (begin_array_value ∷ []))
+Within ItemDone n ms xs = (ts : Trees) × (t : Tree) × (xs ≡ of_array ts (begin_array_value ∷ nested t))
+Within Names n ms xs = (fs : Fields) × Has ms fs × (xs ≡ begin_object ∷ nested_fields fs)
+Within NameDue n ms xs = (fs : Fields) × Has ms fs × (xs ≡ of_object fs (begin_object_key ∷ []))
+Within NameDone n ms xs = (fs : Fields) × Has ms fs × (xs ≡ of_object fs (begin_object_key ∷ write_string n ∷ []))
+Within Named n ms xs = (fs : Fields) × Has ms fs × (xs ≡ of_object fs (begin_object_key ∷ write_string n ∷ end_object_key ∷ []))
 Within ValueDue n ms xs = (fs : Fields) × Has ms fs × (xs ≡ of_object fs (name_events n))
 Within ValueDone n ms xs = (fs : Fields) × (t : Tree) × Has ms fs × (xs ≡ of_object fs (name_events n ++ nested t))
 Within q n ms xs = ⊥
@@ -85,17 +85,17 @@ outside_more ValueDone xs t so = tt
 
 -- more events at the end of a container's
 pub longer_array : (ts : Trees) (a b xs : List Event) → xs ≡ of_array ts a → xs ++ b ≡ of_array ts (a ++ b)
-longer_array ts a b xs is = ap (λ l. l ++ b) is ∙ append_assoc (array_begins ∷ nested_items ts) a b
+longer_array ts a b xs is = ap (λ l. l ++ b) is ∙ append_assoc (begin_array ∷ nested_items ts) a b
 
 pub longer_object : (fs : Fields) (a b xs : List Event) → xs ≡ of_object fs a → xs ++ b ≡ of_object fs (a ++ b)
-longer_object fs a b xs is = ap (λ l. l ++ b) is ∙ append_assoc (object_begins ∷ nested_fields fs) a b
+longer_object fs a b xs is = ap (λ l. l ++ b) is ∙ append_assoc (begin_object ∷ nested_fields fs) a b
 
 within_more : (q : Spot) (n : List ℕ) (ms : List JsonProperty) (xs : List Event) (t : Tree) → Within q n ms xs → AtSome (after_value q) (λ s. Within s n ms (xs ++ nested t))
 within_more Start n ms xs t so = absurd so
 within_more Whole n ms xs t so = tt
 within_more Finished n ms xs t so = tt
 within_more Items n ms xs t so = tt
-within_more ItemDue n ms xs t so = (so.0, t, longer_array so.0 (item_begins ∷ []) (nested t) xs so.1)
+within_more ItemDue n ms xs t so = (so.0, t, longer_array so.0 (begin_array_value ∷ []) (nested t) xs so.1)
 within_more ItemDone n ms xs t so = tt
 within_more Names n ms xs t so = tt
 within_more NameDue n ms xs t so = tt
@@ -177,75 +177,75 @@ closed t x q due s n m ms ns ls before mid xs parts ends is so =
     subst (λ l. Opens s m ns ls l) (sym (ap (λ l. l ++ x ∷ []) parts ∙ append_assoc before mid (x ∷ []) ∙ ap (λ l. before ++ l) ends)) (arrives due s m ns ls before t is so)
 
 array_closes : (d : Draft) (xs : List Event) (ls : List Level) → d.outer ≡ ls → Opens Items d.inner.name d.inner.members ls xs
-    → TurnFits (xs ++ array_ends ∷ []) (where_around ls (λ l ms. writes (93 ∷ []) (record d { inner = l; outer = ms })))
+    → TurnFits (xs ++ end_array ∷ []) (where_around ls (λ l ms. writes (93 ∷ []) (record d { inner = l; outer = ms })))
 array_closes d xs [] is so = tt
 array_closes d xs (l ∷ ls) is so =
-    wrote (xs ++ array_ends ∷ []) (93 ∷ []) (record d { inner = l; outer = ls })
-    (closed (array so.4.0) array_ends Items so.2 l.spot d.inner.name l.name d.inner.members l.members ls so.0 so.1 xs so.3 (ap (λ y. y ++ array_ends ∷ []) so.4.1) so.5 so.6)
+    wrote (xs ++ end_array ∷ []) (93 ∷ []) (record d { inner = l; outer = ls })
+    (closed (array so.4.0) end_array Items so.2 l.spot d.inner.name l.name d.inner.members l.members ls so.0 so.1 xs so.3 (ap (λ y. y ++ end_array ∷ []) so.4.1) so.5 so.6)
 
 object_closes : (d : Draft) (xs : List Event) (ls : List Level) → d.outer ≡ ls → Opens Names d.inner.name d.inner.members ls xs
-    → TurnFits (xs ++ object_ends ∷ []) (where_around ls (λ l ms. writes (kept_object d.inner.members) (record { text = d.inner.around; inner = l; outer = ms })))
+    → TurnFits (xs ++ end_object ∷ []) (where_around ls (λ l ms. writes (kept_object d.inner.members) (record { text = d.inner.around; inner = l; outer = ms })))
 object_closes d xs [] is so = tt
 object_closes d xs (l ∷ ls) is so =
-    wrote (xs ++ object_ends ∷ []) (kept_object d.inner.members) (record { text = d.inner.around; inner = l; outer = ls })
-    (closed (object so.4.0) object_ends Names so.2 l.spot d.inner.name l.name d.inner.members l.members ls so.0 so.1 xs so.3 (ap (λ y. y ++ object_ends ∷ []) so.4.2) so.5 so.6)
+    wrote (xs ++ end_object ∷ []) (kept_object d.inner.members) (record { text = d.inner.around; inner = l; outer = ls })
+    (closed (object so.4.0) end_object Names so.2 l.spot d.inner.name l.name d.inner.members l.members ls so.0 so.1 xs so.3 (ap (λ y. y ++ end_object ∷ []) so.4.2) so.5 so.6)
 
 string_fits : (k : List ℕ) (q : Spot) (d : Draft) (xs : List Event) → d.inner.spot ≡ q → Fits xs d
-    → TurnFits (xs ++ string_event k ∷ []) (if is_at q NameDue then moves (record d { inner = record d.inner { spot = NameDone; name = k } }) [] else places (quoted_text k) d)
+    → TurnFits (xs ++ write_string k ∷ []) (if is_at q NameDue then moves (record d { inner = record d.inner { spot = NameDone; name = k } }) [] else places (quoted_text k) d)
 string_fits k q d xs is so =
-    choice (xs ++ string_event k ∷ []) (is_at q NameDue) _ _
-    (λ due. goes_on NameDue NameDone d.inner.name k d.inner.members d.inner.members (string_event k) d.outer xs (λ out. absurd out)
-    (λ mid w. (w.0, w.1, longer_object w.0 (name_begins ∷ []) (string_event k ∷ []) mid w.2)) (from NameDue d xs (is ∙ same_spot q NameDue due) so))
+    choice (xs ++ write_string k ∷ []) (is_at q NameDue) _ _
+    (λ due. goes_on NameDue NameDone d.inner.name k d.inner.members d.inner.members (write_string k) d.outer xs (λ out. absurd out)
+    (λ mid w. (w.0, w.1, longer_object w.0 (begin_object_key ∷ []) (write_string k ∷ []) mid w.2)) (from NameDue d xs (is ∙ same_spot q NameDue due) so))
     (λ other. piece_fits (quoted_text k) (scalar (a_string k)) d xs so)
 
-member_fits : (d : Draft) (xs : List Event) → d.inner.spot ≡ ValueDone → Fits xs d → TurnFits (xs ++ member_ends ∷ []) (ends_member d)
+member_fits : (d : Draft) (xs : List Event) → d.inner.spot ≡ ValueDone → Fits xs d → TurnFits (xs ++ end_object_value ∷ []) (ends_member d)
 member_fits d xs is so =
     let ms = d.inner.members in
     let new = insert_key by_key ms (property (d.inner.name, d.text)) in
-    choice (xs ++ member_ends ∷ []) (ties d.inner.name ms) (refused DuplicateKey) (moves (record d { text = []; inner = record d.inner { spot = Names; members = new } }) []) (λ twice. tt)
-    (λ once. goes_on ValueDone Names d.inner.name d.inner.name ms new member_ends d.outer xs (λ out. absurd out)
+    choice (xs ++ end_object_value ∷ []) (ties d.inner.name ms) (refused DuplicateKey) (moves (record d { text = []; inner = record d.inner { spot = Names; members = new } }) []) (λ twice. tt)
+    (λ once. goes_on ValueDone Names d.inner.name d.inner.name ms new end_object_value d.outer xs (λ out. absurd out)
     (λ mid w. (
       and_field w.0 d.inner.name w.1,
       (λ q. ties_more q d.inner.name d.text ms once ∙ ap (λ b. is_eq (by_units q d.inner.name) || b) (w.2 q)),
-      longer_object w.0 (name_events d.inner.name ++ nested w.1) (member_ends ∷ []) mid w.3
-          ∙ ap (λ l. of_object w.0 l) (append_assoc (name_events d.inner.name) (nested w.1) (member_ends ∷ [])),
+      longer_object w.0 (name_events d.inner.name ++ nested w.1) (end_object_value ∷ []) mid w.3
+          ∙ ap (λ l. of_object w.0 l) (append_assoc (name_events d.inner.name) (nested w.1) (end_object_value ∷ [])),
     )) (from ValueDone d xs is so))
 
 pub act_fits : (x : Event) (d : Draft) (xs : List Event) → Fits xs d → TurnFits (xs ++ x ∷ []) (act x d)
-act_fits null_value d xs so = piece_fits (codes "null") (scalar a_null) d xs so
-act_fits (truth_value b) d xs so = piece_fits (truth_text b) (scalar (a_truth b)) d xs so
-act_fits (whole_value z) d xs so =
-    where_fits (xs ++ whole_value z ∷ []) d.inner.spot (after_value d.inner.spot) (λ s. if in_range z then writes (signed_decimal z) (at s d) else refused IntegerOutOfRange) refl
-    (λ s due. choice (xs ++ whole_value z ∷ []) (in_range z) _ _
-    (λ within. wrote (xs ++ whole_value z ∷ []) (signed_decimal z) (at s d) (arrives d.inner.spot s d.inner.name d.inner.members d.outer xs (scalar (a_whole z)) due so)) (λ past. tt))
-act_fits float_value d xs so = where_fits (xs ++ float_value ∷ []) d.inner.spot (after_value d.inner.spot) (λ s. refused Float) refl (λ s due. tt)
-act_fits (string_event k) d xs so = string_fits k d.inner.spot d xs refl so
-act_fits raw_fragment d xs so = where_fits (xs ++ raw_fragment ∷ []) d.inner.spot (after_value d.inner.spot) (λ s. refused RawFragment) refl (λ s due. tt)
-act_fits array_begins d xs so =
-    where_fits (xs ++ array_begins ∷ []) d.inner.spot (after_value d.inner.spot) (λ s. writes (91 ∷ []) (opened (level Items d.inner.held []) (at s d))) refl
-    (λ s due. wrote (xs ++ array_begins ∷ []) (91 ∷ []) (opened (level Items d.inner.held []) (at s d)) (xs, array_begins ∷ [], d.inner.spot, refl, (no_trees, refl), due, so))
-act_fits item_begins d xs so = only (xs ++ item_begins ∷ []) d Items (begins_item d) (λ is.
-    wrote (xs ++ item_begins ∷ []) (comma_if d.inner.begun) (record d { inner = record d.inner { spot = ItemDue; begun = true } })
-    (goes_on Items ItemDue d.inner.name d.inner.name d.inner.members d.inner.members item_begins d.outer xs (λ out. absurd out) (λ mid w. (w.0, ap (λ l. l ++ item_begins ∷ []) w.1)) (from Items d xs is so)))
-act_fits item_ends d xs so = only (xs ++ item_ends ∷ []) d ItemDone (moves (at Items d) []) (λ is.
-    goes_on ItemDone Items d.inner.name d.inner.name d.inner.members d.inner.members item_ends d.outer xs (λ out. absurd out)
-    (λ mid w. (and_tree w.0 w.1, longer_array w.0 (item_begins ∷ nested w.1) (item_ends ∷ []) mid w.2)) (from ItemDone d xs is so))
-act_fits array_ends d xs so = only (xs ++ array_ends ∷ []) d Items (ends_array d) (λ is. array_closes d xs d.outer refl (from Items d xs is so))
-act_fits object_begins d xs so =
-    where_fits (xs ++ object_begins ∷ []) d.inner.spot (after_value d.inner.spot) (λ s. moves (record (opened (level Names true d.text) (at s d)) { text = [] }) []) refl
-    (λ s due. (xs, object_begins ∷ [], d.inner.spot, refl, (no_fields, (λ k. refl), refl), due, so))
-act_fits name_begins d xs so = only (xs ++ name_begins ∷ []) d Names (moves (at NameDue d) []) (λ is.
-    goes_on Names NameDue d.inner.name d.inner.name d.inner.members d.inner.members name_begins d.outer xs (λ out. absurd out) (λ mid w. (w.0, w.1, ap (λ l. l ++ name_begins ∷ []) w.2)) (from Names d xs is so))
-act_fits name_ends d xs so = only (xs ++ name_ends ∷ []) d NameDone (moves (at Named d) []) (λ is.
-    goes_on NameDone Named d.inner.name d.inner.name d.inner.members d.inner.members name_ends d.outer xs (λ out. absurd out)
-    (λ mid w. (w.0, w.1, longer_object w.0 (name_begins ∷ string_event d.inner.name ∷ []) (name_ends ∷ []) mid w.2)) (from NameDone d xs is so))
-act_fits member_begins d xs so = only (xs ++ member_begins ∷ []) d Named (moves (at ValueDue d) []) (λ is.
-    goes_on Named ValueDue d.inner.name d.inner.name d.inner.members d.inner.members member_begins d.outer xs (λ out. absurd out)
-    (λ mid w. (w.0, w.1, longer_object w.0 (name_begins ∷ string_event d.inner.name ∷ name_ends ∷ []) (member_begins ∷ []) mid w.2)) (from Named d xs is so))
-act_fits member_ends d xs so = only (xs ++ member_ends ∷ []) d ValueDone (ends_member d) (λ is. member_fits d xs is so)
-act_fits object_ends d xs so = only (xs ++ object_ends ∷ []) d Names (ends_object d) (λ is. object_closes d xs d.outer refl (from Names d xs is so))
-act_fits finishes d xs so = only (xs ++ finishes ∷ []) d Whole (moves (at Finished d) []) (λ is.
-    goes_on Whole Finished d.inner.name d.inner.name d.inner.members d.inner.members finishes d.outer xs (λ out. (out.0, ap (λ l. l ++ finishes ∷ []) out.1)) (λ mid w. absurd w) (from Whole d xs is so))
+act_fits write_null d xs so = piece_fits (codes "null") (scalar a_null) d xs so
+act_fits (write_bool b) d xs so = piece_fits (truth_text b) (scalar (a_truth b)) d xs so
+act_fits (write_integer z) d xs so =
+    where_fits (xs ++ write_integer z ∷ []) d.inner.spot (after_value d.inner.spot) (λ s. if in_range z then writes (signed_decimal z) (at s d) else refused IntegerOutOfRange) refl
+    (λ s due. choice (xs ++ write_integer z ∷ []) (in_range z) _ _
+    (λ within. wrote (xs ++ write_integer z ∷ []) (signed_decimal z) (at s d) (arrives d.inner.spot s d.inner.name d.inner.members d.outer xs (scalar (a_whole z)) due so)) (λ past. tt))
+act_fits write_float d xs so = where_fits (xs ++ write_float ∷ []) d.inner.spot (after_value d.inner.spot) (λ s. refused Float) refl (λ s due. tt)
+act_fits (write_string k) d xs so = string_fits k d.inner.spot d xs refl so
+act_fits write_raw_fragment d xs so = where_fits (xs ++ write_raw_fragment ∷ []) d.inner.spot (after_value d.inner.spot) (λ s. refused RawFragment) refl (λ s due. tt)
+act_fits begin_array d xs so =
+    where_fits (xs ++ begin_array ∷ []) d.inner.spot (after_value d.inner.spot) (λ s. writes (91 ∷ []) (opened (level Items d.inner.held []) (at s d))) refl
+    (λ s due. wrote (xs ++ begin_array ∷ []) (91 ∷ []) (opened (level Items d.inner.held []) (at s d)) (xs, begin_array ∷ [], d.inner.spot, refl, (no_trees, refl), due, so))
+act_fits begin_array_value d xs so = only (xs ++ begin_array_value ∷ []) d Items (begins_item d) (λ is.
+    wrote (xs ++ begin_array_value ∷ []) (comma_if d.inner.begun) (record d { inner = record d.inner { spot = ItemDue; begun = true } })
+    (goes_on Items ItemDue d.inner.name d.inner.name d.inner.members d.inner.members begin_array_value d.outer xs (λ out. absurd out) (λ mid w. (w.0, ap (λ l. l ++ begin_array_value ∷ []) w.1)) (from Items d xs is so)))
+act_fits end_array_value d xs so = only (xs ++ end_array_value ∷ []) d ItemDone (moves (at Items d) []) (λ is.
+    goes_on ItemDone Items d.inner.name d.inner.name d.inner.members d.inner.members end_array_value d.outer xs (λ out. absurd out)
+    (λ mid w. (and_tree w.0 w.1, longer_array w.0 (begin_array_value ∷ nested w.1) (end_array_value ∷ []) mid w.2)) (from ItemDone d xs is so))
+act_fits end_array d xs so = only (xs ++ end_array ∷ []) d Items (ends_array d) (λ is. array_closes d xs d.outer refl (from Items d xs is so))
+act_fits begin_object d xs so =
+    where_fits (xs ++ begin_object ∷ []) d.inner.spot (after_value d.inner.spot) (λ s. moves (record (opened (level Names true d.text) (at s d)) { text = [] }) []) refl
+    (λ s due. (xs, begin_object ∷ [], d.inner.spot, refl, (no_fields, (λ k. refl), refl), due, so))
+act_fits begin_object_key d xs so = only (xs ++ begin_object_key ∷ []) d Names (moves (at NameDue d) []) (λ is.
+    goes_on Names NameDue d.inner.name d.inner.name d.inner.members d.inner.members begin_object_key d.outer xs (λ out. absurd out) (λ mid w. (w.0, w.1, ap (λ l. l ++ begin_object_key ∷ []) w.2)) (from Names d xs is so))
+act_fits end_object_key d xs so = only (xs ++ end_object_key ∷ []) d NameDone (moves (at Named d) []) (λ is.
+    goes_on NameDone Named d.inner.name d.inner.name d.inner.members d.inner.members end_object_key d.outer xs (λ out. absurd out)
+    (λ mid w. (w.0, w.1, longer_object w.0 (begin_object_key ∷ write_string d.inner.name ∷ []) (end_object_key ∷ []) mid w.2)) (from NameDone d xs is so))
+act_fits begin_object_value d xs so = only (xs ++ begin_object_value ∷ []) d Named (moves (at ValueDue d) []) (λ is.
+    goes_on Named ValueDue d.inner.name d.inner.name d.inner.members d.inner.members begin_object_value d.outer xs (λ out. absurd out)
+    (λ mid w. (w.0, w.1, longer_object w.0 (begin_object_key ∷ write_string d.inner.name ∷ end_object_key ∷ []) (begin_object_value ∷ []) mid w.2)) (from Named d xs is so))
+act_fits end_object_value d xs so = only (xs ++ end_object_value ∷ []) d ValueDone (ends_member d) (λ is. member_fits d xs is so)
+act_fits end_object d xs so = only (xs ++ end_object ∷ []) d Names (ends_object d) (λ is. object_closes d xs d.outer refl (from Names d xs is so))
+act_fits finish d xs so = only (xs ++ finish ∷ []) d Whole (moves (at Finished d) []) (λ is.
+    goes_on Whole Finished d.inner.name d.inner.name d.inner.members d.inner.members finish d.outer xs (λ out. (out.0, ap (λ l. l ++ finish ∷ []) out.1)) (λ mid w. absurd w) (from Whole d xs is so))
 
 run_fits_by : (t : Turn) (d : Draft) (ps xs : List Event) → ((new : Draft) (qs : List Event) → Fits qs new → (after xs (going new)).refusal ≡ None → Fits (qs ++ xs) (after xs (going new)).draft) → TurnFits ps t
     → (after xs (turned t d).stage).refusal ≡ None → Fits (ps ++ xs) (after xs (turned t d).stage).draft

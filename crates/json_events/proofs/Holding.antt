@@ -2,7 +2,7 @@
 use Rattle.std.proofs.Common.{◌≡◌, [], ◌∷◌, ◌++◌, refl, sym, ap, subst, ◌∙◌, append-nil, append_assoc}
 use Rattle.json_events.specs.Canonical.{Canonical}
 use Rattle.json_events.specs.Drafts.{run, fresh, step, at}
-use Rattle.json_events.specs.Events.{finishes}
+use Rattle.json_events.specs.Events.{finish}
 use Rattle.json_events.specs.Formatters.{stage_of}
 use Rattle.json_events.specs.Laws.{EventsWrite, FrontGoesOut, HoldsFirst, HoldsNext}
 use Rattle.json_events.specs.Spelling.{spelled}
@@ -14,7 +14,7 @@ pub events_write : EventsWrite
 events_write d value plain =
     let came = new_comes d plain value in
     let end = with_text came.text (at Whole fresh.draft) in
-    let all = joins (spelled d) (finishes ∷ []) fresh.draft end (at Finished end) came.text [] came.leaves (one finishes end (at Finished end) [] refl) in
+    let all = joins (spelled d) (finish ∷ []) fresh.draft end (at Finished end) came.text [] came.leaves (one finish end (at Finished end) [] refl) in
     (ap (λ r. r.stage.refusal) all, subst (Canonical d) (sym (ap (λ r. r.out) all ∙ append-nil came.text)) came.canonical)
 
 pub holds_first : HoldsFirst
@@ -37,7 +37,7 @@ holds_next f g out events x r before after holds taken =
 pub front_goes_out : FrontGoesOut
 front_goes_out xs ys v t so canonical =
     let written = events_write v so.value so.plain in
-    let all = ys ++ finishes ∷ [] in
-    let same : t ≡ (run (spelled v ++ finishes ∷ []) fresh).out = unique v t _ canonical written.1 in
-    let parts : spelled v ++ finishes ∷ [] ≡ xs ++ all = ap (λ l. l ++ finishes ∷ []) (sym so.events) ∙ append_assoc xs ys (finishes ∷ []) in
+    let all = ys ++ finish ∷ [] in
+    let same : t ≡ (run (spelled v ++ finish ∷ []) fresh).out = unique v t _ canonical written.1 in
+    let parts : spelled v ++ finish ∷ [] ≡ xs ++ all = ap (λ l. l ++ finish ∷ []) (sym so.events) ∙ append_assoc xs ys (finish ∷ []) in
     ((run all (run xs fresh).stage).out, same ∙ ap (λ l. (run l fresh).out) parts ∙ ap (λ r. r.out) (run-append xs all fresh))

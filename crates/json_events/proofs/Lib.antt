@@ -3,7 +3,9 @@ pub mod Commas
 pub mod Fitting
 pub mod Holding
 pub mod Keeping
+pub mod PartTexts
 pub mod Passing
+pub mod Shapes
 pub mod Spelled
 pub mod Turning
 pub mod Unique

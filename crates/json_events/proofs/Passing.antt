@@ -14,7 +14,7 @@ use Rattle.json_events.specs.declared.spot.Spot.{Spot}
 use Rattle.json_events.specs.declared.spot.Spot.TheVariants.{Whole, Finished, Items, ItemDue, ItemDone, Names, NameDue, ValueDue, ValueDone}
 use Rattle.json_events.specs.Canonical.{in_range, truth_text}
 use Rattle.json_events.specs.Drafts.{Level, Draft, Turn, refused, moves, Stage, step, turned, run, fresh, writes, at, after_value, level, opened, where_due, where_around, is_at, places, begins_item, ends_array, ends_object, ends_member}
-use Rattle.json_events.specs.Events.{Event, string_event, array_begins, item_begins, item_ends, array_ends, object_begins, name_begins, name_ends, member_begins, member_ends, object_ends, finishes}
+use Rattle.json_events.specs.Events.{Event, write_string, begin_array, begin_array_value, end_array_value, end_array, begin_object, begin_object_key, end_object_key, begin_object_value, end_object_value, end_object, finish}
 use Rattle.json_events.specs.Members.{property, kept_object}
 use Rattle.json_events.specs.Units.{units, by_units}
 use Rattle.json_events.specs.WellNested.{Scalar, a_null, a_truth, a_whole, a_float, a_string, a_fragment, Tree, scalar, array, object, Trees, no_trees, and_tree, Fields, no_fields, and_field, nested, nested_items, nested_fields, name_events, has_field, Begins}
@@ -107,27 +107,27 @@ AtSpot q l = l.spot ≡ q
 
 -- ---- arrays
 
-pub item_begin : (e : Draft) (ls : List Level) → e.inner.spot ≡ Items → e.outer ≡ ls → Passes (AtSpot ItemDue) ls (after (item_begins ∷ []) (going e))
+pub item_begin : (e : Draft) (ls : List Level) → e.inner.spot ≡ Items → e.outer ≡ ls → Passes (AtSpot ItemDue) ls (after (begin_array_value ∷ []) (going e))
 item_begin e ls spot outer = wrote (AtSpot ItemDue) ls _ (comma_if e.inner.begun) (record e { inner = record e.inner { spot = ItemDue; begun = true } }) e (here e.inner.spot Items (begins_item e) spot refl) refl outer
 
-pub item_end : (e : Draft) (ls : List Level) → e.inner.spot ≡ ItemDone → e.outer ≡ ls → Passes (AtSpot Items) ls (after (item_ends ∷ []) (going e))
+pub item_end : (e : Draft) (ls : List Level) → e.inner.spot ≡ ItemDone → e.outer ≡ ls → Passes (AtSpot Items) ls (after (end_array_value ∷ []) (going e))
 item_end e ls spot outer = moved (AtSpot Items) ls _ e (at Items e) [] (here e.inner.spot ItemDone (moves (at Items e) []) spot refl) refl outer
 
-array_end : (e : Draft) (l : Level) (ls : List Level) → e.inner.spot ≡ Items → e.outer ≡ l ∷ ls → Passes (λ m. m ≡ l) ls (after (array_ends ∷ []) (going e))
+array_end : (e : Draft) (l : Level) (ls : List Level) → e.inner.spot ≡ Items → e.outer ≡ l ∷ ls → Passes (λ m. m ≡ l) ls (after (end_array ∷ []) (going e))
 array_end e l ls spot outer =
     wrote (λ m. m ≡ l) ls _ (93 ∷ []) (record e { inner = l; outer = ls }) e
     (here e.inner.spot Items (ends_array e) spot refl ∙ ap (λ o. where_around o (λ m ms. writes (93 ∷ []) (record e { inner = m; outer = ms }))) outer) refl refl
 
-pub array_begin : (d : Draft) (s : Spot) → after_value d.inner.spot ≡ Some s → Passes (AtSpot Items) ((at s d).inner ∷ d.outer) (after (array_begins ∷ []) (going d))
+pub array_begin : (d : Draft) (s : Spot) → after_value d.inner.spot ≡ Some s → Passes (AtSpot Items) ((at s d).inner ∷ d.outer) (after (begin_array ∷ []) (going d))
 array_begin d s due =
     due_passes (AtSpot Items) ((at s d).inner ∷ d.outer) (λ t. writes (91 ∷ []) (opened (level Items d.inner.held []) (at t d))) d s due
     (wrote (AtSpot Items) ((at s d).inner ∷ d.outer) _ (91 ∷ []) (opened (level Items d.inner.held []) (at s d)) d refl refl refl)
 
 item_passes : (t : Tree) (e : Draft) (ls : List Level) → ((f : Draft) → f.inner.spot ≡ ItemDue → Passes (InPlace f ItemDone) f.outer (after (nested t) (going f)))
-    → e.inner.spot ≡ Items → e.outer ≡ ls → Passes (AtSpot Items) ls (after (item_begins ∷ (nested t ++ item_ends ∷ [])) (going e))
+    → e.inner.spot ≡ Items → e.outer ≡ ls → Passes (AtSpot Items) ls (after (begin_array_value ∷ (nested t ++ end_array_value ∷ [])) (going e))
 item_passes t e ls value spot outer =
-    and_then (item_begins ∷ []) (nested t ++ item_ends ∷ []) e (AtSpot ItemDue) (AtSpot Items) ls ls (item_begin e ls spot outer)
-    (λ f due around. and_then (nested t) (item_ends ∷ []) f (InPlace f ItemDone) (AtSpot Items) f.outer ls (value f due) (λ g inner out. item_end g ls (ap (λ l. l.spot) inner) (out ∙ around)))
+    and_then (begin_array_value ∷ []) (nested t ++ end_array_value ∷ []) e (AtSpot ItemDue) (AtSpot Items) ls ls (item_begin e ls spot outer)
+    (λ f due around. and_then (nested t) (end_array_value ∷ []) f (InPlace f ItemDone) (AtSpot Items) f.outer ls (value f due) (λ g inner out. item_end g ls (ap (λ l. l.spot) inner) (out ∙ around)))
 
 -- ---- objects
 
@@ -167,12 +167,12 @@ named k l = record l { spot = ValueDue; name = k }
 pub name_passes : (k : List ℕ) (e : Draft) (ls : List Level) → e.inner.spot ≡ Names → e.outer ≡ ls → Passes (λ l. l ≡ named k e.inner) ls (after (name_events k) (going e))
 name_passes k e ls spot outer =
     let end = record e { inner = named k e.inner } in
-    let rest : Leaves (string_event k ∷ name_ends ∷ member_begins ∷ []) (at NameDue e) end [] = refl in
-    let leaves : Leaves (name_events k) e end [] = first_then name_begins (string_event k ∷ name_ends ∷ member_begins ∷ []) e (at NameDue e) end [] [] (here e.inner.spot Names (moves (at NameDue e) []) spot refl) rest in
+    let rest : Leaves (write_string k ∷ end_object_key ∷ begin_object_value ∷ []) (at NameDue e) end [] = refl in
+    let leaves : Leaves (name_events k) e end [] = first_then begin_object_key (write_string k ∷ end_object_key ∷ begin_object_value ∷ []) e (at NameDue e) end [] [] (here e.inner.spot Names (moves (at NameDue e) []) spot refl) rest in
     inl (record { new = end; is = ap (λ r. r.stage) leaves; inner = refl; outer = outer })
 
 member_end_by : (b : Bool) (fs : Fields) (k : List ℕ) (t : Tree) (g : Draft) (ls : List Level) → ties g.inner.name g.inner.members ≡ b → g.inner.spot ≡ ValueDone → g.inner.name ≡ k → ((q : List ℕ) → ties q g.inner.members ≡ has_field q fs) → g.outer ≡ ls
-    → Passes (FieldsIn (and_field fs k t)) ls (after (member_ends ∷ []) (going g))
+    → Passes (FieldsIn (and_field fs k t)) ls (after (end_object_value ∷ []) (going g))
 member_end_by true fs k t g ls twice spot name has outer =
     let new = record g { text = []; inner = record g.inner { spot = Names; members = insert_key by_key g.inner.members (property (g.inner.name, g.text)) } } in
     barred (FieldsIn (and_field fs k t)) ls _ g DuplicateKey (here g.inner.spot ValueDone (ends_member g) spot refl ∙ ap (λ c. if c then refused DuplicateKey else moves new []) twice) (λ e. cc)
@@ -185,10 +185,10 @@ member_end_by false fs k t g ls once spot name has outer =
     }) outer
 
 field_passes : (fs : Fields) (k : List ℕ) (t : Tree) (e : Draft) (ls : List Level) → ((f : Draft) → f.inner.spot ≡ ValueDue → Passes (InPlace f ValueDone) f.outer (after (nested t) (going f)))
-    → FieldsIn fs e.inner → e.outer ≡ ls → Passes (FieldsIn (and_field fs k t)) ls (after (name_events k ++ (nested t ++ member_ends ∷ [])) (going e))
+    → FieldsIn fs e.inner → e.outer ≡ ls → Passes (FieldsIn (and_field fs k t)) ls (after (name_events k ++ (nested t ++ end_object_value ∷ [])) (going e))
 field_passes fs k t e ls value so outer =
-    and_then (name_events k) (nested t ++ member_ends ∷ []) e (λ l. l ≡ named k e.inner) (FieldsIn (and_field fs k t)) ls ls (name_passes k e ls so.spot outer)
-    (λ f begun around. and_then (nested t) (member_ends ∷ []) f (InPlace f ValueDone) (FieldsIn (and_field fs k t)) f.outer ls (value f (ap (λ l. l.spot) begun))
+    and_then (name_events k) (nested t ++ end_object_value ∷ []) e (λ l. l ≡ named k e.inner) (FieldsIn (and_field fs k t)) ls ls (name_passes k e ls so.spot outer)
+    (λ f begun around. and_then (nested t) (end_object_value ∷ []) f (InPlace f ValueDone) (FieldsIn (and_field fs k t)) f.outer ls (value f (ap (λ l. l.spot) begun))
     (λ g inner out. member_end_by _ fs k t g ls refl (ap (λ l. l.spot) inner) (ap (λ l. l.name) inner ∙ ap (λ l. l.name) begun)
     (λ q. ap (ties q) (ap (λ l. l.members) inner ∙ ap (λ l. l.members) begun) ∙ so.has q) (out ∙ around)))
 
@@ -200,7 +200,7 @@ field_ready k t e ls P value spot outer ready =
     (λ f begun around. weaker (InPlace f ValueDone) P f.outer ls (after (nested t) (going f)) around
     (λ l inner. ready l (ap (λ m. m.spot) inner) (ap (λ m. m.name) inner ∙ ap (λ m. m.name) begun) (ap (λ m. m.members) inner ∙ ap (λ m. m.members) begun)) (value f (ap (λ l. l.spot) begun)))
 
-object_end : (e : Draft) (l : Level) (ls : List Level) → e.inner.spot ≡ Names → e.outer ≡ l ∷ ls → Passes (λ m. m ≡ l) ls (after (object_ends ∷ []) (going e))
+object_end : (e : Draft) (l : Level) (ls : List Level) → e.inner.spot ≡ Names → e.outer ≡ l ∷ ls → Passes (λ m. m ≡ l) ls (after (end_object ∷ []) (going e))
 object_end e l ls spot outer =
     wrote (λ m. m ≡ l) ls _ (kept_object e.inner.members) (record { text = e.inner.around; inner = l; outer = ls }) e
     (here e.inner.spot Names (ends_object e) spot refl ∙ ap (λ o. where_around o (λ m ms. writes (kept_object e.inner.members) (record { text = e.inner.around; inner = m; outer = ms }))) outer) refl refl
@@ -208,7 +208,7 @@ object_end e l ls spot outer =
 abbrev pub NoMembers : Level → Type 0
 NoMembers l = (l.spot ≡ Names) × (l.members ≡ [])
 
-pub object_begin : (d : Draft) (s : Spot) → after_value d.inner.spot ≡ Some s → Passes NoMembers ((at s d).inner ∷ d.outer) (after (object_begins ∷ []) (going d))
+pub object_begin : (d : Draft) (s : Spot) → after_value d.inner.spot ≡ Some s → Passes NoMembers ((at s d).inner ∷ d.outer) (after (begin_object ∷ []) (going d))
 object_begin d s due =
     due_passes NoMembers ((at s d).inner ∷ d.outer) (λ t. moves (record (opened (level Names true d.text) (at t d)) { text = [] }) []) d s due
     (moved NoMembers ((at s d).inner ∷ d.outer) _ d (record (opened (level Names true d.text) (at s d)) { text = [] }) [] refl (refl, refl) refl)
@@ -217,30 +217,30 @@ mutual
   pub tree_passes : (t : Tree) (d : Draft) (s : Spot) → after_value d.inner.spot ≡ Some s → Passes (InPlace d s) d.outer (after (nested t) (going d))
   tree_passes (scalar c) d s due = scalar_passes c d s due
   tree_passes (array ts) d s due =
-      and_then (array_begins ∷ []) (nested_items ts ++ array_ends ∷ []) d (AtSpot Items) (InPlace d s) ((at s d).inner ∷ d.outer) d.outer
+      and_then (begin_array ∷ []) (nested_items ts ++ end_array ∷ []) d (AtSpot Items) (InPlace d s) ((at s d).inner ∷ d.outer) d.outer
       (array_begin d s due)
-      (λ e spot out. and_then (nested_items ts) (array_ends ∷ []) e (AtSpot Items) (InPlace d s) e.outer d.outer (items_passes ts e spot)
+      (λ e spot out. and_then (nested_items ts) (end_array ∷ []) e (AtSpot Items) (InPlace d s) e.outer d.outer (items_passes ts e spot)
       (λ f ended around. array_end f (at s d).inner d.outer ended (around ∙ out)))
   tree_passes (object fs) d s due =
-      and_then (object_begins ∷ []) (nested_fields fs ++ object_ends ∷ []) d NoMembers (InPlace d s) ((at s d).inner ∷ d.outer) d.outer (object_begin d s due)
-      (λ e begun out. and_then (nested_fields fs) (object_ends ∷ []) e (FieldsIn fs) (InPlace d s) e.outer d.outer (fields_passes fs e begun)
+      and_then (begin_object ∷ []) (nested_fields fs ++ end_object ∷ []) d NoMembers (InPlace d s) ((at s d).inner ∷ d.outer) d.outer (object_begin d s due)
+      (λ e begun out. and_then (nested_fields fs) (end_object ∷ []) e (FieldsIn fs) (InPlace d s) e.outer d.outer (fields_passes fs e begun)
       (λ f ended around. object_end f (at s d).inner d.outer ended.spot (around ∙ out)))
 
   pub items_passes : (ts : Trees) (d : Draft) → d.inner.spot ≡ Items → Passes (AtSpot Items) d.outer (after (nested_items ts) (going d))
   items_passes no_trees d spot = inl (record { new = d; is = refl; inner = spot; outer = refl })
   items_passes (and_tree ts t) d spot =
-      and_then (nested_items ts) (item_begins ∷ (nested t ++ item_ends ∷ [])) d (AtSpot Items) (AtSpot Items) d.outer d.outer (items_passes ts d spot)
+      and_then (nested_items ts) (begin_array_value ∷ (nested t ++ end_array_value ∷ [])) d (AtSpot Items) (AtSpot Items) d.outer d.outer (items_passes ts d spot)
       (λ e now out. item_passes t e d.outer (λ f due. tree_passes t f ItemDone (ap after_value due)) now out)
 
   pub fields_passes : (fs : Fields) (d : Draft) → NoMembers d.inner → Passes (FieldsIn fs) d.outer (after (nested_fields fs) (going d))
   fields_passes no_fields d begun = inl (record { new = d; is = refl; inner = record { spot = begun.0; has = λ k. ap (ties k) begun.1 }; outer = refl })
   fields_passes (and_field fs k t) d begun =
-      and_then (nested_fields fs) (name_events k ++ (nested t ++ member_ends ∷ [])) d (FieldsIn fs) (FieldsIn (and_field fs k t)) d.outer d.outer (fields_passes fs d begun)
+      and_then (nested_fields fs) (name_events k ++ (nested t ++ end_object_value ∷ [])) d (FieldsIn fs) (FieldsIn (and_field fs k t)) d.outer d.outer (fields_passes fs d begun)
       (λ e now out. field_passes fs k t e d.outer (λ f due. tree_passes t f ValueDone (ap after_value due)) now out)
 
-text_passes : (t : Tree) → Passes (AtSpot Finished) [] (after (nested t ++ finishes ∷ []) fresh)
+text_passes : (t : Tree) → Passes (AtSpot Finished) [] (after (nested t ++ finish ∷ []) fresh)
 text_passes t =
-    and_then (nested t) (finishes ∷ []) fresh.draft (InPlace fresh.draft Whole) (AtSpot Finished) [] [] (tree_passes t fresh.draft Whole refl)
+    and_then (nested t) (finish ∷ []) fresh.draft (InPlace fresh.draft Whole) (AtSpot Finished) [] [] (tree_passes t fresh.draft Whole refl)
     (λ e inner out. moved (AtSpot Finished) [] _ e (at Finished e) [] (here e.inner.spot Whole (moves (at Finished e) []) (ap (λ l. l.spot) inner) refl) refl out)
 
 no_refusal : (P : Level → Type 0) (ls : List Level) (s : Stage) → Passes P ls s → s.refusal ≢ Some NotWellNested
@@ -250,5 +250,5 @@ no_refusal P ls s (inr stop) is = let all : Some stop.why ≡ Some NotWellNested
 -- where a well-nested list goes on, nesting is no fault
 pub front_passes : (xs : List Event) → Begins xs → (after xs fresh).refusal ≢ Some NotWellNested
 front_passes xs front is =
-    let whole : after (nested front.value ++ finishes ∷ []) fresh ≡ after xs fresh = ap (λ l. after l fresh) (sym front.is) ∙ after-append xs front.rest fresh ∙ stays front.rest (after xs fresh) NotWellNested is in
+    let whole : after (nested front.value ++ finish ∷ []) fresh ≡ after xs fresh = ap (λ l. after l fresh) (sym front.is) ∙ after-append xs front.rest fresh ∙ stays front.rest (after xs fresh) NotWellNested is in
     no_refusal (AtSpot Finished) [] _ (text_passes front.value) (ap (λ s. s.refusal) whole ∙ is)

@@ -15,7 +15,7 @@ use Rattle.json_events.specs.declared.spot.Spot.{Spot}
 use Rattle.json_events.specs.declared.spot.Spot.TheVariants.{Start, Whole, Finished, Items as AtItems, ItemDue, ItemDone, Names, NameDue, NameDone, Named, ValueDue, ValueDone}
 use Rattle.json_events.specs.Canonical.{Canonical, CanonicalItems, CanonicalMembers, Entry, in_range, truth_text, array_text}
 use Rattle.json_events.specs.Drafts.{Draft, Turn, refused as refuses, moves, Stage, step, turned, act, run, fresh, writes, at, after_value, level, where_due, is_at, places, by_key}
-use Rattle.json_events.specs.Events.{Event, null_value, truth_value, whole_value, string_event, array_begins, item_begins, item_ends, array_ends, object_begins, name_begins, name_ends, member_begins, member_ends, object_ends}
+use Rattle.json_events.specs.Events.{Event, write_null, write_bool, write_integer, write_string, begin_array, begin_array_value, end_array_value, end_array, begin_object, begin_object_key, end_object_key, begin_object_value, end_object_value, end_object}
 use Rattle.json_events.specs.Members.{property, Keeps, kept_object}
 use Rattle.json_events.specs.Refused.{refused, refused_items, refused_members, refused_by}
 use Rattle.json_events.specs.Spelling.{spelled, spelled_items, spelled_members, number_event}
@@ -110,13 +110,13 @@ scalar v x t d s spells canonical is = record {
 
 -- ---- arrays
 
-abbrev in_array : Spot → Bool → Draft → Draft
+abbrev pub in_array : Spot → Bool → Draft → Draft
 in_array s later e = record e { inner = record (level AtItems e.inner.held []) { begun = later }; outer = (at s e).inner ∷ e.outer }
 
-abbrev in_item : Spot → Draft → Draft
+abbrev pub in_item : Spot → Draft → Draft
 in_item s e = record e { inner = record (level ItemDue e.inner.held []) { begun = true }; outer = (at s e).inner ∷ e.outer }
 
-abbrev commas_from : Bool → List (List ℕ) → List ℕ
+abbrev pub commas_from : Bool → List (List ℕ) → List ℕ
 commas_from later [] = []
 commas_from later (t ∷ ts) = comma_if later ++ (t ++ commas_from true ts)
 
@@ -124,21 +124,32 @@ joined_more : (t : List ℕ) (ts : List (List ℕ)) → join_with_byte 44 (t ∷
 joined_more t [] = sym (append-nil t)
 joined_more t (u ∷ us) = ap (λ r. t ++ 44 ∷ r) (joined_more u us)
 
-joined : (ts : List (List ℕ)) → commas_from false ts ≡ join_with_byte 44 ts
+pub joined : (ts : List (List ℕ)) → commas_from false ts ≡ join_with_byte 44 ts
 joined [] = refl
 joined (t ∷ ts) = sym (joined_more t ts)
 
-record ItemsCome (ds : Items) (s : Spot) (later : Bool) (e : Draft) : Type 0 where
-  texts : List (List ℕ)
-  canonical : CanonicalItems ds texts
-  begun : Bool
-  leaves : Leaves (spelled_items ds) (in_array s later e) (in_array s begun (with_text (commas_from later texts) e)) (sent (commas_from later texts) e)
+-- whether an item began
+abbrev pub begun_after : Bool → List (List ℕ) → Bool
+begun_after later [] = later
+begun_after later (t ∷ ts) = true
+
+begun_still : (ts : List (List ℕ)) → begun_after true ts ≡ true
+begun_still [] = refl
+begun_still (t ∷ ts) = refl
+
+pub record ItemsCome (ds : Items) (s : Spot) (later : Bool) (e : Draft) : Type 0 where
+  pub texts : List (List ℕ)
+  pub canonical : CanonicalItems ds texts
+  pub begun : Bool
+  pub commas : begun ≡ begun_after later texts
+  pub leaves : Leaves (spelled_items ds) (in_array s later e) (in_array s begun (with_text (commas_from later texts) e)) (sent (commas_from later texts) e)
 
 no_items_come : (s : Spot) (later : Bool) (e : Draft) → ItemsCome no_items s later e
 no_items_come s later e = record {
   texts = [];
   canonical = tt;
   begun = later;
+  commas = refl;
   leaves = ap (λ x. record { stage = going (in_array s later x); out = [] }) (sym (with_none e)) ∙ ap (λ o. record { stage = going (in_array s later (with_text [] e)); out = o }) (sym (sent_none e.inner.held));
 }
 
@@ -148,14 +159,15 @@ item_comes v ds s later e c rest =
     let e1 = with_text comma e in
     let e2 = with_text c.text e1 in
     let more = commas_from true rest.texts in
-    let ends = first_then item_ends (spelled_items ds) (record e2 { inner = record (level ItemDone e.inner.held []) { begun = true }; outer = (at s e).inner ∷ e.outer }) (in_array s true e2) _ [] _ refl rest.leaves in
-    let all = first_then item_begins (spelled v ++ item_ends ∷ spelled_items ds) (in_array s later e) (in_item s e1) _ (sent comma e) _ (written comma (in_item s e)) (joins (spelled v) (item_ends ∷ spelled_items ds) (in_item s e1) _ _ _ _ c.leaves ends) in
+    let ends = first_then end_array_value (spelled_items ds) (record e2 { inner = record (level ItemDone e.inner.held []) { begun = true }; outer = (at s e).inner ∷ e.outer }) (in_array s true e2) _ [] _ refl rest.leaves in
+    let all = first_then begin_array_value (spelled v ++ end_array_value ∷ spelled_items ds) (in_array s later e) (in_item s e1) _ (sent comma e) _ (written comma (in_item s e)) (joins (spelled v) (end_array_value ∷ spelled_items ds) (in_item s e1) _ _ _ _ c.leaves ends) in
     let texts : with_text more e2 ≡ with_text (comma ++ (c.text ++ more)) e = with_both c.text more e1 ∙ with_both comma (c.text ++ more) e in
     let outs : sent comma e ++ (sent c.text e ++ sent more e) ≡ sent (comma ++ (c.text ++ more)) e = ap (λ o. sent comma e ++ o) (sent_both c.text more e) ∙ sent_both comma (c.text ++ more) e in
     record {
       texts = c.text ∷ rest.texts;
       canonical = (c.canonical, rest.canonical);
       begun = rest.begun;
+      commas = rest.commas ∙ begun_still rest.texts;
       leaves = all ∙ ap (λ x. record { stage = going (in_array s rest.begun x); out = sent comma e ++ (sent c.text e ++ sent more e) }) texts
           ∙ ap (λ o. record { stage = going (in_array s rest.begun (with_text (comma ++ (c.text ++ more)) e)); out = o }) outs;
     }
@@ -165,9 +177,9 @@ array_comes ds d s due items =
     let e0 = with_text (91 ∷ []) d in
     let x = commas_from false items.texts in
     let e1 = with_text x e0 in
-    let ends = one array_ends (in_array s items.begun e1) _ _ (written (93 ∷ []) (at s e1)) in
-    let all = first_then array_begins (spelled_items ds ++ array_ends ∷ []) d (in_array s false e0) _ (sent (91 ∷ []) d) _ (ap (λ o. where_due o (λ t. writes (91 ∷ []) (in_array t false d))) due ∙ written (91 ∷ []) (in_array s false d))
-    (joins (spelled_items ds) (array_ends ∷ []) (in_array s false e0) _ _ _ _ items.leaves ends) in
+    let ends = one end_array (in_array s items.begun e1) _ _ (written (93 ∷ []) (at s e1)) in
+    let all = first_then begin_array (spelled_items ds ++ end_array ∷ []) d (in_array s false e0) _ (sent (91 ∷ []) d) _ (ap (λ o. where_due o (λ t. writes (91 ∷ []) (in_array t false d))) due ∙ written (91 ∷ []) (in_array s false d))
+    (joins (spelled_items ds) (end_array ∷ []) (in_array s false e0) _ _ _ _ items.leaves ends) in
     let whole : 91 ∷ (x ++ 93 ∷ []) ≡ array_text items.texts = ap (λ j. 91 ∷ (j ++ 93 ∷ [])) (joined items.texts) in
     let texts : with_text (93 ∷ []) (at s e1) ≡ with_text (91 ∷ (x ++ 93 ∷ [])) (at s d) = with_both x (93 ∷ []) (at s e0) ∙ with_both (91 ∷ []) (x ++ 93 ∷ []) (at s d) in
     let outs : sent (91 ∷ []) d ++ (sent x d ++ sent (93 ∷ []) d) ≡ sent (91 ∷ (x ++ 93 ∷ [])) d = ap (λ o. sent (91 ∷ []) d ++ o) (sent_both x (93 ∷ []) d) ∙ sent_both (91 ∷ []) (x ++ 93 ∷ []) d in
@@ -181,22 +193,22 @@ array_comes ds d s due items =
 
 -- ---- objects
 
-abbrev in_object : Spot → Spot → List JsonProperty → List ℕ → List ℕ → Draft → Draft
+abbrev pub in_object : Spot → Spot → List JsonProperty → List ℕ → List ℕ → Draft → Draft
 in_object s place ps n t d = record { text = t; inner = record (level place true d.text) { members = ps; name = n }; outer = (at s d).inner ∷ d.outer }
 
-record MembersCome (ms : Members) (s : Spot) (d : Draft) (ps : List JsonProperty) (n : List ℕ) (es : List Entry) : Type 0 where
-  entries : List Entry
-  canonical : CanonicalMembers ms entries
-  kept : List JsonProperty
-  name : List ℕ
-  keeps : Keeps kept (es ++ entries)
-  leaves : Leaves (spelled_members ms) (in_object s Names ps n [] d) (in_object s Names kept name [] d) []
+pub record MembersCome (ms : Members) (s : Spot) (d : Draft) (ps : List JsonProperty) (n : List ℕ) (es : List Entry) : Type 0 where
+  pub entries : List Entry
+  pub canonical : CanonicalMembers ms entries
+  pub kept : List JsonProperty
+  pub name : List ℕ
+  pub keeps : Keeps kept (es ++ entries)
+  pub leaves : Leaves (spelled_members ms) (in_object s Names ps n [] d) (in_object s Names kept name [] d) []
 
 no_members_come : (s : Spot) (d : Draft) (ps : List JsonProperty) (n : List ℕ) (es : List Entry) → Keeps ps es → MembersCome no_members s d ps n es
 no_members_come s d ps n es keeps = record { entries = []; canonical = tt; kept = ps; name = n; keeps = subst (Keeps ps) (sym (append-nil es)) keeps; leaves = refl }
 
 member_is_new : (s : Spot) (d : Draft) (ps : List JsonProperty) (k t : List ℕ) → list_any (λ p. is_eq (by_key (property (k, t)) p)) ps ≡ false
-    → act member_ends (in_object s ValueDone ps k t d) ≡ moves (in_object s Names (insert_key by_key ps (property (k, t))) k [] d) []
+    → act end_object_value (in_object s ValueDone ps k t d) ≡ moves (in_object s Names (insert_key by_key ps (property (k, t))) k [] d) []
 member_is_new s d ps k t apart = ap (λ b. if b then refuses DuplicateKey else moves (in_object s Names (insert_key by_key ps (property (k, t))) k [] d) []) apart
 
 member_comes : (k : List ℕ) (v : Data) (ms : Members) (s : Spot) (d : Draft) (ps : List JsonProperty) (n : List ℕ) (es : List Entry) (c : Comes v (in_object s ValueDue ps k [] d) ValueDone)
@@ -205,32 +217,32 @@ member_comes : (k : List ℕ) (v : Data) (ms : Members) (s : Spot) (d : Draft) (
 member_comes k v ms s d ps n es c apart rest =
     let more = spelled_members ms in
     let kept = insert_key by_key ps (property (k, c.text)) in
-    let ends = first_then member_ends more (in_object s ValueDone ps k c.text d) (in_object s Names kept k [] d) _ [] _ (member_is_new s d ps k c.text apart) rest.leaves in
-    let value = joins (spelled v) (member_ends ∷ more) (in_object s ValueDue ps k [] d) (in_object s ValueDone ps k c.text d) _ [] _ c.leaves ends in
-    let from_value = first_then member_begins (spelled v ++ member_ends ∷ more) (in_object s Named ps k [] d) (in_object s ValueDue ps k [] d) _ [] _ refl value in
-    let from_end = first_then name_ends (member_begins ∷ (spelled v ++ member_ends ∷ more)) (in_object s NameDone ps k [] d) (in_object s Named ps k [] d) _ [] _ refl from_value in
-    let from_name = first_then (string_event k) (name_ends ∷ member_begins ∷ (spelled v ++ member_ends ∷ more)) (in_object s NameDue ps n [] d) (in_object s NameDone ps k [] d) _ [] _ refl from_end in
+    let ends = first_then end_object_value more (in_object s ValueDone ps k c.text d) (in_object s Names kept k [] d) _ [] _ (member_is_new s d ps k c.text apart) rest.leaves in
+    let value = joins (spelled v) (end_object_value ∷ more) (in_object s ValueDue ps k [] d) (in_object s ValueDone ps k c.text d) _ [] _ c.leaves ends in
+    let from_value = first_then begin_object_value (spelled v ++ end_object_value ∷ more) (in_object s Named ps k [] d) (in_object s ValueDue ps k [] d) _ [] _ refl value in
+    let from_end = first_then end_object_key (begin_object_value ∷ (spelled v ++ end_object_value ∷ more)) (in_object s NameDone ps k [] d) (in_object s Named ps k [] d) _ [] _ refl from_value in
+    let from_name = first_then (write_string k) (end_object_key ∷ begin_object_value ∷ (spelled v ++ end_object_value ∷ more)) (in_object s NameDue ps n [] d) (in_object s NameDone ps k [] d) _ [] _ refl from_end in
     record {
       entries = (k, c.text) ∷ rest.entries;
       canonical = (refl, c.canonical, rest.canonical);
       kept = rest.kept;
       name = rest.name;
       keeps = subst (Keeps rest.kept) (append_assoc es ((k, c.text) ∷ []) rest.entries) rest.keeps;
-      leaves = first_then name_begins (string_event k ∷ name_ends ∷ member_begins ∷ (spelled v ++ member_ends ∷ more)) (in_object s Names ps n [] d) (in_object s NameDue ps n [] d) _ [] _ refl from_name;
+      leaves = first_then begin_object_key (write_string k ∷ end_object_key ∷ begin_object_value ∷ (spelled v ++ end_object_value ∷ more)) (in_object s Names ps n [] d) (in_object s NameDue ps n [] d) _ [] _ refl from_name;
     }
 
 object_comes : (ms : Members) (d : Draft) (s : Spot) → after_value d.inner.spot ≡ Some s → MembersCome ms s d [] [] [] → Comes (object ms) d s
 object_comes ms d s due members =
     let o = kept_object members.kept in
-    let ends = one object_ends (in_object s Names members.kept members.name [] d) _ _ (written o (at s d)) in
+    let ends = one end_object (in_object s Names members.kept members.name [] d) _ _ (written o (at s d)) in
     record {
       text = o;
       canonical = (members.entries, members.canonical, kept_is_object members.kept members.entries members.keeps);
-      leaves = first_then object_begins (spelled_members ms ++ object_ends ∷ []) d (in_object s Names [] [] [] d) _ [] _ (ap (λ x. where_due x (λ t. moves (in_object t Names [] [] [] d) [])) due)
-          (joins (spelled_members ms) (object_ends ∷ []) (in_object s Names [] [] [] d) _ _ [] _ members.leaves ends);
+      leaves = first_then begin_object (spelled_members ms ++ end_object ∷ []) d (in_object s Names [] [] [] d) _ [] _ (ap (λ x. where_due x (λ t. moves (in_object t Names [] [] [] d) [])) due)
+          (joins (spelled_members ms) (end_object ∷ []) (in_object s Names [] [] [] d) _ _ [] _ members.leaves ends);
     }
 
-sorted_none : IsStrictlySortedBy by_key []
+pub sorted_none : IsStrictlySortedBy by_key []
 unfolding IsStrictlySortedBy
 sorted_none = tt
 
@@ -244,7 +256,7 @@ number_comes : (n : Num) (o : Option ℤ) (d : Draft) (s : Spot) → as_integer 
 number_comes n None d s is plain due = cc
 number_comes n (Some z) d s is plain due =
     let within = in_range_from (in_range z) plain in
-    scalar (number n) (whole_value z) (signed_decimal z) d s (ap (λ o. number_event o ∷ []) is) (z, is, within, refl)
+    scalar (number n) (write_integer z) (signed_decimal z) d s (ap (λ o. number_event o ∷ []) is) (z, is, within, refl)
     (placed (signed_decimal z) d s (λ t. if in_range z then writes (signed_decimal z) (at t d) else refuses IntegerOutOfRange) due
     (ap (λ b. if b then writes (signed_decimal z) (at s d) else refuses IntegerOutOfRange) within))
 
@@ -262,25 +274,25 @@ string_places Named s e = cc
 string_places ValueDue s e = refl
 string_places ValueDone s e = cc
 
-pub string_acts : (t : List ℕ) (d : Draft) (s : Spot) → after_value d.inner.spot ≡ Some s → act (string_event t) d ≡ places (quoted_text t) d
+pub string_acts : (t : List ℕ) (d : Draft) (s : Spot) → after_value d.inner.spot ≡ Some s → act (write_string t) d ≡ places (quoted_text t) d
 string_acts t d s due = ap (λ b. if b then moves (record d { inner = record d.inner { spot = NameDone; name = t } }) [] else places (quoted_text t) d) (string_places d.inner.spot s due)
 
 mutual
   pub comes : (v : Data) (d : Draft) (s : Spot) → after_value d.inner.spot ≡ Some s → refused v ≡ None → IsValue v → Comes v d s
-  comes null d s due plain value = scalar null null_value (codes "null") d s refl refl (placed (codes "null") d s (λ t. writes (codes "null") (at t d)) due refl)
-  comes (boolean b) d s due plain value = scalar (boolean b) (truth_value b) (truth_text b) d s refl refl (placed (truth_text b) d s (λ t. writes (truth_text b) (at t d)) due refl)
+  comes null d s due plain value = scalar null write_null (codes "null") d s refl refl (placed (codes "null") d s (λ t. writes (codes "null") (at t d)) due refl)
+  comes (boolean b) d s due plain value = scalar (boolean b) (write_bool b) (truth_text b) d s refl refl (placed (truth_text b) d s (λ t. writes (truth_text b) (at t d)) due refl)
   comes (number n) d s due plain value = number_comes n (as_integer n) d s refl plain due
-  comes (string t) d s due plain value = scalar (string t) (string_event t) (quoted_text t) d s refl refl (string_acts t d s due ∙ placed (quoted_text t) d s (λ q. writes (quoted_text t) (at q d)) due refl)
+  comes (string t) d s due plain value = scalar (string t) (write_string t) (quoted_text t) d s refl refl (string_acts t d s due ∙ placed (quoted_text t) d s (λ q. writes (quoted_text t) (at q d)) due refl)
   comes (array ds) d s due plain value = array_comes ds d s due (items_come ds s false (with_text (91 ∷ []) d) plain value)
   comes (object ms) d s due plain value = object_comes ms d s due (members_come ms s d [] [] [] plain value keeps_none sorted_none tt)
 
-  items_come : (ds : Items) (s : Spot) (later : Bool) (e : Draft) → refused_items ds ≡ None → AreValues ds → ItemsCome ds s later e
+  pub items_come : (ds : Items) (s : Spot) (later : Bool) (e : Draft) → refused_items ds ≡ None → AreValues ds → ItemsCome ds s later e
   items_come no_items s later e plain values = no_items_come s later e
   items_come (item v ds) s later e plain values =
       let c = comes v (in_item s (with_text (comma_if later) e)) ItemDone refl (none_first _ _ plain) values.0 in
       item_comes v ds s later e c (items_come ds s true (with_text c.text (with_text (comma_if later) e)) (none_later _ _ plain) values.1)
 
-  members_come : (ms : Members) (s : Spot) (d : Draft) (ps : List JsonProperty) (n : List ℕ) (es : List Entry) → refused_members ms ≡ None → AreMembers ms → Keeps ps es → IsStrictlySortedBy by_key ps
+  pub members_come : (ms : Members) (s : Spot) (d : Draft) (ps : List JsonProperty) (n : List ℕ) (es : List Entry) → refused_members ms ≡ None → AreMembers ms → Keeps ps es → IsStrictlySortedBy by_key ps
       → AllByRecursion (λ e. IsOther e.0 ms) es → MembersCome ms s d ps n es
   members_come no_members s d ps n es plain values keeps up others = no_members_come s d ps n es keeps
   members_come (member k v ms) s d ps n es plain values keeps up others =

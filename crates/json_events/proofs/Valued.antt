@@ -14,7 +14,7 @@ use Rattle.json_events.specs.declared.spot.Spot.{Spot}
 use Rattle.json_events.specs.declared.spot.Spot.TheVariants.{Items as AtItems, ItemDue, ItemDone, Names, ValueDue, ValueDone, Whole, Finished}
 use Rattle.json_events.specs.Canonical.{in_range}
 use Rattle.json_events.specs.Drafts.{Level, Draft, Turn, refused as refuses, moves, turned, act, fresh, writes, at, after_value, where_due, is_at, ends_member}
-use Rattle.json_events.specs.Events.{Event, array_begins, item_begins, item_ends, array_ends, object_begins, member_ends, object_ends, finishes}
+use Rattle.json_events.specs.Events.{Event, begin_array, begin_array_value, end_array_value, end_array, begin_object, end_object_value, end_object, finish}
 use Rattle.json_events.specs.Laws.{FinishedSpells}
 use Rattle.json_events.specs.Members.{property}
 use Rattle.json_events.specs.Refused.{refused, refused_items, refused_members, refused_by, first_of_two}
@@ -30,24 +30,24 @@ use Rattle.json_events.proofs.Causes.{unrefused, going_is}
 
 -- ---- texts
 
-texts_front : (xs ys : List Event) → AreTexts (xs ++ ys) → AreTexts xs
+pub texts_front : (xs ys : List Event) → AreTexts (xs ++ ys) → AreTexts xs
 texts_front [] ys texts = tt
 texts_front (x ∷ xs) ys texts = (texts.0, texts_front xs ys texts.1)
 
-texts_rest : (xs ys : List Event) → AreTexts (xs ++ ys) → AreTexts ys
+pub texts_rest : (xs ys : List Event) → AreTexts (xs ++ ys) → AreTexts ys
 texts_rest [] ys texts = texts
 texts_rest (x ∷ xs) ys texts = texts_rest xs ys texts.1
 
 -- ---- events that were taken, one part after another
 
-record Parts (P : Level → Type 0) (ls : List Level) (xs ys : List Event) (d : Draft) : Type 0 where
-  new : Draft
-  inner : P new.inner
-  outer : new.outer ≡ ls
-  first : (after xs (going d)).refusal ≡ None
-  second : (after ys (going new)).refusal ≡ None
+pub record Parts (P : Level → Type 0) (ls : List Level) (xs ys : List Event) (d : Draft) : Type 0 where
+  pub new : Draft
+  pub inner : P new.inner
+  pub outer : new.outer ≡ ls
+  pub first : (after xs (going d)).refusal ≡ None
+  pub second : (after ys (going new)).refusal ≡ None
 
-parts : (P : Level → Type 0) (ls : List Level) (xs ys : List Event) (d : Draft) → Passes P ls (after xs (going d)) → (after (xs ++ ys) (going d)).refusal ≡ None → Parts P ls xs ys d
+pub parts : (P : Level → Type 0) (ls : List Level) (xs ys : List Event) (d : Draft) → Passes P ls (after xs (going d)) → (after (xs ++ ys) (going d)).refusal ≡ None → Parts P ls xs ys d
 parts P ls xs ys d (inl goes) none = record {
   new = goes.new;
   inner = goes.inner;
@@ -81,29 +81,29 @@ none_later None b e = e
 none_later (Some x) b e = cc
 
 -- these events spell the value
-record Spells (xs : List Event) : Type 0 where
-  value : Data
-  is : spelled value ≡ xs
-  plain : refused value ≡ None
-  good : IsValue value
+pub record Spells (xs : List Event) : Type 0 where
+  pub value : Data
+  pub is : spelled value ≡ xs
+  pub plain : refused value ≡ None
+  pub good : IsValue value
 
-record SpellsItems (xs : List Event) : Type 0 where
-  values : Items
-  is : spelled_items values ≡ xs
-  plain : refused_items values ≡ None
-  good : AreValues values
+pub record SpellsItems (xs : List Event) : Type 0 where
+  pub values : Items
+  pub is : spelled_items values ≡ xs
+  pub plain : refused_items values ≡ None
+  pub good : AreValues values
 
 -- none of the names is this one
 abbrev Apart : List ℕ → Members → Type 0
 Apart k no_members = Unit {0}
 Apart k (member l v ms) = (l ≢ k) × Apart k ms
 
-record SpellsFields (fs : Fields) : Type 0 where
-  values : Members
-  is : spelled_members values ≡ nested_fields fs
-  plain : refused_members values ≡ None
-  good : AreMembers values
-  apart : (k : List ℕ) → has_field k fs ≡ false → Apart k values
+pub record SpellsFields (fs : Fields) : Type 0 where
+  pub values : Members
+  pub is : spelled_members values ≡ nested_fields fs
+  pub plain : refused_members values ≡ None
+  pub good : AreMembers values
+  pub apart : (k : List ℕ) → has_field k fs ≡ false → Apart k values
 
 items_plain : (ds : Items) (v : Data) → refused_items ds ≡ None → refused v ≡ None → refused_items (push_item ds v) ≡ None
 items_plain no_items v p q = none_both (refused v) None q refl
@@ -113,9 +113,9 @@ items_good : (ds : Items) (v : Data) → AreValues ds → IsValue v → AreValue
 items_good no_items v p q = (q, tt)
 items_good (item w ds) v p q = (p.0, items_good ds v p.1 q)
 
-items_spelled : (ds : Items) (v : Data) → spelled_items (push_item ds v) ≡ spelled_items ds ++ item_begins ∷ (spelled v ++ item_ends ∷ [])
+items_spelled : (ds : Items) (v : Data) → spelled_items (push_item ds v) ≡ spelled_items ds ++ begin_array_value ∷ (spelled v ++ end_array_value ∷ [])
 items_spelled no_items v = refl
-items_spelled (item w ds) v = ap (λ l. item_begins ∷ (spelled w ++ item_ends ∷ l)) (items_spelled ds v) ∙ ap (λ l. item_begins ∷ l) (sym (append_assoc (spelled w) (item_ends ∷ spelled_items ds) (item_begins ∷ (spelled v ++ item_ends ∷ []))))
+items_spelled (item w ds) v = ap (λ l. begin_array_value ∷ (spelled w ++ end_array_value ∷ l)) (items_spelled ds v) ∙ ap (λ l. begin_array_value ∷ l) (sym (append_assoc (spelled w) (end_array_value ∷ spelled_items ds) (begin_array_value ∷ (spelled v ++ end_array_value ∷ []))))
 
 members_plain : (ms : Members) (k : List ℕ) (v : Data) → refused_members ms ≡ None → refused v ≡ None → refused_members (push_member ms k v) ≡ None
 members_plain no_members k v p q = none_both (refused v) None q refl
@@ -129,11 +129,11 @@ members_good : (ms : Members) (k : List ℕ) (v : Data) → AreMembers ms → Ap
 members_good no_members k v p apart text q = (text, tt, q, tt)
 members_good (member l w ms) k v p apart text q = (p.0, other_more l k v ms p.1 apart.0, p.2, members_good ms k v p.3 apart.1 text q)
 
-members_spelled : (ms : Members) (k : List ℕ) (v : Data) → spelled_members (push_member ms k v) ≡ spelled_members ms ++ (name_events k ++ (spelled v ++ member_ends ∷ []))
+members_spelled : (ms : Members) (k : List ℕ) (v : Data) → spelled_members (push_member ms k v) ≡ spelled_members ms ++ (name_events k ++ (spelled v ++ end_object_value ∷ []))
 members_spelled no_members k v = refl
 members_spelled (member l w ms) k v =
-    ap (λ r. name_events l ++ (spelled w ++ member_ends ∷ r)) (members_spelled ms k v)
-    ∙ ap (λ r. name_events l ++ r) (sym (append_assoc (spelled w) (member_ends ∷ spelled_members ms) (name_events k ++ (spelled v ++ member_ends ∷ []))))
+    ap (λ r. name_events l ++ (spelled w ++ end_object_value ∷ r)) (members_spelled ms k v)
+    ∙ ap (λ r. name_events l ++ r) (sym (append_assoc (spelled w) (end_object_value ∷ spelled_members ms) (name_events k ++ (spelled v ++ end_object_value ∷ []))))
 
 apart_more : (q k : List ℕ) (v : Data) (ms : Members) → Apart q ms → k ≢ q → Apart q (push_member ms k v)
 apart_more q k v no_members p other = (other, tt)
@@ -187,21 +187,21 @@ other_name q k apart same =
     let all : true ≡ false = sym is ∙ ap (λ n. is_eq (by_units q n)) (sym same) ∙ apart in
     cc
 
-once_by : (b : Bool) (g : Draft) → ties g.inner.name g.inner.members ≡ b → g.inner.spot ≡ ValueDone → (after (member_ends ∷ []) (going g)).refusal ≡ None → b ≡ false
+once_by : (b : Bool) (g : Draft) → ties g.inner.name g.inner.members ≡ b → g.inner.spot ≡ ValueDone → (after (end_object_value ∷ []) (going g)).refusal ≡ None → b ≡ false
 once_by false g is spot none = refl
 once_by true g is spot none =
     let new = record g { text = []; inner = record g.inner { spot = Names; members = insert_key by_key g.inner.members (property (g.inner.name, g.text)) } } in
-    let turn : act member_ends g ≡ refuses DuplicateKey = ap (λ q. if is_at q ValueDone then ends_member g else refuses NotWellNested) spot ∙ ap (λ c. if c then refuses DuplicateKey else moves new []) is in
+    let turn : act end_object_value g ≡ refuses DuplicateKey = ap (λ q. if is_at q ValueDone then ends_member g else refuses NotWellNested) spot ∙ ap (λ c. if c then refuses DuplicateKey else moves new []) is in
     let all : Some DuplicateKey ≡ None = sym (ap (λ t. (turned t g).stage.refusal) turn) ∙ none in
     cc
 
 -- ---- trees
 
 item_spells : (t : Tree) (e : Draft) (ls : List Level) → ((f : Draft) → f.inner.spot ≡ ItemDue → (after (nested t) (going f)).refusal ≡ None → Spells (nested t)) → AtSpot AtItems e.inner → e.outer ≡ ls
-    → (after (item_begins ∷ (nested t ++ item_ends ∷ [])) (going e)).refusal ≡ None → Spells (nested t)
+    → (after (begin_array_value ∷ (nested t ++ end_array_value ∷ [])) (going e)).refusal ≡ None → Spells (nested t)
 item_spells t e ls value spot out none =
-    let first = parts (AtSpot ItemDue) ls (item_begins ∷ []) (nested t ++ item_ends ∷ []) e (item_begin e ls spot out) none in
-    let second = parts (InPlace first.new ItemDone) first.new.outer (nested t) (item_ends ∷ []) first.new (tree_passes t first.new ItemDone (ap after_value first.inner)) first.second in
+    let first = parts (AtSpot ItemDue) ls (begin_array_value ∷ []) (nested t ++ end_array_value ∷ []) e (item_begin e ls spot out) none in
+    let second = parts (InPlace first.new ItemDone) first.new.outer (nested t) (end_array_value ∷ []) first.new (tree_passes t first.new ItemDone (ap after_value first.inner)) first.second in
     value first.new first.inner second.first
 
 record FieldSpells (k : List ℕ) (fs : Fields) (t : Tree) : Type 0 where
@@ -209,11 +209,11 @@ record FieldSpells (k : List ℕ) (fs : Fields) (t : Tree) : Type 0 where
   once : has_field k fs ≡ false
 
 field_spells : (fs : Fields) (k : List ℕ) (t : Tree) (e : Draft) → ((f : Draft) → f.inner.spot ≡ ValueDue → (after (nested t) (going f)).refusal ≡ None → Spells (nested t)) → FieldsIn fs e.inner
-    → (after (name_events k ++ (nested t ++ member_ends ∷ [])) (going e)).refusal ≡ None → FieldSpells k fs t
+    → (after (name_events k ++ (nested t ++ end_object_value ∷ [])) (going e)).refusal ≡ None → FieldSpells k fs t
 field_spells fs k t e value so none =
-    let first = parts (λ l. l ≡ named k e.inner) e.outer (name_events k) (nested t ++ member_ends ∷ []) e (name_passes k e e.outer so.spot refl) none in
+    let first = parts (λ l. l ≡ named k e.inner) e.outer (name_events k) (nested t ++ end_object_value ∷ []) e (name_passes k e e.outer so.spot refl) none in
     let spot : first.new.inner.spot ≡ ValueDue = ap (λ l. l.spot) first.inner in
-    let second = parts (InPlace first.new ValueDone) first.new.outer (nested t) (member_ends ∷ []) first.new (tree_passes t first.new ValueDone (ap after_value spot)) first.second in
+    let second = parts (InPlace first.new ValueDone) first.new.outer (nested t) (end_object_value ∷ []) first.new (tree_passes t first.new ValueDone (ap after_value spot)) first.second in
     let g = second.new in
     let done : g.inner.spot ≡ ValueDone = ap (λ l. l.spot) second.inner in
     let name : g.inner.name ≡ k = ap (λ l. l.name) second.inner ∙ ap (λ l. l.name) first.inner in
@@ -225,46 +225,46 @@ field_spells fs k t e value so none =
     }
 
 mutual
-  tree_spells : (t : Tree) (d : Draft) (s : Spot) → after_value d.inner.spot ≡ Some s → AreTexts (nested t) → (after (nested t) (going d)).refusal ≡ None → Spells (nested t)
+  pub tree_spells : (t : Tree) (d : Draft) (s : Spot) → after_value d.inner.spot ≡ Some s → AreTexts (nested t) → (after (nested t) (going d)).refusal ≡ None → Spells (nested t)
   tree_spells (scalar c) d s due texts none = scalar_spells c d s due texts none
   tree_spells (array ts) d s due texts none =
-      let first = parts (AtSpot AtItems) ((at s d).inner ∷ d.outer) (array_begins ∷ []) (nested_items ts ++ array_ends ∷ []) d (array_begin d s due) none in
-      let second = parts (AtSpot AtItems) first.new.outer (nested_items ts) (array_ends ∷ []) first.new (items_passes ts first.new first.inner) first.second in
-      let so = items_spell ts first.new first.inner (texts_front (nested_items ts) (array_ends ∷ []) texts.1) second.first in
-      record { value = list so.values; is = ap (λ l. array_begins ∷ (l ++ array_ends ∷ [])) so.is; plain = so.plain; good = so.good }
+      let first = parts (AtSpot AtItems) ((at s d).inner ∷ d.outer) (begin_array ∷ []) (nested_items ts ++ end_array ∷ []) d (array_begin d s due) none in
+      let second = parts (AtSpot AtItems) first.new.outer (nested_items ts) (end_array ∷ []) first.new (items_passes ts first.new first.inner) first.second in
+      let so = items_spell ts first.new first.inner (texts_front (nested_items ts) (end_array ∷ []) texts.1) second.first in
+      record { value = list so.values; is = ap (λ l. begin_array ∷ (l ++ end_array ∷ [])) so.is; plain = so.plain; good = so.good }
   tree_spells (object fs) d s due texts none =
-      let first = parts NoMembers ((at s d).inner ∷ d.outer) (object_begins ∷ []) (nested_fields fs ++ object_ends ∷ []) d (object_begin d s due) none in
-      let second = parts (FieldsIn fs) first.new.outer (nested_fields fs) (object_ends ∷ []) first.new (fields_passes fs first.new first.inner) first.second in
-      let so = fields_spell fs first.new first.inner (texts_front (nested_fields fs) (object_ends ∷ []) texts.1) second.first in
-      record { value = map_of so.values; is = ap (λ l. object_begins ∷ (l ++ object_ends ∷ [])) so.is; plain = so.plain; good = so.good }
+      let first = parts NoMembers ((at s d).inner ∷ d.outer) (begin_object ∷ []) (nested_fields fs ++ end_object ∷ []) d (object_begin d s due) none in
+      let second = parts (FieldsIn fs) first.new.outer (nested_fields fs) (end_object ∷ []) first.new (fields_passes fs first.new first.inner) first.second in
+      let so = fields_spell fs first.new first.inner (texts_front (nested_fields fs) (end_object ∷ []) texts.1) second.first in
+      record { value = map_of so.values; is = ap (λ l. begin_object ∷ (l ++ end_object ∷ [])) so.is; plain = so.plain; good = so.good }
 
-  items_spell : (ts : Trees) (d : Draft) → d.inner.spot ≡ AtItems → AreTexts (nested_items ts) → (after (nested_items ts) (going d)).refusal ≡ None → SpellsItems (nested_items ts)
+  pub items_spell : (ts : Trees) (d : Draft) → d.inner.spot ≡ AtItems → AreTexts (nested_items ts) → (after (nested_items ts) (going d)).refusal ≡ None → SpellsItems (nested_items ts)
   items_spell no_trees d spot texts none = record { values = no_items; is = refl; plain = refl; good = tt }
   items_spell (and_tree ts t) d spot texts none =
-      let last = item_begins ∷ (nested t ++ item_ends ∷ []) in
+      let last = begin_array_value ∷ (nested t ++ end_array_value ∷ []) in
       let first = parts (AtSpot AtItems) d.outer (nested_items ts) last d (items_passes ts d spot) none in
       let so = items_spell ts d spot (texts_front (nested_items ts) last texts) first.first in
       let ends = texts_rest (nested_items ts) last texts in
-      let value = item_spells t first.new d.outer (λ f due taken. tree_spells t f ItemDone (ap after_value due) (texts_front (nested t) (item_ends ∷ []) ends.1) taken) first.inner first.outer first.second in
+      let value = item_spells t first.new d.outer (λ f due taken. tree_spells t f ItemDone (ap after_value due) (texts_front (nested t) (end_array_value ∷ []) ends.1) taken) first.inner first.outer first.second in
       record {
         values = push_item so.values value.value;
-        is = items_spelled so.values value.value ∙ ap (λ l. l ++ item_begins ∷ (spelled value.value ++ item_ends ∷ [])) so.is ∙ ap (λ l. nested_items ts ++ item_begins ∷ (l ++ item_ends ∷ [])) value.is;
+        is = items_spelled so.values value.value ∙ ap (λ l. l ++ begin_array_value ∷ (spelled value.value ++ end_array_value ∷ [])) so.is ∙ ap (λ l. nested_items ts ++ begin_array_value ∷ (l ++ end_array_value ∷ [])) value.is;
         plain = items_plain so.values value.value so.plain value.plain;
         good = items_good so.values value.value so.good value.good;
       }
 
-  fields_spell : (fs : Fields) (d : Draft) → NoMembers d.inner → AreTexts (nested_fields fs) → (after (nested_fields fs) (going d)).refusal ≡ None → SpellsFields fs
+  pub fields_spell : (fs : Fields) (d : Draft) → NoMembers d.inner → AreTexts (nested_fields fs) → (after (nested_fields fs) (going d)).refusal ≡ None → SpellsFields fs
   fields_spell no_fields d begun texts none = record { values = no_members; is = refl; plain = refl; good = tt; apart = λ k is. apart_none k }
   fields_spell (and_field fs k t) d begun texts none =
-      let last = name_events k ++ (nested t ++ member_ends ∷ []) in
+      let last = name_events k ++ (nested t ++ end_object_value ∷ []) in
       let first = parts (FieldsIn fs) d.outer (nested_fields fs) last d (fields_passes fs d begun) none in
       let so = fields_spell fs d begun (texts_front (nested_fields fs) last texts) first.first in
       let ends = texts_rest (nested_fields fs) last texts in
-      let field = field_spells fs k t first.new (λ f due taken. tree_spells t f ValueDone (ap after_value due) (texts_front (nested t) (member_ends ∷ []) (texts_rest (name_events k) (nested t ++ member_ends ∷ []) ends)) taken) first.inner first.second in
+      let field = field_spells fs k t first.new (λ f due taken. tree_spells t f ValueDone (ap after_value due) (texts_front (nested t) (end_object_value ∷ []) (texts_rest (name_events k) (nested t ++ end_object_value ∷ []) ends)) taken) first.inner first.second in
       let v = field.value.value in
       record {
         values = push_member so.values k v;
-        is = members_spelled so.values k v ∙ ap (λ l. l ++ (name_events k ++ (spelled v ++ member_ends ∷ []))) so.is ∙ ap (λ l. nested_fields fs ++ (name_events k ++ (l ++ member_ends ∷ []))) field.value.is;
+        is = members_spelled so.values k v ∙ ap (λ l. l ++ (name_events k ++ (spelled v ++ end_object_value ∷ []))) so.is ∙ ap (λ l. nested_fields fs ++ (name_events k ++ (l ++ end_object_value ∷ []))) field.value.is;
         plain = members_plain so.values k v so.plain field.value.plain;
         good = members_good so.values k v so.good (so.apart k field.once) ends.1.0 field.value.good;
         apart = λ q none. let both = either_false (is_eq (by_units q k)) (has_field q fs) none in apart_more q k v so.values (so.apart q both.1) (other_name q k both.0);
@@ -282,9 +282,9 @@ ended_at false d t is none = cc
 
 pub finished_spells : FinishedSpells
 finished_spells xs texts none =
-    let first = unrefused xs (finishes ∷ []) none in
+    let first = unrefused xs (finish ∷ []) none in
     let d = (after xs fresh).draft in
-    let there : after (xs ++ finishes ∷ []) fresh ≡ (turned (act finishes d) d).stage = after-append xs (finishes ∷ []) fresh ∙ ap (after (finishes ∷ [])) (going_is (after xs fresh) first) in
+    let there : after (xs ++ finish ∷ []) fresh ≡ (turned (act finish d) d).stage = after-append xs (finish ∷ []) fresh ∙ ap (after (finish ∷ [])) (going_is (after xs fresh) first) in
     let spot = same_spot d.inner.spot Whole (ended_at (is_at d.inner.spot Whole) d (moves (at Finished d) []) refl (sym (ap (λ s. s.refusal) there) ∙ none)) in
     let tree = at_whole d.outer d.inner.name d.inner.members xs (subst (λ q. Opens q d.inner.name d.inner.members d.outer xs) spot (fits xs first)) in
     let so = tree_spells tree.0 fresh.draft Whole refl (subst AreTexts tree.1 texts) (ap (λ l. (after l fresh).refusal) (sym tree.1) ∙ first) in

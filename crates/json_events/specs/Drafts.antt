@@ -1,5 +1,6 @@
 -- What a formatter has after its events.
-use Rattle.std.specs.Prelude.{ℕ, ℤ, List, [], ◌∷◌, ◌++◌, Bool, true, false, ◌==◌, Option, Some, None, if◌then◌else◌, codes}
+use Rattle.std.specs.Prelude.{ℕ, ℤ, List, [], ◌∷◌, ◌++◌, Bool, true, false, ◌==◌, Option, Some}
+use Rattle.std.specs.Prelude.{None, if◌then◌else◌, codes}
 use Rattle.std.specs.BTreeSet.{insert_key}
 use Rattle.std.specs.Cmp.Lexicographic.{slice_cmp}
 use Rattle.std.specs.Fmt.{signed_decimal}
@@ -9,12 +10,20 @@ use Rattle.std.specs.declared.cmp.Ordering.{Ordering}
 use Rattle.serde_json.specs.Written.{comma_if}
 use Rattle.json_values.specs.Canon.{quoted_text}
 use Rattle.json_events.specs.declared.error.CanonError.{CanonError}
-use Rattle.json_events.specs.declared.error.CanonError.TheVariants.{Float, IntegerOutOfRange, DuplicateKey, RawFragment, NotWellNested}
+use Rattle.json_events.specs.declared.error.CanonError.TheVariants.{Float, IntegerOutOfRange}
+use Rattle.json_events.specs.declared.error.CanonError.TheVariants.{DuplicateKey, RawFragment}
+use Rattle.json_events.specs.declared.error.CanonError.TheVariants.{NotWellNested}
 use Rattle.json_events.specs.declared.property.JsonProperty.{JsonProperty}
 use Rattle.json_events.specs.declared.spot.Spot.{Spot}
-use Rattle.json_events.specs.declared.spot.Spot.TheVariants.{Start, Whole, Finished, Items, ItemDue, ItemDone, Names, NameDue, NameDone, Named, ValueDue, ValueDone}
+use Rattle.json_events.specs.declared.spot.Spot.TheVariants.{Start, Whole, Finished, Items, ItemDue}
+use Rattle.json_events.specs.declared.spot.Spot.TheVariants.{ItemDone, Names, NameDue, NameDone}
+use Rattle.json_events.specs.declared.spot.Spot.TheVariants.{Named, ValueDue, ValueDone}
 use Rattle.json_events.specs.Canonical.{in_range, truth_text}
-use Rattle.json_events.specs.Events.{Event, null_value, truth_value, whole_value, float_value, string_event, raw_fragment, array_begins, item_begins, item_ends, array_ends, object_begins, name_begins, name_ends, member_begins, member_ends, object_ends, finishes}
+use Rattle.json_events.specs.Events.{Event, write_null, write_bool, write_integer, write_float}
+use Rattle.json_events.specs.Events.{write_string, write_raw_fragment, begin_array}
+use Rattle.json_events.specs.Events.{begin_array_value, end_array_value, end_array, begin_object}
+use Rattle.json_events.specs.Events.{begin_object_key, end_object_key, begin_object_value}
+use Rattle.json_events.specs.Events.{end_object_value, end_object, finish}
 use Rattle.json_events.specs.Members.{property, kept_object}
 
 -- an unclosed container, or what is outside all of them
@@ -102,10 +111,12 @@ abbrev pub only_at : Spot → Draft → Turn → Turn
 only_at s d turn = if is_at d.inner.spot s then turn else refused NotWellNested
 
 abbrev pub begins_array : Draft → Turn
-begins_array d = where_due (after_value d.inner.spot) (λ s. writes (91 ∷ []) (opened (level Items d.inner.held []) (at s d)))
+begins_array d = where_due (after_value d.inner.spot)
+    (λ s. writes (91 ∷ []) (opened (level Items d.inner.held []) (at s d)))
 
 abbrev pub begins_object : Draft → Turn
-begins_object d = where_due (after_value d.inner.spot) (λ s. moves (record (opened (level Names true d.text) (at s d)) { text = [] }) [])
+begins_object d = where_due (after_value d.inner.spot)
+    (λ s. moves (record (opened (level Names true d.text) (at s d)) { text = [] }) [])
 
 abbrev pub begins_item : Draft → Turn
 begins_item d = writes (comma_if d.inner.begun) (record d { inner = record d.inner { spot = ItemDue; begun = true } })
@@ -114,37 +125,44 @@ abbrev pub ends_array : Draft → Turn
 ends_array d = where_around d.outer (λ l ls. writes (93 ∷ []) (record d { inner = l; outer = ls }))
 
 abbrev pub ends_object : Draft → Turn
-ends_object d = where_around d.outer (λ l ls. writes (kept_object d.inner.members) (record { text = d.inner.around; inner = l; outer = ls }))
+ends_object d = where_around d.outer
+    (λ l ls. writes (kept_object d.inner.members) (record { text = d.inner.around; inner = l; outer = ls }))
 
 abbrev pub ends_member : Draft → Turn
-ends_member d = let new = property (d.inner.name, d.text) in
+ends_member d =
+    let new = property (d.inner.name, d.text) in
+    let kept = insert_key by_key d.inner.members new in
     if list_any (λ p. is_eq (by_key new p)) d.inner.members then refused DuplicateKey
-    else moves (record d { text = []; inner = record d.inner { spot = Names; members = insert_key by_key d.inner.members new } }) []
+    else moves (record d { text = []; inner = record d.inner { spot = Names; members = kept } }) []
 
 abbrev pub takes_string : List ℕ → Draft → Turn
-takes_string s d = if is_at d.inner.spot NameDue then moves (record d { inner = record d.inner { spot = NameDone; name = s } }) [] else places (quoted_text s) d
+takes_string s d =
+    if is_at d.inner.spot NameDue
+    then moves (record d { inner = record d.inner { spot = NameDone; name = s } }) []
+    else places (quoted_text s) d
 
 abbrev pub takes_whole : ℤ → Draft → Turn
-takes_whole z d = where_due (after_value d.inner.spot) (λ s. if in_range z then writes (signed_decimal z) (at s d) else refused IntegerOutOfRange)
+takes_whole z d = where_due (after_value d.inner.spot)
+    (λ s. if in_range z then writes (signed_decimal z) (at s d) else refused IntegerOutOfRange)
 
 abbrev pub act : Event → Draft → Turn
-act null_value d = places (codes "null") d
-act (truth_value b) d = places (truth_text b) d
-act (whole_value z) d = takes_whole z d
-act float_value d = where_due (after_value d.inner.spot) (λ s. refused Float)
-act (string_event s) d = takes_string s d
-act raw_fragment d = where_due (after_value d.inner.spot) (λ s. refused RawFragment)
-act array_begins d = begins_array d
-act item_begins d = only_at Items d (begins_item d)
-act item_ends d = only_at ItemDone d (moves (at Items d) [])
-act array_ends d = only_at Items d (ends_array d)
-act object_begins d = begins_object d
-act name_begins d = only_at Names d (moves (at NameDue d) [])
-act name_ends d = only_at NameDone d (moves (at Named d) [])
-act member_begins d = only_at Named d (moves (at ValueDue d) [])
-act member_ends d = only_at ValueDone d (ends_member d)
-act object_ends d = only_at Names d (ends_object d)
-act finishes d = only_at Whole d (moves (at Finished d) [])
+act write_null d = places (codes "null") d
+act (write_bool b) d = places (truth_text b) d
+act (write_integer z) d = takes_whole z d
+act write_float d = where_due (after_value d.inner.spot) (λ s. refused Float)
+act (write_string s) d = takes_string s d
+act write_raw_fragment d = where_due (after_value d.inner.spot) (λ s. refused RawFragment)
+act begin_array d = begins_array d
+act begin_array_value d = only_at Items d (begins_item d)
+act end_array_value d = only_at ItemDone d (moves (at Items d) [])
+act end_array d = only_at Items d (ends_array d)
+act begin_object d = begins_object d
+act begin_object_key d = only_at Names d (moves (at NameDue d) [])
+act end_object_key d = only_at NameDone d (moves (at Named d) [])
+act begin_object_value d = only_at Named d (moves (at ValueDue d) [])
+act end_object_value d = only_at ValueDone d (ends_member d)
+act end_object d = only_at Names d (ends_object d)
+act finish d = only_at Whole d (moves (at Finished d) [])
 
 -- what a formatter has: its first refusal, and its draft
 pub record Stage : Type 0 where
@@ -169,7 +187,10 @@ step x s = step_from s.refusal x s.draft
 
 abbrev pub run : List Event → Stage → Step
 run [] s = record { stage = s; out = [] }
-run (x ∷ xs) s = let first = step x s in let rest = run xs first.stage in record { stage = rest.stage; out = first.out ++ rest.out }
+run (x ∷ xs) s =
+    let first = step x s in
+    let rest = run xs first.stage in
+    record { stage = rest.stage; out = first.out ++ rest.out }
 
 abbrev pub fresh : Stage
 fresh = record { refusal = None; draft = record { text = []; inner = level Start false []; outer = [] } }

@@ -2,20 +2,20 @@
 use Rattle.std.specs.Prelude.{ℕ, ℤ, List, Bool}
 
 pub data Event : Type 0 where
-  null_value : Event
-  truth_value : Bool → Event
-  whole_value : ℤ → Event
-  float_value : Event
-  string_event : List ℕ → Event
-  raw_fragment : Event
-  array_begins : Event
-  item_begins : Event
-  item_ends : Event
-  array_ends : Event
-  object_begins : Event
-  name_begins : Event
-  name_ends : Event
-  member_begins : Event
-  member_ends : Event
-  object_ends : Event
-  finishes : Event
+  write_null : Event
+  write_bool : Bool → Event
+  write_integer : ℤ → Event
+  write_float : Event
+  write_string : List ℕ → Event
+  write_raw_fragment : Event
+  begin_array : Event
+  begin_array_value : Event
+  end_array_value : Event
+  end_array : Event
+  begin_object : Event
+  begin_object_key : Event
+  end_object_key : Event
+  begin_object_value : Event
+  end_object_value : Event
+  end_object : Event
+  finish : Event

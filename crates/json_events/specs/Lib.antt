@@ -7,6 +7,7 @@ pub mod Members
 pub mod Refused
 pub mod Spelling
 pub mod States
+pub mod TextSoFar
 pub mod Turns
 pub mod Units
 pub mod Values

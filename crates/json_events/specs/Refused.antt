@@ -1,6 +1,7 @@
 -- Which numbers have no canonical text, and the first of them in a value.
 use Rattle.std.specs.Prelude.{ℤ, Option, Some, None, if◌then◌else◌}
-use Rattle.serde_json.specs.Data.{Data, null, boolean, number, string, array, object, Items, no_items, item, Members, no_members, member}
+use Rattle.serde_json.specs.Data.{Data, null, boolean, number, string, array, object, Items}
+use Rattle.serde_json.specs.Data.{no_items, item, Members, no_members, member}
 use Rattle.serde_json.specs.Find.{as_integer}
 use Rattle.json_events.specs.Canonical.{in_range}
 use Rattle.json_events.specs.declared.error.CanonError.{CanonError}

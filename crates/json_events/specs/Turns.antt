@@ -75,7 +75,8 @@ pub record Taken (x : Event) (r : Result (Unit {0}) CanonError) (old new : Stage
   pub answers : r ≡ answer new.refusal
 
 -- the event was broken off, and the formatter keeps that as its first refusal. A front of its text went out
-pub record BrokenOff (x : Event) (e : CanonError) (r : Result (Unit {0}) CanonError) (old new : Stage) (before after : Tray) : Type 0 where
+pub record BrokenOff (x : Event) (e : CanonError) (r : Result (Unit {0}) CanonError) (old new : Stage)
+    (before after : Tray) : Type 0 where
   pub going : old.refusal ≡ None
   pub keeps : new.refusal ≡ Some e
   pub answers : r ≡ Err e

@@ -1,6 +1,7 @@
 -- What every value of `serde_json` has: its texts are UTF-8, and an object has no name twice.
 use Rattle.std.specs.Prelude.{◌≢◌, ℕ, List, IsUtf8, ⊤}
-use Rattle.serde_json.specs.Data.{Data, null, boolean, number, string, array, object, Items, no_items, item, Members, no_members, member}
+use Rattle.serde_json.specs.Data.{Data, null, boolean, number, string, array, object, Items}
+use Rattle.serde_json.specs.Data.{no_items, item, Members, no_members, member}
 
 -- the name is none of these
 abbrev pub IsOther : List ℕ → Members → Type 0

@@ -8,13 +8,15 @@ use crate::turns::{begin_array, begin_item, end_array, move_on};
 use json_values::Sink;
 
 impl JcsFormatter {
-    ghost use Rattle.json_events.specs.Events.{array_begins, item_begins, item_ends, array_ends};
+    ghost use Rattle.json_events.specs.Events.{begin_array, begin_array_value, end_array_value};
+    ghost use Rattle.json_events.specs.Events.{end_array};
     ghost use Rattle.json_events.specs.Formatters.{stage_of};
     ghost use Rattle.json_events.specs.Turns.{Answers};
 
     /// An array begins.
     pub fn begin_array<K: Sink>(&mut self, sink: &mut K) -> Result<(), CanonError>
-        ensures answers { Answers array_begins result (stage_of self.old) (stage_of self.new) (K.state sink.old) (K.state sink.new) }
+        ensures answers { Answers begin_array result (stage_of self.old) (stage_of self.new)
+            (K.state sink.old) (K.state sink.new) }
         ensures count { (K.state sink.old).faults ≤ (K.state sink.new).faults }
     {
         if let Some(refusal) = self.refusal {
@@ -27,7 +29,8 @@ impl JcsFormatter {
 
     /// An array ends, after any number of items.
     pub fn end_array<K: Sink>(&mut self, sink: &mut K) -> Result<(), CanonError>
-        ensures answers { Answers array_ends result (stage_of self.old) (stage_of self.new) (K.state sink.old) (K.state sink.new) }
+        ensures answers { Answers end_array result (stage_of self.old) (stage_of self.new)
+            (K.state sink.old) (K.state sink.new) }
         ensures count { (K.state sink.old).faults ≤ (K.state sink.new).faults }
     {
         if let Some(refusal) = self.refusal {
@@ -40,7 +43,8 @@ impl JcsFormatter {
 
     /// An item of an array begins. Its value comes next.
     pub fn begin_array_value<K: Sink>(&mut self, sink: &mut K) -> Result<(), CanonError>
-        ensures answers { Answers item_begins result (stage_of self.old) (stage_of self.new) (K.state sink.old) (K.state sink.new) }
+        ensures answers { Answers begin_array_value result (stage_of self.old) (stage_of self.new)
+            (K.state sink.old) (K.state sink.new) }
         ensures count { (K.state sink.old).faults ≤ (K.state sink.new).faults }
     {
         if let Some(refusal) = self.refusal {
@@ -53,7 +57,8 @@ impl JcsFormatter {
 
     /// An item of an array ends, after its value.
     pub fn end_array_value<K: Sink>(&mut self, _sink: &mut K) -> Result<(), CanonError>
-        ensures answers { Answers item_ends result (stage_of self.old) (stage_of self.new) (K.state _sink.old) (K.state _sink.new) }
+        ensures answers { Answers end_array_value result (stage_of self.old) (stage_of self.new)
+            (K.state _sink.old) (K.state _sink.new) }
         ensures count { (K.state _sink.old).faults ≤ (K.state _sink.new).faults }
     {
         if let Some(refusal) = self.refusal {

@@ -4,7 +4,9 @@ ghost use Rattle.std.specs.Cmp.{IsTotalOrder};
 ghost use Rattle.std.specs.Cmp.Lexicographic.{slice_cmp};
 ghost use Rattle.std.specs.Ordering.{nat_cmp};
 ghost use Rattle.std.specs.declared.cmp.Ordering.TheVariants.{Less, Greater};
-ghost use Rattle.json_events.specs.Laws.{OneText, HasText, EventsWrite, FrontGoesOut, HoldsFirst, HoldsNext, FinishedSpells, RefusedByCause, RefusalStays, TiesEqualNames, dalet, grin};
+ghost use Rattle.json_events.specs.Laws.{OneText, HasText, EventsWrite, FrontGoesOut, HoldsFirst};
+ghost use Rattle.json_events.specs.Laws.{HoldsNext, FinishedSpells, FirstBad, RefusalStays};
+ghost use Rattle.json_events.specs.Laws.{TextsSoFar, TiesEqualNames, dalet, grin};
 ghost use Rattle.json_events.specs.Units.{by_units};
 
 /// A value has at most one canonical text, and has one exactly where no number of it is refused.
@@ -22,18 +24,20 @@ pub fn order_of_names()
 {}
 
 /// The events of a value write its text, whatever order its members come in, and events that are taken to the
-/// end are those of a value. A formatter holds what the events so far leave.
+/// end are those of a value. At each moment the text of what stands before the outermost unclosed object went out,
+/// and the member that is being written has the text of its events. A formatter holds what the events so far leave.
 pub fn events_write()
     ensures values { EventsWrite }
     ensures front { FrontGoesOut }
     ensures spells { FinishedSpells }
+    ensures so_far { TextsSoFar }
     ensures first { HoldsFirst }
     ensures next { HoldsNext }
 {}
 
-/// The first event that is refused has the cause of its refusal, and each that has one is refused. What comes
-/// after it changes nothing.
+/// A list of events is refused for the first event that has a cause, and for no other. What comes after it changes
+/// nothing.
 pub fn first_refusal_has_its_cause()
-    ensures cause { RefusedByCause }
+    ensures first { FirstBad }
     ensures stays { RefusalStays }
 {}

@@ -8,13 +8,15 @@ use crate::turns::{begin_object, end_member, end_object, move_on};
 use json_values::Sink;
 
 impl JcsFormatter {
-    ghost use Rattle.json_events.specs.Events.{object_begins, name_begins, name_ends, member_begins, member_ends, object_ends};
+    ghost use Rattle.json_events.specs.Events.{begin_object, begin_object_key, end_object_key};
+    ghost use Rattle.json_events.specs.Events.{begin_object_value, end_object_value, end_object};
     ghost use Rattle.json_events.specs.Formatters.{stage_of};
     ghost use Rattle.json_events.specs.Turns.{Answers};
 
     /// An object begins.
     pub fn begin_object<K: Sink>(&mut self, sink: &mut K) -> Result<(), CanonError>
-        ensures answers { Answers object_begins result (stage_of self.old) (stage_of self.new) (K.state sink.old) (K.state sink.new) }
+        ensures answers { Answers begin_object result (stage_of self.old) (stage_of self.new)
+            (K.state sink.old) (K.state sink.new) }
         ensures count { (K.state sink.old).faults ≤ (K.state sink.new).faults }
     {
         if let Some(refusal) = self.refusal {
@@ -27,7 +29,8 @@ impl JcsFormatter {
 
     /// An object ends, after any number of members. Its text is written.
     pub fn end_object<K: Sink>(&mut self, sink: &mut K) -> Result<(), CanonError>
-        ensures answers { Answers object_ends result (stage_of self.old) (stage_of self.new) (K.state sink.old) (K.state sink.new) }
+        ensures answers { Answers end_object result (stage_of self.old) (stage_of self.new)
+            (K.state sink.old) (K.state sink.new) }
         ensures count { (K.state sink.old).faults ≤ (K.state sink.new).faults }
     {
         if let Some(refusal) = self.refusal {
@@ -40,7 +43,8 @@ impl JcsFormatter {
 
     /// A member's name begins. A string comes next.
     pub fn begin_object_key<K: Sink>(&mut self, _sink: &mut K) -> Result<(), CanonError>
-        ensures answers { Answers name_begins result (stage_of self.old) (stage_of self.new) (K.state _sink.old) (K.state _sink.new) }
+        ensures answers { Answers begin_object_key result (stage_of self.old) (stage_of self.new)
+            (K.state _sink.old) (K.state _sink.new) }
         ensures count { (K.state _sink.old).faults ≤ (K.state _sink.new).faults }
     {
         if let Some(refusal) = self.refusal {
@@ -53,7 +57,8 @@ impl JcsFormatter {
 
     /// A member's name ends.
     pub fn end_object_key<K: Sink>(&mut self, _sink: &mut K) -> Result<(), CanonError>
-        ensures answers { Answers name_ends result (stage_of self.old) (stage_of self.new) (K.state _sink.old) (K.state _sink.new) }
+        ensures answers { Answers end_object_key result (stage_of self.old) (stage_of self.new)
+            (K.state _sink.old) (K.state _sink.new) }
         ensures count { (K.state _sink.old).faults ≤ (K.state _sink.new).faults }
     {
         if let Some(refusal) = self.refusal {
@@ -66,7 +71,8 @@ impl JcsFormatter {
 
     /// A member's value begins.
     pub fn begin_object_value<K: Sink>(&mut self, _sink: &mut K) -> Result<(), CanonError>
-        ensures answers { Answers member_begins result (stage_of self.old) (stage_of self.new) (K.state _sink.old) (K.state _sink.new) }
+        ensures answers { Answers begin_object_value result (stage_of self.old) (stage_of self.new)
+            (K.state _sink.old) (K.state _sink.new) }
         ensures count { (K.state _sink.old).faults ≤ (K.state _sink.new).faults }
     {
         if let Some(refusal) = self.refusal {
@@ -79,7 +85,8 @@ impl JcsFormatter {
 
     /// A member ends, after its value. `DuplicateKey` where the object has its name already.
     pub fn end_object_value<K: Sink>(&mut self, _sink: &mut K) -> Result<(), CanonError>
-        ensures answers { Answers member_ends result (stage_of self.old) (stage_of self.new) (K.state _sink.old) (K.state _sink.new) }
+        ensures answers { Answers end_object_value result (stage_of self.old) (stage_of self.new)
+            (K.state _sink.old) (K.state _sink.new) }
         ensures count { (K.state _sink.old).faults ≤ (K.state _sink.new).faults }
     {
         if let Some(refusal) = self.refusal {

@@ -19,7 +19,8 @@ pub(crate) fn write_piece<K: Sink>(
     sink: &mut K,
     piece: &[u8],
 ) -> Result<(), CanonError>
-    ensures tries { Tries (writes piece.now (draft_of state.old)) result (draft_of state.new) (K.state sink.old) (K.state sink.new) }
+    ensures tries { Tries (writes piece.now (draft_of state.old)) result (draft_of state.new)
+        (K.state sink.old) (K.state sink.new) }
     ensures count { (K.state sink.old).faults ≤ (K.state sink.new).faults }
 {
     if state.inner.held {
@@ -42,7 +43,8 @@ pub(crate) fn write_object<K: Sink>(
     sink: &mut K,
     members: Members,
 ) -> Result<(), CanonError>
-    ensures tries { Tries (writes (kept_object members.keys) (draft_of state.old)) result (draft_of state.new) (K.state sink.old) (K.state sink.new) }
+    ensures tries { Tries (writes (kept_object members.keys) (draft_of state.old)) result
+        (draft_of state.new) (K.state sink.old) (K.state sink.new) }
     ensures count { (K.state sink.old).faults ≤ (K.state sink.new).faults }
 {
     if state.inner.held {
@@ -89,8 +91,10 @@ pub(crate) fn open(state: &mut State, container: Container) -> Result<(), AllocE
 
 /// Closes the innermost container, if something is around it, and gives it.
 pub(crate) fn close(state: &mut State) -> Option<Container>
-    ensures none { IfNone result (((draft_of state.old).outer ≡ []) × (draft_of state.new ≡ draft_of state.old)) }
-    ensures some { IfSome result (λ closed. Closes (level_of closed) (draft_of state.old) (draft_of state.new)) }
+    ensures none { IfNone result
+        (((draft_of state.old).outer ≡ []) × (draft_of state.new ≡ draft_of state.old)) }
+    ensures some { IfSome result
+        (λ closed. Closes (level_of closed) (draft_of state.old) (draft_of state.new)) }
 {
     match state.outer.pop() {
         Some(around) => Some(mem::replace(&mut state.inner, around)),

@@ -25,7 +25,8 @@ impl JsonProperty {
         key: Blob,
         value: Blob,
     ) -> Result<JsonProperty, AllocError>
-        ensures { IfOk result (λ p. p ≡ record { sorting_key = units name.now; key = key; value = value }) }
+        ensures { IfOk result
+            (λ p. p ≡ record { sorting_key = units name.now; key = key; value = value }) }
     {
         let sorting_key = units_of(alloc, name)?;
         Ok(JsonProperty {

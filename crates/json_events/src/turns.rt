@@ -1,6 +1,9 @@
 // What each event does to a state.
 ghost use Rattle.std.specs.Prelude.{◌≡◌, ◌≤◌, [], IsErr, IfErr};
-ghost use Rattle.json_events.specs.Drafts.{places, begins_array, begins_object, begins_item, ends_array, ends_object, ends_member, takes_string, takes_whole, after_value, where_due, only_at, refused, moves, at};
+ghost use Rattle.json_events.specs.Drafts.{places, begins_array, begins_object, begins_item};
+ghost use Rattle.json_events.specs.Drafts.{ends_array, ends_object, ends_member, takes_string};
+ghost use Rattle.json_events.specs.Drafts.{takes_whole, after_value, where_due, only_at, refused};
+ghost use Rattle.json_events.specs.Drafts.{moves, at};
 ghost use Rattle.json_events.specs.States.{draft_of};
 ghost use Rattle.json_events.specs.Turns.{Turns, Ends};
 ghost use Rattle.json_events.specs.declared.spot.Spot.TheVariants.{Items, Names, ValueDone};
@@ -22,7 +25,8 @@ pub(crate) fn place<K: Sink>(
     sink: &mut K,
     piece: &[u8],
 ) -> Result<(), CanonError>
-    ensures turns { Turns (places piece.now (draft_of state.old)) result (draft_of state.old) (draft_of state.new) (K.state sink.old) (K.state sink.new) }
+    ensures turns { Turns (places piece.now (draft_of state.old)) result (draft_of state.old)
+        (draft_of state.new) (K.state sink.old) (K.state sink.new) }
     ensures count { (K.state sink.old).faults ≤ (K.state sink.new).faults }
 {
     let Some(spot) = state.inner.spot.after_value() else {
@@ -39,7 +43,8 @@ pub(crate) fn begin_array<K: Sink>(
     state: &mut State,
     sink: &mut K,
 ) -> Result<(), CanonError>
-    ensures turns { Turns (begins_array (draft_of state.old)) result (draft_of state.old) (draft_of state.new) (K.state sink.old) (K.state sink.new) }
+    ensures turns { Turns (begins_array (draft_of state.old)) result (draft_of state.old)
+        (draft_of state.new) (K.state sink.old) (K.state sink.new) }
     ensures count { (K.state sink.old).faults ≤ (K.state sink.new).faults }
 {
     let Some(spot) = state.inner.spot.after_value() else {
@@ -54,7 +59,8 @@ pub(crate) fn begin_array<K: Sink>(
 
 /// An item of an array begins.
 pub(crate) fn begin_item<K: Sink>(state: &mut State, sink: &mut K) -> Result<(), CanonError>
-    ensures turns { Turns (only_at Items (draft_of state.old) (begins_item (draft_of state.old))) result (draft_of state.old) (draft_of state.new) (K.state sink.old) (K.state sink.new) }
+    ensures turns { Turns (only_at Items (draft_of state.old) (begins_item (draft_of state.old)))
+        result (draft_of state.old) (draft_of state.new) (K.state sink.old) (K.state sink.new) }
     ensures count { (K.state sink.old).faults ≤ (K.state sink.new).faults }
 {
     if !state.inner.spot.is_at(Spot::Items) {
@@ -69,7 +75,8 @@ pub(crate) fn begin_item<K: Sink>(state: &mut State, sink: &mut K) -> Result<(),
 
 /// An array ends.
 pub(crate) fn end_array<K: Sink>(state: &mut State, sink: &mut K) -> Result<(), CanonError>
-    ensures turns { Turns (only_at Items (draft_of state.old) (ends_array (draft_of state.old))) result (draft_of state.old) (draft_of state.new) (K.state sink.old) (K.state sink.new) }
+    ensures turns { Turns (only_at Items (draft_of state.old) (ends_array (draft_of state.old)))
+        result (draft_of state.old) (draft_of state.new) (K.state sink.old) (K.state sink.new) }
     ensures count { (K.state sink.old).faults ≤ (K.state sink.new).faults }
 {
     if !state.inner.spot.is_at(Spot::Items) {
@@ -88,7 +95,8 @@ pub(crate) fn begin_object<K: Sink>(
     state: &mut State,
     sink: &mut K,
 ) -> Result<(), CanonError>
-    ensures turns { Turns (begins_object (draft_of state.old)) result (draft_of state.old) (draft_of state.new) (K.state sink.old) (K.state sink.new) }
+    ensures turns { Turns (begins_object (draft_of state.old)) result (draft_of state.old)
+        (draft_of state.new) (K.state sink.old) (K.state sink.new) }
     ensures count { (K.state sink.old).faults ≤ (K.state sink.new).faults }
 {
     let Some(spot) = state.inner.spot.after_value() else {
@@ -107,7 +115,8 @@ pub(crate) fn end_object<K: Sink>(
     state: &mut State,
     sink: &mut K,
 ) -> Result<(), CanonError>
-    ensures turns { Turns (only_at Names (draft_of state.old) (ends_object (draft_of state.old))) result (draft_of state.old) (draft_of state.new) (K.state sink.old) (K.state sink.new) }
+    ensures turns { Turns (only_at Names (draft_of state.old) (ends_object (draft_of state.old)))
+        result (draft_of state.old) (draft_of state.new) (K.state sink.old) (K.state sink.new) }
     ensures count { (K.state sink.old).faults ≤ (K.state sink.new).faults }
 {
     if !state.inner.spot.is_at(Spot::Names) {
@@ -131,7 +140,8 @@ pub(crate) fn end_object<K: Sink>(
 
 /// A member of an object ends. A name that is there already is refused.
 pub(crate) fn end_member(alloc: Global, state: &mut State) -> Result<(), CanonError>
-    ensures { Ends (only_at ValueDone (draft_of state.old) (ends_member (draft_of state.old))) result (draft_of state.old) (draft_of state.new) }
+    ensures { Ends (only_at ValueDone (draft_of state.old) (ends_member (draft_of state.old)))
+        result (draft_of state.old) (draft_of state.new) }
 {
     if !state.inner.spot.is_at(Spot::ValueDone) {
         return Err(CanonError::NotWellNested);
@@ -154,7 +164,8 @@ pub(crate) fn take_string<K: Sink>(
     sink: &mut K,
     text: &str,
 ) -> Result<(), CanonError>
-    ensures turns { Turns (takes_string text.now (draft_of state.old)) result (draft_of state.old) (draft_of state.new) (K.state sink.old) (K.state sink.new) }
+    ensures turns { Turns (takes_string text.now (draft_of state.old)) result (draft_of state.old)
+        (draft_of state.new) (K.state sink.old) (K.state sink.new) }
     ensures count { (K.state sink.old).faults ≤ (K.state sink.new).faults }
 {
     if state.inner.spot.is_at(Spot::NameDue) {
@@ -174,7 +185,8 @@ pub(crate) fn take_whole<K: Sink>(
     sink: &mut K,
     value: i128,
 ) -> Result<(), CanonError>
-    ensures turns { Turns (takes_whole value (draft_of state.old)) result (draft_of state.old) (draft_of state.new) (K.state sink.old) (K.state sink.new) }
+    ensures turns { Turns (takes_whole value (draft_of state.old)) result (draft_of state.old)
+        (draft_of state.new) (K.state sink.old) (K.state sink.new) }
     ensures count { (K.state sink.old).faults ≤ (K.state sink.new).faults }
 {
     let Some(spot) = state.inner.spot.after_value() else {
@@ -191,7 +203,8 @@ pub(crate) fn take_whole<K: Sink>(
 
 /// A value that has no canonical text.
 pub(crate) fn refuse_value(state: &State, refusal: CanonError) -> Result<(), CanonError>
-    ensures refusal { IfErr result (λ e. where_due (after_value (draft_of state.now).inner.spot) (λ s. refused refusal) ≡ refused e) }
+    ensures refusal { IfErr result
+        (λ e. where_due (after_value (draft_of state.now).inner.spot) (λ s. refused refusal) ≡ refused e) }
     ensures err { IsErr result }
 {
     match state.inner.spot.after_value() {
@@ -202,7 +215,8 @@ pub(crate) fn refuse_value(state: &State, refusal: CanonError) -> Result<(), Can
 
 /// An event that comes at one spot alone, and leaves another.
 pub(crate) fn move_on(state: &mut State, from: Spot, to: Spot) -> Result<(), CanonError>
-    ensures { Ends (only_at from (draft_of state.old) (moves (at to (draft_of state.old)) [])) result (draft_of state.old) (draft_of state.new) }
+    ensures { Ends (only_at from (draft_of state.old) (moves (at to (draft_of state.old)) []))
+        result (draft_of state.old) (draft_of state.new) }
 {
     if !state.inner.spot.is_at(from) {
         return Err(CanonError::NotWellNested);

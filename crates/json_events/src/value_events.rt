@@ -9,13 +9,15 @@ use crate::turns::{move_on, place, refuse_value, take_string, take_whole};
 use json_values::Sink;
 
 impl JcsFormatter {
-    ghost use Rattle.json_events.specs.Events.{null_value, truth_value, whole_value, float_value, string_event, raw_fragment, finishes};
+    ghost use Rattle.json_events.specs.Events.{write_null, write_bool, write_integer, write_float};
+    ghost use Rattle.json_events.specs.Events.{write_string, write_raw_fragment, finish};
     ghost use Rattle.json_events.specs.Formatters.{stage_of};
     ghost use Rattle.json_events.specs.Turns.{Answers};
 
     /// The value null.
     pub fn write_null<K: Sink>(&mut self, sink: &mut K) -> Result<(), CanonError>
-        ensures answers { Answers null_value result (stage_of self.old) (stage_of self.new) (K.state sink.old) (K.state sink.new) }
+        ensures answers { Answers write_null result (stage_of self.old) (stage_of self.new)
+            (K.state sink.old) (K.state sink.new) }
         ensures count { (K.state sink.old).faults ≤ (K.state sink.new).faults }
     {
         if let Some(refusal) = self.refusal {
@@ -28,7 +30,8 @@ impl JcsFormatter {
 
     /// A truth value.
     pub fn write_bool<K: Sink>(&mut self, sink: &mut K, value: bool) -> Result<(), CanonError>
-        ensures answers { Answers (truth_value value) result (stage_of self.old) (stage_of self.new) (K.state sink.old) (K.state sink.new) }
+        ensures answers { Answers (write_bool value) result (stage_of self.old) (stage_of self.new)
+            (K.state sink.old) (K.state sink.new) }
         ensures count { (K.state sink.old).faults ≤ (K.state sink.new).faults }
     {
         if let Some(refusal) = self.refusal {
@@ -41,7 +44,8 @@ impl JcsFormatter {
 
     /// A whole number. `IntegerOutOfRange` past 9007199254740991 on either side.
     pub fn write_integer<K: Sink>(&mut self, sink: &mut K, value: i128) -> Result<(), CanonError>
-        ensures answers { Answers (whole_value value) result (stage_of self.old) (stage_of self.new) (K.state sink.old) (K.state sink.new) }
+        ensures answers { Answers (write_integer value) result (stage_of self.old)
+            (stage_of self.new) (K.state sink.old) (K.state sink.new) }
         ensures count { (K.state sink.old).faults ≤ (K.state sink.new).faults }
     {
         if let Some(refusal) = self.refusal {
@@ -54,7 +58,8 @@ impl JcsFormatter {
 
     /// A float, which has no text: `Float`.
     pub fn write_float<K: Sink>(&mut self, _sink: &mut K) -> Result<(), CanonError>
-        ensures answers { Answers float_value result (stage_of self.old) (stage_of self.new) (K.state _sink.old) (K.state _sink.new) }
+        ensures answers { Answers write_float result (stage_of self.old) (stage_of self.new)
+            (K.state _sink.old) (K.state _sink.new) }
         ensures count { (K.state _sink.old).faults ≤ (K.state _sink.new).faults }
     {
         if let Some(refusal) = self.refusal {
@@ -67,7 +72,8 @@ impl JcsFormatter {
 
     /// A string, or the name of a member.
     pub fn write_string<K: Sink>(&mut self, sink: &mut K, text: &str) -> Result<(), CanonError>
-        ensures answers { Answers (string_event text.now) result (stage_of self.old) (stage_of self.new) (K.state sink.old) (K.state sink.new) }
+        ensures answers { Answers (write_string text.now) result (stage_of self.old)
+            (stage_of self.new) (K.state sink.old) (K.state sink.new) }
         ensures count { (K.state sink.old).faults ≤ (K.state sink.new).faults }
     {
         if let Some(refusal) = self.refusal {
@@ -84,7 +90,8 @@ impl JcsFormatter {
         _sink: &mut K,
         _text: &str,
     ) -> Result<(), CanonError>
-        ensures answers { Answers raw_fragment result (stage_of self.old) (stage_of self.new) (K.state _sink.old) (K.state _sink.new) }
+        ensures answers { Answers write_raw_fragment result (stage_of self.old) (stage_of self.new)
+            (K.state _sink.old) (K.state _sink.new) }
         ensures count { (K.state _sink.old).faults ≤ (K.state _sink.new).faults }
     {
         if let Some(refusal) = self.refusal {
@@ -97,7 +104,8 @@ impl JcsFormatter {
 
     /// The end. `NotWellNested` unless the events are one whole value.
     pub fn finish<K: Sink>(&mut self, _sink: &mut K) -> Result<(), CanonError>
-        ensures answers { Answers finishes result (stage_of self.old) (stage_of self.new) (K.state _sink.old) (K.state _sink.new) }
+        ensures answers { Answers finish result (stage_of self.old) (stage_of self.new)
+            (K.state _sink.old) (K.state _sink.new) }
         ensures count { (K.state _sink.old).faults ≤ (K.state _sink.new).faults }
     {
         if let Some(refusal) = self.refusal {

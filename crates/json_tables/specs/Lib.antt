@@ -1,4 +1,5 @@
 pub mod Bytes
 pub mod Outcomes
+pub mod Plain
 pub mod Reading
 pub mod Rows

@@ -1,20 +1,27 @@
-use std::alloc::{AllocError, AllocFailed};
+use json_values::Copied;
+use std::alloc::{AllocError, AllocFailed, Global};
 use thiserror::Error;
 
 /// Why a value is not the document.
 #[derive(Clone, Copy, Debug, PartialEq, Eq, Error)]
 pub enum ReadError {
     /// A float stands in it.
-    #[error("a float stands in the value")]
+    #[error("a float stands in the value: write its numbers as whole ones")]
     Float,
     /// Its table does not read it.
-    #[error("the value has another shape")]
+    #[error("the value has another shape: compare its members with those of the document")]
     Shape,
     /// The tables of two documents read it.
-    #[error("the value reads as two documents")]
+    #[error("the value reads as two documents: leave out the members of one of them")]
     Ambiguous,
     #[error("out of memory")]
     WantOfMemory,
+}
+
+impl Copied for ReadError {
+    fn copy(&self, _alloc: Global) -> Result<ReadError, AllocError> {
+        Ok(*self)
+    }
 }
 
 impl From<AllocError> for ReadError {

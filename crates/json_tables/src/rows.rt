@@ -1,145 +1,66 @@
-// Members in a row, so that a document is read with one exit.
-ghost use Rattle.std.specs.Prelude.{IfOk};
+//! Members in a row, so that a document is read with one exit.
+ghost use Rattle.std.specs.Prelude.{ℕ, List, Option, IfOk, ⊤, map};
+ghost use Rattle.serde_json.specs.Data.{Data};
 ghost use Rattle.serde_json.specs.View.{view};
-ghost use Rattle.json_tables.specs.Outcomes.{Gives};
-ghost use Rattle.json_tables.specs.Reading.{at_name};
-ghost use Rattle.json_tables.specs.Rows.{row2, row3, row4, row5, row6, IsRow2, IsRow3, IsRow4, IsRow5, IsRow6};
+ghost use Rattle.json_tables.specs.Rows.{made_of_none, made_of, IsRow, IfRefused};
 
 use crate::error::ReadError;
 use crate::member::Member;
 use serde_json::Value;
 use std::alloc::Global;
 
-/// Two members.
-pub fn row2<A: Member + Drop, B: Member + Drop>(
-    alloc: Global,
-    value: &Value,
-    a: &str,
-    b: &str,
-) -> Result<(A, B), ReadError>
-    ensures gives { Gives result (row2
-        (at_name A.found a.now) (at_name B.found b.now)
-        (view value.now)) }
-    ensures each { IfOk result (IsRow2
-        (at_name A.found a.now) (at_name B.found b.now)
-        (view value.now)) }
-{
-    let first = A::read_member(alloc, value.get(a))?;
-    let second = B::read_member(alloc, value.get(b))?;
-    Ok((first, second))
+/// Members of an object in a row: none, or a member and the rest of the row. `json_values::row!` writes one.
+pub trait Row: Sized {
+    /// What takes the members, one after another, and makes an `X` of them or none.
+    ghost Maker: { Type 0 → Type 0 };
+
+    /// What is made of the members under these names.
+    ghost made: { (X : Type 0) → List (List ℕ) → Data → Maker X → Option X };
+
+    /// Each member by itself.
+    ghost Each: { List (List ℕ) → Data → Self → Type 0 };
+
+    /// `Shape` only where nothing can be made of the members: one of them does not read, or has no name.
+    fn read_row<X>(alloc: Global, value: &Value, names: &[&str]) -> Result<Self, ReadError>
+        ensures refused { (make : Maker X)
+            → IfRefused result (made X (map (λ name. name.now) names.now) (view value.now) make) }
+        ensures each { IfOk result (Each (map (λ name. name.now) names.now) (view value.now)) };
 }
 
-/// Three members.
-pub fn row3<A: Member + Drop, B: Member + Drop, C: Member + Drop>(
-    alloc: Global,
-    value: &Value,
-    a: &str,
-    b: &str,
-    c: &str,
-) -> Result<(A, B, C), ReadError>
-    ensures gives { Gives result (row3
-        (at_name A.found a.now) (at_name B.found b.now) (at_name C.found c.now)
-        (view value.now)) }
-    ensures each { IfOk result (IsRow3
-        (at_name A.found a.now) (at_name B.found b.now) (at_name C.found c.now)
-        (view value.now)) }
-{
-    let first = A::read_member(alloc, value.get(a))?;
-    let second = B::read_member(alloc, value.get(b))?;
-    let third = C::read_member(alloc, value.get(c))?;
-    Ok((first, second, third))
+impl Row for () {
+    ghost Maker = { Option };
+
+    ghost made = { λ X. made_of_none };
+
+    ghost Each = { λ _ _ _. ⊤ };
+
+    fn read_row<X>(_alloc: Global, _value: &Value, _names: &[&str]) -> Result<(), ReadError> {
+        Ok(())
+    }
 }
 
-/// Four members.
-pub fn row4<A: Member + Drop, B: Member + Drop, C: Member + Drop, D: Member + Drop>(
-    alloc: Global,
-    value: &Value,
-    a: &str,
-    b: &str,
-    c: &str,
-    d: &str,
-) -> Result<(A, B, C, D), ReadError>
-    ensures gives { Gives result (row4
-        (at_name A.found a.now) (at_name B.found b.now) (at_name C.found c.now)
-        (at_name D.found d.now)
-        (view value.now)) }
-    ensures each { IfOk result (IsRow4
-        (at_name A.found a.now) (at_name B.found b.now) (at_name C.found c.now)
-        (at_name D.found d.now)
-        (view value.now)) }
-{
-    let first = A::read_member(alloc, value.get(a))?;
-    let second = B::read_member(alloc, value.get(b))?;
-    let third = C::read_member(alloc, value.get(c))?;
-    let fourth = D::read_member(alloc, value.get(d))?;
-    Ok((first, second, third, fourth))
+impl<A: Member + Drop, B: Row> Row for (A, B) {
+    ghost Maker = { λ X. A → B.Maker X };
+
+    ghost made = { λ X. made_of A.found (B.made X) };
+
+    ghost Each = { IsRow A.found B.Each };
+
+    fn read_row<X>(alloc: Global, value: &Value, names: &[&str]) -> Result<(A, B), ReadError> {
+        let Some((name, others)) = names.split_first() else {
+            return Err(ReadError::Shape);
+        };
+        let first = A::read_member(alloc, value.get(*name))?;
+        let rest = B::read_row::<X>(alloc, value, others)?;
+        Ok((first, rest))
+    }
 }
 
-/// Five members.
-pub fn row5<
-    A: Member + Drop,
-    B: Member + Drop,
-    C: Member + Drop,
-    D: Member + Drop,
-    E: Member + Drop,
->(
-    alloc: Global,
-    value: &Value,
-    a: &str,
-    b: &str,
-    c: &str,
-    d: &str,
-    e: &str,
-) -> Result<(A, B, C, D, E), ReadError>
-    ensures gives { Gives result (row5
-        (at_name A.found a.now) (at_name B.found b.now) (at_name C.found c.now)
-        (at_name D.found d.now) (at_name E.found e.now)
-        (view value.now)) }
-    ensures each { IfOk result (IsRow5
-        (at_name A.found a.now) (at_name B.found b.now) (at_name C.found c.now)
-        (at_name D.found d.now) (at_name E.found e.now)
-        (view value.now)) }
+/// The members under these names, of which an `X` is made.
+pub fn read_row<X, R: Row>(alloc: Global, value: &Value, names: &[&str]) -> Result<R, ReadError>
+    ensures refused { (make : R.Maker X)
+        → IfRefused result (R.made X (map (λ name. name.now) names.now) (view value.now) make) }
+    ensures each { IfOk result (R.Each (map (λ name. name.now) names.now) (view value.now)) }
 {
-    let first = A::read_member(alloc, value.get(a))?;
-    let second = B::read_member(alloc, value.get(b))?;
-    let third = C::read_member(alloc, value.get(c))?;
-    let fourth = D::read_member(alloc, value.get(d))?;
-    let fifth = E::read_member(alloc, value.get(e))?;
-    Ok((first, second, third, fourth, fifth))
-}
-
-/// Six members.
-pub fn row6<
-    A: Member + Drop,
-    B: Member + Drop,
-    C: Member + Drop,
-    D: Member + Drop,
-    E: Member + Drop,
-    F: Member + Drop,
->(
-    alloc: Global,
-    value: &Value,
-    a: &str,
-    b: &str,
-    c: &str,
-    d: &str,
-    e: &str,
-    f: &str,
-) -> Result<(A, B, C, D, E, F), ReadError>
-    ensures gives { Gives result (row6
-        (at_name A.found a.now) (at_name B.found b.now) (at_name C.found c.now)
-        (at_name D.found d.now) (at_name E.found e.now) (at_name F.found f.now)
-        (view value.now)) }
-    ensures each { IfOk result (IsRow6
-        (at_name A.found a.now) (at_name B.found b.now) (at_name C.found c.now)
-        (at_name D.found d.now) (at_name E.found e.now) (at_name F.found f.now)
-        (view value.now)) }
-{
-    let first = A::read_member(alloc, value.get(a))?;
-    let second = B::read_member(alloc, value.get(b))?;
-    let third = C::read_member(alloc, value.get(c))?;
-    let fourth = D::read_member(alloc, value.get(d))?;
-    let fifth = E::read_member(alloc, value.get(e))?;
-    let sixth = F::read_member(alloc, value.get(f))?;
-    Ok((first, second, third, fourth, fifth, sixth))
+    R::read_row::<X>(alloc, value, names)
 }

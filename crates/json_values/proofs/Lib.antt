@@ -4,4 +4,5 @@ pub mod Fronts
 pub mod Halves
 pub mod JsonTexts
 pub mod Maps
+pub mod Refusals
 pub mod Sinks

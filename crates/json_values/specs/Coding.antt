@@ -41,7 +41,8 @@ abbrev mutual
 
   pub members_code : Members → Gv
   members_code no_members = gnil
-  members_code (member k d ms) = gcons ((coded_list coded_ℕ).code k) (gcons (data_code d) (members_code ms))
+  members_code (member k d ms) =
+      gcons ((coded_list coded_ℕ).code k) (gcons (data_code d) (members_code ms))
 
 mutual
   pub data_inj : (x y : Data) → data_code x ≡ data_code y → x ≡ y
@@ -55,12 +56,16 @@ mutual
 
   pub items_inj : (x y : Items) → items_code x ≡ items_code y → x ≡ y
   items_inj no_items no_items p = refl
-  items_inj (item d ds) (item e es) p = λ i. item (data_inj d e (ap head p) i) (items_inj ds es (ap tail p) i)
+  items_inj (item d ds) (item e es) p =
+      λ i. item (data_inj d e (ap head p) i) (items_inj ds es (ap tail p) i)
   items_inj x y p = cc
 
   pub members_inj : (x y : Members) → members_code x ≡ members_code y → x ≡ y
   members_inj no_members no_members p = refl
-  members_inj (member k d ms) (member l e ns) p = λ i. member ((coded_list coded_ℕ).inj k l (ap head p) i) (data_inj d e (ap (λ g. head (tail g)) p) i) (members_inj ms ns (ap (λ g. tail (tail g)) p) i)
+  members_inj (member k d ms) (member l e ns) p = λ i. member
+      ((coded_list coded_ℕ).inj k l (ap head p) i)
+      (data_inj d e (ap (λ g. head (tail g)) p) i)
+      (members_inj ms ns (ap (λ g. tail (tail g)) p) i)
   members_inj x y p = cc
 
 abbrev pub coded_data : Coded Data

@@ -4,6 +4,7 @@ pub mod Counts
 pub mod Equalities
 pub mod JsonText
 pub mod Places
+pub mod Refusals
 pub mod Sinks
 pub mod Tray
 pub mod Writing

@@ -1,119 +1,66 @@
-// Several values copied by one call, so that a struct's copy has one exit.
+//! Several values copied by one call, so that a struct's copy has one exit.
 ghost use Rattle.std.specs.Prelude.{◌≡◌, IfOk};
 
 use crate::copied::Copied;
 use std::alloc::{AllocError, Global};
 
-/// Copies of 2 values.
-pub fn copies2<A: Copied + Drop, B: Copied + Drop>(
-    alloc: Global,
-    a: &A,
-    b: &B,
-) -> Result<(A, B), AllocError>
-    ensures { IfOk result (λ t. t ≡ (a.now, b.now)) }
-{
-    let first = a.copy(alloc)?;
-    let second = b.copy(alloc)?;
-    Ok((first, second))
+/// References in a row: none, or a reference to what can be copied and the rest of the row. `row!` writes one,
+/// of any length.
+pub trait CopyRow {
+    type Copies;
+
+    /// What they refer to.
+    ghost sources: { Self → Self.Copies };
+
+    fn copy_row(self, alloc: Global) -> Result<Self::Copies, AllocError>
+        ensures { IfOk result (λ copies. copies ≡ sources self) };
 }
 
-/// Copies of 3 values.
-pub fn copies3<A: Copied + Drop, B: Copied + Drop, C: Copied + Drop>(
-    alloc: Global,
-    a: &A,
-    b: &B,
-    c: &C,
-) -> Result<(A, B, C), AllocError>
-    ensures { IfOk result (λ t. t ≡ (a.now, b.now, c.now)) }
-{
-    let first = a.copy(alloc)?;
-    let second = b.copy(alloc)?;
-    let third = c.copy(alloc)?;
-    Ok((first, second, third))
+impl CopyRow for () {
+    ghost use Rattle.std.specs.Prelude.{⊤};
+
+    type Copies = ();
+
+    ghost sources = { λ _. tt };
+
+    fn copy_row(self, _alloc: Global) -> Result<(), AllocError> {
+        Ok(())
+    }
 }
 
-/// Copies of 4 values.
-pub fn copies4<A: Copied + Drop, B: Copied + Drop, C: Copied + Drop, D: Copied + Drop>(
-    alloc: Global,
-    a: &A,
-    b: &B,
-    c: &C,
-    d: &D,
-) -> Result<(A, B, C, D), AllocError>
-    ensures { IfOk result (λ t. t ≡ (a.now, b.now, c.now, d.now)) }
-{
-    let first = a.copy(alloc)?;
-    let second = b.copy(alloc)?;
-    let third = c.copy(alloc)?;
-    let fourth = d.copy(alloc)?;
-    Ok((first, second, third, fourth))
+impl<'a, A: Copied + Drop, B: CopyRow + Drop> CopyRow for (&'a A, B) {
+    type Copies = (A, B::Copies);
+
+    ghost sources = { λ row. (row.0.now, B.sources row.1) };
+
+    fn copy_row(self, alloc: Global) -> Result<(A, B::Copies), AllocError> {
+        let (first, others) = self;
+        let copy = first.copy(alloc)?;
+        let copies = others.copy_row(alloc)?;
+        Ok((copy, copies))
+    }
 }
 
-/// Copies of 5 values.
-pub fn copies5<
-    A: Copied + Drop,
-    B: Copied + Drop,
-    C: Copied + Drop,
-    D: Copied + Drop,
-    E: Copied + Drop,
->(alloc: Global, a: &A, b: &B, c: &C, d: &D, e: &E) -> Result<(A, B, C, D, E), AllocError>
-    ensures { IfOk result (λ t. t ≡ (a.now, b.now, c.now, d.now, e.now)) }
+/// Copies of what the references in a row refer to.
+pub fn copy_all<R: CopyRow>(alloc: Global, row: R) -> Result<R::Copies, AllocError>
+    ensures { IfOk result (λ copies. copies ≡ R.sources row) }
 {
-    let first = a.copy(alloc)?;
-    let second = b.copy(alloc)?;
-    let third = c.copy(alloc)?;
-    let fourth = d.copy(alloc)?;
-    let fifth = e.copy(alloc)?;
-    Ok((first, second, third, fourth, fifth))
+    row.copy_row(alloc)
 }
 
-/// Copies of 6 values.
-pub fn copies6<
-    A: Copied + Drop,
-    B: Copied + Drop,
-    C: Copied + Drop,
-    D: Copied + Drop,
-    E: Copied + Drop,
-    F: Copied + Drop,
->(alloc: Global, a: &A, b: &B, c: &C, d: &D, e: &E, f: &F) -> Result<(A, B, C, D, E, F), AllocError>
-    ensures { IfOk result (λ t. t ≡ (a.now, b.now, c.now, d.now, e.now, f.now)) }
-{
-    let first = a.copy(alloc)?;
-    let second = b.copy(alloc)?;
-    let third = c.copy(alloc)?;
-    let fourth = d.copy(alloc)?;
-    let fifth = e.copy(alloc)?;
-    let sixth = f.copy(alloc)?;
-    Ok((first, second, third, fourth, fifth, sixth))
+/// A row as a value or a pattern: `row![a, b]` is `(a, (b, ()))`.
+#[macro_export]
+macro_rules! row {
+    () => { () };
+    ($first:tt $(, $rest:tt)* $(,)?) => { ($first, $crate::row!($($rest),*)) };
+    ($first:expr $(, $rest:expr)* $(,)?) => { ($first, $crate::row!($($rest),*)) };
 }
 
-/// Copies of 7 values.
-pub fn copies7<
-    A: Copied + Drop,
-    B: Copied + Drop,
-    C: Copied + Drop,
-    D: Copied + Drop,
-    E: Copied + Drop,
-    F: Copied + Drop,
-    G: Copied + Drop,
->(
-    alloc: Global,
-    a: &A,
-    b: &B,
-    c: &C,
-    d: &D,
-    e: &E,
-    f: &F,
-    g: &G,
-) -> Result<(A, B, C, D, E, F, G), AllocError>
-    ensures { IfOk result (λ t. t ≡ (a.now, b.now, c.now, d.now, e.now, f.now, g.now)) }
-{
-    let first = a.copy(alloc)?;
-    let second = b.copy(alloc)?;
-    let third = c.copy(alloc)?;
-    let fourth = d.copy(alloc)?;
-    let fifth = e.copy(alloc)?;
-    let sixth = f.copy(alloc)?;
-    let seventh = g.copy(alloc)?;
-    Ok((first, second, third, fourth, fifth, sixth, seventh))
+/// Copies the fields of a struct, and answers the copy: `copied!(alloc, self, Point { x, y })`.
+#[macro_export]
+macro_rules! copied {
+    ($alloc:expr, $source:expr, $name:ident { $($field:ident),* $(,)? }) => {{
+        let $crate::row!($($field),*) = $crate::copy_all($alloc, $crate::row!($(&$source.$field),*))?;
+        Ok($name { $($field),* })
+    }};
 }

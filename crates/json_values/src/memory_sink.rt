@@ -1,5 +1,5 @@
-ghost use Rattle.std.specs.Prelude.{◌≡◌, ◌≤◌, ◌<◌, length, take, Some, [], Contains, IfOk, OnErr, IsErrOf};
-ghost use Rattle.json_values.specs.Counts.{Rose, raised};
+ghost use Rattle.std.specs.Prelude.{◌≡◌, ◌≤◌, ◌<◌, length, take, Some, [], Contains, IfOk, OnOk, OnErr, IsErrOf};
+ghost use Rattle.json_values.specs.Counts.{Rose, Stays, raised};
 ghost use Rattle.json_values.specs.Tray.{Adds};
 
 use crate::list::List;
@@ -49,13 +49,22 @@ impl Sink for MemorySink {
         ensures count { (memory_tray self.old).faults ≤ (memory_tray self.new).faults }
         ensures some { 0 < length piece.now → IfOk result (λ n. 0 < n) }
         ensures most { IfOk result (λ n. n ≤ length piece.now) }
-        ensures taken { IfOk result (λ n. Adds (take n piece.now) (memory_tray self.old) (memory_tray self.new)) }
-        ensures refused { OnErr result ((memory_tray self.new).taken ≡ (memory_tray self.old).taken) }
-        ensures fault { IsErrOf result SinkError.Failed → (memory_tray self.new).faults ≡ raised (memory_tray self.old).faults }
-        ensures rose { IsErrOf result SinkError.Failed → Rose (memory_tray self.old).faults (memory_tray self.new).faults }
+        ensures taken { IfOk result (λ n.
+            Adds (take n piece.now) (memory_tray self.old) (memory_tray self.new)) }
+        ensures refused { OnErr result (
+            (memory_tray self.new).taken ≡ (memory_tray self.old).taken) }
+        ensures fault { IsErrOf result SinkError.Failed
+            → (memory_tray self.new).faults ≡ raised (memory_tray self.old).faults }
+        ensures rose { IsErrOf result SinkError.Failed
+            → Rose (memory_tray self.old).faults (memory_tray self.new).faults }
+        ensures served { OnOk result (
+            Stays (memory_tray self.old).faults (memory_tray self.new).faults) }
+        ensures wanting { IsErrOf result SinkError.WantOfMemory
+            → Stays (memory_tray self.old).faults (memory_tray self.new).faults }
         ensures calls { calls_of self.new ≡ raised (calls_of self.old) }
         ensures failing { failing_of self.new ≡ failing_of self.old }
-        ensures fails { IsErrOf result SinkError.Failed → Contains (failing_of self.old) (calls_of self.old) }
+        ensures fails { IsErrOf result SinkError.Failed
+            → Contains (failing_of self.old) (calls_of self.old) }
         ensures serves { IfOk result (λ n. Contains (failing_of self.old) (calls_of self.old) → ⊥) }
     {
         let call = self.calls;

@@ -1,2 +1,3 @@
-pub mod Fields
 pub mod Again
+pub mod Fields
+pub mod Rows

@@ -47,6 +47,23 @@ impl Field for Text {
     }
 }
 
+/// A text that is lent.
+impl<'a> Field for &'a str {
+    ghost field = { λ t. Some (string t.now) };
+
+    ghost Known = { λ t. MemberReadsAgain (present text_of) (Some (string t.now)) t.now false };
+
+    fn put_in(
+        &self,
+        alloc: Global,
+        members: &mut Map<String, Value>,
+        name: &str,
+    ) -> Result<(), AllocError> {
+        let text = String::from_str(alloc, *self)?;
+        put(members, alloc, name, Value::String(text))
+    }
+}
+
 impl Field for u8 {
     ghost field = { λ n. Some (number (unsigned n)) };
 

@@ -1,4 +1,3 @@
 pub mod Again
 pub mod Parts
-pub mod Rows
 pub mod Texts

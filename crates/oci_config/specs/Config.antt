@@ -1,9 +1,10 @@
 -- How a container is started (OCI image specification, config.md, `config`).
-use Rattle.std.specs.Prelude.{List, [], ◌∷◌, Option, Some, option_map, codes}
+use Rattle.std.specs.Prelude.{List, [], ◌∷◌, Option, Some, None, option_map, codes}
 use Rattle.std.specs.FinMap.{entries}
 use Rattle.serde_json.specs.Data.{Data, string}
 use Rattle.json_values.specs.Writing.{listed, map_written, set_written}
-use Rattle.json_tables.specs.Reading.{◌>>=◌, an_object, text_of, list_of, map_of, set_of, Map, optional}
+use Rattle.json_tables.specs.Reading.{◌>>=◌, an_object, text_of, list_of, map_of, set_of, Map}
+use Rattle.json_tables.specs.Reading.{optional}
 use Rattle.json_writing.specs.Fields.{Field, fields, no_entries, unless_empty}
 use Rattle.oci_config.specs.declared.config.Config.{Config}
 
@@ -18,12 +19,36 @@ config_members d = do
   working_dir ← optional text_of (codes "WorkingDir") d
   labels ← optional (map_of text_of) (codes "Labels") d
   stop_signal ← optional text_of (codes "StopSignal") d
-  Some (record { user = user; exposed_ports = exposed_ports; env = env; cmd = cmd; entrypoint = entrypoint; volumes = volumes; working_dir = working_dir; labels = labels; stop_signal = stop_signal })
+  Some (record {
+    user = user;
+    exposed_ports = exposed_ports;
+    env = env;
+    cmd = cmd;
+    entrypoint = entrypoint;
+    volumes = volumes;
+    working_dir = working_dir;
+    labels = labels;
+    stop_signal = stop_signal;
+  })
 
 unfoldable pub config_of : Data → Option Config
 config_of d = do
   members ← an_object d
   config_members d
+
+-- none in every field
+abbrev pub no_config : Config
+no_config = record {
+  user = None;
+  exposed_ports = None;
+  env = None;
+  cmd = None;
+  entrypoint = None;
+  volumes = None;
+  working_dir = None;
+  labels = None;
+  stop_signal = None;
+}
 
 -- a list that is not empty
 abbrev pub some_list : {X : Type 0} → Option (List X) → Option (List X)

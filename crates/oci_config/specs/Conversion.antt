@@ -1,8 +1,10 @@
 -- Configuration files as the bytes of a configuration.
-use Rattle.std.specs.Prelude.{◌≡◌, ℕ, List, Option, Some, None, Result, Ok, Err, ⊤}
+use Rattle.std.specs.Prelude.{◌≡◌, ℕ, List, Option, Some, None, Result, Ok, Err, ⊤, codes}
+use Rattle.std.specs.FinMap.{FinMap}
 use Rattle.serde_json.specs.Written.{compact_text}
-use Rattle.json_values.specs.JsonText.{plain_json_of}
-use Rattle.json_tables.specs.Reading.{◌>>=◌}
+use Rattle.json_values.specs.Places.{by_bytes}
+use Rattle.json_tables.specs.Plain.{read_plain}
+use Rattle.oci_manifests.specs.declared.blob.Config.{Config}
 use Rattle.oci_config.specs.declared.conversion.ConfigError.{ConfigError}
 use Rattle.oci_config.specs.declared.conversion.ConfigError.TheVariants.{Unreadable, WantOfMemory}
 use Rattle.oci_config.specs.declared.file.ConfigFile.{ConfigFile}
@@ -10,7 +12,7 @@ use Rattle.oci_config.specs.File.{file_of, file_written}
 
 -- the file that the bytes say, where they are JSON in which no float stands
 abbrev pub file_in : List ℕ → Option ConfigFile
-file_in bytes = plain_json_of bytes >>= file_of
+file_in = read_plain file_of
 
 -- the file, or `Unreadable` exactly where the bytes say none, unless memory runs out
 abbrev pub ReadsFile : Result ConfigFile ConfigError → List ℕ → Type 0
@@ -21,3 +23,11 @@ ReadsFile (Err WantOfMemory) bytes = ⊤
 -- the compact text of a file
 abbrev pub file_text : ConfigFile → List ℕ
 file_text file = compact_text (file_written file)
+
+-- a configuration of OCI's type that holds the file, with these annotations
+abbrev pub holding : ConfigFile → Option (FinMap by_bytes (List ℕ)) → Config
+holding file annotations = record {
+  content = file_text file;
+  media_type = codes "application/vnd.oci.image.config.v1+json";
+  annotations = annotations;
+}

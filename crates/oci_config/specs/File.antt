@@ -20,7 +20,15 @@ file_of d = do
   config ← optional config_of (codes "config") d
   rootfs ← required rootfs_of (codes "rootfs") d
   history ← optional (list_of history_of) (codes "history") d
-  Some (record { created = created; author = author; architecture = architecture; os = os; config = config; rootfs = rootfs; history = history })
+  Some (record {
+    created = created;
+    author = author;
+    architecture = architecture;
+    os = os;
+    config = config;
+    rootfs = rootfs;
+    history = history;
+  })
 
 -- what is empty in `config` made none, and an empty history too
 abbrev pub normal_file : ConfigFile → ConfigFile

@@ -14,7 +14,13 @@ history_members d = do
   created_by ← optional text_of (codes "created_by") d
   comment ← optional text_of (codes "comment") d
   empty_layer ← optional bool_of (codes "empty_layer") d
-  Some (record { created = created; author = author; created_by = created_by; comment = comment; empty_layer = empty_layer })
+  Some (record {
+    created = created;
+    author = author;
+    created_by = created_by;
+    comment = comment;
+    empty_layer = empty_layer;
+  })
 
 unfoldable pub history_of : Data → Option History
 history_of d = do

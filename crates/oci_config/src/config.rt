@@ -1,12 +1,12 @@
 //! How a container is started.
-ghost use Rattle.std.specs.Prelude.{◌≡◌, IfOk, Ok, None};
+ghost use Rattle.std.specs.Prelude.{◌≡◌, IfOk, Ok};
 ghost use Rattle.serde_json.specs.View.{view};
 ghost use Rattle.json_tables.specs.Outcomes.{Gives, ReadsDocument};
 ghost use Rattle.oci_config.specs.Config.{config_members};
 
-use json_tables::{ReadError, Reads, an_object, read_document, row9};
-use json_values::{Annotations, Copied, List, Text, TextSet, ToValue, copies3, copies6};
-use json_writing::{UnlessEmpty, Writes, object9};
+use json_tables::{ReadError, Reads, an_object, read_document, read_row};
+use json_values::{Annotations, Copied, List, Text, TextSet, ToValue, copied, row};
+use json_writing::{UnlessEmpty, Writes, object};
 use serde_json::Value;
 use std::alloc::{AllocError, Global};
 
@@ -34,7 +34,7 @@ pub struct Config {
 }
 
 impl Config {
-    ghost use Rattle.oci_config.specs.Config.{config_of};
+    ghost use Rattle.oci_config.specs.Config.{config_of, no_config};
 
     /// `Float` exactly where a float stands anywhere, else `Shape` exactly where the table does not read it.
     pub fn read(alloc: Global, value: &Value) -> Result<Config, ReadError>
@@ -45,7 +45,7 @@ impl Config {
 
     /// None in every field.
     pub fn default(_alloc: Global) -> Result<Config, AllocError>
-        ensures { IfOk result (λ config. config ≡ record { user = None; exposed_ports = None; env = None; cmd = None; entrypoint = None; volumes = None; working_dir = None; labels = None; stop_signal = None }) }
+        ensures { IfOk result (λ config. config ≡ no_config) }
     {
         Ok(Config {
             user: None,
@@ -78,10 +78,20 @@ impl Reads for Config {
 fn config_members(alloc: Global, value: &Value) -> Result<Config, ReadError>
     ensures { Gives result (config_members (view value.now)) }
 {
-    let (user, exposed_ports, env, cmd, entrypoint, volumes, working_dir, labels, stop_signal) =
-        row9(
-            alloc,
-            value,
+    let row![
+        user,
+        exposed_ports,
+        env,
+        cmd,
+        entrypoint,
+        volumes,
+        working_dir,
+        labels,
+        stop_signal
+    ] = read_row::<Config, _>(
+        alloc,
+        value,
+        &[
             "User",
             "ExposedPorts",
             "Env",
@@ -91,7 +101,8 @@ fn config_members(alloc: Global, value: &Value) -> Result<Config, ReadError>
             "WorkingDir",
             "Labels",
             "StopSignal",
-        )?;
+        ],
+    )?;
     Ok(Config {
         user,
         exposed_ports,
@@ -114,27 +125,17 @@ impl Writes for Config {
 
     #[tactic(auto, unfolding(crate::specs::Config::config_written))]
     fn write_value(&self, alloc: Global) -> Result<Value, AllocError> {
-        let value = object9(
-            alloc,
-            "User",
-            &self.user,
-            "ExposedPorts",
-            &UnlessEmpty(&self.exposed_ports),
-            "Env",
-            &UnlessEmpty(&self.env),
-            "Cmd",
-            &UnlessEmpty(&self.cmd),
-            "Entrypoint",
-            &UnlessEmpty(&self.entrypoint),
-            "Volumes",
-            &UnlessEmpty(&self.volumes),
-            "WorkingDir",
-            &self.working_dir,
-            "Labels",
-            &UnlessEmpty(&self.labels),
-            "StopSignal",
-            &self.stop_signal,
-        )?;
+        let value = object!(alloc, {
+            "User": &self.user,
+            "ExposedPorts": &UnlessEmpty(&self.exposed_ports),
+            "Env": &UnlessEmpty(&self.env),
+            "Cmd": &UnlessEmpty(&self.cmd),
+            "Entrypoint": &UnlessEmpty(&self.entrypoint),
+            "Volumes": &UnlessEmpty(&self.volumes),
+            "WorkingDir": &self.working_dir,
+            "Labels": &UnlessEmpty(&self.labels),
+            "StopSignal": &self.stop_signal,
+        })?;
         Ok(value)
     }
 }
@@ -148,7 +149,8 @@ impl ToValue for Config {
     #[tactic(auto, using(json_writing::proofs::Whole::document_again))]
     fn to_value(&self, alloc: Global) -> Result<Value, AllocError>
         ensures exact { IfOk result (λ v. view v ≡ config_written self.now) }
-        ensures reads_back { IfOk result (λ v. ReadsDocument (Ok (normal_config self.now)) config_of (view v)) }
+        ensures reads_back { IfOk result
+            (λ v. ReadsDocument (Ok (normal_config self.now)) config_of (view v)) }
     {
         let value = self.write_value(alloc)?;
         Ok(value)
@@ -157,26 +159,20 @@ impl ToValue for Config {
 
 impl Copied for Config {
     fn copy(&self, alloc: Global) -> Result<Config, AllocError> {
-        let (user, exposed_ports, volumes, working_dir, labels, stop_signal) = copies6(
+        copied!(
             alloc,
-            &self.user,
-            &self.exposed_ports,
-            &self.volumes,
-            &self.working_dir,
-            &self.labels,
-            &self.stop_signal,
-        )?;
-        let (env, cmd, entrypoint) = copies3(alloc, &self.env, &self.cmd, &self.entrypoint)?;
-        Ok(Config {
-            user,
-            exposed_ports,
-            env,
-            cmd,
-            entrypoint,
-            volumes,
-            working_dir,
-            labels,
-            stop_signal,
-        })
+            self,
+            Config {
+                user,
+                exposed_ports,
+                env,
+                cmd,
+                entrypoint,
+                volumes,
+                working_dir,
+                labels,
+                stop_signal
+            }
+        )
     }
 }

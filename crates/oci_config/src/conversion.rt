@@ -1,9 +1,9 @@
 ghost use Rattle.std.specs.Prelude.{◌≡◌, IfOk};
-ghost use Rattle.oci_config.specs.Conversion.{file_in, file_text};
+ghost use Rattle.oci_config.specs.Conversion.{file_text};
 
 use crate::file::ConfigFile;
-use json_tables::{holds_float, read_or_none};
-use json_values::{Annotations, Blob, ToValue, read_json};
+use json_tables::read_plain;
+use json_values::{Annotations, Blob, ToValue};
 use oci_manifests::blob::Config;
 use std::alloc::{AllocError, Global};
 use thiserror::Error;
@@ -37,24 +37,11 @@ impl ConfigFile {
     pub fn from_config(alloc: Global, config: &Config) -> Result<ConfigFile, ConfigError>
         ensures { ReadsFile result config.now.content }
     {
-        let Some(file) = file_in(alloc, config.content.as_slice())? else {
+        let Some(file) = read_plain::<ConfigFile>(alloc, config.content.as_slice())? else {
             return Err(ConfigError::Unreadable);
         };
         Ok(file)
     }
-}
-
-fn file_in(alloc: Global, bytes: &[u8]) -> Result<Option<ConfigFile>, AllocError>
-    ensures { IfOk result (λ found. found ≡ file_in bytes.now) }
-{
-    let Some(json) = read_json(alloc, bytes)? else {
-        return Ok(None);
-    };
-    if holds_float(json.value()) {
-        return Ok(None);
-    }
-    let file = read_or_none(alloc, json.value())?;
-    Ok(file)
 }
 
 /// A configuration that holds a file.
@@ -77,17 +64,15 @@ pub trait FromConfigFile: Sized {
 }
 
 impl FromConfigFile for Config {
-    ghost use Rattle.oci_manifests.specs.declared.media_types.TheConstants.{IMAGE_CONFIG_MEDIA_TYPE};
+    ghost use Rattle.oci_config.specs.Conversion.{holding};
 
-    ghost holding = { λ file annotations. record { content = file_text file; media_type = IMAGE_CONFIG_MEDIA_TYPE.now; annotations = annotations } };
+    ghost holding = { holding };
 
     fn oci_v1_from_config_file(
         alloc: Global,
         config_file: &ConfigFile,
         annotations: Option<Annotations>,
-    ) -> Result<Config, AllocError>
-        ensures { IfOk result (λ config. config ≡ record { content = file_text config_file.now; media_type = IMAGE_CONFIG_MEDIA_TYPE.now; annotations = annotations }) }
-    {
+    ) -> Result<Config, AllocError> {
         let content = file_text(alloc, config_file)?;
         Config::oci_v1(alloc, content, annotations)
     }

@@ -5,9 +5,9 @@ ghost use Rattle.json_tables.specs.Outcomes.{ReadsDocument};
 use crate::config::Config;
 use crate::history::History;
 use crate::rootfs::Rootfs;
-use json_tables::{ReadError, Reads, read_document, row7};
-use json_values::{Copied, List, Text, ToValue, copies7};
-use json_writing::{Required, UnlessEmpty, Writes, object7};
+use json_tables::{ReadError, Reads, read_document, read_row};
+use json_values::{Copied, List, Text, ToValue, copied, row};
+use json_writing::{Required, UnlessEmpty, Writes, object};
 use oci_times::Time;
 use serde_json::Value;
 use std::alloc::{AllocError, Global};
@@ -49,16 +49,18 @@ impl Reads for ConfigFile {
 
     #[tactic(auto, unfolding(crate::specs::File::file_of))]
     fn read_value(alloc: Global, value: &Value) -> Result<ConfigFile, ReadError> {
-        let (created, author, architecture, os, config, rootfs, history) = row7(
+        let row![created, author, architecture, os, config, rootfs, history] = read_row::<Self, _>(
             alloc,
             value,
-            "created",
-            "author",
-            "architecture",
-            "os",
-            "config",
-            "rootfs",
-            "history",
+            &[
+                "created",
+                "author",
+                "architecture",
+                "os",
+                "config",
+                "rootfs",
+                "history",
+            ],
         )?;
         Ok(ConfigFile {
             created,
@@ -81,23 +83,15 @@ impl Writes for ConfigFile {
 
     #[tactic(auto, unfolding(crate::specs::File::file_written))]
     fn write_value(&self, alloc: Global) -> Result<Value, AllocError> {
-        let value = object7(
-            alloc,
-            "created",
-            &self.created,
-            "author",
-            &self.author,
-            "architecture",
-            &self.architecture,
-            "os",
-            &self.os,
-            "config",
-            &self.config,
-            "rootfs",
-            &Required(&self.rootfs),
-            "history",
-            &UnlessEmpty(&self.history),
-        )?;
+        let value = object!(alloc, {
+            "created": &self.created,
+            "author": &self.author,
+            "architecture": &self.architecture,
+            "os": &self.os,
+            "config": &self.config,
+            "rootfs": &Required(&self.rootfs),
+            "history": &UnlessEmpty(&self.history),
+        })?;
         Ok(value)
     }
 }
@@ -112,7 +106,8 @@ impl ToValue for ConfigFile {
     #[tactic(auto, using(json_writing::proofs::Whole::document_again))]
     fn to_value(&self, alloc: Global) -> Result<Value, AllocError>
         ensures exact { IfOk result (λ v. view v ≡ file_written self.now) }
-        ensures reads_back { IfOk result (λ v. ReadsDocument (Ok (normal_file self.now)) file_of (view v)) }
+        ensures reads_back { IfOk result
+            (λ v. ReadsDocument (Ok (normal_file self.now)) file_of (view v)) }
     {
         let value = self.write_value(alloc)?;
         Ok(value)
@@ -121,24 +116,18 @@ impl ToValue for ConfigFile {
 
 impl Copied for ConfigFile {
     fn copy(&self, alloc: Global) -> Result<ConfigFile, AllocError> {
-        let (created, author, architecture, os, config, rootfs, history) = copies7(
+        copied!(
             alloc,
-            &self.created,
-            &self.author,
-            &self.architecture,
-            &self.os,
-            &self.config,
-            &self.rootfs,
-            &self.history,
-        )?;
-        Ok(ConfigFile {
-            created,
-            author,
-            architecture,
-            os,
-            config,
-            rootfs,
-            history,
-        })
+            self,
+            ConfigFile {
+                created,
+                author,
+                architecture,
+                os,
+                config,
+                rootfs,
+                history
+            }
+        )
     }
 }

@@ -3,9 +3,9 @@ ghost use Rattle.serde_json.specs.View.{view};
 ghost use Rattle.json_tables.specs.Outcomes.{Gives, ReadsDocument};
 ghost use Rattle.oci_config.specs.History.{history_members};
 
-use json_tables::{ReadError, Reads, an_object, read_document, row5};
-use json_values::{Copied, Text, ToValue, copies4};
-use json_writing::{Writes, object5};
+use json_tables::{ReadError, Reads, an_object, read_document, read_row};
+use json_values::{Copied, Text, ToValue, copied, row};
+use json_writing::{Writes, object};
 use oci_times::Time;
 use serde_json::Value;
 use std::alloc::{AllocError, Global};
@@ -66,14 +66,10 @@ impl Reads for History {
 fn history_members(alloc: Global, value: &Value) -> Result<History, ReadError>
     ensures { Gives result (history_members (view value.now)) }
 {
-    let (created, author, created_by, comment, empty_layer) = row5(
+    let row![created, author, created_by, comment, empty_layer] = read_row::<History, _>(
         alloc,
         value,
-        "created",
-        "author",
-        "created_by",
-        "comment",
-        "empty_layer",
+        &["created", "author", "created_by", "comment", "empty_layer"],
     )?;
     Ok(History {
         created,
@@ -91,19 +87,13 @@ impl Writes for History {
 
     #[tactic(auto, unfolding(crate::specs::History::history_written))]
     fn write_value(&self, alloc: Global) -> Result<Value, AllocError> {
-        let value = object5(
-            alloc,
-            "created",
-            &self.created,
-            "author",
-            &self.author,
-            "created_by",
-            &self.created_by,
-            "comment",
-            &self.comment,
-            "empty_layer",
-            &self.empty_layer,
-        )?;
+        let value = object!(alloc, {
+            "created": &self.created,
+            "author": &self.author,
+            "created_by": &self.created_by,
+            "comment": &self.comment,
+            "empty_layer": &self.empty_layer,
+        })?;
         Ok(value)
     }
 }
@@ -126,20 +116,17 @@ impl ToValue for History {
 
 impl Copied for History {
     fn copy(&self, alloc: Global) -> Result<History, AllocError> {
-        let (created, author, created_by, comment) = copies4(
+        copied!(
             alloc,
-            &self.created,
-            &self.author,
-            &self.created_by,
-            &self.comment,
-        )?;
-        Ok(History {
-            created,
-            author,
-            created_by,
-            comment,
-            empty_layer: self.empty_layer,
-        })
+            self,
+            History {
+                created,
+                author,
+                created_by,
+                comment,
+                empty_layer
+            }
+        )
     }
 }
 

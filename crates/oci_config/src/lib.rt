@@ -10,4 +10,4 @@ mod rootfs;
 pub use conversion::{ConfigError, FromConfigFile};
 pub use file::ConfigFile;
 pub use history::History;
-pub use rootfs::{ROOTFS_TYPE, Rootfs};
+pub use rootfs::{ROOTFS_TYPE, Rootfs, rootfs_type_is_layers};

@@ -1,17 +1,23 @@
-ghost use Rattle.std.specs.Prelude.{◌≡◌, ◌↔◌, IfOk, IsTrue, Ok};
+ghost use Rattle.std.specs.Prelude.{◌≡◌, ◌↔◌, IfOk, IsTrue, Ok, codes};
 ghost use Rattle.std.specs.Str.{bytes_eq};
 ghost use Rattle.std.specs.Cmp.Lexicographic.{pointwise};
 ghost use Rattle.serde_json.specs.View.{view};
 ghost use Rattle.json_tables.specs.Outcomes.{ReadsDocument};
+ghost use Rattle.oci_config.specs.declared.rootfs.TheConstants.{ROOTFS_TYPE};
 
-use json_tables::{Member, ReadError, Reads, present, read_document, row2};
-use json_values::{Copied, List, Text, ToValue, copies2};
-use json_writing::{Writes, object2};
+use json_tables::{Member, ReadError, Reads, present, read_document, read_row};
+use json_values::{Copied, List, Text, ToValue, copied, row};
+use json_writing::{Writes, object};
 use serde_json::Value;
 use std::alloc::{AllocError, Global};
 
 /// The kind of a root file system that is made of layers.
 pub const ROOTFS_TYPE: &'static str = "layers";
+
+/// The constant is this text.
+pub fn rootfs_type_is_layers()
+    ensures { ROOTFS_TYPE.now ≡ codes "layers" }
+{}
 
 /// The layers that a root file system is made of (OCI image specification, config.md, `rootfs`).
 #[derive(Debug, Drop)]
@@ -51,7 +57,7 @@ impl Reads for Rootfs {
 
     #[tactic(auto, unfolding(crate::specs::Rootfs::rootfs_of))]
     fn read_value(alloc: Global, value: &Value) -> Result<Rootfs, ReadError> {
-        let (kind, diff_ids) = row2(alloc, value, "type", "diff_ids")?;
+        let row![kind, diff_ids] = read_row::<Self, _>(alloc, value, &["type", "diff_ids"])?;
         Ok(Rootfs { kind, diff_ids })
     }
 }
@@ -74,7 +80,10 @@ impl Writes for Rootfs {
 
     #[tactic(auto, unfolding(crate::specs::Rootfs::rootfs_written))]
     fn write_value(&self, alloc: Global) -> Result<Value, AllocError> {
-        let value = object2(alloc, "type", &self.kind, "diff_ids", &self.diff_ids)?;
+        let value = object!(alloc, {
+            "type": &self.kind,
+            "diff_ids": &self.diff_ids,
+        })?;
         Ok(value)
     }
 }
@@ -97,8 +106,7 @@ impl ToValue for Rootfs {
 
 impl Copied for Rootfs {
     fn copy(&self, alloc: Global) -> Result<Rootfs, AllocError> {
-        let (kind, diff_ids) = copies2(alloc, &self.kind, &self.diff_ids)?;
-        Ok(Rootfs { kind, diff_ids })
+        copied!(alloc, self, Rootfs { kind, diff_ids })
     }
 }
 

@@ -1,3 +1,4 @@
 pub mod Equal
 pub mod HeaderText
+pub mod Naming
 pub mod Validated

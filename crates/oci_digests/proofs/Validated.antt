@@ -26,11 +26,11 @@ parts_named Sha384 digits =
 parts_named Sha512 digits =
     ap (λ b. if b then Some (word_of Sha512, digits) else None) (lt-ltb 6 (length (name_of Sha512 ++ digits)) (omega arith))
 
-named : (a : Algorithm) (digits : List ℕ) → named_algorithm (name_of a ++ digits) ≡ Ok a
+pub algorithm_named : (a : Algorithm) (digits : List ℕ) → named_algorithm (name_of a ++ digits) ≡ Ok a
 unfolding word_of
-named Sha256 digits = ap named_by (parts_named Sha256 digits)
-named Sha384 digits = ap named_by (parts_named Sha384 digits)
-named Sha512 digits = ap named_by (parts_named Sha512 digits)
+algorithm_named Sha256 digits = ap named_by (parts_named Sha256 digits)
+algorithm_named Sha384 digits = ap named_by (parts_named Sha384 digits)
+algorithm_named Sha512 digits = ap named_by (parts_named Sha512 digits)
 
 chosen : {A : Type 0} (b : Bool) (x y : A) → b ≡ true → (if b then x else y) ≡ x
 chosen true x y e = refl
@@ -41,7 +41,7 @@ checks : (body text : List ℕ) → Names text body → checked body text ≡ Ok
 checks body text n =
     let P : List ℕ → Type 0 = λ t. checked body t ≡ Ok t in
     subst P (sym n.1) (
-    ap (λ r. and_then r (λ a. checked_by a body (digest_text n.0 body))) (named n.0 (encode_lower (hash_of n.0 body)))
+    ap (λ r. and_then r (λ a. checked_by a body (digest_text n.0 body))) (algorithm_named n.0 (encode_lower (hash_of n.0 body)))
     ∙ chosen (bytes_eq (digest_text n.0 body) (digest_text n.0 body)) _ _ ((bytes_eq-Decides (digest_text n.0 body) (digest_text n.0 body)).1 refl))
 
 ok_is : (a b : List ℕ) → (let r : Result (List ℕ) DigestError = Ok a in r) ≡ Ok b → a ≡ b

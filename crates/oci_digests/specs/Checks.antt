@@ -1,6 +1,7 @@
 -- What the checks of a body against digest texts answer.
 use Rattle.std.specs.Prelude.{◌≡◌, ℕ, Bool, true, false, ◌&&◌, ◌||◌, MatchBool, List, [], nat_le, ◌==◌, if◌then◌else◌, bytes_eq, Option, Some, None, Result, Ok, Err}
 use Rattle.std.specs.List.{list_all}
+use Rattle.json_values.specs.Refusals as Refusals
 use Rattle.oci_digests.specs.Names.{digest_text}
 use Rattle.oci_digests.specs.Parts.{parts_of, named_algorithm}
 use Rattle.oci_digests.specs.declared.digester.Algorithm.{Algorithm}
@@ -15,8 +16,7 @@ is_memory _ = false
 
 -- the answer is this one, unless memory was wanting
 abbrev pub Says : {A : Type 0} → Result A DigestError → Result A DigestError → Type 0
-Says (Ok a) said = said ≡ Ok a
-Says (Err e) said = MatchBool (is_memory e) (Unit {0}) (said ≡ Err e)
+Says answer said = Refusals.Says is_memory answer said
 
 -- the second answer, unless the first one is a refusal
 abbrev pub and_then : {A B : Type 0} → Result A DigestError → (A → Result B DigestError) → Result B DigestError
@@ -35,7 +35,8 @@ header_digest (Some value) = if is_header_text value then Ok (Some value) else E
 
 -- the text, where it is that of the hash of the body by this algorithm
 abbrev pub checked_by : Algorithm → List ℕ → List ℕ → Result (List ℕ) DigestError
-checked_by a body text = if bytes_eq text (digest_text a body) then Ok text else Err (VerificationError text (digest_text a body))
+checked_by a body text =
+    if bytes_eq text (digest_text a body) then Ok text else Err (VerificationError text (digest_text a body))
 
 -- the text, where it names the body by the algorithm that it begins with
 abbrev pub checked : List ℕ → List ℕ → Result (List ℕ) DigestError
@@ -49,7 +50,8 @@ both_checked body header reference =
     else and_then (checked body reference) (λ _. checked body header)
 
 -- where both texts have parts, both are checked
-abbrev pub both_validated : Option (List ℕ × List ℕ) → Option (List ℕ × List ℕ) → Result (List ℕ) DigestError → Result (List ℕ) DigestError
+abbrev pub both_validated : Option (List ℕ × List ℕ) → Option (List ℕ × List ℕ) → Result (List ℕ) DigestError
+    → Result (List ℕ) DigestError
 both_validated None reference answer = Err MissingAlgorithm
 both_validated (Some header) None answer = Err MissingAlgorithm
 both_validated (Some header) (Some reference) answer = answer

@@ -16,7 +16,8 @@ is_same a b = bytes_eq a.algorithm.now b.algorithm.now && bytes_eq a.digest.now 
 
 -- by algorithm, and then by digest, each by its bytes
 abbrev pub order : Digest → Digest → Ordering
-order a b = ordering_then (slice_cmp nat_cmp a.algorithm.now b.algorithm.now) (slice_cmp nat_cmp a.digest.now b.digest.now)
+order a b =
+    ordering_then (slice_cmp nat_cmp a.algorithm.now b.algorithm.now) (slice_cmp nat_cmp a.digest.now b.digest.now)
 
 pub equal : IsEquivalence is_same
 equal = and_equiv (on_texts_equal (λ (d : Digest). d.algorithm.now)) (on_texts_equal (λ (d : Digest). d.digest.now))

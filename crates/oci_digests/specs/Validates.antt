@@ -9,3 +9,7 @@ pub record Validates (body : List ℕ) (header reference : Option (List ℕ)) (t
   pub header_names : IfSome header (λ h. Names h body)
   pub reference_names : IfSome reference (λ r. Names r body)
   pub answer : text ≡ unwrap_or header (unwrap_or reference (digest_text Sha256 body))
+
+-- no text is the answer
+abbrev pub ValidatesNone : List ℕ → Option (List ℕ) → Option (List ℕ) → Type 0
+ValidatesNone body header reference = (text : List ℕ) → Validates body header reference text → ⊥

@@ -1,31 +1,114 @@
-// Two digesters of one body.
-ghost use Rattle.std.specs.Prelude.{◌++◌, List, ℕ};
-ghost use Rattle.oci_digests.specs.Both.{MayHold};
+// One body, hashed for the digests of a header and of a descriptor.
+ghost use Rattle.std.specs.Prelude.{◌≡◌, ◌++◌, [], List, ℕ, IfOk};
+ghost use Rattle.oci_digests.specs.Both.{GivenHolds, given_text};
+ghost use Rattle.oci_digests.specs.Names.{digest_text};
 
-use crate::Digester;
+use crate::digester::{Algorithm, Digester};
+use json_values::{Copied, Text, copied};
+use std::alloc::{AllocError, Global};
 
-/// Digesters of an answer's header, where it names a digest, and of a descriptor.
+// How a body is hashed for the digest of a header.
 #[derive(Drop)]
-pub struct Digesters {
-    pub given: Option<Digester>,
-    pub own: Digester,
+enum Given {
+    // The header names no digest.
+    Absent,
+    // By the descriptor's algorithm, once for both.
+    Shared,
+    // By another algorithm.
+    Other(Digester),
 }
 
-fn update_given(given: &mut Option<Digester>, piece: &[u8])
-    ensures { (a : _) (m : List ℕ) → MayHold given.old a m → MayHold given.new a (m ++ piece.now) }
+/// Hashes a body by the algorithm of an answer's header, where it names a digest, and by that of a descriptor. Where
+/// the two are equal each byte is hashed once.
+#[derive(Drop)]
+pub struct Digesters {
+    given: Given,
+    own: Digester,
+}
+
+/// The digest texts of a body by the algorithm of a header, where it names a digest, and by that of a descriptor.
+#[derive(Drop)]
+pub struct DigestTexts {
+    /// By the header's algorithm, where there is one.
+    pub given: Option<Text>,
+    /// By the descriptor's algorithm.
+    pub own: Text,
+}
+
+impl Copied for DigestTexts {
+    fn copy(&self, alloc: Global) -> Result<DigestTexts, AllocError> {
+        copied!(alloc, self, DigestTexts { given, own })
+    }
+}
+
+fn given_of(given: Option<Algorithm>, own: Algorithm) -> Given
+    ensures { GivenHolds result given own [] }
 {
-    if let Some(digester) = given {
+    match (given, own) {
+        (None, _) => Given::Absent,
+        (Some(Algorithm::Sha256), Algorithm::Sha256) => Given::Shared,
+        (Some(Algorithm::Sha384), Algorithm::Sha384) => Given::Shared,
+        (Some(Algorithm::Sha512), Algorithm::Sha512) => Given::Shared,
+        (Some(algorithm), _) => Given::Other(Digester::of(algorithm)),
+    }
+}
+
+fn update_given(given: &mut Given, piece: &[u8])
+    ensures { (a : _) (b : _) (m : List ℕ) → GivenHolds given.old a b m
+        → GivenHolds given.new a b (m ++ piece.now) }
+{
+    if let Given::Other(digester) = given {
         digester.update(piece);
     }
 }
 
-impl Digesters {
-    ghost use Rattle.oci_digests.specs.Both.{BothHold};
+// The text by the header's algorithm, where the descriptor's text is this one.
+fn given_text(alloc: Global, given: &mut Given, own: &Text) -> Result<Option<Text>, AllocError>
+    ensures { (a : _) (b : _) (m : List ℕ) → GivenHolds given.old a b m → own.now ≡ digest_text b m
+        → IfOk result (λ text. text ≡ given_text a m) }
+{
+    match given {
+        Given::Absent => Ok(None),
+        Given::Shared => {
+            let text = own.copy(alloc)?;
+            Ok(Some(text))
+        }
+        Given::Other(digester) => {
+            let text = digester.finalize(alloc)?;
+            Ok(Some(text))
+        }
+    }
+}
 
+impl Digesters {
+    ghost use Rattle.oci_digests.specs.Both.{BothHold, texts_of};
+
+    /// Digesters of these algorithms, given nothing yet.
+    pub fn of(given: Option<Algorithm>, own: Algorithm) -> Digesters
+        ensures { BothHold result given own [] }
+    {
+        Digesters {
+            given: given_of(given, own),
+            own: Digester::of(own),
+        }
+    }
+
+    /// Hashes the next piece of the body.
     pub fn update(&mut self, piece: &[u8])
-        ensures { (a : _) (b : _) (m : List ℕ) → BothHold self.old a b m → BothHold self.new a b (m ++ piece.now) }
+        ensures { (a : _) (b : _) (m : List ℕ) → BothHold self.old a b m
+            → BothHold self.new a b (m ++ piece.now) }
     {
         update_given(&mut self.given, piece);
         self.own.update(piece);
+    }
+
+    /// The texts of what came in, as two digesters would answer them.
+    pub fn texts(&mut self, alloc: Global) -> Result<DigestTexts, AllocError>
+        ensures { (a : _) (b : _) (m : List ℕ) → BothHold self.old a b m
+            → IfOk result (λ texts. texts ≡ texts_of a b m) }
+    {
+        let own = self.own.finalize(alloc)?;
+        let given = given_text(alloc, &mut self.given, &own)?;
+        Ok(DigestTexts { given, own })
     }
 }

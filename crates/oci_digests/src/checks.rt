@@ -3,7 +3,7 @@ ghost use Rattle.std.specs.Prelude.{◌≡◌, true, false, ℕ, List, Some, Mat
 ghost use Rattle.std.specs.Option.{option_copied};
 ghost use Rattle.oci_digests.specs.Checks.{Says, is_memory, checked, validated, header_digest, is_header_text};
 ghost use Rattle.oci_digests.specs.Parts.{algorithm_of, named_algorithm};
-ghost use Rattle.oci_digests.specs.Validates.{Validates};
+ghost use Rattle.oci_digests.specs.Validates.{Validates, ValidatesNone};
 
 use crate::digest::Digest;
 use crate::digester::Algorithm;
@@ -62,10 +62,12 @@ pub fn validate_digest(
     digest_header: Option<&str>,
     reference_digest: Option<&str>,
 ) -> Result<Text, DigestError>
-    ensures says { Says result (validated body.now (option_copied digest_header.entry) (option_copied reference_digest.entry)) }
-    ensures ok { IfOk result (Validates body.now (option_copied digest_header.entry) (option_copied reference_digest.entry)) }
-    ensures err { IfErr result (λ e. is_memory e ≡ false
-        → (text : List ℕ) → Validates body.now (option_copied digest_header.entry) (option_copied reference_digest.entry) text → ⊥) }
+    ensures says { Says result (validated body.now
+        (option_copied digest_header.entry) (option_copied reference_digest.entry)) }
+    ensures ok { IfOk result (Validates body.now
+        (option_copied digest_header.entry) (option_copied reference_digest.entry)) }
+    ensures err { IfErr result (λ e. is_memory e ≡ false → ValidatesNone body.now
+        (option_copied digest_header.entry) (option_copied reference_digest.entry)) }
 {
     check_given(alloc, body, digest_header, reference_digest)
 }
@@ -76,7 +78,8 @@ fn check_given(
     digest_header: Option<&str>,
     reference_digest: Option<&str>,
 ) -> Result<Text, DigestError>
-    ensures { Says result (validated body.now (option_copied digest_header.entry) (option_copied reference_digest.entry)) }
+    ensures { Says result (validated body.now
+        (option_copied digest_header.entry) (option_copied reference_digest.entry)) }
 {
     match (digest_header, reference_digest) {
         (None, None) => Ok(sha256_digest(alloc, body)?),
@@ -106,7 +109,9 @@ fn check_both(
 // The value as a text, where each byte may stand in one.
 #[tactic(auto, using(crate::proofs::HeaderText::not_text))]
 fn header_text(value: &[u8]) -> Option<&str>
-    ensures { MatchOption result (is_header_text value.now ≡ false) (λ text. (is_header_text value.now ≡ true) × (text.now ≡ value.now)) }
+    ensures { MatchOption result
+        (is_header_text value.now ≡ false)
+        (λ text. (is_header_text value.now ≡ true) × (text.now ≡ value.now)) }
 {
     if !is_header_text(value) {
         return None;

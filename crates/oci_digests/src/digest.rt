@@ -9,7 +9,9 @@ use std::fmt;
 /// The parts of a digest text, around its first colon (OCI image specification, descriptor.md, "Digests").
 #[derive(Clone, Copy, Debug)]
 pub struct Digest<'a> {
+    /// What stands before the first colon.
     pub algorithm: &'a str,
+    /// What stands behind it.
     pub digest: &'a str,
 }
 
@@ -49,7 +51,8 @@ impl PartialEq for Digest<'_> {
 
     fn eq(&self, other: &Self) -> bool
         ensures value { result ≡ is_same self.now other.now }
-        ensures same { IsTrue result ↔ ((self.now.algorithm.now ≡ other.now.algorithm.now) × (self.now.digest.now ≡ other.now.digest.now)) }
+        ensures same { IsTrue result ↔ ((self.now.algorithm.now ≡ other.now.algorithm.now)
+            × (self.now.digest.now ≡ other.now.digest.now)) }
     {
         self.algorithm == other.algorithm && self.digest == other.digest
     }

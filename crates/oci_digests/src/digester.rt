@@ -3,16 +3,25 @@ ghost use Rattle.std.specs.Prelude.{◌≡◌, ℕ, List, [], ◌++◌, IfOk, On
 use crate::checks::named_algorithm;
 use crate::error::DigestError;
 use crate::names::text_of;
-use json_values::Text;
+use json_values::{Copied, Text};
 use sha2::{Digest, Sha256, Sha384, Sha512};
 use std::alloc::{AllocError, Global};
 
 /// The registered algorithms of the OCI image specification (descriptor.md, "Registered algorithms"), and SHA-384.
 #[derive(Clone, Copy, Debug, PartialEq, Eq)]
 pub enum Algorithm {
+    /// SHA-256, 64 hexadecimal digits.
     Sha256,
+    /// SHA-384, 96 hexadecimal digits.
     Sha384,
+    /// SHA-512, 128 hexadecimal digits.
     Sha512,
+}
+
+impl Copied for Algorithm {
+    fn copy(&self, _alloc: Global) -> Result<Algorithm, AllocError> {
+        Ok(*self)
+    }
 }
 
 #[derive(Drop)]
@@ -56,6 +65,7 @@ impl Digester {
         Digester { hasher }
     }
 
+    /// Hashes the next piece of the bytes.
     pub fn update(&mut self, piece: &[u8])
         ensures { (a : _) (m : List ℕ) → Holds self.old a m
             → Holds self.new a (m ++ piece.now) }
@@ -67,7 +77,7 @@ impl Digester {
         }
     }
 
-    /// The text of what came in. Afterwards the digester is as new.
+    /// The digest text of what came in. Afterwards the digester is as new.
     pub fn finalize(&mut self, alloc: Global) -> Result<Text, AllocError>
         ensures text { (a : _) (m : List ℕ) → Holds self.old a m
             → IfOk result (λ text. text ≡ digest_text a m) }

@@ -1,26 +1,33 @@
-ghost use Rattle.std.specs.Prelude.{◌≡◌};
+// Why a digest text is refused.
+ghost use Rattle.std.specs.Prelude.{◌≡◌, IfOk};
 ghost use Rattle.oci_digests.specs.Checks.{is_memory};
 
-use json_values::{Blob, Text};
-use std::alloc::AllocError;
+use json_values::{Blob, Copied, Text};
+use std::alloc::{AllocError, Global};
 use thiserror::Error;
 
 /// Why a digest text is refused.
 #[derive(Debug, Drop, Error)]
 pub enum DigestError {
     /// A digest header that is not text: a byte of it is neither 0x09 nor from 0x20 to 0x7E.
-    #[error("the digest header is not text")]
+    #[error("the digest header is not text: ask the registry for visible ASCII")]
     InvalidHeader(Blob),
     /// The text before the first colon, which names none of the algorithms.
-    #[error("the digest's algorithm is not supported")]
+    #[error("the digest's algorithm is not supported: give sha256, sha384 or sha512")]
     UnsupportedAlgorithm(Text),
     /// The digest text has no colon.
-    #[error("the digest names no algorithm")]
+    #[error("the digest names no algorithm: give algorithm:digits")]
     MissingAlgorithm,
     /// The digest that was given is not the one that was computed.
-    #[error("the digest does not name the bytes")]
-    VerificationError { expected: Text, actual: Text },
-    #[error("out of memory")]
+    #[error("the digest does not name the bytes: do not use them")]
+    VerificationError {
+        /// The text that was given.
+        expected: Text,
+        /// The text that was computed.
+        actual: Text,
+    },
+    /// The allocator had no memory.
+    #[error("out of memory: free some and try again")]
     WantOfMemory,
 }
 
@@ -31,6 +38,31 @@ impl DigestError {
     {
         matches!(self, DigestError::WantOfMemory)
     }
+}
+
+impl Copied for DigestError {
+    fn copy(&self, alloc: Global) -> Result<DigestError, AllocError> {
+        match self {
+            DigestError::InvalidHeader(value) => Ok(DigestError::InvalidHeader(value.copy(alloc)?)),
+            DigestError::UnsupportedAlgorithm(name) => {
+                Ok(DigestError::UnsupportedAlgorithm(name.copy(alloc)?))
+            }
+            DigestError::MissingAlgorithm => Ok(DigestError::MissingAlgorithm),
+            DigestError::VerificationError { expected, actual } => {
+                let (expected, actual) = copied_texts(alloc, expected, actual)?;
+                Ok(DigestError::VerificationError { expected, actual })
+            }
+            DigestError::WantOfMemory => Ok(DigestError::WantOfMemory),
+        }
+    }
+}
+
+fn copied_texts(alloc: Global, expected: &Text, actual: &Text) -> Result<(Text, Text), AllocError>
+    ensures { IfOk result (λ texts. (texts.0 ≡ expected.now) × (texts.1 ≡ actual.now)) }
+{
+    let expected = expected.copy(alloc)?;
+    let actual = actual.copy(alloc)?;
+    Ok((expected, actual))
 }
 
 impl From<AllocError> for DigestError {

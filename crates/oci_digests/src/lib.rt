@@ -8,9 +8,9 @@ mod digester;
 mod error;
 mod names;
 
-pub use both::Digesters;
+pub use both::{DigestTexts, Digesters};
 pub use checks::{digest_header_value, named_algorithm, validate_digest};
 pub use digest::Digest;
 pub use digester::{Algorithm, Digester};
 pub use error::DigestError;
-pub use names::{digest_text, names_digest, sha256_digest};
+pub use names::{digest_text, names_digest, names_known, sha256_digest};

@@ -1,22 +1,76 @@
-ghost use Rattle.std.specs.Prelude.{◌≡◌, ◌↔◌, ◌++◌, ◌≤◌, ◌*◌, IsTrue, IfOk, length, bytes_eq};
+// Texts that name bytes by a hash.
+ghost use Rattle.std.specs.Prelude.{◌≡◌, ◌↔◌, ◌++◌, ◌≤◌, ◌*◌, List, ℕ, IsTrue, IfOk, length, bytes_eq};
 ghost use Rattle.hex.specs.Hex.{encode_lower};
-ghost use Rattle.oci_digests.specs.Names.{digest_text, Names, names};
+ghost use Rattle.oci_digests.specs.Names.{digest_text, Names, names, names_by};
+ghost use Rattle.oci_digests.specs.Parts.{named_algorithm};
 
+use crate::digest::Digest as Parts;
 use crate::digester::Algorithm;
 use json_values::Text;
 use sha2::{Digest, Sha256, Sha384, Sha512};
 use std::alloc::{AllocError, Global};
 
-/// Whether the text is the text of a hash of the bytes.
+/// Whether the text is the text of a hash of the bytes, which are hashed by the algorithm that it begins with alone.
 #[tactic(auto, using(crate::proofs::Equal::named))]
 pub fn names_digest(text: &str, bytes: &[u8]) -> bool
     ensures exact { IsTrue result ↔ Names text.now bytes.now }
     ensures same { result ≡ names text.now bytes.now }
 {
     let text = text.as_bytes();
-    has_hash(text, b"sha256:", &Sha256::digest(bytes))
-        || has_hash(text, b"sha384:", &Sha384::digest(bytes))
-        || has_hash(text, b"sha512:", &Sha512::digest(bytes))
+    is_sha256(text, bytes) || is_sha384(text, bytes) || is_sha512(text, bytes)
+}
+
+/// Whether the text names the bytes, of which it is known that another text names them: no byte is hashed where both
+/// texts are of one algorithm.
+#[tactic(auto, using(crate::proofs::Naming::names_known))]
+pub fn names_known(text: &str, known: &str, bytes: &[u8]) -> bool
+    requires { Names known.now bytes.now }
+    ensures { result ≡ names text.now bytes.now }
+{
+    if same_algorithm(text, known) {
+        return text == known;
+    }
+    names_digest(text, bytes)
+}
+
+#[tactic(auto, using(crate::proofs::Naming::same_algorithm))]
+fn same_algorithm(text: &str, known: &str) -> bool
+    ensures { IsTrue result → named_algorithm text.now ≡ named_algorithm known.now }
+{
+    match (Parts::new(text), Parts::new(known)) {
+        (Ok(text), Ok(known)) => text.algorithm == known.algorithm,
+        _ => false,
+    }
+}
+
+#[tactic(auto, using(crate::proofs::Naming::begins))]
+fn is_sha256(text: &[u8], bytes: &[u8]) -> bool
+    ensures { result ≡ names_by Algorithm.Sha256 text.now bytes.now }
+{
+    begins(text, b"sha256:") && has_hash(text, b"sha256:", &Sha256::digest(bytes))
+}
+
+#[tactic(auto, using(crate::proofs::Naming::begins))]
+fn is_sha384(text: &[u8], bytes: &[u8]) -> bool
+    ensures { result ≡ names_by Algorithm.Sha384 text.now bytes.now }
+{
+    begins(text, b"sha384:") && has_hash(text, b"sha384:", &Sha384::digest(bytes))
+}
+
+#[tactic(auto, using(crate::proofs::Naming::begins))]
+fn is_sha512(text: &[u8], bytes: &[u8]) -> bool
+    ensures { result ≡ names_by Algorithm.Sha512 text.now bytes.now }
+{
+    begins(text, b"sha512:") && has_hash(text, b"sha512:", &Sha512::digest(bytes))
+}
+
+fn begins(text: &[u8], name: &[u8]) -> bool
+    ensures { (rest : List ℕ) → text.now ≡ name.now ++ rest → IsTrue result }
+{
+    if text.len() < name.len() {
+        return false;
+    }
+    is_same(text.split_at(name.len()).0, name)
 }
 
 // Whether the text is the name and the digits of the hash.

@@ -1,1 +1,4 @@
+pub mod Catalog
+pub mod Nfc
+pub mod Tags
 pub mod Written

@@ -1,7 +1,7 @@
 -- The text of a manifest that is pushed.
 use Rattle.std.specs.Prelude.{ℕ, List}
 use Rattle.serde_json.specs.Written.{compact_text}
-use Rattle.json_nfc.specs.Composed.{composed}
+use Rattle.oci_docs.specs.Nfc.{composed}
 use Rattle.oci_manifests.specs.declared.document.OciManifest.{OciManifest}
 use Rattle.oci_manifests.specs.Document.{document_written}
 

@@ -2,15 +2,23 @@
 //! configuration files and their times, digests, and the text of a manifest that is pushed.
 #![tactic(auto)]
 
+ghost use Rattle.std.specs.Prelude.{◌≡◌, codes};
+ghost use Rattle.oci_docs.specs.declared.TheConstants.{CONFIG_DATA};
+
+mod catalog;
 pub mod config;
+mod nfc;
+mod tags;
 mod written;
 
-pub use oci_config::{ConfigError, ConfigFile, FromConfigFile, History, ROOTFS_TYPE, Rootfs};
+pub use catalog::CatalogResponse;
+pub use oci_config::{
+    ConfigError, ConfigFile, FromConfigFile, History, ROOTFS_TYPE, Rootfs, rootfs_type_is_layers,
+};
 pub use oci_digests::{
     Algorithm, Digest, DigestError, Digester, digest_header_value, names_digest, sha256_digest,
     validate_digest,
 };
-pub use oci_listings::{CatalogResponse, TagResponse};
 pub use oci_manifests::{
     DOCKER_DIGEST_HEADER, IMAGE_CONFIG_MEDIA_TYPE, IMAGE_DOCKER_CONFIG_MEDIA_TYPE,
     IMAGE_DOCKER_LAYER_GZIP_MEDIA_TYPE, IMAGE_DOCKER_LAYER_TAR_MEDIA_TYPE,
@@ -29,7 +37,13 @@ pub use oci_manifests::{
     is_manifest_media_type, media_types,
 };
 pub use oci_times::Time;
+pub use tags::TagResponse;
 pub use written::manifest_text;
 
 /// The bytes of a configuration that says nothing.
 pub const CONFIG_DATA: &'static str = "{}";
+
+/// The constant is this text.
+pub fn config_data_is_an_empty_object()
+    ensures { CONFIG_DATA.now ≡ codes "{}" }
+{}

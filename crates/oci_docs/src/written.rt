@@ -1,7 +1,7 @@
 ghost use Rattle.std.specs.Prelude.{◌≡◌, IfOk};
 ghost use Rattle.oci_docs.specs.Written.{manifest_text_of};
 
-use json_nfc::composed_text;
+use crate::nfc::composed_text;
 use json_values::{Blob, ToValue};
 use oci_manifests::OciManifest;
 use std::alloc::{AllocError, Global};

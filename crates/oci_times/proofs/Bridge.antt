@@ -18,7 +18,7 @@ IsClockOf m = IsTime (pos m.hour) (pos m.minute) (pos m.second) (pos m.nanosecon
 pub day_test : (m : Moment) → IsDayOf m → is_day m ≡ true
 day_test m h = grind (arith, nat_tests, h.0.1, h.1.0, h.1.1, h.2.0, h.2.1)
 
-clock_test : (m : Moment) → IsClockOf m → is_clock m ≡ true
+pub clock_test : (m : Moment) → IsClockOf m → is_clock m ≡ true
 clock_test m h = grind (arith, nat_tests, h.0.1, h.1.1, h.2.1, h.3.1)
 
 pub day_told : (m : Moment) → is_day m ≡ true → IsDayOf m

@@ -11,7 +11,7 @@ use Rattle.oci_times.proofs.Bridge.{IsDayOf, day_told, day_test}
 
 -- ---- days
 
-some_days : (y : ℤ) (m : ℕ) → 1 ≤ days_in_month y m
+pub some_days : (y : ℤ) (m : ℕ) → 1 ≤ days_in_month y m
 some_days y m = by (m == 2) (is_leap_year y) ((m == 4) || (m == 6) || (m == 9) || (m == 11))
   where
     by : (a b c : Bool) → 1 ≤ (if a then (if b then 29 else 28) else (if c then 30 else 31))
@@ -20,14 +20,14 @@ some_days y m = by (m == 2) (is_leap_year y) ((m == 4) || (m == 6) || (m == 9) |
     by false b true = omega arith
     by false b false = omega arith
 
-last_of_month : (m : Moment) → IsDayOf m → is_day (record m { day = m.day + 1 }) ≡ false → m.day ≡ days_in_month (pos m.year) m.month
+pub last_of_month : (m : Moment) → IsDayOf m → is_day (record m { day = m.day + 1 }) ≡ false → m.day ≡ days_in_month (pos m.year) m.month
 last_of_month m h past = by (nat_le (m.day + 1) (days_in_month (pos m.year) m.month)) refl
   where
     by : (t : Bool) → nat_le (m.day + 1) (days_in_month (pos m.year) m.month) ≡ t → m.day ≡ days_in_month (pos m.year) m.month
     by true e = absurd (true≢false (sym (day_test (record m { day = m.day + 1 }) (h.0, h.1, omega (arith, signed_arith, leb-true (m.day + 1) (days_in_month (pos m.year) m.month) e))) ∙ past))
     by false e = omega (arith, signed_arith, h.2.1, leb-false (m.day + 1) (days_in_month (pos m.year) m.month) e)
 
-last_of_year : (m : Moment) → IsDayOf m → is_day (record m { month = m.month + 1; day = 1 }) ≡ false → m.month ≡ 12
+pub last_of_year : (m : Moment) → IsDayOf m → is_day (record m { month = m.month + 1; day = 1 }) ≡ false → m.month ≡ 12
 last_of_year m h past = by (nat_le (m.month + 1) 12) refl
   where
     by : (t : Bool) → nat_le (m.month + 1) 12 ≡ t → m.month ≡ 12
@@ -56,10 +56,10 @@ next_year m last december =
 some_is : (x n : Moment) → Some x ≡ Some n → x ≡ n
 some_is x n e = ap (λ o. unwrap_or o x) e
 
-none_is : (n : Moment) → None ≡ Some n → ⊥
+pub none_is : (n : Moment) → None ≡ Some n → ⊥
 none_is n e = true≢false (ap is_none e)
 
-no_day : (day clock : Bool) → clock ≡ true → (day && clock) ≡ false → day ≡ false
+pub no_day : (day clock : Bool) → clock ≡ true → (day && clock) ≡ false → day ≡ false
 no_day true clock is past = absurd (true≢false (sym is ∙ past))
 no_day false clock is past = refl
 
@@ -108,7 +108,7 @@ at_minute_of_is m n minutes (Some d) h clock same e =
     let at = at_minute_is d n minutes e in
     (at.0 ∙ next.0, at.1)
 
-parts_shown : (m : Moment) → checked m ≡ Some m → (is_day m ≡ true) × (is_clock m ≡ true)
+pub parts_shown : (m : Moment) → checked m ≡ Some m → (is_day m ≡ true) × (is_clock m ≡ true)
 parts_shown m shown = by (is_day m) (is_clock m) refl refl shown
   where
     by : (day clock : Bool) → is_day m ≡ day → is_clock m ≡ clock → (if day && clock then Some m else None) ≡ Some m → (is_day m ≡ true) × (is_clock m ≡ true)
@@ -140,7 +140,7 @@ few_days y m = by (m == 2) (is_leap_year y) ((m == 4) || (m == 6) || (m == 9) ||
     by false b true = omega arith
     by false b false = omega arith
 
-abbrev dated : Moment → ℕ → ℕ → ℕ → Moment
+abbrev pub dated : Moment → ℕ → ℕ → ℕ → Moment
 dated m year month day = record m { year = year; month = month; day = day }
 
 -- the last day of the month, which the calendar has
@@ -175,7 +175,7 @@ last_of_four m n year month clock e = by (is_day (dated m year month 31)) (is_da
     by false false false false true p q r s clock e = absurd (none_is n e)
 
 -- no month that the calendar has is without a last day
-first_month : (m : Moment) → IsDayOf m → is_clock m ≡ true → on_last_day m m.year (m.month - 1) ≡ None → m.month ≡ 1
+pub first_month : (m : Moment) → IsDayOf m → is_clock m ≡ true → on_last_day m m.year (m.month - 1) ≡ None → m.month ≡ 1
 first_month m h clock none = by (nat_le 2 m.month) refl
   where
     x : Moment
@@ -199,7 +199,7 @@ first_month m h clock none = by (nat_le 2 m.month) refl
         absurd (no_some (is_day x) (is_clock m) there clock (some_last (on_day m m.year (m.month - 1) 31) (on_day m m.year (m.month - 1) 30) (on_day m m.year (m.month - 1) 29) (on_day m m.year (m.month - 1) 28) none))
     by false e = omega (arith, signed_arith, h.1.0, leb-false 2 m.month e)
 
-first_day : (m : Moment) → IsDayOf m → is_day (record m { day = m.day - 1 }) ≡ false → m.day ≡ 1
+pub first_day : (m : Moment) → IsDayOf m → is_day (record m { day = m.day - 1 }) ≡ false → m.day ≡ 1
 first_day m h past = by (nat_le 2 m.day) refl
   where
     by : (t : Bool) → nat_le 2 m.day ≡ t → m.day ≡ 1

@@ -2,4 +2,5 @@ pub mod Back
 pub mod Bridge
 pub mod Calendar
 pub mod Joins
+pub mod Range
 pub mod Shares

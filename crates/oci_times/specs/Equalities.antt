@@ -9,4 +9,6 @@ at_part f = on_equiv f nat_eq_equiv
 pub moments : IsEquivalence is_same
 moments =
     and_equiv (and_equiv (and_equiv (and_equiv (and_equiv (and_equiv
-    (at_part (λ m. m.year)) (at_part (λ m. m.month))) (at_part (λ m. m.day))) (at_part (λ m. m.hour))) (at_part (λ m. m.minute))) (at_part (λ m. m.second))) (at_part (λ m. m.nanosecond))
+    (at_part (λ m. m.year)) (at_part (λ m. m.month))) (at_part (λ m. m.day)))
+    (at_part (λ m. m.hour))) (at_part (λ m. m.minute)))
+    (at_part (λ m. m.second))) (at_part (λ m. m.nanosecond))

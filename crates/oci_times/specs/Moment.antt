@@ -1,5 +1,6 @@
 -- Moments in UTC, in the years 0000 to 9999.
-use Rattle.std.specs.Prelude.{ℕ, ◌+◌, ◌-◌, ◌*◌, ◌/◌, ◌%◌, Bool, ◌&&◌, ◌==◌, nat_lt, nat_le, if◌then◌else◌, Option, Some, None, pos, unsigned_abs}
+use Rattle.std.specs.Prelude.{ℕ, ◌+◌, ◌-◌, ◌*◌, ◌/◌, ◌%◌, Bool, ◌&&◌, ◌==◌, nat_lt, nat_le}
+use Rattle.std.specs.Prelude.{if◌then◌else◌, Option, Some, None, pos, unsigned_abs}
 use Rattle.jiff_core.specs.Calendar.{days_in_month}
 use Rattle.jiff_core.specs.declared.civil.datetime.DateTime.{DateTime}
 
@@ -15,7 +16,9 @@ pub record Moment : Type 0 where
 
 -- the calendar has the day
 abbrev pub is_day : Moment → Bool
-is_day m = nat_lt m.year 10000 && nat_le 1 m.month && nat_le m.month 12 && nat_le 1 m.day && nat_le m.day (days_in_month (pos m.year) m.month)
+is_day m =
+    nat_lt m.year 10000 && nat_le 1 m.month && nat_le m.month 12
+    && nat_le 1 m.day && nat_le m.day (days_in_month (pos m.year) m.month)
 
 -- a clock shows the time
 abbrev pub is_clock : Moment → Bool
@@ -59,7 +62,8 @@ day_after m =
 
 -- the last day of a month
 abbrev pub on_last_day : Moment → ℕ → ℕ → Option Moment
-on_last_day m year month = or_else (on_day m year month 31) (or_else (on_day m year month 30) (or_else (on_day m year month 29) (on_day m year month 28)))
+on_last_day m year month = or_else (on_day m year month 31)
+    (or_else (on_day m year month 30) (or_else (on_day m year month 29) (on_day m year month 28)))
 
 -- the same time on the day before: of this month, else of the month before, else of the year before
 abbrev pub day_before : Moment → Option Moment

@@ -1,5 +1,7 @@
 -- Times in texts (RFC 3339, 5.6), with seconds to 59.
-use Rattle.std.specs.Prelude.{ℕ, suc, ◌+◌, ◌-◌, ◌*◌, ◌/◌, List, [], ◌∷◌, length, drop, Bool, true, ◌&&◌, ◌||◌, ◌==◌, nat_lt, nat_le, if◌then◌else◌, Option, Some, None, slice_index}
+use Rattle.std.specs.Prelude.{ℕ, suc, ◌+◌, ◌-◌, ◌*◌, ◌/◌, List, [], ◌∷◌, length, drop, Bool, true}
+use Rattle.std.specs.Prelude.{◌&&◌, ◌||◌, ◌==◌, nat_lt, nat_le, if◌then◌else◌, Option, Some, None}
+use Rattle.std.specs.Prelude.{slice_index}
 use Rattle.serde_json.specs.Data.{Data}
 use Rattle.json_tables.specs.Reading.{◌>>=◌, text_of}
 use Rattle.oci_times.specs.Moment.{Moment, checked, later, earlier}
@@ -36,7 +38,15 @@ civil_of nanosecond text = if has_marks text then (do
   hour ← two_at 11 text
   minute ← two_at 14 text
   second ← two_at 17 text
-  checked (record { year = century * 100 + year; month = month; day = day; hour = hour; minute = minute; second = second; nanosecond = nanosecond })) else None
+  checked (record {
+    year = century * 100 + year;
+    month = month;
+    day = day;
+    hour = hour;
+    minute = minute;
+    second = second;
+    nanosecond = nanosecond;
+  })) else None
 
 -- how many digits the text begins with
 abbrev pub digit_count : List ℕ → ℕ
@@ -55,7 +65,8 @@ has_fraction text = slice_index text 0 == 46
 abbrev pub fraction_length : List ℕ → Option ℕ
 fraction_length text =
     if has_fraction text
-    then (if nat_le 1 (digit_count (drop 1 text)) && nat_le (digit_count (drop 1 text)) 9 then Some (digit_count (drop 1 text) + 1) else None)
+    then (if nat_le 1 (digit_count (drop 1 text)) && nat_le (digit_count (drop 1 text)) 9
+    then Some (digit_count (drop 1 text) + 1) else None)
     else Some 0
 
 abbrev pub nanoseconds : List ℕ → ℕ
@@ -71,12 +82,15 @@ numeric_offset text =
     if length text == 6 && (slice_index text 0 == 43 || slice_index text 0 == 45) && slice_index text 3 == 58 then (do
       hours ← two_at 1 text
       minutes ← two_at 4 text
-      if nat_lt hours 24 && nat_lt minutes 60 then Some (slice_index text 0 == 43, hours * 60 + minutes) else None) else None
+      if nat_lt hours 24 && nat_lt minutes 60
+          then Some (slice_index text 0 == 43, hours * 60 + minutes)
+          else None) else None
 
 -- `Z`, `z`, or an offset in hours and minutes
 abbrev pub offset_of : List ℕ → Option Offset
 offset_of text =
-    if length text == 1 && (slice_index text 0 == 90 || slice_index text 0 == 122) then Some (true, 0) else numeric_offset text
+    if length text == 1 && (slice_index text 0 == 90 || slice_index text 0 == 122)
+    then Some (true, 0) else numeric_offset text
 
 -- the moment in UTC at which a clock with this offset shows that one
 abbrev pub in_utc : Offset → Moment → Option Moment

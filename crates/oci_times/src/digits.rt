@@ -1,6 +1,7 @@
 // Digits in texts.
 ghost use Rattle.std.specs.Prelude.{◌≡◌, ◌+◌, ◌*◌, ◌<◌, ◌≤◌, length, IfSome, IsTrue};
-ghost use Rattle.oci_times.specs.Reading.{is_digit, digit_value, two_at, digit_count, nanoseconds_by};
+ghost use Rattle.oci_times.specs.Reading.{is_digit, digit_value, two_at, digit_count};
+ghost use Rattle.oci_times.specs.Reading.{nanoseconds_by};
 
 #[tactic(auto, unfolding(crate::specs::Reading::is_digit))]
 fn is_digit(byte: u8) -> bool

@@ -56,7 +56,15 @@ impl Time {
     ) -> Option<Time>
         requires date { year ≤ 10000 × month < 100 × day < 100 }
         requires clock { hour < 100 × minute < 100 × second < 100 × nanosecond < 1000000000 }
-        ensures { result ≡ checked (record { year = year; month = month; day = day; hour = hour; minute = minute; second = second; nanosecond = nanosecond }) }
+        ensures { result ≡ checked (record {
+          year = year;
+          month = month;
+          day = day;
+          hour = hour;
+          minute = minute;
+          second = second;
+          nanosecond = nanosecond;
+        }) }
     {
         let utc = DateTime::new(
             year as i16,

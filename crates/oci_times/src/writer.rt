@@ -1,7 +1,8 @@
 // Times as texts.
 ghost use Rattle.std.specs.Prelude.{◌≡◌, ◌++◌, [], ◌∷◌, OnOk, IfOk, string_bytes, Some};
 ghost use Rattle.oci_times.specs.Moment.{checked};
-ghost use Rattle.oci_times.specs.Writing.{digit, two, three, date_text, clock_text, civil_text, fraction_text, moment_text};
+ghost use Rattle.oci_times.specs.Writing.{digit, two, three, date_text, clock_text, civil_text};
+ghost use Rattle.oci_times.specs.Writing.{fraction_text, moment_text};
 
 use crate::time::Time;
 use json_values::ToValue;
@@ -61,7 +62,8 @@ fn put_clock(text: &mut String, time: &Time) -> Result<(), AllocError>
 // The fewest of 0, 3, 6 and 9 digits that are exact.
 fn put_fraction(text: &mut String, time: &Time) -> Result<(), AllocError>
     ensures shown { OnOk result (checked time.now ≡ Some time.now) }
-    ensures bytes { OnOk result (string_bytes text.new ≡ string_bytes text.old ++ fraction_text time.now.nanosecond) }
+    ensures bytes { OnOk result
+        (string_bytes text.new ≡ string_bytes text.old ++ fraction_text time.now.nanosecond) }
 {
     let nanosecond = time.nanosecond();
     if nanosecond == 0 {
@@ -92,7 +94,8 @@ fn put_civil(text: &mut String, time: &Time) -> Result<(), AllocError>
 #[tactic(auto, unfolding(crate::specs::Writing::moment_text))]
 fn put_time(text: &mut String, time: &Time) -> Result<(), AllocError>
     ensures shown { OnOk result (checked time.now ≡ Some time.now) }
-    ensures bytes { OnOk result (string_bytes text.new ≡ string_bytes text.old ++ moment_text time.now) }
+    ensures bytes { OnOk result
+        (string_bytes text.new ≡ string_bytes text.old ++ moment_text time.now) }
 {
     put_civil(text, time)?;
     put_fraction(text, time)?;

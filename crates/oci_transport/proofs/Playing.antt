@@ -3,7 +3,7 @@ use Rattle.std.proofs.Common.{◌≡◌, suc, Bool, true, false, List, [], ◌�
 use Rattle.std.proofs.lemmas.Option.{slice_get_past}
 use Rattle.oci_transport.specs.Link.{Link, NeverFails, Steady, Extends, Answers, answer_of}
 use Rattle.oci_transport.specs.Pieces.{joined}
-use Rattle.oci_transport.specs.Playback.{recorded_answer, pieces_of, may_fail, answering, last_pieces}
+use Rattle.oci_transport.specs.Playback.{answer_in, recorded_answer, pieces_of, may_fail, answering, last_pieces}
 use Rattle.oci_transport.specs.declared.recorded.Recorded.{Recorded}
 use Rattle.oci_transport.specs.declared.message.Request.{Request}
 use Rattle.oci_transport.specs.declared.message.Answer.{Answer}
@@ -45,12 +45,23 @@ body_of (Some r) answer h = by_fails r.fails h where
   by_fails true h = cc h
   by_fails false h = ap (λ (a : Answer). a.body) (some_is _ _ h)
 
+nothing_of : (o : Option Recorded) → recorded_answer o ≡ None → joined (pieces_of o) ≡ []
+nothing_of None h = refl
+nothing_of (Some r) h = by_fails r.fails h where
+  by_fails : (b : Bool) → (if b then None else Some (answer_in r)) ≡ None → joined (if b then [] else r.pieces) ≡ []
+  by_fails true h = refl
+  by_fails false h = cc h
+
 length_next : {A : Type 0} (xs : List A) (x : A) → length (xs ++ x ∷ []) ≡ suc (length xs)
 length_next [] x = refl
 length_next (y ∷ xs) x = ap suc (length_next xs x)
 
 pub rest_next : (items : List Recorded) (before : List Exchange) (e : Exchange) (answer : Answer) → recorded_answer (slice_get items (length before)) ≡ Some answer → joined (drop 0 (last_pieces items (length (before ++ e ∷ [])))) ≡ answer.body
 rest_next items before e answer is = ap (λ n. joined (drop 0 (last_pieces items n))) (length_next before e) ∙ body_of (slice_get items (length before)) answer is
+
+-- after a send that failed nothing is left
+pub nothing_next : (items : List Recorded) (before : List Exchange) (e : Exchange) → recorded_answer (slice_get items (length before)) ≡ None → joined (drop 0 (last_pieces items (length (before ++ e ∷ [])))) ≡ []
+nothing_next items before e none = ap (λ n. joined (drop 0 (last_pieces items n))) (length_next before e) ∙ nothing_of (slice_get items (length before)) none
 
 pub answered_next : (items : List Recorded) (old new : Link) (before : List Exchange) (request : Request) (head : AnswerHead) (answer : Answer) → old.answers ≡ Some (answering items) → new.answers ≡ Some (answering items)
     → old.told ≡ Some before → new.told ≡ Some (before ++ record { request = request; answer = Some answer; faults = old.faults } ∷ []) → recorded_answer (slice_get items (length before)) ≡ Some answer

@@ -7,7 +7,9 @@ abbrev pub next_count : List Exchange → ℕ → ℕ
 next_count [] count = count
 next_count (e ∷ c) count = e.faults
 
--- each exchange, from this place on, stands where something may fail, or the count after it is the one before it
+-- each exchange, from this place on, stands where something may fail, or the count after it is the
+-- one before it
 abbrev pub calm : (ℕ → Bool) → ℕ → List Exchange → ℕ → Bool
 calm fails place [] count = true
-calm fails place (e ∷ c) count = (fails place || nat_eq (next_count c count) e.faults) && calm fails (suc place) c count
+calm fails place (e ∷ c) count =
+    (fails place || nat_eq (next_count c count) e.faults) && calm fails (suc place) c count

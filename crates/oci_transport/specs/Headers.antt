@@ -1,35 +1,51 @@
 -- Header fields: names in lower case with their values (RFC 9110, section 5).
-use Rattle.std.specs.Prelude.{ℕ, ◌==◌, Bool, ◌&&◌, ◌||◌, not, nat_le, List, [], ◌∷◌, ◌++◌, Option, Some, None, unwrap_or, length, slice_get, sum_by, if◌then◌else◌}
+use Rattle.std.specs.Prelude.{ℕ, ◌==◌, ◌≤◌, Bool, ◌&&◌, ◌||◌, not, nat_le, List, [], ◌∷◌, ◌++◌, if◌then◌else◌}
+use Rattle.std.specs.Prelude.{Option, Some, None, unwrap_or, length, slice_get, sum_by, All, codes}
 use Rattle.std.specs.List.{list_all}
 use Rattle.std.specs.FinMap as map
 use Rattle.std.specs.FinMap.{FinMap}
 use Rattle.std.specs.FinMap.Entries.{where_key}
 use Rattle.std.specs.Ordering.{eq_by_cmp}
 use Rattle.json_values.specs.Places.{by_bytes}
+use Rattle.http_header.specs.FieldName.{IsHeaderName}
+use Rattle.http_header.specs.Token.{lowercase}
+
+-- the header that names the digest of what was answered (OCI distribution specification, "Pulling manifests")
+abbrev pub digest_header : List ℕ
+digest_header = codes "docker-content-digest"
 
 -- the values of each name
 abbrev pub Fields : Type 0
 Fields = FinMap by_bytes (List (List ℕ))
 
--- the values of a name, in order
+-- the values of a name, in order; the case of its letters does not matter
 abbrev pub values_of : List ℕ → Fields → List (List ℕ)
-values_of name m = unwrap_or (map.get m name) []
+values_of name m = unwrap_or (map.get m (lowercase name)) []
 
 -- the first of them
 abbrev pub first_of : List ℕ → Fields → Option (List ℕ)
 first_of name m = slice_get (values_of name m) 0
 
+-- with this value behind the others of a name in lower case
+abbrev pub with_value : Fields → List ℕ → List ℕ → Fields
+with_value m lower value = map.insert m lower (unwrap_or (map.get m lower) [] ++ value ∷ [])
+
 -- with this value behind the others of its name
 abbrev pub added : Fields → List ℕ → List ℕ → Fields
-added m name value = map.insert m name (values_of name m ++ value ∷ [])
+added m name value = with_value m (lowercase name) value
 
 -- with no value of this name
 abbrev pub without : List ℕ → Fields → Fields
-without name m = map.remove m name
+without name m = map.remove m (lowercase name)
 
 -- how many values there are in all
 abbrev pub held : Fields → ℕ
 held m = sum_by (λ e. length e.1) (map.entries m)
+
+-- what is so of all headers: the names are field names in lower case, and at most 1000 values stand
+pub record AreFields (m : Fields) : Type 0 where
+  pub names : All (λ e. IsHeaderName e.0) (map.entries m)
+  pub most : held m ≤ 1000
 
 -- a byte of a value: no control byte but the tab
 abbrev pub is_value_byte : ℕ → Bool
@@ -51,4 +67,4 @@ header_text value = if is_text value then Some value else None
 
 -- the fields of other names, inserted from the last one on
 abbrev pub kept_fields : List ℕ → List (List ℕ × List (List ℕ)) → Fields
-kept_fields name es = map.from_entries (where_key by_bytes (λ x. not (eq_by_cmp by_bytes name x)) es)
+kept_fields name es = map.from_entries (where_key by_bytes (λ x. not (eq_by_cmp by_bytes (lowercase name) x)) es)

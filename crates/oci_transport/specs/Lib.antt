@@ -1,4 +1,5 @@
 pub mod Calm
+pub mod HeaderNames
 pub mod Headers
 pub mod Link
 pub mod Pieces

@@ -5,12 +5,15 @@ use Rattle.oci_transport.specs.declared.message.Answer.{Answer}
 use Rattle.oci_transport.specs.declared.message.AnswerHead.{AnswerHead}
 use Rattle.oci_transport.specs.declared.message.Exchange.{Exchange}
 
--- what a transport answers by: the answer to a request at a place of its whole conversation, none where the send fails; and whether anything may fail at that place
+-- what a transport answers by: the answer to a request at a place of its whole conversation, none
+-- where the send fails; and whether anything may fail at that place
 pub record Answering : Type 0 where
   pub answer : ℕ → Request → Option Answer
   pub fails : ℕ → Bool
 
--- what a transport shows: its exchanges where it tells them, what is left of the answer's body where it tells that, how many faults it had, and what it answers by, where that is known
+-- what a transport shows: its exchanges where it tells them, what is left of the last answer's body
+-- where it tells that, how many faults it had, and what it answers by where that is known, which is
+-- of use only where exchanges are told: the place of an answer is a place among them
 pub record Link : Type 0 where
   pub told : Option (List Exchange)
   pub rest : Option (List ℕ)
@@ -34,21 +37,34 @@ pub record Steady (old new : Link) : Type 0 where
 -- where exchanges are told, these came after those, answered by what it answers by
 pub record Extends (old new : Link) (added : List Exchange) : Type 0 where
   pub told : (before : List Exchange) → old.told ≡ Some before → new.told ≡ Some (before ++ added)
-  pub table : (a : Answering) (before : List Exchange) → old.answers ≡ Some a → old.told ≡ Some before → AnsweredBy a (length before) added
+  pub table : (a : Answering) (before : List Exchange) → old.answers ≡ Some a → old.told ≡ Some before
+      → AnsweredBy a (length before) added
   pub stays : Steady old new
+
+-- where exchanges are told, this is what is left of the last answer's body
+abbrev pub LeavesRest : List ℕ → Link → Link → Type 0
+LeavesRest rest old new = (before : List Exchange) → old.told ≡ Some before → new.rest ≡ Some rest
+
+-- where the rest of a body is told, nothing is left of it
+abbrev pub EndsRest : Link → Link → Type 0
+EndsRest old new = (rest : List ℕ) → old.rest ≡ Some rest → new.rest ≡ Some []
 
 abbrev pub answer_of : AnswerHead → List ℕ → Answer
 answer_of head body = record { status = head.status; headers = head.headers; body = body }
 
--- an exchange with this request and an answer of this head, whose body is what can be taken now
+-- an exchange with this request and this answer, if there is one, sent as the count stood
+abbrev pub exchange_of : Request → Option Answer → Link → Exchange
+exchange_of request answer old = record { request = request; answer = answer; faults = old.faults }
+
+-- an exchange with this request and an answer of this head, of whose body nothing was taken
 pub record Answers (request : Request) (head : AnswerHead) (old new : Link) : Type 0 where
   pub body : List ℕ
-  pub added : Extends old new (record { request = request; answer = Some (answer_of head body); faults = old.faults } ∷ [])
-  pub rest : (before : List Exchange) → old.told ≡ Some before → new.rest ≡ Some body
+  pub added : Extends old new (exchange_of request (Some (answer_of head body)) old ∷ [])
+  pub rest : LeavesRest body old new
 
 -- an exchange with this request and no answer
 abbrev pub AddsUnanswered : Request → Link → Link → Type 0
-AddsUnanswered request old new = Extends old new (record { request = request; answer = None; faults = old.faults } ∷ [])
+AddsUnanswered request old new = Extends old new (exchange_of request None old ∷ [])
 
 -- at most one exchange, and it has this request
 abbrev pub IsAtMost : Request → ℕ → List Exchange → Type 0
@@ -63,11 +79,13 @@ pub record AddsAtMost (request : Request) (old new : Link) : Type 0 where
 
 -- the piece is the front of what was left, and an empty one means that nothing was left
 pub record Takes (piece : List ℕ) (old new : Link) : Type 0 where
-  pub front : (rest : List ℕ) → old.rest ≡ Some rest → (left : List ℕ) × (rest ≡ piece ++ left) × (new.rest ≡ Some left) × (piece ≡ [] → rest ≡ [])
+  pub front : (rest : List ℕ) → old.rest ≡ Some rest
+      → (left : List ℕ) × (rest ≡ piece ++ left) × (new.rest ≡ Some left) × (piece ≡ [] → rest ≡ [])
 
 -- these bytes were taken so far, and nothing was sent
 pub record HasTaken (bytes : List ℕ) (old new : Link) : Type 0 where
   pub told : new.told ≡ old.told
   pub count : old.faults ≤ new.faults
   pub stays : Steady old new
-  pub front : (rest : List ℕ) → old.rest ≡ Some rest → (left : List ℕ) × (rest ≡ bytes ++ left) × (new.rest ≡ Some left)
+  pub front : (rest : List ℕ) → old.rest ≡ Some rest
+      → (left : List ℕ) × (rest ≡ bytes ++ left) × (new.rest ≡ Some left)

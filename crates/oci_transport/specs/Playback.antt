@@ -1,14 +1,21 @@
 -- Recorded answers, and what they answer by.
-use Rattle.std.specs.Prelude.{ℕ, zero, suc, Bool, true, ◌||◌, nat_le, is_some, List, [], length, slice_get, Option, Some, None, if◌then◌else◌}
+use Rattle.std.specs.Prelude.{ℕ, zero, suc, Bool, true, ◌||◌, nat_le, is_some, IsTrue, List, [], length, slice_get}
+use Rattle.std.specs.Prelude.{Option, Some, None, if◌then◌else◌}
+use Rattle.oci_transport.specs.Calm.{calm}
 use Rattle.oci_transport.specs.Link.{Answering}
 use Rattle.oci_transport.specs.Pieces.{joined}
 use Rattle.oci_transport.specs.declared.message.Answer.{Answer}
+use Rattle.oci_transport.specs.declared.message.Exchange.{Exchange}
 use Rattle.oci_transport.specs.declared.recorded.Recorded.{Recorded}
+
+-- a record as a whole answer
+abbrev pub answer_in : Recorded → Answer
+answer_in r = record { status = r.status; headers = r.headers; body = joined r.pieces }
 
 -- the answer of a record, none where the send fails or there is no record
 abbrev pub recorded_answer : Option Recorded → Option Answer
 recorded_answer None = None
-recorded_answer (Some r) = if r.fails then None else Some (record { status = r.status; headers = r.headers; body = joined r.pieces })
+recorded_answer (Some r) = if r.fails then None else Some (answer_in r)
 
 -- the pieces of its body
 abbrev pub pieces_of : Option Recorded → List (List ℕ)
@@ -32,7 +39,14 @@ may_fail (Some r) = r.fails || is_some (stop_within r.fails_before (length r.pie
 
 -- one record after another, whatever is asked
 unfoldable pub answering : List Recorded → Answering
-answering items = record { answer = λ place request. recorded_answer (slice_get items place); fails = λ place. may_fail (slice_get items place) }
+answering items = record {
+  answer = λ place request. recorded_answer (slice_get items place);
+  fails = λ place. may_fail (slice_get items place);
+}
+
+-- these exchanges came of the records, this count stands after them, and it rose only where a record may fail
+abbrev pub IsCalm : List Recorded → List Exchange → ℕ → Type 0
+IsCalm items told count = IsTrue (calm (answering items).fails 0 told count)
 
 -- where so many requests were sent, the pieces of the last answer
 abbrev pub last_pieces : List Recorded → ℕ → List (List ℕ)

@@ -19,7 +19,8 @@ may_follow Head = true
 may_follow _ = false
 
 abbrev pub is_redirect_status : ℕ → Bool
-is_redirect_status status = nat_eq status 301 || (nat_eq status 302 || (nat_eq status 303 || (nat_eq status 307 || nat_eq status 308)))
+is_redirect_status status =
+    nat_eq status 301 || (nat_eq status 302 || (nat_eq status 303 || (nat_eq status 307 || nat_eq status 308)))
 
 abbrev pub kept_headers : Bool → Fields → Fields
 kept_headers true headers = headers
@@ -28,7 +29,12 @@ kept_headers false headers = without (codes "authorization") headers
 -- the same request of another text, with no credentials where its URL is elsewhere
 abbrev pub moved : Request → Parts → List ℕ → Option Parts → Option Request
 moved request base text None = None
-moved request base text (Some url) = Some (record { method = request.method; url = text; headers = kept_headers (same_origin base url) request.headers; body = request.body })
+moved request base text (Some url) = Some (record {
+  method = request.method;
+  url = text;
+  headers = kept_headers (same_origin base url) request.headers;
+  body = request.body;
+})
 
 -- the text of a location against a URL
 unfoldable pub joined_text : Parts → List ℕ → Option (List ℕ)
@@ -54,4 +60,7 @@ location_of None = None
 
 -- the request that an answer of this head leads to, where it is a redirect
 unfoldable pub redirected : Request → AnswerHead → Option Request
-redirected request head = if may_follow request.method && is_redirect_status head.status then moved_to request (location_of (first_of (codes "location") head.headers)) else None
+redirected request head =
+    if may_follow request.method && is_redirect_status head.status
+    then moved_to request (location_of (first_of (codes "location") head.headers))
+    else None

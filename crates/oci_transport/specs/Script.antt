@@ -1,10 +1,11 @@
 -- What a script shows.
-use Rattle.std.specs.Prelude.{ℕ, List, length, drop, Option, Some, None, if◌then◌else◌}
+use Rattle.std.specs.Prelude.{◌≡◌, ℕ, List, length, drop, slice_get, Option, Some, None, if◌then◌else◌}
 use Rattle.oci_transport.specs.declared.script.Script.{Script}
 use Rattle.oci_transport.specs.declared.recorded.Recorded.{Recorded}
+use Rattle.oci_transport.specs.declared.message.Answer.{Answer}
 use Rattle.oci_transport.specs.Link.{Link}
 use Rattle.oci_transport.specs.Pieces.{joined}
-use Rattle.oci_transport.specs.Playback.{answering, last_pieces, last_stop}
+use Rattle.oci_transport.specs.Playback.{answering, recorded_answer, fails_before_of, last_pieces, last_stop}
 
 -- the recorded answers
 abbrev pub answers_of : Script → List Recorded
@@ -14,6 +15,14 @@ answers_of s = s.answers
 abbrev pub place_of : Script → ℕ
 place_of s = length s.told
 
+-- the next answer, none where the next send fails
+abbrev pub next_answer : Script → Option Answer
+next_answer s = recorded_answer (slice_get s.answers (place_of s))
+
+-- before how many pieces of the next answer a call will fail
+abbrev pub next_stop : Script → Option ℕ
+next_stop s = fails_before_of (slice_get s.answers (place_of s))
+
 -- how many pieces of the last answer were given
 abbrev pub given_of : Script → ℕ
 given_of s = s.given
@@ -22,6 +31,21 @@ given_of s = s.given
 abbrev pub stop_of : Script → Option ℕ
 stop_of s = if s.stopped then None else last_stop s.answers (length s.told)
 
+-- a call failed where it had to, once, and gave nothing
+pub record StopsAt (old new : Script) : Type 0 where
+  pub there : stop_of old ≡ Some (given_of old)
+  pub once : stop_of new ≡ None
+  pub given : given_of new ≡ given_of old
+
+-- what was not given of the last answer
+abbrev pub left_of : Script → List ℕ
+left_of s = joined (drop s.given (last_pieces s.answers (length s.told)))
+
 -- a script tells all that it did
 abbrev pub state_of : Script → Link
-state_of s = record { told = Some s.told; rest = Some (joined (drop s.given (last_pieces s.answers (length s.told)))); faults = s.faults; answers = Some (answering s.answers) }
+state_of s = record {
+  told = Some s.told;
+  rest = Some (left_of s);
+  faults = s.faults;
+  answers = Some (answering s.answers);
+}

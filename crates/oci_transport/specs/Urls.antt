@@ -9,7 +9,9 @@ use Rattle.url.specs.Parser.{Parsed, parse_url}
 
 -- requests go to `http` and `https` URLs with no user name and no password
 abbrev pub is_web : Parts → Bool
-is_web url = (bytes_eq url.scheme (codes "http") || bytes_eq url.scheme (codes "https")) && (is_empty url.username && is_empty url.password)
+is_web url =
+    (bytes_eq url.scheme (codes "http") || bytes_eq url.scheme (codes "https"))
+    && (is_empty url.username && is_empty url.password)
 
 -- what was read, where it is such a URL
 abbrev pub readable : Parsed Parts → Option Parts
@@ -51,4 +53,6 @@ same_origin a b = bytes_eq a.scheme b.scheme && same_place a b
 
 -- The URL goes to the registry: the same host and port, and not `http` where the registry is `https`.
 unfoldable pub targets : Parts → Parts → Bool
-targets url registry = same_place url registry && not (bytes_eq registry.scheme (codes "https") && not (bytes_eq url.scheme (codes "https")))
+targets url registry =
+    same_place url registry
+    && not (bytes_eq registry.scheme (codes "https") && not (bytes_eq url.scheme (codes "https")))

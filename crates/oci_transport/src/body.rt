@@ -1,19 +1,24 @@
-ghost use Rattle.std.specs.Prelude.{◌≡◌, ◌≤◌, ◌<◌, length, IfOk, IsErrOf};
+ghost use Rattle.std.specs.Prelude.{◌≡◌, ◌≤◌, ◌<◌, length, IfOk, OnOk, IsErrOf};
 ghost use Rattle.json_values.specs.Counts.{Rose};
-ghost use Rattle.oci_transport.specs.Link.{Steady};
+ghost use Rattle.oci_transport.specs.Link.{Steady, EndsRest};
 ghost use Rattle.oci_transport.specs.declared.body.BodyError.TheVariants.{WantOfMemory as out_of_memory};
 
 use crate::transport::{LinkError, Transport};
 use json_values::{Blob, Copied};
 use std::alloc::{AllocError, Global};
+use thiserror::Error;
 
 /// Why a body was not read.
-#[derive(Clone, Copy, Debug, PartialEq, Eq)]
+#[derive(Clone, Copy, Debug, PartialEq, Eq, Error)]
 pub enum BodyError {
-    /// The transport failed.
+    /// The transport failed, and its count of faults rose.
+    #[error("the connection failed while a body was read: send the request again")]
     TransportFault,
     /// More bytes came than the limit.
+    #[error("the body has more bytes than its limit: read it with a greater one")]
     BodyTooLong,
+    /// The allocator had no memory.
+    #[error("out of memory: free some and try again")]
     WantOfMemory,
 }
 
@@ -31,7 +36,7 @@ impl From<AllocError> for BodyError {
     }
 }
 
-/// The whole body of the last answer, where it has no more than `limit` bytes.
+/// The whole body of the last answer, where it has no more than `limit` bytes. After `Ok` nothing is left of it.
 pub fn read_body<T: Transport>(
     alloc: Global,
     transport: &mut T,
@@ -41,9 +46,13 @@ pub fn read_body<T: Transport>(
     ensures steady { Steady (T.state transport.old) (T.state transport.new) }
     ensures count { (T.state transport.old).faults ≤ (T.state transport.new).faults }
     ensures within { IfOk result (λ body. length body ≤ limit) }
-    ensures whole { IfOk result (λ body. (rest : _) → (T.state transport.old).rest ≡ Some rest → body ≡ rest) }
-    ensures long { IsErrOf result BodyError.BodyTooLong → (rest : _) → (T.state transport.old).rest ≡ Some rest → limit < length rest }
-    ensures fault { IsErrOf result BodyError.TransportFault → Rose (T.state transport.old).faults (T.state transport.new).faults }
+    ensures whole { IfOk result (λ body.
+        (rest : _) → (T.state transport.old).rest ≡ Some rest → body ≡ rest) }
+    ensures ended { OnOk result (EndsRest (T.state transport.old) (T.state transport.new)) }
+    ensures long { IsErrOf result BodyError.BodyTooLong
+        → (rest : _) → (T.state transport.old).rest ≡ Some rest → limit < length rest }
+    ensures fault { IsErrOf result BodyError.TransportFault
+        → Rose (T.state transport.old).faults (T.state transport.new).faults }
 {
     let mut body = Blob::empty(alloc);
     loop {

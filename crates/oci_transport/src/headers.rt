@@ -1,18 +1,28 @@
-ghost use Rattle.std.specs.Prelude.{◌≡◌, ◌<◌, ◌≤◌, ◌↔◌, ◌-◌, ◌^◌, true, false, slice_get, sum_by, length, IfOk, OnOk, OnErr, IsErrOf, min};
+// Header fields of requests and answers.
+ghost use Rattle.std.specs.Prelude.{◌≡◌, ◌<◌, ◌≤◌, ◌↔◌, ◌-◌, ◌^◌, ◌∷◌, ◌++◌, [], List, true, false};
+ghost use Rattle.std.specs.Prelude.{IfOk, OnOk, OnErr, IsErrOf, All, slice_get, sum_by, length, min, nat_le, unwrap_or};
 ghost use Rattle.std.specs.Option.{option_copied};
+ghost use Rattle.std.specs.Ordering.{eq_by_cmp};
 ghost use Rattle.std.specs.FinMap as map;
-ghost use Rattle.http_header.specs.FieldName.{IsFieldName};
+ghost use Rattle.std.specs.FinMap.Entries.{find};
+ghost use Rattle.http_header.specs.FieldName.{IsFieldName, IsHeaderName};
 ghost use Rattle.http_header.specs.Token.{lowercase};
-ghost use Rattle.oci_transport.specs.Headers.{values_of, first_of, added, without, held, is_header_value, is_text, header_text, kept_fields};
+ghost use Rattle.json_values.specs.Places.{by_bytes};
+ghost use Rattle.oci_transport.specs.Headers.{AreFields, values_of, first_of, with_value, added, without, held};
+ghost use Rattle.oci_transport.specs.Headers.{is_header_value, is_text, header_text, kept_fields};
 ghost use Rattle.oci_transport.specs.declared.headers.HeaderError.TheVariants.{WantOfMemory as out_of_memory};
 
 use http_header::{HeaderName, HeaderNameError};
 use json_values::{Blob, Copied, List, Text, TextMap};
 use std::alloc::{AllocError, AllocFailed, Global};
-use std::cmp::Ordering;
 use std::marker::Model;
+use thiserror::Error;
 
-/// Header fields (RFC 9110, section 5). A contract sees a map from each name in lower case to its values in order.
+/// The header that names the digest of what was answered (OCI distribution specification, "Pulling manifests").
+pub const DIGEST_HEADER: &str = "docker-content-digest";
+
+/// Header fields (RFC 9110, section 5): at most 1000 values. A contract sees a map from each name, which is a field name
+/// in lower case, to its values in order. The case of a name that is asked for does not matter.
 #[derive(Drop)]
 pub struct Headers {
     alloc: Global,
@@ -29,18 +39,27 @@ impl Model for Headers {
 
     ghost coded = { code (coded_list coded_ℕ) (coded_list (coded_list coded_ℕ)) };
 
+    ghost use Rattle.oci_transport.specs.Headers.{AreFields};
+
     ghost view = { λ h. h.fields };
+
+    ghost invariant = { λ h. AreFields h.fields };
 }
 
 /// Why a header was not added.
-#[derive(Clone, Copy, Debug, PartialEq, Eq)]
+#[derive(Clone, Copy, Debug, PartialEq, Eq, Error)]
 pub enum HeaderError {
-    /// The name is no field name.
+    /// The name is no field name (RFC 9110, section 5.1).
+    #[error("the name is no header name: give letters, digits and marks of a token alone")]
     BadName,
     /// The value has a control byte other than a tab.
+    #[error("the value has a control byte: give none but the tab")]
     BadValue,
     /// 1000 values are held.
+    #[error("there are 1000 header values already: leave some out")]
     TooMany,
+    /// The allocator had no memory.
+    #[error("out of memory: free some and try again")]
     WantOfMemory,
 }
 
@@ -67,6 +86,7 @@ impl<T: Drop> From<AllocFailed<T>> for HeaderError {
 }
 
 impl Headers {
+    /// No header yet.
     pub fn new(alloc: Global) -> Headers
         ensures { result ≡ map.empty }
     {
@@ -76,32 +96,30 @@ impl Headers {
         }
     }
 
-    /// Adds a value behind the others of its name, whose case does not matter.
+    /// Adds a value behind the others of its name.
     pub fn add(&mut self, name: &str, value: &[u8]) -> Result<(), HeaderError>
-        ensures ok { OnOk result (self.new ≡ added self.old (lowercase name.now) value.now) }
+        ensures ok { OnOk result (self.new ≡ added self.old name.now value.now) }
         ensures err { OnErr result (self.new ≡ self.old) }
         ensures bad_name { IsErrOf result HeaderError.BadName ↔ ¬ (IsFieldName name.now) }
-        ensures bad_value { IsErrOf result HeaderError.BadValue → is_header_value value.now ≡ false }
-        ensures too_many { IsErrOf result HeaderError.TooMany → (is_header_value value.now ≡ true) × (1000 ≤ held self.old) }
-        ensures accepted { OnOk result ((is_header_value value.now ≡ true) × (held self.old < 1000)) }
+        ensures bad_value { IsErrOf result HeaderError.BadValue
+            → is_header_value value.now ≡ false }
+        ensures too_many { IsErrOf result HeaderError.TooMany
+            → (is_header_value value.now ≡ true) × (1000 ≤ held self.old) }
+        ensures accepted { OnOk result
+            ((is_header_value value.now ≡ true) × (held self.old < 1000)) }
     {
         let name = field_name(self.alloc, name)?;
         if !is_header_value(value) {
             return Err(HeaderError::BadValue);
         }
-        if count_values(self.fields.entries()) >= 1000 {
+        if is_full(self.fields.entries()) {
             return Err(HeaderError::TooMany);
         }
-        let mut values = match self.fields.get(name.as_str()) {
-            Some(values) => values.copy(self.alloc)?,
-            None => List::new(self.alloc),
-        };
-        values.push(Blob::new(self.alloc, value)?)?;
-        self.fields.insert(name, values)?;
+        insert(self.alloc, &mut self.fields, name, value)?;
         Ok(())
     }
 
-    /// The first value of a name in lower case.
+    /// The first value of a name.
     pub fn first(&self, name: &str) -> Option<&[u8]>
         ensures { option_copied result ≡ first_of name.now self.now }
     {
@@ -110,7 +128,8 @@ impl Headers {
 
     /// The name, in lower case, at this place in the order of the names' bytes.
     pub fn name_at(&self, place: usize) -> Option<&str>
-        ensures { option_copied result ≡ slice_get (map.keys self.now) place }
+        ensures name { option_copied result ≡ slice_get (map.keys self.now) place }
+        ensures fields { AreFields self.now }
     {
         match self.fields.name_at(place) {
             Some(name) => Some(name.as_str()),
@@ -118,11 +137,11 @@ impl Headers {
         }
     }
 
-    /// The value at this place, counted from 0, of a name in lower case.
+    /// The value at this place, counted from 0, of a name.
     pub fn value_at(&self, name: &str, place: usize) -> Option<&[u8]>
         ensures { option_copied result ≡ slice_get (values_of name.now self.now) place }
     {
-        match self.fields.get(name) {
+        match self.values(name) {
             Some(values) => match values.as_slice().get(place) {
                 Some(value) => Some(value.as_slice()),
                 None => None,
@@ -131,7 +150,13 @@ impl Headers {
         }
     }
 
-    /// A copy with no value of this name, which is in lower case.
+    fn values(&self, name: &str) -> Option<&List<Blob>>
+        ensures { option_copied result ≡ map.get self.now (lowercase name.now) }
+    {
+        values_in(self.fields.entries(), name)
+    }
+
+    /// A copy with no value of this name.
     pub fn without(&self, alloc: Global, name: &str) -> Result<Headers, AllocError>
         ensures { IfOk result (λ headers. headers ≡ without name.now self.now) }
     {
@@ -181,6 +206,7 @@ fn is_header_value(value: &[u8]) -> bool
 // The name in lower case.
 fn field_name(alloc: Global, name: &str) -> Result<Text, HeaderError>
     ensures ok { IfOk result (λ field. field ≡ lowercase name.now) }
+    ensures lower { IfOk result (λ field. IsHeaderName field) }
     ensures bad_name { IsErrOf result HeaderError.BadName ↔ ¬ (IsFieldName name.now) }
     ensures bad_value { IsErrOf result HeaderError.BadValue → ⊥ }
     ensures too_many { IsErrOf result HeaderError.TooMany → ⊥ }
@@ -195,6 +221,41 @@ fn field_name(alloc: Global, name: &str) -> Result<Text, HeaderError>
     }
 }
 
+// A value behind the others of a name in lower case.
+fn insert(
+    alloc: Global,
+    fields: &mut TextMap<List<Blob>>,
+    name: Text,
+    value: &[u8],
+) -> Result<(), AllocError>
+    requires lower { IsHeaderName name }
+    requires are { AreFields fields.old }
+    requires few { held fields.old < 1000 }
+    ensures ok { OnOk result (fields.new ≡ with_value fields.old name value.now) }
+    ensures err { OnErr result (fields.new ≡ fields.old) }
+    ensures are { AreFields fields.new }
+{
+    let values = with_last(alloc, fields.get(name.as_str()), value)?;
+    fields.insert(name, values)?;
+    Ok(())
+}
+
+// These values, and one more.
+fn with_last(
+    alloc: Global,
+    values: Option<&List<Blob>>,
+    value: &[u8],
+) -> Result<List<Blob>, AllocError>
+    ensures { IfOk result (λ more. more ≡ unwrap_or (option_copied values.entry) [] ++ value.now ∷ []) }
+{
+    let mut more = match values {
+        Some(values) => values.copy(alloc)?,
+        None => List::new(alloc),
+    };
+    more.push(Blob::new(alloc, value)?)?;
+    Ok(more)
+}
+
 // How many values there are, up to the greatest number.
 fn count_values(fields: &[(Text, List<Blob>)]) -> usize
     ensures { result ≡ min (sum_by (λ e. length e.1) fields.now) (2 ^ 64 - 1) }
@@ -206,12 +267,40 @@ fn count_values(fields: &[(Text, List<Blob>)]) -> usize
     count
 }
 
+fn is_full(fields: &[(Text, List<Blob>)]) -> bool
+    ensures { result ≡ nat_le 1000 (sum_by (λ e. length e.1) fields.now) }
+{
+    count_values(fields) >= 1000
+}
+
+// Whether a name in lower case is this one in any case.
+fn is_named(lower: &str, name: &str) -> bool
+    requires { IsHeaderName lower.now }
+    ensures { result ≡ eq_by_cmp by_bytes (lowercase name.now) lower.now }
+{
+    name.eq_ignore_ascii_case(lower)
+}
+
+// The values of a name.
+fn values_in<'a>(fields: &'a [(Text, List<Blob>)], name: &str) -> Option<&'a List<Blob>>
+    requires { All (λ e. IsHeaderName e.0) fields.now }
+    ensures { option_copied result ≡ find by_bytes (lowercase name.now) fields.now }
+{
+    for field in fields {
+        if is_named(field.0.as_str(), name) {
+            return Some(&field.1);
+        }
+    }
+    None
+}
+
 // The fields of other names, from the last one on.
 fn others(
     alloc: Global,
     fields: &[(Text, List<Blob>)],
     name: &str,
 ) -> Result<TextMap<List<Blob>>, AllocError>
+    requires { All (λ e. IsHeaderName e.0) fields.now }
     ensures { IfOk result (λ kept. kept ≡ kept_fields name.now fields.now) }
 {
     let mut kept = TextMap::new(alloc);
@@ -219,12 +308,9 @@ fn others(
     while left > 0 {
         left -= 1;
         let field = &fields[left];
-        match name.cmp(field.0.as_str()) {
-            Ordering::Equal => {}
-            _ => {
-                let (field, values) = field.copy(alloc)?;
-                kept.insert(field, values)?;
-            }
+        if !is_named(field.0.as_str(), name) {
+            let (field, values) = field.copy(alloc)?;
+            kept.insert(field, values)?;
         }
     }
     Ok(kept)

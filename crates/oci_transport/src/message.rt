@@ -1,6 +1,6 @@
 // Requests, answers, and exchanges of both.
 use crate::headers::Headers;
-use json_values::{Blob, Copied, List, Text, copies2, copies3, copies4};
+use json_values::{Blob, Copied, List, Text, copied};
 use std::alloc::{AllocError, Global};
 
 /// The method of a request.
@@ -56,47 +56,49 @@ impl Copied for Method {
 
 impl Copied for Request {
     fn copy(&self, alloc: Global) -> Result<Request, AllocError> {
-        let (method, url, headers, body) = copies4(
+        copied!(
             alloc,
-            &self.method,
-            &self.url,
-            &self.headers,
-            &self.body,
-        )?;
-        Ok(Request {
-            method,
-            url,
-            headers,
-            body,
-        })
+            self,
+            Request {
+                method,
+                url,
+                headers,
+                body
+            }
+        )
     }
 }
 
 impl Copied for AnswerHead {
     fn copy(&self, alloc: Global) -> Result<AnswerHead, AllocError> {
-        let (status, headers) = copies2(alloc, &self.status, &self.headers)?;
-        Ok(AnswerHead { status, headers })
+        copied!(alloc, self, AnswerHead { status, headers })
     }
 }
 
 impl Copied for Answer {
     fn copy(&self, alloc: Global) -> Result<Answer, AllocError> {
-        let (status, headers, body) = copies3(alloc, &self.status, &self.headers, &self.body)?;
-        Ok(Answer {
-            status,
-            headers,
-            body,
-        })
+        copied!(
+            alloc,
+            self,
+            Answer {
+                status,
+                headers,
+                body
+            }
+        )
     }
 }
 
 impl Copied for Exchange {
     fn copy(&self, alloc: Global) -> Result<Exchange, AllocError> {
-        let (request, answer, faults) = copies3(alloc, &self.request, &self.answer, &self.faults)?;
-        Ok(Exchange {
-            request,
-            answer,
-            faults,
-        })
+        copied!(
+            alloc,
+            self,
+            Exchange {
+                request,
+                answer,
+                faults
+            }
+        )
     }
 }

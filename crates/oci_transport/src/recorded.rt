@@ -1,7 +1,7 @@
 ghost use Rattle.oci_transport.specs.Pieces.{NoneEmpty};
 
 use crate::headers::Headers;
-use json_values::{Blob, Copied, List, copies5};
+use json_values::{Blob, Copied, List, copied};
 use std::alloc::{AllocError, Global};
 
 /// A recorded answer, or a send that fails.
@@ -20,20 +20,16 @@ pub struct Recorded {
 
 impl Copied for Recorded {
     fn copy(&self, alloc: Global) -> Result<Recorded, AllocError> {
-        let (fails, status, headers, pieces, fails_before) = copies5(
+        copied!(
             alloc,
-            &self.fails,
-            &self.status,
-            &self.headers,
-            &self.pieces,
-            &self.fails_before,
-        )?;
-        Ok(Recorded {
-            fails,
-            status,
-            headers,
-            pieces,
-            fails_before,
-        })
+            self,
+            Recorded {
+                fails,
+                status,
+                headers,
+                pieces,
+                fails_before
+            }
+        )
     }
 }

@@ -116,9 +116,9 @@ fn moved_to(alloc: Global, request: &Request, location: &str) -> Result<Option<R
     }
 }
 
-/// The request that an answer of this head leads to: the request was GET or HEAD, the status is 301, 302, 303, 307 or
-/// 308, and the first `location` is text that reads, against the request's URL, as the URL of a request. The new request
-/// has no `authorization` where its scheme, host or port is another.
+/// The request that an answer of this head leads to (RFC 9110, section 15.4): the request was GET or HEAD, the status
+/// is 301, 302, 303, 307 or 308, and the first `location` is text that reads, against the request's URL, as the URL of
+/// a request. The new request has no `authorization` where its scheme, host or port is another.
 #[tactic(auto, unfolding(crate::specs::Redirects::redirected))]
 pub fn redirected(
     alloc: Global,

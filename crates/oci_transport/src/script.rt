@@ -1,16 +1,16 @@
 // A transport of recorded answers.
 ghost use Rattle.std.specs.Prelude.{◌≡◌, IsTrue, ℕ, ◌+◌, ◌<◌, ◌≤◌, [], length, slice_get, All, IfOk, OnOk, OnErr, IsErrOf, Some, None};
-ghost use Rattle.oci_transport.specs.Calm.{calm};
+ghost use Rattle.oci_transport.specs.Playback.{IsCalm};
 ghost use Rattle.oci_transport.specs.Pieces.{NoneEmpty, joined};
 ghost use Rattle.oci_transport.specs.Playback.{answering, recorded_answer, last_pieces, last_stop, stop_within};
 
 use crate::message::{Answer, AnswerHead, Conversation, Exchange, Request};
 use crate::recorded::Recorded;
 use crate::transport::{LinkError, Transport};
-use json_values::{Blob, Copied, List, copies5};
+use json_values::{Blob, Copied, List, copied};
 use std::alloc::{AllocError, Global};
 
-/// Gives its answers in order, whatever is asked, and fails after the last of them.
+/// Gives its answers in order, whatever is asked, and fails after the last of them. It tells all that it did.
 #[derive(Drop)]
 pub struct Script {
     answers: List<Recorded>,
@@ -18,12 +18,13 @@ pub struct Script {
     given: usize,
     stopped: bool,
     faults: u64,
-    ghost calm: { IsTrue (calm (answering answers).fails 0 told faults) },
+    ghost calm: { IsCalm answers told faults },
 }
 
 impl Script {
     ghost use Rattle.oci_transport.specs.Script.{state_of, answers_of, stop_of};
 
+    /// A script of these answers, of which none was given yet.
     pub fn new(alloc: Global, answers: List<Recorded>) -> Script
         ensures told { (state_of result).told ≡ Some [] }
         ensures faults { (state_of result).faults ≡ 0 }
@@ -52,7 +53,7 @@ impl Script {
     /// All exchanges so far.
     pub fn conversation(&self) -> &Conversation
         ensures told { Some result.now ≡ (state_of self.now).told }
-        ensures calm { IsTrue (calm (answering (answers_of self.now)).fails 0 result.now (state_of self.now).faults) }
+        ensures calm { IsCalm (answers_of self.now) result.now (state_of self.now).faults }
     {
         &self.told
     }
@@ -60,46 +61,48 @@ impl Script {
 
 impl Copied for Script {
     fn copy(&self, alloc: Global) -> Result<Script, AllocError> {
-        let (answers, told, given, stopped, faults) = copies5(
+        copied!(
             alloc,
-            &self.answers,
-            &self.told,
-            &self.given,
-            &self.stopped,
-            &self.faults,
-        )?;
-        Ok(Script {
-            answers,
-            told,
-            given,
-            stopped,
-            faults,
-        })
+            self,
+            Script {
+                answers,
+                told,
+                given,
+                stopped,
+                faults
+            }
+        )
     }
 }
 
 impl Transport for Script {
     ghost use Rattle.std.specs.Prelude.{◌⊎◌};
     ghost use Rattle.json_values.specs.Counts.{Rose, raised};
-    ghost use Rattle.oci_transport.specs.Link.{Answers, AddsUnanswered, AddsAtMost, Takes, Steady};
-    ghost use Rattle.oci_transport.specs.Script.{state_of, answers_of, given_of, stop_of, place_of};
-    ghost use Rattle.oci_transport.specs.Playback.{fails_before_of};
+    ghost use Rattle.oci_transport.specs.Link.{Answers, AddsUnanswered, AddsAtMost, LeavesRest, Takes, Steady};
+    ghost use Rattle.oci_transport.specs.Script.{state_of, answers_of, given_of, stop_of};
+    ghost use Rattle.oci_transport.specs.Script.{next_answer, next_stop, StopsAt};
 
     ghost state = { state_of };
 
     fn send(&mut self, alloc: Global, request: &Request) -> Result<AnswerHead, LinkError>
         ensures count { (state_of self.old).faults ≤ (state_of self.new).faults }
-        ensures answered { IfOk result (λ head. Answers request.now head (state_of self.old) (state_of self.new)) }
-        ensures unanswered { IsErrOf result LinkError.Failed → AddsUnanswered request.now (state_of self.old) (state_of self.new) }
-        ensures fails { IsErrOf result LinkError.Failed → recorded_answer (slice_get (answers_of self.old) (place_of self.old)) ≡ None }
-        ensures serves { OnOk result (recorded_answer (slice_get (answers_of self.old) (place_of self.old)) ≡ None → ⊥) }
-        ensures fault { IsErrOf result LinkError.Failed → (state_of self.new).faults ≡ raised (state_of self.old).faults }
-        ensures rose { IsErrOf result LinkError.Failed → Rose (state_of self.old).faults (state_of self.new).faults }
+        ensures answered { IfOk result (λ head.
+            Answers request.now head (state_of self.old) (state_of self.new)) }
+        ensures unanswered { IsErrOf result LinkError.Failed
+            → AddsUnanswered request.now (state_of self.old) (state_of self.new) }
+        ensures nothing { IsErrOf result LinkError.Failed
+            → LeavesRest [] (state_of self.old) (state_of self.new) }
+        ensures fails { IsErrOf result LinkError.Failed → next_answer self.old ≡ None }
+        ensures serves { OnOk result (next_answer self.old ≡ None → ⊥) }
+        ensures fault { IsErrOf result LinkError.Failed
+            → (state_of self.new).faults ≡ raised (state_of self.old).faults }
+        ensures rose { IsErrOf result LinkError.Failed
+            → Rose (state_of self.old).faults (state_of self.new).faults }
         ensures quiet { OnOk result ((state_of self.new).faults ≡ (state_of self.old).faults) }
         ensures memory { IsErrOf result LinkError.WantOfMemory → self.new ≡ self.old }
         ensures answers { answers_of self.new ≡ answers_of self.old }
         ensures given { OnOk result (given_of self.new ≡ 0) }
-        ensures stop { OnOk result (stop_of self.new ≡ fails_before_of (slice_get (answers_of self.old) (place_of self.old))) }
+        ensures stop { OnOk result (stop_of self.new ≡ next_stop self.old) }
     {
         let faults = self.faults;
         let place = self.told.as_slice().len();
@@ -139,14 +142,18 @@ impl Transport for Script {
         ensures steady { Steady (state_of self.old) (state_of self.new) }
         ensures count { (state_of self.old).faults ≤ (state_of self.new).faults }
         ensures taken { IfOk result (λ piece. Takes piece (state_of self.old) (state_of self.new)) }
-        ensures fault { IsErrOf result LinkError.Failed → (state_of self.new).faults ≡ raised (state_of self.old).faults }
-        ensures rose { IsErrOf result LinkError.Failed → Rose (state_of self.old).faults (state_of self.new).faults }
+        ensures fault { IsErrOf result LinkError.Failed
+            → (state_of self.new).faults ≡ raised (state_of self.old).faults }
+        ensures rose { IsErrOf result LinkError.Failed
+            → Rose (state_of self.old).faults (state_of self.new).faults }
         ensures quiet { OnOk result ((state_of self.new).faults ≡ (state_of self.old).faults) }
         ensures memory { IsErrOf result LinkError.WantOfMemory → self.new ≡ self.old }
         ensures answers { answers_of self.new ≡ answers_of self.old }
-        ensures stops { IsErrOf result LinkError.Failed → (stop_of self.old ≡ Some (given_of self.old)) × (stop_of self.new ≡ None) × (given_of self.new ≡ given_of self.old) }
-        ensures serves { OnOk result ((stop_of self.old ≡ Some (given_of self.old) → ⊥) × (stop_of self.new ≡ stop_of self.old)) }
-        ensures given { IfOk result (λ piece. 0 < length piece → given_of self.new ≡ given_of self.old + 1) }
+        ensures stops { IsErrOf result LinkError.Failed → StopsAt self.old self.new }
+        ensures serves { OnOk result
+            ((stop_of self.old ≡ Some (given_of self.old) → ⊥) × (stop_of self.new ≡ stop_of self.old)) }
+        ensures given { IfOk result (λ piece.
+            0 < length piece → given_of self.new ≡ given_of self.old + 1) }
         ensures ended { IfOk result (λ piece. length piece ≡ 0 → self.new ≡ self.old) }
     {
         if self.stop() == Some(self.given as u64) {

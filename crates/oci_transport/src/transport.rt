@@ -1,18 +1,22 @@
 // What carries requests to a registry, and its answers back.
-ghost use Rattle.std.specs.Prelude.{◌≡◌, ◌≤◌, IfOk, IsErrOf};
+ghost use Rattle.std.specs.Prelude.{◌≡◌, ◌≤◌, [], IfOk, IsErrOf};
 ghost use Rattle.json_values.specs.Counts.{Rose};
-ghost use Rattle.oci_transport.specs.Link.{Link, Steady, Answers, AddsUnanswered, AddsAtMost, Takes};
+ghost use Rattle.oci_transport.specs.Link.{Link, Steady, Answers, AddsUnanswered, AddsAtMost, LeavesRest, Takes};
 ghost use Rattle.oci_transport.specs.declared.transport.LinkError.TheVariants.{WantOfMemory as out_of_memory};
 
 use crate::message::{AnswerHead, Request};
 use json_values::{Blob, Copied};
 use std::alloc::{AllocError, AllocFailed, Global};
+use thiserror::Error;
 
 /// Why a transport did not answer.
-#[derive(Clone, Copy, Debug, PartialEq, Eq)]
+#[derive(Clone, Copy, Debug, PartialEq, Eq, Error)]
 pub enum LinkError {
-    /// The count of faults rose.
+    /// The connection failed, and the count of faults rose.
+    #[error("the connection failed: send the request again")]
     Failed,
+    /// The allocator had no memory.
+    #[error("out of memory: free some and try again")]
     WantOfMemory,
 }
 
@@ -40,16 +44,24 @@ impl<T: Drop> From<AllocFailed<T>> for LinkError {
 
 /// Carries requests, one after another, and the bodies of their answers piece by piece.
 pub trait Transport {
-    /// The exchanges so far, the rest of the last answer's body, the count of faults, and what it answers by.
+    /// The exchanges so far, the rest of the last answer's body, the count of faults, and what it answers by. Of a
+    /// transport that does not tell its exchanges, what it answers by says nothing.
     ghost state: { Self → Link };
 
-    /// Sends a request, and answers the head of its answer. `Failed` where no answer came.
+    /// Sends a request, and answers the head of its answer, of whose body nothing is taken yet. `Failed` where no
+    /// answer came: then nothing can be taken, also of an answer before.
     fn send(&mut self, alloc: Global, request: &Request) -> Result<AnswerHead, LinkError>
         ensures count { (state self.old).faults ≤ (state self.new).faults }
-        ensures answered { IfOk result (λ head. Answers request.now head (state self.old) (state self.new)) }
-        ensures unanswered { IsErrOf result LinkError.Failed → AddsUnanswered request.now (state self.old) (state self.new) }
-        ensures fault { IsErrOf result LinkError.Failed → Rose (state self.old).faults (state self.new).faults }
-        ensures memory { IsErrOf result LinkError.WantOfMemory → AddsAtMost request.now (state self.old) (state self.new) };
+        ensures answered { IfOk result (λ head.
+            Answers request.now head (state self.old) (state self.new)) }
+        ensures unanswered { IsErrOf result LinkError.Failed
+            → AddsUnanswered request.now (state self.old) (state self.new) }
+        ensures nothing { IsErrOf result LinkError.Failed
+            → LeavesRest [] (state self.old) (state self.new) }
+        ensures fault { IsErrOf result LinkError.Failed
+            → Rose (state self.old).faults (state self.new).faults }
+        ensures memory { IsErrOf result LinkError.WantOfMemory
+            → AddsAtMost request.now (state self.old) (state self.new) };
 
     /// The next piece of the last answer's body. An empty one ends it.
     fn piece(&mut self, alloc: Global) -> Result<Blob, LinkError>
@@ -57,7 +69,8 @@ pub trait Transport {
         ensures steady { Steady (state self.old) (state self.new) }
         ensures count { (state self.old).faults ≤ (state self.new).faults }
         ensures taken { IfOk result (λ piece. Takes piece (state self.old) (state self.new)) }
-        ensures fault { IsErrOf result LinkError.Failed → Rose (state self.old).faults (state self.new).faults };
+        ensures fault { IsErrOf result LinkError.Failed
+            → Rose (state self.old).faults (state self.new).faults };
 
     /// How often it failed, up to the greatest count.
     fn faults(&self) -> u64

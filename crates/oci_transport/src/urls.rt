@@ -4,13 +4,17 @@ ghost use Rattle.oci_transport.specs.Urls.{is_web, request_url, registry_text, s
 
 use json_values::{Copied, Text};
 use std::alloc::{AllocError, Global};
+use thiserror::Error;
 use url::{ParseError, Url};
 
 /// Why a text is no URL of a request.
-#[derive(Clone, Copy, Debug, PartialEq, Eq)]
+#[derive(Clone, Copy, Debug, PartialEq, Eq, Error)]
 pub enum UrlError {
     /// It does not read as a URL, its scheme is neither `http` nor `https`, or it has a user name or a password.
+    #[error("not a URL that a request can go to: give http or https, a host, and no user or password")]
     Refused,
+    /// The allocator had no memory.
+    #[error("out of memory: free some and try again")]
     WantOfMemory,
 }
 
@@ -48,8 +52,10 @@ pub fn request_url(alloc: Global, text: &str) -> Result<Url, UrlError>
 
 /// The URL of a registry, as `scheme://registry` reads.
 pub fn registry_url(alloc: Global, scheme: &str, registry: &str) -> Result<Url, UrlError>
-    ensures ok { IfOk result (λ url. request_url (registry_text scheme.now registry.now) ≡ Some url) }
-    ensures refused { IsErrOf result UrlError.Refused → request_url (registry_text scheme.now registry.now) ≡ None }
+    ensures ok { IfOk result (λ url.
+        request_url (registry_text scheme.now registry.now) ≡ Some url) }
+    ensures refused { IsErrOf result UrlError.Refused
+        → request_url (registry_text scheme.now registry.now) ≡ None }
 {
     let mut text = match Text::new(alloc, scheme) {
         Ok(text) => text,

@@ -1,12 +1,19 @@
 -- What was read so far, and what is left.
-use Rattle.std.proofs.Common.{◌≡◌, ℕ, ◌+◌, ◌≤◌, ◌<◌, List, [], ◌++◌, Option, Some, None, length, refl, sym, ap, ◌∙◌, append-nil, append_assoc, length-append, arith}
-use Rattle.std.specs.Io.KnownBytes.{Consumes, IsAtEnd}
-use Rattle.pull_edge.specs.Spring.{Spring, TakesFront, TakesPiece, IsAll, IsPast}
+use Rattle.std.proofs.Common.{◌≡◌, ℕ, ◌+◌, ◌≤◌, ◌<◌, List, [], ◌++◌, Option, Some, None, length, refl, sym, ap, ◌∙◌, append_assoc, length-append, arith}
+use Rattle.std.specs.Io.KnownBytes.{Consumes}
+use Rattle.std.specs.Prelude.{◌-◌, take}
+use Rattle.std.proofs.lemmas.List.{length-take-le}
+use Rattle.pull_edge.specs.Source.{Spring, Takes}
+use Rattle.std.specs.Prelude.{Result, Ok, Err}
+use Rattle.std.specs.Result.{IsErr, IsErrAnd}
+use Rattle.pull_edge.specs.declared.reading.ReadRefusal.{ReadRefusal}
+use Rattle.pull_edge.specs.declared.reading.ReadRefusal.TheVariants.{TooLong, WantOfMemory}
+use Rattle.pull_edge.specs.Reading.{Reads}
 
 -- the bytes that were read are the first ones, and within the limit
 pub record ReadSoFar (limit : ℕ) (read : List ℕ) (old new : Spring) : Type 0 where
   pub within : length read ≤ limit
-  pub count : old.faults ≤ new.faults
+  pub count : new.faults ≡ old.faults
   pub taken : Consumes old.left new.left read
 
 pub Consumes-none : (left : Option (List ℕ)) → Consumes left left []
@@ -19,24 +26,18 @@ Consumes-then (Some as') None c xs ys first second = absurd first
 Consumes-then (Some as') (Some bs) None xs ys first second = absurd second
 Consumes-then (Some as') (Some bs) (Some cs) xs ys first second = first ∙ ap (λ zs. xs ++ zs) second ∙ sym (append_assoc xs ys cs)
 
--- at the end, what was read is all
-pub all_read : (old new : Option (List ℕ)) (read : List ℕ) → Consumes old new read → IsAtEnd new → IsAll old read
-all_read None new read taken end = tt
-all_read (Some xs) None read taken end = absurd taken
-all_read (Some xs) (Some ys) read taken end = sym (taken ∙ ap (λ zs. read ++ zs) end ∙ append-nil read)
-
--- more was read than the limit
-pub past_limit : (limit : ℕ) (old new : Option (List ℕ)) (read : List ℕ) → Consumes old new read → limit < length read → IsPast limit old
-past_limit limit None new read taken more = tt
-past_limit limit (Some xs) None read taken more = absurd taken
-past_limit limit (Some xs) (Some ys) read taken more = omega (arith, ap length taken, length-append read ys)
-
 -- what was read before, and the next piece
-pub read_piece : (n : ℕ) (read more : List ℕ) (a b c : Option (List ℕ)) → Consumes a b read → TakesPiece n read more b c → Consumes a c more
-read_piece n read more a b c taken piece = rw piece.2 (Consumes-then a b c read piece.0 taken piece.3)
+pub piece_taken : (limit n : ℕ) (read room : List ℕ) (a b c : Spring) → ReadSoFar limit read a b → Takes (take n room) b c → Takes (read ++ take n room) a c
+piece_taken limit n read room a b c so_far piece = Consumes-then a.left b.left c.left read (take n room) so_far.taken piece
 
-pub front_piece : (read : List ℕ) (a b c : Option (List ℕ)) → Consumes a b read → TakesFront b c → TakesFront a c
-front_piece read a b c taken front = (read ++ front.0, Consumes-then a b c read front.0 taken front.1)
+-- the next piece goes past the limit
+pub more_taken : (limit n : ℕ) (read room : List ℕ) (a b c : Spring) → ReadSoFar limit read a b → Takes (take n room) b c → c.faults ≡ b.faults → n ≤ length room → limit - length read < n → Reads limit (Err TooLong) a c
+more_taken limit n read room a b c so_far piece count most over =
+    ((read ++ take n room, piece_taken limit n read room a b c so_far piece, omega (arith, so_far.within, over, length-append read (take n room), length-take-le n room most)), count ∙ so_far.count)
 
-pub length_piece : (n : ℕ) (read more : List ℕ) (b c : Option (List ℕ)) → TakesPiece n read more b c → length more ≡ length read + n
-length_piece n read more b c piece = omega (arith, ap length piece.2, length-append read piece.0, piece.1)
+-- the next piece does not, but there is no memory for it
+pub want_taken : (limit n : ℕ) (read room : List ℕ) (a b c : Spring) (r : Result (List ℕ) ReadRefusal) → IsErr r → IsErrAnd r (λ e. e ≡ WantOfMemory)
+    → ReadSoFar limit read a b → Takes (take n room) b c → c.faults ≡ b.faults → n ≤ length room → n ≤ limit - length read → Reads limit r a c
+want_taken limit n read room a b c (Ok bytes) err is so_far piece count most under = absurd (cc err)
+want_taken limit n read room a b c (Err e) err is so_far piece count most under =
+    rw is ((read ++ take n room, piece_taken limit n read room a b c so_far piece, omega (arith, so_far.within, under, length-append read (take n room), length-take-le n room most)), count ∙ so_far.count)

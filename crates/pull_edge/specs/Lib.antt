@@ -1,3 +1,6 @@
-pub mod Spring
-pub mod Adapters
-pub mod Sources
+pub mod MemorySource
+pub mod PlainSource
+pub mod Reading
+pub mod Source
+pub mod StdSink
+pub mod StdSource

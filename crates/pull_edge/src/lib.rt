@@ -1,4 +1,4 @@
-//! Where the program's bytes come from and go to: sources, standard input and output, and numbers as text.
+//! Where a program's bytes come from and go to: sources in memory, standard input and standard output.
 #![tactic(auto)]
 
 mod decimal;

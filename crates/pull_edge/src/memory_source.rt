@@ -1,5 +1,5 @@
-ghost use Rattle.std.specs.Prelude.{◌≡◌, ◌≤◌, ◌<◌, length, take, Some, Contains, IfOk, OnErr};
-ghost use Rattle.std.specs.Io.KnownBytes.{Consumes, Keeps, IsAtEnd};
+ghost use Rattle.std.specs.Prelude.{◌≡◌, ◌≤◌, ◌<◌, length, take, Some, Contains, IfOk, OnOk, OnErr};
+ghost use Rattle.std.specs.Io.KnownBytes.{Keeps, IsAtEnd};
 ghost use Rattle.json_values.specs.Counts.{Rose, raised};
 
 use crate::give::give;
@@ -18,11 +18,12 @@ pub struct MemorySource {
 }
 
 impl MemorySource {
-    ghost use Rattle.pull_edge.specs.Sources.{memory_spring, calls_of, failing_of};
+    ghost use Rattle.pull_edge.specs.MemorySource.{spring, calls_of, failing_of};
 
+    /// All of the content is left, and nothing was asked yet.
     pub fn new(content: Blob, failing: List<u64>) -> MemorySource
-        ensures left { (memory_spring result).left ≡ Some content }
-        ensures faults { (memory_spring result).faults ≡ 0 }
+        ensures left { (spring result).left ≡ Some content }
+        ensures faults { (spring result).faults ≡ 0 }
         ensures calls { calls_of result ≡ 0 }
         ensures failing { failing_of result ≡ failing }
     {
@@ -37,22 +38,24 @@ impl MemorySource {
 }
 
 impl Source for MemorySource {
-    ghost use Rattle.pull_edge.specs.Sources.{memory_spring, calls_of, failing_of};
+    ghost use Rattle.pull_edge.specs.Source.{Takes};
+    ghost use Rattle.pull_edge.specs.MemorySource.{spring, calls_of, failing_of};
 
-    ghost state = { memory_spring };
+    ghost state = { spring };
 
     fn take(&mut self, room: &mut [u8]) -> Result<usize, Failed>
-        ensures count { (memory_spring self.old).faults ≤ (memory_spring self.new).faults }
+        ensures count { (spring self.old).faults ≤ (spring self.new).faults }
         ensures most { IfOk result (λ n. n ≤ length room.new) }
-        ensures front { IfOk result (λ n. Consumes (memory_spring self.old).left (memory_spring self.new).left (take n room.new)) }
-        ensures end { IfOk result (λ n. n ≡ 0 → 0 < length room.new → IsAtEnd (memory_spring self.new).left) }
-        ensures stays { OnErr result (Keeps (memory_spring self.old).left (memory_spring self.new).left) }
-        ensures fault { OnErr result (Rose (memory_spring self.old).faults (memory_spring self.new).faults) }
-        ensures raised { OnErr result ((memory_spring self.new).faults ≡ raised (memory_spring self.old).faults) }
+        ensures front { IfOk result (λ n. Takes (take n room.new) (spring self.old) (spring self.new)) }
+        ensures end { IfOk result (λ n. n ≡ 0 → 0 < length room.new → IsAtEnd (spring self.new).left) }
+        ensures stays { OnErr result (Keeps (spring self.old).left (spring self.new).left) }
+        ensures fault { OnErr result (Rose (spring self.old).faults (spring self.new).faults) }
+        ensures served { OnOk result ((spring self.new).faults ≡ (spring self.old).faults) }
+        ensures raised { OnErr result ((spring self.new).faults ≡ raised (spring self.old).faults) }
         ensures calls { calls_of self.new ≡ raised (calls_of self.old) }
         ensures failing { failing_of self.new ≡ failing_of self.old }
         ensures fails { OnErr result (Contains (failing_of self.old) (calls_of self.old)) }
-        ensures serves { IfOk result (λ _. Contains (failing_of self.old) (calls_of self.old) → ⊥) }
+        ensures calm { OnOk result (Contains (failing_of self.old) (calls_of self.old) → ⊥) }
     {
         let call = self.calls;
         self.calls = call.saturating_add(1);

@@ -13,19 +13,20 @@ pub struct PlainSource {
 }
 
 impl PlainSource {
-    ghost use Rattle.pull_edge.specs.Sources.{plain_spring};
+    ghost use Rattle.pull_edge.specs.PlainSource.{spring};
 
+    /// All of the content is left.
     pub fn new(content: Blob) -> PlainSource
-        ensures { (plain_spring result).left ≡ Some content }
+        ensures { (spring result).left ≡ Some content }
     {
         PlainSource { content, at: 0 }
     }
 }
 
 impl Source for PlainSource {
-    ghost use Rattle.pull_edge.specs.Sources.{plain_spring};
+    ghost use Rattle.pull_edge.specs.PlainSource.{spring};
 
-    ghost state = { plain_spring };
+    ghost state = { spring };
 
     fn take(&mut self, room: &mut [u8]) -> Result<usize, Failed> {
         let count = give(self.content.as_slice(), self.at, room);

@@ -1,21 +1,24 @@
-ghost use Rattle.std.specs.Prelude.{◌≡◌, ◌≤◌, ◌<◌, ◌++◌, length, IfOk, OnOk, OnErr, IsErrOf, vec_len};
-ghost use Rattle.std.specs.Io.KnownBytes.{Consumes, Keeps, IsAtEnd};
-ghost use Rattle.json_values.specs.Counts.{Rose};
-ghost use Rattle.pull_edge.specs.Spring.{TakesFront, TakesPiece, IsAll, IsPast};
+// A source as one text.
+ghost use Rattle.std.specs.Prelude.{◌≡◌, ◌≤◌, IfOk, vec_len};
+ghost use Rattle.pull_edge.specs.Reading.{Reads};
 
-use crate::source::Source;
-use json_values::Blob;
+use crate::source::{Failed, Source};
+use json_values::{Blob, Copied};
 use std::alloc::{AllocError, Global};
+use thiserror::Error;
 
+/// How many bytes are taken at most at one time.
 const PIECE: usize = 65536;
 
 /// Why a source was not read to its end.
-#[derive(Clone, Copy, Debug, PartialEq, Eq)]
+#[derive(Clone, Copy, Debug, PartialEq, Eq, Error)]
 pub enum ReadRefusal {
-    /// The source gave more bytes than the limit.
+    /// More bytes than the limit were taken.
+    #[error("the source has more bytes than the limit: give fewer, or read them with a greater limit")]
     TooLong,
-    /// The source failed.
+    #[error("the source failed: what was read of it is let go, so read it again from its start")]
     SourceFault,
+    #[error("out of memory")]
     WantOfMemory,
 }
 
@@ -30,51 +33,44 @@ impl From<AllocError> for ReadRefusal {
     }
 }
 
+impl From<Failed> for ReadRefusal {
+    ghost use Rattle.std.specs.Prelude.{◌≡◌};
+    ghost use Rattle.pull_edge.specs.declared.reading.ReadRefusal.TheVariants.{SourceFault};
+
+    ghost from_gives = { λ _ e. e ≡ SourceFault };
+
+    fn from(_error: Failed) -> ReadRefusal {
+        ReadRefusal::SourceFault
+    }
+}
+
+impl Copied for ReadRefusal {
+    fn copy(&self, _alloc: Global) -> Result<ReadRefusal, AllocError> {
+        Ok(*self)
+    }
+}
+
 fn zeros(alloc: Global, count: usize) -> Result<Vec<u8>, AllocError>
     ensures { IfOk result (λ room. vec_len room ≡ count) }
 {
     vec![in alloc; 0; count]
 }
 
-/// Takes one piece, by way of the room, and adds it to what was read.
-fn take_piece<S: Source>(
-    source: &mut S,
-    room: &mut [u8],
-    read: &mut Blob,
-) -> Result<usize, ReadRefusal>
-    ensures count { (S.state source.old).faults ≤ (S.state source.new).faults }
-    ensures front { TakesFront (S.state source.old).left (S.state source.new).left }
-    ensures piece { IfOk result (λ n. TakesPiece n read.old read.new (S.state source.old).left (S.state source.new).left) }
-    ensures end { IfOk result (λ n. n ≡ 0 → 0 < length room.old → IsAtEnd (S.state source.new).left) }
-    ensures fault { IsErrOf result ReadRefusal.SourceFault → Rose (S.state source.old).faults (S.state source.new).faults }
-    ensures never_long { IsErrOf result ReadRefusal.TooLong → ⊥ }
-{
-    let Ok(count) = source.take(room) else {
-        return Err(ReadRefusal::SourceFault);
-    };
-    read.append(&room[..count])?;
-    Ok(count)
-}
-
-/// Reads a source to its end, in pieces, and refuses as soon as it gave more bytes than the limit.
+/// Reads a source to its end, in pieces, and refuses it as soon as more bytes than the limit were taken.
 pub fn read_all<S: Source>(alloc: Global, source: &mut S, limit: u64) -> Result<Blob, ReadRefusal>
-    ensures whole { IfOk result (λ read. IsAll (S.state source.old).left read) }
-    ensures end { OnOk result (IsAtEnd (S.state source.new).left) }
-    ensures within { IfOk result (λ read. length read ≤ limit) }
-    ensures long { IsErrOf result ReadRefusal.TooLong → IsPast limit (S.state source.old).left }
-    ensures fault { IsErrOf result ReadRefusal.SourceFault → Rose (S.state source.old).faults (S.state source.new).faults }
+    ensures reads { Reads limit result (S.state source.old) (S.state source.new) }
     ensures count { (S.state source.old).faults ≤ (S.state source.new).faults }
-    ensures front { TakesFront (S.state source.old).left (S.state source.new).left }
 {
     let mut room = zeros(alloc, PIECE)?;
     let mut read = Blob::empty(alloc);
     loop {
-        let count = take_piece(source, &mut room, &mut read)?;
+        let count = source.take(&mut room)?;
         if count == 0 {
             return Ok(read);
         }
-        if read.as_slice().len() as u64 > limit {
+        if count as u64 > limit - read.as_slice().len() as u64 {
             return Err(ReadRefusal::TooLong);
         }
+        read.append(&room[..count])?;
     }
 }

@@ -3,7 +3,7 @@ ghost use Rattle.std.specs.Prelude.{◌≡◌};
 use crate::source::{Failed, Source};
 use std::io::Read;
 
-/// Gives what a reader of std gives, as standard input. Each error of the reader is a fault.
+/// Gives what a reader of std gives, as standard input. Each error of the reader is a fault, and nothing else is.
 #[derive(Drop)]
 pub struct StdSource<R> {
     reader: R,
@@ -11,20 +11,21 @@ pub struct StdSource<R> {
 }
 
 impl<R: Read> StdSource<R> {
-    ghost use Rattle.pull_edge.specs.Adapters.{std_spring};
+    ghost use Rattle.pull_edge.specs.StdSource.{spring};
 
+    /// It had no fault yet.
     pub fn new(reader: R) -> StdSource<R>
-        ensures left { (std_spring R.remaining result).left ≡ R.remaining reader }
-        ensures faults { (std_spring R.remaining result).faults ≡ 0 }
+        ensures left { (spring R.remaining result).left ≡ R.remaining reader }
+        ensures faults { (spring R.remaining result).faults ≡ 0 }
     {
         StdSource { reader, faults: 0 }
     }
 }
 
 impl<R: Read> Source for StdSource<R> {
-    ghost use Rattle.pull_edge.specs.Adapters.{std_spring};
+    ghost use Rattle.pull_edge.specs.StdSource.{spring};
 
-    ghost state = { std_spring R.remaining };
+    ghost state = { spring R.remaining };
 
     fn take(&mut self, room: &mut [u8]) -> Result<usize, Failed> {
         match self.reader.read(room) {

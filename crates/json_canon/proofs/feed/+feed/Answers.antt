@@ -1,7 +1,7 @@
 use Rattle.std.proofs.Common.{[], ◌∷◌, ◌++◌, Ok, Err, refl, sym, ap, subst, ◌∙◌, ◌+◌, drop, string_bytes}
 use Rattle.serde_json.specs.Data.{array, object}
 use Rattle.serde_json.specs.View.{view, items_view, members_view}
-use Rattle.json_events.specs.Events.{array_begins, item_begins, item_ends, array_ends, object_begins, member_begins, member_ends, object_ends}
+use Rattle.json_events.specs.Events.{begin_array, begin_array_value, end_array_value, end_array, begin_object, begin_object_value, end_object_value, end_object}
 use Rattle.json_events.specs.Formatters.{stage_of}
 use Rattle.json_events.specs.Spelling.{spelled}
 use Rattle.json_canon.proofs.Feeds.{FedUpTo, fed_one, fed_stop, stop_second, all_three, handed, up_to, up_to_more, up_to_stop, up_to_end, items_left, members_left, item_left, member_left, name_events, value_events}
@@ -10,55 +10,55 @@ use Rattle.json_canon.proofs.feed.+feed.Goals as goal
 
 pub feed_item-returns-in_err-begin_array_value-clause-fed : goal.feed_item-returns-in_err-begin_array_value-clause-fed
 feed_item-returns-in_err-begin_array_value-clause-fed g t c =
-    let rest = spelled (view c.args.item.now) ++ item_ends ∷ [] in
-    handed (item_begins ∷ rest) _ c.in_err-begin_array_value.field-0.0 _ _ _ _ c.from_residual.ensures.1
-    (fed_stop (item_begins ∷ []) rest c.in_err-begin_array_value.field-0.0 _ _ _ _ (fed_one item_begins (Err c.in_err-begin_array_value.field-0.0) _ _ _ _ c.in_err-begin_array_value.ensures.answers))
+    let rest = spelled (view c.args.item.now) ++ end_array_value ∷ [] in
+    handed (begin_array_value ∷ rest) _ c.in_err-begin_array_value.field-0.0 _ _ _ _ c.from_residual.ensures.1
+    (fed_stop (begin_array_value ∷ []) rest c.in_err-begin_array_value.field-0.0 _ _ _ _ (fed_one begin_array_value (Err c.in_err-begin_array_value.field-0.0) _ _ _ _ c.in_err-begin_array_value.ensures.answers))
 
 pub feed_item-returns-in_err-feed-clause-fed : goal.feed_item-returns-in_err-feed-clause-fed
 feed_item-returns-in_err-feed-clause-fed g t c =
     let spells = spelled (view c.args.item.now) in
-    handed (item_begins ∷ (spells ++ item_ends ∷ [])) _ c.in_err-feed.field-0.0 _ _ _ _ c.from_residual-in_err-feed.ensures.1
-    (stop_second (item_begins ∷ []) spells (item_ends ∷ []) c.in_err-feed.field-0.0 tt _ _ _ _ _ _
-    (fed_one item_begins (Ok tt) _ _ _ _ c.in_ok-begin_array_value.ensures.answers) c.begin_array_value.ensures.count c.in_err-feed.ensures.fed)
+    handed (begin_array_value ∷ (spells ++ end_array_value ∷ [])) _ c.in_err-feed.field-0.0 _ _ _ _ c.from_residual-in_err-feed.ensures.1
+    (stop_second (begin_array_value ∷ []) spells (end_array_value ∷ []) c.in_err-feed.field-0.0 tt _ _ _ _ _ _
+    (fed_one begin_array_value (Ok tt) _ _ _ _ c.in_ok-begin_array_value.ensures.answers) c.begin_array_value.ensures.count c.in_err-feed.ensures.fed)
 
 pub feed_item-returns-clause-fed : goal.feed_item-returns-clause-fed
 feed_item-returns-clause-fed g t c =
-    all_three (item_begins ∷ []) (spelled (view c.args.item.now)) (item_ends ∷ []) c.end_array_value-done.result tt tt _ _ _ _ _ _ _ _
-    (fed_one item_begins (Ok tt) _ _ _ _ c.in_ok-begin_array_value.ensures.answers) c.begin_array_value.ensures.count
+    all_three (begin_array_value ∷ []) (spelled (view c.args.item.now)) (end_array_value ∷ []) c.end_array_value-done.result tt tt _ _ _ _ _ _ _ _
+    (fed_one begin_array_value (Ok tt) _ _ _ _ c.in_ok-begin_array_value.ensures.answers) c.begin_array_value.ensures.count
     c.in_ok-feed.ensures.fed c.feed.ensures.count
-    (fed_one item_ends c.end_array_value-done.result _ _ _ _ c.end_array_value-done.ensures.answers)
+    (fed_one end_array_value c.end_array_value-done.result _ _ _ _ c.end_array_value-done.ensures.answers)
 
 pub feed_member-returns-in_err-begin_object_value-clause-fed : goal.feed_member-returns-in_err-begin_object_value-clause-fed
 feed_member-returns-in_err-begin_object_value-clause-fed g t c =
-    let rest = spelled (view c.args.member.now) ++ member_ends ∷ [] in
-    handed (member_begins ∷ rest) _ c.in_err-begin_object_value.field-0.0 _ _ _ _ c.from_residual.ensures.1
-    (fed_stop (member_begins ∷ []) rest c.in_err-begin_object_value.field-0.0 _ _ _ _ (fed_one member_begins (Err c.in_err-begin_object_value.field-0.0) _ _ _ _ c.in_err-begin_object_value.ensures.answers))
+    let rest = spelled (view c.args.member.now) ++ end_object_value ∷ [] in
+    handed (begin_object_value ∷ rest) _ c.in_err-begin_object_value.field-0.0 _ _ _ _ c.from_residual.ensures.1
+    (fed_stop (begin_object_value ∷ []) rest c.in_err-begin_object_value.field-0.0 _ _ _ _ (fed_one begin_object_value (Err c.in_err-begin_object_value.field-0.0) _ _ _ _ c.in_err-begin_object_value.ensures.answers))
 
 pub feed_member-returns-in_err-feed-clause-fed : goal.feed_member-returns-in_err-feed-clause-fed
 feed_member-returns-in_err-feed-clause-fed g t c =
     let spells = spelled (view c.args.member.now) in
-    handed (member_begins ∷ (spells ++ member_ends ∷ [])) _ c.in_err-feed.field-0.0 _ _ _ _ c.from_residual-in_err-feed.ensures.1
-    (stop_second (member_begins ∷ []) spells (member_ends ∷ []) c.in_err-feed.field-0.0 tt _ _ _ _ _ _
-    (fed_one member_begins (Ok tt) _ _ _ _ c.in_ok-begin_object_value.ensures.answers) c.begin_object_value.ensures.count c.in_err-feed.ensures.fed)
+    handed (begin_object_value ∷ (spells ++ end_object_value ∷ [])) _ c.in_err-feed.field-0.0 _ _ _ _ c.from_residual-in_err-feed.ensures.1
+    (stop_second (begin_object_value ∷ []) spells (end_object_value ∷ []) c.in_err-feed.field-0.0 tt _ _ _ _ _ _
+    (fed_one begin_object_value (Ok tt) _ _ _ _ c.in_ok-begin_object_value.ensures.answers) c.begin_object_value.ensures.count c.in_err-feed.ensures.fed)
 
 pub feed_member-returns-clause-fed : goal.feed_member-returns-clause-fed
 feed_member-returns-clause-fed g t c =
-    all_three (member_begins ∷ []) (spelled (view c.args.member.now)) (member_ends ∷ []) c.end_object_value-done.result tt tt _ _ _ _ _ _ _ _
-    (fed_one member_begins (Ok tt) _ _ _ _ c.in_ok-begin_object_value.ensures.answers) c.begin_object_value.ensures.count
+    all_three (begin_object_value ∷ []) (spelled (view c.args.member.now)) (end_object_value ∷ []) c.end_object_value-done.result tt tt _ _ _ _ _ _ _ _
+    (fed_one begin_object_value (Ok tt) _ _ _ _ c.in_ok-begin_object_value.ensures.answers) c.begin_object_value.ensures.count
     c.in_ok-feed.ensures.fed c.feed.ensures.count
-    (fed_one member_ends c.end_object_value-done.result _ _ _ _ c.end_object_value-done.ensures.answers)
+    (fed_one end_object_value c.end_object_value-done.result _ _ _ _ c.end_object_value-done.ensures.answers)
 
 pub feed_items-returns-in_err-begin_array-clause-fed : goal.feed_items-returns-in_err-begin_array-clause-fed
 feed_items-returns-in_err-begin_array-clause-fed g t c =
     let rest = items_left (items_view c.args.items.now.items) in
-    handed (array_begins ∷ rest) _ c.in_err-begin_array.field-0.0 _ _ _ _ c.from_residual.ensures.1
-    (fed_stop (array_begins ∷ []) rest c.in_err-begin_array.field-0.0 _ _ _ _ (fed_one array_begins (Err c.in_err-begin_array.field-0.0) _ _ _ _ c.in_err-begin_array.ensures.answers))
+    handed (begin_array ∷ rest) _ c.in_err-begin_array.field-0.0 _ _ _ _ c.from_residual.ensures.1
+    (fed_stop (begin_array ∷ []) rest c.in_err-begin_array.field-0.0 _ _ _ _ (fed_one begin_array (Err c.in_err-begin_array.field-0.0) _ _ _ _ c.in_err-begin_array.ensures.answers))
 
 pub feed_items-loop-item-init : goal.feed_items-loop-item-init
 feed_items-loop-item-init g t c =
     let all = items_view c.args.items.now.items in
-    subst (λ is. FedUpTo (array_begins ∷ items_left all) (items_left (items_view is)) (stage_of c.args.formatter.now) (stage_of c.begin_array.new.self) (g.K.Sink.state c.args.sink.now) (g.K.Sink.state c.begin_array.new.sink)) (sym c.deref-item-items.ensures.value)
-    (up_to (array_begins ∷ []) (items_left all) _ _ _ _ (fed_one array_begins (Ok tt) _ _ _ _ c.in_ok-begin_array.ensures.answers) c.begin_array.ensures.count)
+    subst (λ is. FedUpTo (begin_array ∷ items_left all) (items_left (items_view is)) (stage_of c.args.formatter.now) (stage_of c.begin_array.new.self) (g.K.Sink.state c.args.sink.now) (g.K.Sink.state c.begin_array.new.sink)) (sym c.deref-item-items.ensures.value)
+    (up_to (begin_array ∷ []) (items_left all) _ _ _ _ (fed_one begin_array (Ok tt) _ _ _ _ c.in_ok-begin_array.ensures.answers) c.begin_array.ensures.count)
 
 pub feed_items-returns-in_err-feed_item-clause-fed : goal.feed_items-returns-in_err-feed_item-clause-fed
 feed_items-returns-in_err-feed_item-clause-fed g t c =
@@ -66,34 +66,34 @@ feed_items-returns-in_err-feed_item-clause-fed g t c =
     let rest = items_view (drop (c.loop-item.item-index + 1) c.deref-item-items.result.now) in
     let step = ap items_left (items_step c.deref-item-items.result.now c.loop-item.item-index c.item-item.result c.loop-item-test.true c.item-item.is) ∙ item_left x rest in
     handed (spelled (array (items_view c.args.items.now.items))) _ c.in_err-feed_item.field-0.0 _ _ _ _ c.from_residual-in_err-feed_item.ensures.1
-    (up_to_stop _ (item_begins ∷ (spelled x ++ item_ends ∷ [])) (items_left rest) _ c.in_err-feed_item.field-0.0 _ _ _ _ _ _ step c.loop-item.invariant c.in_err-feed_item.ensures.fed)
+    (up_to_stop _ (begin_array_value ∷ (spelled x ++ end_array_value ∷ [])) (items_left rest) _ c.in_err-feed_item.field-0.0 _ _ _ _ _ _ step c.loop-item.invariant c.in_err-feed_item.ensures.fed)
 
 pub feed_items-loop-item-preserved : goal.feed_items-loop-item-preserved
 feed_items-loop-item-preserved g t c =
     let x = view c.item-item.result in
     let rest = items_view (drop (c.loop-item.item-index + 1) c.deref-item-items.result.now) in
     let step = ap items_left (items_step c.deref-item-items.result.now c.loop-item.item-index c.item-item.result c.loop-item-test.true c.item-item.is) ∙ item_left x rest in
-    up_to_more _ (item_begins ∷ (spelled x ++ item_ends ∷ [])) (items_left rest) _ _ _ _ _ _ _ step c.loop-item.invariant c.in_ok-feed_item.ensures.fed c.feed_item.ensures.count
+    up_to_more _ (begin_array_value ∷ (spelled x ++ end_array_value ∷ [])) (items_left rest) _ _ _ _ _ _ _ step c.loop-item.invariant c.in_ok-feed_item.ensures.fed c.feed_item.ensures.count
 
 pub feed_items-returns-clause-fed : goal.feed_items-returns-clause-fed
 feed_items-returns-clause-fed g t c =
     let over = items_over c.deref-item-items.result.now c.loop-item.item-index c.loop-item-test.false in
-    up_to_end (spelled (array (items_view c.args.items.now.items))) (array_ends ∷ []) c.end_array-done.result _ _ _ _ _ _
+    up_to_end (spelled (array (items_view c.args.items.now.items))) (end_array ∷ []) c.end_array-done.result _ _ _ _ _ _
     (subst (λ ds. FedUpTo (spelled (array (items_view c.args.items.now.items))) (items_left ds) (stage_of c.args.formatter.now) (stage_of c.loop-item.formatter) (g.K.Sink.state c.args.sink.now) (g.K.Sink.state c.loop-item.sink)) over c.loop-item.invariant)
-    (fed_one array_ends c.end_array-done.result _ _ _ _ c.end_array-done.ensures.answers)
+    (fed_one end_array c.end_array-done.result _ _ _ _ c.end_array-done.ensures.answers)
 
 pub feed_members-returns-in_err-begin_object-clause-fed : goal.feed_members-returns-in_err-begin_object-clause-fed
 feed_members-returns-in_err-begin_object-clause-fed g t c =
     let rest = members_left (members_view c.args.members.now.entries) in
-    handed (object_begins ∷ rest) _ c.in_err-begin_object.field-0.0 _ _ _ _ c.from_residual.ensures.1
-    (fed_stop (object_begins ∷ []) rest c.in_err-begin_object.field-0.0 _ _ _ _ (fed_one object_begins (Err c.in_err-begin_object.field-0.0) _ _ _ _ c.in_err-begin_object.ensures.answers))
+    handed (begin_object ∷ rest) _ c.in_err-begin_object.field-0.0 _ _ _ _ c.from_residual.ensures.1
+    (fed_stop (begin_object ∷ []) rest c.in_err-begin_object.field-0.0 _ _ _ _ (fed_one begin_object (Err c.in_err-begin_object.field-0.0) _ _ _ _ c.in_err-begin_object.ensures.answers))
 
 pub feed_members-loop-name-init : goal.feed_members-loop-name-init
 feed_members-loop-name-init g t c =
     let all = members_view c.args.members.now.entries in
-    subst (λ es. FedUpTo (object_begins ∷ members_left all) (members_left (members_view es)) (stage_of c.args.formatter.now) (stage_of c.begin_object.new.self) (g.K.Sink.state c.args.sink.now) (g.K.Sink.state c.begin_object.new.sink))
+    subst (λ es. FedUpTo (begin_object ∷ members_left all) (members_left (members_view es)) (stage_of c.args.formatter.now) (stage_of c.begin_object.new.self) (g.K.Sink.state c.args.sink.now) (g.K.Sink.state c.begin_object.new.sink))
     (sym (c.into_iter-name-iterator.ensures.into_iter_gives ∙ c.iter-name-items.ensures.rest))
-    (up_to (object_begins ∷ []) (members_left all) _ _ _ _ (fed_one object_begins (Ok tt) _ _ _ _ c.in_ok-begin_object.ensures.answers) c.begin_object.ensures.count)
+    (up_to (begin_object ∷ []) (members_left all) _ _ _ _ (fed_one begin_object (Ok tt) _ _ _ _ c.in_ok-begin_object.ensures.answers) c.begin_object.ensures.count)
 
 pub feed_members-returns-in_err-feed_name-clause-fed : goal.feed_members-returns-in_err-feed_name-clause-fed
 feed_members-returns-in_err-feed_name-clause-fed g t c =
@@ -125,6 +125,6 @@ feed_members-loop-name-preserved g t c =
 
 pub feed_members-returns-clause-fed : goal.feed_members-returns-clause-fed
 feed_members-returns-clause-fed g t c =
-    up_to_end (spelled (object (members_view c.args.members.now.entries))) (object_ends ∷ []) c.end_object-done.result _ _ _ _ _ _
+    up_to_end (spelled (object (members_view c.args.members.now.entries))) (end_object ∷ []) c.end_object-done.result _ _ _ _ _ _
     (subst (λ es. FedUpTo (spelled (object (members_view c.args.members.now.entries))) (members_left (members_view es)) (stage_of c.args.formatter.now) (stage_of c.loop-name.formatter) (g.K.Sink.state c.args.sink.now) (g.K.Sink.state c.loop-name.sink)) c.in-None.ensures.steps.0 c.loop-name.invariant)
-    (fed_one object_ends c.end_object-done.result _ _ _ _ c.end_object-done.ensures.answers)
+    (fed_one end_object c.end_object-done.result _ _ _ _ c.end_object-done.ensures.answers)

@@ -1,4 +1,5 @@
 use Rattle.json_events.proofs.Holding.{events_write, front_goes_out, holds_first, holds_next}
+use Rattle.json_events.proofs.Shapes.{texts_so_far}
 use Rattle.json_events.proofs.Valued.{finished_spells}
 use Rattle.json_events.proofs.laws.events_write.Goals as goal
 
@@ -16,3 +17,6 @@ returns-clause-spells c = finished_spells
 
 pub returns-clause-front : goal.returns-clause-front
 returns-clause-front c = front_goes_out
+
+pub returns-clause-so_far : goal.returns-clause-so_far
+returns-clause-so_far c = texts_so_far

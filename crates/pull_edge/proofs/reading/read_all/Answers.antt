@@ -1,12 +1,14 @@
-use Rattle.std.proofs.Common.{rules}
-use Rattle.pull_edge.proofs.Springs.{front_piece, read_piece}
+use Rattle.std.proofs.Common.{ap, arith, length}
+use Rattle.pull_edge.proofs.Springs.{more_taken, want_taken}
 use Rattle.pull_edge.proofs.reading.read_all.Goals as goal
 
-pub returns-in_err-count-clause-front : goal.returns-in_err-count-clause-front
-returns-in_err-count-clause-front g c = front_piece _ _ _ _ c.loop-read.invariant.1.taken c.in_err-count.ensures.front
+pub returns-then-count-limit-clause-reads : goal.returns-then-count-limit-clause-reads
+returns-then-count-limit-clause-reads g c =
+    more_taken _ _ _ _ (g.S.Source.state c.args.source.now) (g.S.Source.state c.loop-read.source) (g.S.Source.state c.take.new.self)
+    c.loop-read.invariant.1 c.in_ok-count.ensures.front c.in_ok-count.ensures.served c.in_ok-count.ensures.most (omega (arith, c.if-count-limit.true, ap length c.as_slice.ensures))
 
-pub returns-in_err-count-clause-long : goal.returns-in_err-count-clause-long
-returns-in_err-count-clause-long g c = λ h. absurd (c.in_err-count.ensures.never_long (search rules))
-
-pub returns-then-as_slice-limit-clause-front : goal.returns-then-as_slice-limit-clause-front
-returns-then-as_slice-limit-clause-front g c = (_, read_piece _ _ _ _ _ _ c.loop-read.invariant.1.taken c.in_ok-count.ensures.piece)
+pub returns-in_err-append-clause-reads : goal.returns-in_err-append-clause-reads
+returns-in_err-append-clause-reads g c =
+    want_taken _ _ _ _ (g.S.Source.state c.args.source.now) (g.S.Source.state c.loop-read.source) (g.S.Source.state c.take.new.self)
+    c.from_residual-in_err-append.result c.from_residual-in_err-append.ensures.0 c.from_residual-in_err-append.ensures.1
+    c.loop-read.invariant.1 c.in_ok-count.ensures.front c.in_ok-count.ensures.served c.in_ok-count.ensures.most (omega (arith, c.if-count-limit.false, ap length c.as_slice.ensures))

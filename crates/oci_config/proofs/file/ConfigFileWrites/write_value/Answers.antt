@@ -11,4 +11,4 @@ pub returns-clause-again : goal.returns-clause-again
 returns-clause-again c =
     let x = c.args.self.now in
     let each = c.in_ok-value.ensures.each in
-    file_again x (option_member time_of x.created each.0) (option_member text_of x.author each.1) (option_normal config_of normal_config x.config each.4) each.5 (list_unless history_of (some_list x.history) x.history each.6)
+    file_again x (option_member time_of x.created each.0) (option_member text_of x.author each.1.0) (option_normal config_of normal_config x.config each.1.1.1.1.0) each.1.1.1.1.1.0 (list_unless history_of (some_list x.history) x.history each.1.1.1.1.1.1.0)

@@ -4,4 +4,4 @@ use Rattle.oci_config.proofs.Again.{rootfs_again}
 use Rattle.oci_config.proofs.rootfs.RootfsWrites.write_value.Goals as goal
 
 pub returns-clause-again : goal.returns-clause-again
-returns-clause-again c = rootfs_again c.args.self.now (list_member text_of c.args.self.now.diff_ids c.in_ok-value.ensures.each.1)
+returns-clause-again c = rootfs_again c.args.self.now (list_member text_of c.args.self.now.diff_ids c.in_ok-value.ensures.each.1.0)

@@ -4,7 +4,7 @@ use Rattle.oci_transport.specs.declared.message.Request.{Request}
 use Rattle.oci_transport.specs.Calm.{calm}
 use Rattle.oci_transport.specs.Pieces.{joined}
 use Rattle.oci_transport.proofs.Calming.{calm_push, calm_failed}
-use Rattle.oci_transport.proofs.Playing.{told_next, answered_next, rest_next}
+use Rattle.oci_transport.proofs.Playing.{told_next, answered_next, rest_next, nothing_next}
 use Rattle.oci_transport.proofs.script.ScriptTransport.send.Goals as goal
 
 pub returns-in_ok-push-in-Some-clause-answered : goal.returns-in_ok-push-in-Some-clause-answered
@@ -16,6 +16,13 @@ returns-in_ok-push-in-Some-clause-answered c =
 pub returns-in_ok-push-in-None-clause-unanswered :
     goal.returns-in_ok-push-in-None-clause-unanswered
 returns-in_ok-push-in-None-clause-unanswered c _ = told_next c.args.self.now.answers _ _ c.args.self.now.told (record { request = c.args.request.now; answer = None; faults = c.args.self.now.faults }) refl refl refl (ap Some c.in_ok-push-in-None.ensures.ok ∙ ap (λ (r : Request). Some (c.args.self.now.told ++ record { request = r; answer = None; faults = c.args.self.now.faults } ∷ [])) c.in_ok-request.ensures) (sym c.in-None.is ∙ c.in_ok-answer.ensures ∙ (λ i. recorded_answer (slice_get (c.as_slice.ensures i) (length (c.as_slice-place.ensures i)))))
+
+pub returns-in_ok-push-in-None-clause-nothing :
+    goal.returns-in_ok-push-in-None-clause-nothing
+returns-in_ok-push-in-None-clause-nothing c _ =
+    let items = c.args.self.now.answers in
+    let none : recorded_answer (slice_get items (length c.args.self.now.told)) ≡ None = sym (c.in_ok-answer.ensures ∙ (λ i. recorded_answer (slice_get (c.as_slice.ensures i) (length (c.as_slice-place.ensures i))))) ∙ c.in-None.is in
+    λ b h. ap Some (ap (λ told. joined (drop 0 (last_pieces items (length told)))) c.in_ok-push-in-None.ensures.ok ∙ nothing_next items c.args.self.now.told _ none)
 
 pub invariant_of-self-in-Some : goal.invariant_of-self-in-Some
 invariant_of-self-in-Some c = record { calm = subst (λ told. IsTrue (calm (answering c.args.self.now.answers).fails 0 told c.args.self.now.faults)) (sym c.in_ok-push-in-Some.ensures.ok) (calm_push (answering c.args.self.now.answers).fails c.args.self.now.told _ c.args.self.now.faults refl c.args.self.now.calm) }

@@ -1,0 +1,36 @@
+-- What follows of an answer that only want of memory leaves free.
+use Rattle.std.proofs.Common.{◌≡◌, Bool, true, false, true≢false, Result, Ok, Err, MatchBool, sym, ap, subst}
+use Rattle.std.specs.Result.{IsErrAnd}
+use Rattle.std.proofs.lemmas.Result.{err_from_is_err_and}
+use Rattle.json_values.specs.Refusals.{Says, ◌>>=◌}
+
+-- a refusal that `?` hands on
+pub says_on : {A E : Type 0} (is_memory : E → Bool) (r : Result A E) (e : E) (said : Result A E)
+    → Says {A = A} is_memory (Err e) said → IsErrAnd r (λ x. x ≡ e) → Says is_memory r said
+says_on is_memory r e said says is = let at = err_from_is_err_and r is in rw (at.1, at.2) says
+
+-- what was not want of memory was said
+pub said_by : {E : Type 0} (is_memory : E → Bool) (e : E) (P : Type 0)
+    → MatchBool (is_memory e) (Unit {0}) P → is_memory e ≡ false → P
+said_by is_memory e P said not_memory = by_test (is_memory e) said not_memory where
+  by_test : (b : Bool) → MatchBool b (Unit {0}) P → b ≡ false → P
+  by_test true said is = absurd (true≢false is)
+  by_test false said is = said
+
+-- an answer other than want of memory is the one that was said
+pub says_exactly : {A E : Type 0} (is_memory : E → Bool) (e : E) (said : Result A E)
+    → Says {A = A} is_memory (Err e) said → is_memory e ≡ false → said ≡ Err e
+says_exactly is_memory e said says not_memory = said_by is_memory e (said ≡ Err e) says not_memory
+
+-- a step's refusal is the refusal of all steps
+pub says_first : {A B E : Type 0} (is_memory : E → Bool) (e : E) (first : Result A E) (next : A → Result B E)
+    → Says {A = A} is_memory (Err e) first → Says {A = B} is_memory (Err e) (first >>= next)
+says_first {A} {B} {E} is_memory e first next says = by_test (is_memory e) says where
+  by_test : (b : Bool) → MatchBool b (Unit {0}) (first ≡ Err e) → MatchBool b (Unit {0}) ((first >>= next) ≡ Err e)
+  by_test true said = tt
+  by_test false said = ap (λ r. r >>= next) said
+
+-- the next step's answer is the answer of both, where the first step gave this
+pub says_next : {A B E : Type 0} (is_memory : E → Bool) (first : Result A E) (a : A) (next : A → Result B E) (r : Result B E)
+    → first ≡ Ok a → Says is_memory r (next a) → Says is_memory r (first >>= next)
+says_next is_memory first a next r gave says = subst (λ f. Says is_memory r (f >>= next)) (sym gave) says

@@ -1,2 +1,0 @@
-pub mod Catalog
-pub mod Tags

@@ -1,0 +1,15 @@
+-- What a source of bytes in memory shows.
+use Rattle.std.specs.Prelude.{ℕ, List, Some, drop}
+use Rattle.pull_edge.specs.declared.memory_source.MemorySource.{MemorySource}
+use Rattle.pull_edge.specs.Source.{Spring}
+
+abbrev pub spring : MemorySource → Spring
+spring s = record { left = Some (drop s.at s.content); faults = s.faults }
+
+-- how often it was asked, up to the greatest count
+abbrev pub calls_of : MemorySource → ℕ
+calls_of s = s.calls
+
+-- the calls at which it fails
+abbrev pub failing_of : MemorySource → List ℕ
+failing_of s = s.failing

@@ -1,0 +1,7 @@
+-- What a source that never fails shows.
+use Rattle.std.specs.Prelude.{Some, drop}
+use Rattle.pull_edge.specs.declared.plain_source.PlainSource.{PlainSource}
+use Rattle.pull_edge.specs.Source.{Spring}
+
+abbrev pub spring : PlainSource → Spring
+spring s = record { left = Some (drop s.at s.content); faults = 0 }

@@ -1,0 +1,26 @@
+-- Reading a source to its end, of at most so many bytes.
+use Rattle.std.specs.Prelude.{◌≡◌, ℕ, ◌≤◌, ◌<◌, List, length, Result, Ok, Err}
+use Rattle.std.specs.Io.KnownBytes.{IsAtEnd}
+use Rattle.json_values.specs.Counts.{Rose}
+use Rattle.pull_edge.specs.Source.{Spring, Takes}
+use Rattle.pull_edge.specs.declared.reading.ReadRefusal.{ReadRefusal}
+use Rattle.pull_edge.specs.declared.reading.ReadRefusal.TheVariants.{TooLong, SourceFault, WantOfMemory}
+
+-- these bytes were taken, and none is left
+abbrev pub TakesAll : List ℕ → Spring → Spring → Type 0
+TakesAll bytes old new = Takes bytes old new × IsAtEnd new.left
+
+-- at most so many bytes were taken
+abbrev pub TakesWithin : ℕ → Spring → Spring → Type 0
+TakesWithin limit old new = (front : List ℕ) × Takes front old new × (length front ≤ limit)
+
+-- more than so many bytes were taken
+abbrev pub TakesMore : ℕ → Spring → Spring → Type 0
+TakesMore limit old new = (front : List ℕ) × Takes front old new × (limit < length front)
+
+-- What was taken, by how the reading ended. The count of faults rises where the source failed, and stays otherwise.
+abbrev pub Reads : ℕ → Result (List ℕ) ReadRefusal → Spring → Spring → Type 0
+Reads limit (Ok bytes) old new = TakesAll bytes old new × (length bytes ≤ limit) × (new.faults ≡ old.faults)
+Reads limit (Err TooLong) old new = TakesMore limit old new × (new.faults ≡ old.faults)
+Reads limit (Err SourceFault) old new = TakesWithin limit old new × Rose old.faults new.faults
+Reads limit (Err WantOfMemory) old new = TakesWithin limit old new × (new.faults ≡ old.faults)
