@@ -9,7 +9,7 @@ ghost use Rattle.engine_pull.specs.Images.{image_manifest, is_accepted, all_acce
 use crate::blobs::pulled_blob;
 use crate::documents::pull_manifest;
 use engine_requests::{Call, OciDistributionError};
-use json_values::{Blob, Copied, List, Text, copies2};
+use json_values::{Blob, Copied, List, Text, copy_all, row};
 use oci_auth::{Memory, RegistryAuth};
 use oci_manifests::blob::Config;
 use oci_manifests::{ImageLayer, OciDescriptor, OciImageManifest, OciManifest};
@@ -89,10 +89,9 @@ pub fn layer_of(
 ) -> Result<ImageLayer, AllocError>
     ensures { IfOk result (λ layer. layer ≡ layer_of descriptor.now content) }
 {
-    let (media_type, annotations) = copies2(
+    let row![media_type, annotations] = copy_all(
         alloc,
-        &descriptor.media_type,
-        &descriptor.annotations,
+        row![&descriptor.media_type, &descriptor.annotations],
     )?;
     Ok(ImageLayer {
         content,
@@ -109,10 +108,9 @@ pub fn config_of(
 ) -> Result<Config, AllocError>
     ensures { IfOk result (λ config. config ≡ config_of manifest.now content) }
 {
-    let (media_type, annotations) = copies2(
+    let row![media_type, annotations] = copy_all(
         alloc,
-        &manifest.config.media_type,
-        &manifest.annotations,
+        row![&manifest.config.media_type, &manifest.annotations],
     )?;
     Ok(Config {
         content,

@@ -1,5 +1,5 @@
 -- What is made of a whole answer (OCI distribution specification, "Error Codes", "Pulling manifests").
-use Rattle.std.specs.Prelude.{ℕ, Bool, List, Option, Some, None, Result, Ok, Err, codes, if◌then◌else◌, nat_eq, nat_le, nat_lt, ◌&&◌, not, bytes_eq, option_and_then}
+use Rattle.std.specs.Prelude.{ℕ, Bool, List, Option, Some, None, Result, Ok, Err, if◌then◌else◌, nat_eq, nat_le, nat_lt, ◌&&◌, not, bytes_eq, option_and_then}
 use Rattle.json_values.specs.JsonText.{plain_json_of}
 use Rattle.oci_digests.specs.Checks.{header_digest as digest_in, validated}
 use Rattle.oci_digests.specs.Parts.{parts_of}
@@ -9,17 +9,13 @@ use Rattle.oci_manifests.specs.Envelope.{envelope_of}
 use Rattle.oci_manifests.specs.declared.envelope.OciEnvelope.{OciEnvelope}
 use Rattle.oci_names.specs.declared.reference.Reference.{Reference}
 use Rattle.oci_names.specs.References.{digest_of}
-use Rattle.oci_transport.specs.Headers.{Fields, first_of}
+use Rattle.oci_transport.specs.Headers.{Fields, first_of, digest_header}
 use Rattle.oci_transport.specs.declared.message.Answer.{Answer}
 use Rattle.engine_requests.specs.declared.answers.Got.{Got}
 use Rattle.engine_requests.specs.declared.error.SpecViolation.TheVariants.{Status}
 use Rattle.engine_requests.specs.declared.error.OciDistributionError.{OciDistributionError}
 use Rattle.engine_requests.specs.declared.error.OciDistributionError.TheVariants as refusal
 use Rattle.engine_requests.specs.Errors.{◌>>=◌}
-
--- the header in which a registry names the digest of what it answers
-abbrev pub digest_header : List ℕ
-digest_header = codes "docker-content-digest"
 
 abbrev pub is_success : ℕ → Bool
 is_success status = nat_le 200 status && nat_lt status 300

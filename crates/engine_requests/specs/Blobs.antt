@@ -3,7 +3,7 @@ use Rattle.std.specs.Prelude.{ℕ, Bool, true, false, List, Option, Some, None, 
 use Rattle.oci_digests.specs.Names.{digest_text}
 use Rattle.oci_digests.specs.Checks.{header_digest as digest_in, and_then}
 use Rattle.oci_digests.specs.Parts.{named_algorithm}
-use Rattle.oci_transport.specs.Headers.{first_of}
+use Rattle.oci_transport.specs.Headers.{first_of, digest_header}
 use Rattle.oci_digests.specs.declared.digester.Algorithm.{Algorithm}
 use Rattle.oci_digests.specs.declared.error.DigestError.{DigestError}
 use Rattle.oci_digests.specs.declared.error.DigestError.TheVariants.{VerificationError}
@@ -14,7 +14,7 @@ use Rattle.engine_requests.specs.declared.blobs.Plan.TheVariants.{Refuse, Judge,
 use Rattle.engine_requests.specs.declared.error.OciDistributionError.{OciDistributionError}
 use Rattle.engine_requests.specs.declared.error.OciDistributionError.TheVariants as refusal
 use Rattle.engine_requests.specs.Errors.{◌>>◌}
-use Rattle.engine_requests.specs.Answers.{digest_header, is_success}
+use Rattle.engine_requests.specs.Answers.{is_success}
 
 -- a digest text with its algorithm
 abbrev pub digest_expected : List ℕ → Result Expected DigestError

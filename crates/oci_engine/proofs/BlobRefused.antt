@@ -3,7 +3,7 @@ use Rattle.std.proofs.Common.{◌≡◌, ◌≢◌, inl, inr, ℕ, Bool, true, f
 use Rattle.std.specs.Prelude.{if◌then◌else◌}
 use Rattle.url.specs.Parts.{serialize}
 use Rattle.oci_transport.specs.Link.{answer_of}
-use Rattle.oci_transport.specs.Headers.{first_of}
+use Rattle.oci_transport.specs.Headers.{digest_header, first_of}
 use Rattle.oci_transport.specs.declared.message.Request.{Request}
 use Rattle.oci_transport.specs.declared.message.Answer.{Answer}
 use Rattle.oci_transport.specs.declared.message.Exchange.{Exchange}
@@ -31,7 +31,7 @@ use Rattle.engine_requests.specs.declared.error.OciDistributionError.TheVariants
 use Rattle.engine_requests.specs.Errors.{◌>>◌ as ◌before◌}
 use Rattle.engine_requests.specs.Addresses.{blob_text, url_read}
 use Rattle.engine_requests.specs.Requests.{manifest_types}
-use Rattle.engine_requests.specs.Answers.{digest_header, is_success, or_digest_error, header_digest}
+use Rattle.engine_requests.specs.Answers.{is_success, or_digest_error, header_digest}
 use Rattle.engine_requests.specs.Blobs.{digest_expected, given_expected, pouring, plan_by, planned, plan_of, compared, given_compared}
 use Rattle.engine_steps.specs.Rows.{prepared}
 use Rattle.engine_steps.specs.Blobs.{Destination, IntoSink, IntoMemory, reading_by, blob_reading, unread_by, read_by, blob_reply, attempt}

@@ -3,7 +3,7 @@ use Rattle.std.proofs.Common.{◌≡◌, ◌≢◌, ◌⊎◌, inl, inr, ℕ, Bo
 use Rattle.std.specs.Prelude.{nat_eq, if◌then◌else◌}
 use Rattle.std.proofs.lemmas.Bool.Decides.{nat_tests}
 use Rattle.url.specs.Parts.{Parts, serialize}
-use Rattle.oci_transport.specs.Headers.{first_of}
+use Rattle.oci_transport.specs.Headers.{digest_header, first_of}
 use Rattle.oci_transport.specs.declared.message.Request.{Request}
 use Rattle.oci_transport.specs.declared.message.Answer.{Answer}
 use Rattle.oci_transport.specs.declared.message.AnswerHead.{AnswerHead}
@@ -31,7 +31,7 @@ use Rattle.engine_requests.specs.declared.error.OciDistributionError.{OciDistrib
 use Rattle.engine_requests.specs.declared.error.OciDistributionError.TheVariants as refusal
 use Rattle.engine_requests.specs.Errors.{◌>>=◌ as ◌into◌}
 use Rattle.engine_requests.specs.Addresses.{manifest_text, url_read}
-use Rattle.engine_requests.specs.Answers.{digest_header, is_success, is_client_error, envelope_in, by_envelope, refused_answer, accepted, header_digest, body_digest, answer_digest, document_in}
+use Rattle.engine_requests.specs.Answers.{is_success, is_client_error, envelope_in, by_envelope, refused_answer, accepted, header_digest, body_digest, answer_digest, document_in}
 use Rattle.engine_steps.specs.Rows.{Row, store, whole, whole_reply, prepared}
 use Rattle.engine_pull.specs.Pulls.{document, manifest_document, pull_manifest_raw}
 use Rattle.oci_engine.specs.Causes.{ManifestUrl, LastAsked, LastAnswer, LastFailed, LastTooLong, IsClientError, DigestCause, AnswerCause, ByLast, OwnDigest}

@@ -2,7 +2,7 @@
 use Rattle.std.proofs.Common.{◌≡◌, ◌≢◌, inl, inr, ℕ, Bool, true, false, List, [], ◌∷◌, Option, Some, None, Result, Ok, Err, bytes_eq, refl, sym, ap, subst, ◌∙◌}
 use Rattle.std.specs.Prelude.{if◌then◌else◌, ok_or, not, ◌&&◌, codes}
 use Rattle.std.proofs.lemmas.Slice.Eq.{bytes_eq-Decides}
-use Rattle.oci_transport.specs.Headers.{first_of}
+use Rattle.oci_transport.specs.Headers.{digest_header, first_of}
 use Rattle.oci_transport.specs.declared.message.Answer.{Answer}
 use Rattle.oci_digests.specs.Names.{digest_text}
 use Rattle.oci_digests.specs.Parts.{parts_of, algorithm_of, named_by, named_algorithm}
@@ -12,7 +12,7 @@ use Rattle.oci_digests.specs.declared.error.DigestError.{DigestError}
 use Rattle.oci_digests.specs.declared.error.DigestError.TheVariants.{InvalidHeader, MissingAlgorithm, UnsupportedAlgorithm, VerificationError, WantOfMemory}
 use Rattle.engine_requests.specs.declared.error.OciDistributionError.{OciDistributionError}
 use Rattle.engine_requests.specs.declared.error.OciDistributionError.TheVariants as refusal
-use Rattle.engine_requests.specs.Answers.{digest_header, or_digest_error, header_digest, agreed}
+use Rattle.engine_requests.specs.Answers.{or_digest_error, header_digest, agreed}
 use Rattle.oci_engine.specs.Causes.{Claimed, DigestCause}
 
 -- why a text names no algorithm

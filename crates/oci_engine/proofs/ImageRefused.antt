@@ -34,7 +34,7 @@ use Rattle.engine_pull.specs.Pulls.{pull_manifest_raw, pull_manifest, held_blob}
 use Rattle.engine_steps.specs.Blobs.{IntoMemory}
 use Rattle.engine_pull.specs.Images.{image_manifest, is_accepted, all_accepted, layers_accepted, layer_of, config_of, pull_layers, pull}
 use Rattle.engine_pull.specs.declared.image.ImageData.{ImageData}
-use Rattle.oci_engine.specs.Causes.{ManifestUrl, BlobUrl, ImageUrl, Claimed, DigestCause, AnswerCause, Unread, DocumentCause, ByLast, OwnDigest, AskedDigest, ManifestRead, ReadDigest, ImageDigest, ImageCause}
+use Rattle.oci_engine.specs.Causes.{ManifestUrl, BlobUrl, ImageUrl, Claimed, DigestCause, AnswerCause, IsNoDocument, DocumentCause, ByLast, OwnDigest, AskedDigest, ManifestRead, ReadDigest, ImageDigest, ImageCause}
 use Rattle.oci_engine.proofs.Early.{AnyValue, Loose, LooseBlob}
 use Rattle.oci_engine.proofs.Documents.{body_before}
 use Rattle.oci_engine.proofs.Causing.{cause_later, last_later, Accepted, OwnCause, raw_causes}
@@ -86,7 +86,7 @@ before_of_document (Err e) q first second = first
 read_of_document : (body : List ℕ) → OfDocument (document_read body)
 read_of_document body = before_of_document (version_checked body (versioned_in (json_of body))) (tables_read body (plain_of (json_of body))) (version_of_document body (versioned_in (json_of body))) (tables_of_document body)
 
-unread_cause : (Given : List ℕ → Type 0) (address : List ℕ) (answer : Answer) (e : OciDistributionError) → IsOfDocument e → Unread answer e → DocumentCause Given address answer e
+unread_cause : (Given : List ℕ → Type 0) (address : List ℕ) (answer : Answer) (e : OciDistributionError) → IsOfDocument e → IsNoDocument answer e → DocumentCause Given address answer e
 unread_cause Given address answer (refusal.VersionedParsingError body) kind h = h
 unread_cause Given address answer (refusal.ManifestParsingError body) kind h = h
 unread_cause Given address answer (refusal.AmbiguousManifest body) kind h = h

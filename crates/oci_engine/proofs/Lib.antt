@@ -2,6 +2,7 @@ pub mod Asking
 pub mod BlobRefused
 pub mod Blobs
 pub mod Causing
+pub mod Constants
 pub mod Counting
 pub mod Digested
 pub mod Digests

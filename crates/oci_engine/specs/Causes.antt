@@ -2,7 +2,7 @@
 use Rattle.std.specs.Prelude.{◌≡◌, ◌≢◌, ◌<◌, ◌⊎◌, ℕ, true, false, List, [], ◌∷◌, ◌++◌, Some, None, Result, Ok, Err, codes, length}
 use Rattle.std.specs.List.{Contains}
 use Rattle.json_values.specs.Counts.{Rose}
-use Rattle.oci_transport.specs.Headers.{first_of, is_header_value}
+use Rattle.oci_transport.specs.Headers.{digest_header, first_of, is_header_value}
 use Rattle.oci_transport.specs.Urls.{request_url}
 use Rattle.oci_transport.specs.declared.message.Request.{Request}
 use Rattle.oci_transport.specs.declared.message.Answer.{Answer}
@@ -30,7 +30,7 @@ use Rattle.engine_requests.specs.declared.error.SpecViolation.TheVariants.{Statu
 use Rattle.engine_requests.specs.declared.error.OciDistributionError.{OciDistributionError}
 use Rattle.engine_requests.specs.declared.error.OciDistributionError.TheVariants as refusal
 use Rattle.engine_requests.specs.Addresses.{registry_text, manifest_text, blob_text}
-use Rattle.engine_requests.specs.Answers.{digest_header, is_success, is_client_error, envelope_in, header_digest}
+use Rattle.engine_requests.specs.Answers.{is_success, is_client_error, envelope_in, header_digest}
 use Rattle.engine_requests.specs.Errors.{is_memory}
 use Rattle.engine_requests.specs.Documents.{document_read}
 use Rattle.engine_steps.specs.Blobs.{Destination, IntoSink, IntoMemory}
@@ -120,15 +120,15 @@ AnswerCause Given address answer (refusal.DigestError e) = DigestCause Given ans
 AnswerCause Given address answer _ = ⊥
 
 -- and that its body does not read as a document, as the refusal says
-abbrev pub Unread : Answer → OciDistributionError → Type 0
-Unread answer e = (answer.status ≡ 200) × (document_read answer.body ≡ Err e)
+abbrev pub IsNoDocument : Answer → OciDistributionError → Type 0
+IsNoDocument answer e = (answer.status ≡ 200) × (document_read answer.body ≡ Err e)
 
 abbrev pub DocumentCause : (List ℕ → Type 0) → List ℕ → Answer → OciDistributionError → Type 0
-DocumentCause Given address answer (refusal.VersionedParsingError body) = Unread answer (refusal.VersionedParsingError body)
-DocumentCause Given address answer (refusal.ManifestParsingError body) = Unread answer (refusal.ManifestParsingError body)
-DocumentCause Given address answer (refusal.AmbiguousManifest body) = Unread answer (refusal.AmbiguousManifest body)
-DocumentCause Given address answer (refusal.UnsupportedSchemaVersionError version) = Unread answer (refusal.UnsupportedSchemaVersionError version)
-DocumentCause Given address answer (refusal.UnsupportedMediaTypeError kind) = Unread answer (refusal.UnsupportedMediaTypeError kind)
+DocumentCause Given address answer (refusal.VersionedParsingError body) = IsNoDocument answer (refusal.VersionedParsingError body)
+DocumentCause Given address answer (refusal.ManifestParsingError body) = IsNoDocument answer (refusal.ManifestParsingError body)
+DocumentCause Given address answer (refusal.AmbiguousManifest body) = IsNoDocument answer (refusal.AmbiguousManifest body)
+DocumentCause Given address answer (refusal.UnsupportedSchemaVersionError version) = IsNoDocument answer (refusal.UnsupportedSchemaVersionError version)
+DocumentCause Given address answer (refusal.UnsupportedMediaTypeError kind) = IsNoDocument answer (refusal.UnsupportedMediaTypeError kind)
 DocumentCause Given address answer e = AnswerCause Given address answer e
 
 -- this is so of the last answer and its address

@@ -1,6 +1,7 @@
 -- Refusals, with the image that a call was made for.
-use Rattle.std.specs.Prelude.{◌≡◌, ℕ, Bool, true, false, List, Option, Some, None, Result, Ok, Err, MatchBool, if◌then◌else◌}
+use Rattle.std.specs.Prelude.{◌≡◌, ℕ, Bool, true, false, List, Option, Some, None, Result, Ok, Err, if◌then◌else◌}
 use Rattle.json_values.specs.Counts.{Rose}
+use Rattle.json_values.specs.Refusals as Refusals
 use Rattle.oci_transport.specs.Link.{Link}
 use Rattle.engine_requests.specs.declared.error.OciDistributionError.{OciDistributionError}
 use Rattle.engine_requests.specs.declared.error.OciDistributionError.TheVariants.{TransportFault, SinkFault}
@@ -27,8 +28,7 @@ worded called image (Err e) = if engine_is_memory e then Err sigstore.WantOfMemo
 
 -- what a step with no request answers, unless memory was wanting
 abbrev pub Says : {A : Type 0} → Result A SigstoreError → Result A SigstoreError → Type 0
-Says (Ok a) said = said ≡ Ok a
-Says (Err e) said = MatchBool (is_memory e) (Unit {0}) (said ≡ Err e)
+Says answer said = Refusals.Says is_memory answer said
 
 -- what the registry's client answered, where the refusal holds that
 abbrev pub registry_refusal : SigstoreError → Option OciDistributionError
