@@ -32,7 +32,8 @@ is_accepted (a ∷ accepted) kind = if bytes_eq a kind then true else is_accepte
 -- each layer's media type is accepted
 abbrev pub all_accepted : List (List ℕ) → List OciDescriptor → Result Unit OciDistributionError
 all_accepted accepted [] = Ok tt
-all_accepted accepted (x ∷ xs) = if is_accepted accepted x.media_type then all_accepted accepted xs else Err (refusal.IncompatibleLayerMediaTypeError x.media_type)
+all_accepted accepted (x ∷ xs) = if is_accepted accepted x.media_type then all_accepted accepted xs else Err
+    (refusal.IncompatibleLayerMediaTypeError x.media_type)
 
 -- there is a layer, and each one's media type is accepted
 abbrev pub layers_accepted : List (List ℕ) → List OciDescriptor → Result Unit OciDistributionError
@@ -45,7 +46,12 @@ layer_of x content = record { content = content; media_type = x.media_type; anno
 
 -- a manifest's configuration
 abbrev pub config_of : OciImageManifest → List ℕ → Config
-config_of manifest content = record { content = content; media_type = manifest.config.media_type; annotations = manifest.annotations }
+config_of manifest content = record {
+  content = content;
+  media_type = manifest.config.media_type;
+  annotations =
+      manifest.annotations;
+}
 
 -- each descriptor's blob, in order
 unfoldable pub pull_layers : Context → Reference → List OciDescriptor → List ImageLayer → Row (List ImageLayer)
@@ -62,8 +68,15 @@ pull s image a accepted = do
   config ← held_blob s image manifest.config.digest
   Done (layers_accepted accepted manifest.layers)
   layers ← pull_layers s image manifest.layers []
-  Done (Ok (record { layers = layers; digest = Some found.1; config = config_of manifest config; manifest = Some manifest }))
+  Done (Ok (record {
+    layers = layers;
+    digest = Some found.1;
+    config = config_of manifest config;
+    manifest =
+        Some manifest;
+  }))
 
 -- From one row, what was done leads to another: whatever the other then does, the first did.
 pub record Leads {A : Type 0} (p q : Row A) (old mid : Link) (k j : Memory) : Type 0 where
-  pub met : (new : Link) (l : Memory) (r : Result A OciDistributionError) → Meets is_memory q mid new j l r → Meets is_memory p old new k l r
+  pub met : (new : Link) (l : Memory) (r : Result A OciDistributionError) → Meets is_memory q mid new j l r
+      → Meets is_memory p old new k l r

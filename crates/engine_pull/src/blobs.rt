@@ -24,7 +24,9 @@ pub fn pull_blob<T: Transport, K: Sink>(
     digest: &str,
     out: &mut K,
 ) -> Result<(), OciDistributionError>
-    ensures { Spills (pull_blob (context_of call.now) call.now.image.now digest.now) (T.state transport.old) (T.state transport.new) memory.old memory.new (K.state out.old) (K.state out.new) result }
+    ensures { Spills (pull_blob (context_of call.now) call.now.image.now digest.now)
+        (T.state transport.old) (T.state transport.new) memory.old memory.new (K.state out.old)
+        (K.state out.new) result }
 {
     let url = blob_url(alloc, call.settings, call.image, digest)?;
     let target = Target {
@@ -59,7 +61,8 @@ pub fn pulled_blob<T: Transport>(
     call: &Call,
     digest: &str,
 ) -> Result<Blob, OciDistributionError>
-    ensures { Meets is_memory (held_blob (context_of call.now) call.now.image.now digest.now) (T.state transport.old) (T.state transport.new) memory.old memory.new result }
+    ensures { Meets is_memory (held_blob (context_of call.now) call.now.image.now digest.now)
+        (T.state transport.old) (T.state transport.new) memory.old memory.new result }
 {
     let url = blob_url(alloc, call.settings, call.image, digest)?;
     let target = Target {

@@ -4,7 +4,8 @@ ghost use Rattle.oci_auth.specs.declared.memory.Memory.{Memory};
 ghost use Rattle.oci_protocol.specs.Runs.{Meets};
 ghost use Rattle.engine_requests.specs.Contexts.{context_of};
 ghost use Rattle.engine_requests.specs.Errors.{is_memory, Says};
-ghost use Rattle.engine_pull.specs.Pulls.{document, manifest_document, pull_manifest_raw, digest_by, fetch_manifest_digest, pull_manifest};
+ghost use Rattle.engine_pull.specs.Pulls.{document, manifest_document, pull_manifest_raw};
+ghost use Rattle.engine_pull.specs.Pulls.{digest_by, fetch_manifest_digest, pull_manifest};
 
 use engine_requests::{
     Call, MANIFEST_TYPES, OciDistributionError, accepted, document_in, fits_reference,
@@ -27,7 +28,8 @@ fn document<T: Transport>(
     url: &Url,
     types: &str,
 ) -> Result<(Blob, Text), OciDistributionError>
-    ensures { Meets is_memory (document (context_of call.now) call.now.image.now url.now types.now) (T.state transport.old) (T.state transport.new) memory.old memory.new result }
+    ensures { Meets is_memory (document (context_of call.now) call.now.image.now url.now types.now)
+        (T.state transport.old) (T.state transport.new) memory.old memory.new result }
 {
     let target = Target {
         method: Method::Get,
@@ -55,7 +57,8 @@ pub fn manifest_document<T: Transport>(
     call: &Call,
     types: &str,
 ) -> Result<(Blob, Text), OciDistributionError>
-    ensures { Meets is_memory (manifest_document (context_of call.now) call.now.image.now types.now) (T.state transport.old) (T.state transport.new) memory.old memory.new result }
+    ensures { Meets is_memory (manifest_document (context_of call.now) call.now.image.now types.now)
+        (T.state transport.old) (T.state transport.new) memory.old memory.new result }
 {
     let url = manifest_url(alloc, call.settings, call.image)?;
     let found = document(alloc, transport, memory, call, &url, types)?;
@@ -71,7 +74,8 @@ pub fn pull_manifest_raw<T: Transport>(
     auth: &RegistryAuth,
     types: &str,
 ) -> Result<(Blob, Text), OciDistributionError>
-    ensures { Meets is_memory (pull_manifest_raw (context_of call.now) call.now.image.now auth.now types.now) (T.state transport.old) (T.state transport.new) memory.old memory.new result }
+    ensures { Meets is_memory (pull_manifest_raw (context_of call.now) call.now.image.now auth.now types.now)
+        (T.state transport.old) (T.state transport.new) memory.old memory.new result }
 {
     store(alloc, memory, call.image.resolve_registry(), auth)?;
     let found = manifest_document(alloc, transport, memory, call, types)?;
@@ -87,7 +91,8 @@ fn digest_by<T: Transport>(
     url: &Url,
     named: Named,
 ) -> Result<Text, OciDistributionError>
-    ensures { Meets is_memory (digest_by (context_of call.now) call.now.image.now url.now named) (T.state transport.old) (T.state transport.new) memory.old memory.new result }
+    ensures { Meets is_memory (digest_by (context_of call.now) call.now.image.now url.now named)
+        (T.state transport.old) (T.state transport.new) memory.old memory.new result }
 {
     match named {
         Named::ByHeader(digest, got) => {
@@ -110,7 +115,8 @@ pub fn fetch_manifest_digest<T: Transport>(
     call: &Call,
     auth: &RegistryAuth,
 ) -> Result<Text, OciDistributionError>
-    ensures { Meets is_memory (fetch_manifest_digest (context_of call.now) call.now.image.now auth.now) (T.state transport.old) (T.state transport.new) memory.old memory.new result }
+    ensures { Meets is_memory (fetch_manifest_digest (context_of call.now) call.now.image.now auth.now)
+        (T.state transport.old) (T.state transport.new) memory.old memory.new result }
 {
     store(alloc, memory, call.image.resolve_registry(), auth)?;
     let url = manifest_url(alloc, call.settings, call.image)?;
@@ -140,7 +146,8 @@ pub fn pull_manifest<T: Transport>(
     call: &Call,
     auth: &RegistryAuth,
 ) -> Result<(OciManifest, Text), OciDistributionError>
-    ensures { Meets is_memory (pull_manifest (context_of call.now) call.now.image.now auth.now) (T.state transport.old) (T.state transport.new) memory.old memory.new result }
+    ensures { Meets is_memory (pull_manifest (context_of call.now) call.now.image.now auth.now)
+        (T.state transport.old) (T.state transport.new) memory.old memory.new result }
 {
     let found = pull_manifest_raw(alloc, transport, memory, call, auth, MANIFEST_TYPES)?;
     let document = read_document(alloc, &found.0)?;

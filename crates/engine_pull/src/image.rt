@@ -4,7 +4,8 @@ ghost use Rattle.oci_auth.specs.declared.memory.Memory.{Memory};
 ghost use Rattle.oci_protocol.specs.Runs.{Meets};
 ghost use Rattle.engine_requests.specs.Contexts.{context_of};
 ghost use Rattle.engine_requests.specs.Errors.{is_memory, Says};
-ghost use Rattle.engine_pull.specs.Images.{image_manifest, is_accepted, all_accepted, layers_accepted, layer_of, config_of, pull_layers, pull};
+ghost use Rattle.engine_pull.specs.Images.{image_manifest, is_accepted, all_accepted};
+ghost use Rattle.engine_pull.specs.Images.{layers_accepted, layer_of, config_of, pull_layers, pull};
 
 use crate::blobs::pulled_blob;
 use crate::documents::pull_manifest;
@@ -128,7 +129,8 @@ fn pull_layers<T: Transport>(
     descriptors: &[OciDescriptor],
     mut layers: List<ImageLayer>,
 ) -> Result<List<ImageLayer>, OciDistributionError>
-    ensures { Meets is_memory (pull_layers (context_of call.now) call.now.image.now descriptors.now layers) (T.state transport.old) (T.state transport.new) memory.old memory.new result }
+    ensures { Meets is_memory (pull_layers (context_of call.now) call.now.image.now descriptors.now layers)
+        (T.state transport.old) (T.state transport.new) memory.old memory.new result }
 {
     for descriptor in descriptors {
         let content = pulled_blob(alloc, transport, memory, call, descriptor.digest.as_str())?;
@@ -147,7 +149,8 @@ pub fn pull<T: Transport>(
     auth: &RegistryAuth,
     accepted: &[Text],
 ) -> Result<ImageData, OciDistributionError>
-    ensures { Meets is_memory (pull (context_of call.now) call.now.image.now auth.now accepted.now) (T.state transport.old) (T.state transport.new) memory.old memory.new result }
+    ensures { Meets is_memory (pull (context_of call.now) call.now.image.now auth.now accepted.now)
+        (T.state transport.old) (T.state transport.new) memory.old memory.new result }
 {
     let found = pull_manifest(alloc, transport, memory, call, auth)?;
     let (document, digest) = found;

@@ -1,5 +1,6 @@
 -- What is made of a whole answer (OCI distribution specification, "Error Codes", "Pulling manifests").
-use Rattle.std.specs.Prelude.{ℕ, Bool, List, Option, Some, None, Result, Ok, Err, if◌then◌else◌, nat_eq, nat_le, nat_lt, ◌&&◌, not, bytes_eq, option_and_then}
+use Rattle.std.specs.Prelude.{ℕ, Bool, List, Option, Some, None, Result, Ok, Err, if◌then◌else◌, nat_eq}
+use Rattle.std.specs.Prelude.{nat_le, nat_lt, ◌&&◌, not, bytes_eq, option_and_then}
 use Rattle.json_values.specs.JsonText.{plain_json_of}
 use Rattle.oci_digests.specs.Checks.{header_digest as digest_in, validated}
 use Rattle.oci_digests.specs.Parts.{parts_of}
@@ -61,12 +62,14 @@ answer_digest image answer = header_digest answer.headers >>= λ header. body_di
 
 -- the document rule: the body of an accepted answer, with its digest
 abbrev pub document_in : Reference → Got → Result (List ℕ × List ℕ) OciDistributionError
-document_in image got = accepted got.url got.answer >>= λ answer. answer_digest image answer >>= λ digest. Ok (answer.body, digest)
+document_in image got = accepted got.url got.answer >>= λ answer. answer_digest image answer >>= λ digest. Ok
+    (answer.body, digest)
 
 abbrev pub agreed : List ℕ → List ℕ → Option (List ℕ × List ℕ) → Option (List ℕ × List ℕ) → Result (List ℕ) DigestError
 agreed digest own None parts = Err digest_refusal.MissingAlgorithm
 agreed digest own (Some given) None = Err digest_refusal.MissingAlgorithm
-agreed digest own (Some given) (Some named) = if bytes_eq given.0 named.0 && not (bytes_eq digest own) then Err (digest_refusal.VerificationError own digest) else Ok digest
+agreed digest own (Some given) (Some named) = if bytes_eq given.0 named.0 && not
+    (bytes_eq digest own) then Err (digest_refusal.VerificationError own digest) else Ok digest
 
 -- the digest that was answered, which may not be another one than the reference's of the same algorithm
 abbrev pub fits_reference : List ℕ → Option (List ℕ) → Result (List ℕ) OciDistributionError

@@ -6,7 +6,10 @@ ghost use Rattle.oci_transport.specs.Headers.{first_of, digest_header};
 ghost use Rattle.oci_digests.specs.Parts.{parts_of};
 ghost use Rattle.oci_names.specs.References.{digest_of};
 ghost use Rattle.engine_requests.specs.Errors.{Says, SaysError};
-ghost use Rattle.engine_requests.specs.Answers.{is_success, is_client_error, envelope_in, by_envelope, refused_answer, accepted, or_digest_error, header_digest, body_digest, answer_digest, document_in, agreed, fits_reference};
+ghost use Rattle.engine_requests.specs.Answers.{is_success, is_client_error, envelope_in};
+ghost use Rattle.engine_requests.specs.Answers.{by_envelope, refused_answer, accepted};
+ghost use Rattle.engine_requests.specs.Answers.{or_digest_error, header_digest, body_digest};
+ghost use Rattle.engine_requests.specs.Answers.{answer_digest, document_in, agreed, fits_reference};
 
 use crate::{OciDistributionError, SpecViolation};
 use json_values::{Blob, Text, read_json};

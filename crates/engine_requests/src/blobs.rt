@@ -4,7 +4,9 @@ ghost use Rattle.oci_digests.specs.Checks.{Says as DigestSays};
 ghost use Rattle.oci_digests.specs.Names.{digest_text};
 ghost use Rattle.oci_digests.specs.Both.{BothHold, given_text, texts_of};
 ghost use Rattle.engine_requests.specs.Errors.{Says};
-ghost use Rattle.engine_requests.specs.Blobs.{digest_expected, given_expected, pouring, plan_by, plan_in, plan_of, compared, given_compared, both_compared, given_algorithm};
+ghost use Rattle.engine_requests.specs.Blobs.{digest_expected, given_expected, pouring, plan_by};
+ghost use Rattle.engine_requests.specs.Blobs.{plan_in, plan_of, compared, given_compared};
+ghost use Rattle.engine_requests.specs.Blobs.{both_compared, given_algorithm};
 
 use crate::OciDistributionError;
 use crate::answers::{header_in, is_success};
@@ -115,11 +117,7 @@ pub fn digesters(given: &Option<Expected>, own: &Expected) -> Digesters
 }
 
 // The digest of the bytes is the one that is expected.
-fn compared(
-    alloc: Global,
-    actual: Text,
-    expected: &Expected,
-) -> Result<(), OciDistributionError>
+fn compared(alloc: Global, actual: Text, expected: &Expected) -> Result<(), OciDistributionError>
     ensures { (m : List ℕ) → actual ≡ digest_text expected.now.algorithm m
         → Says result (compared expected.now m) }
 {
@@ -127,9 +125,7 @@ fn compared(
         return Ok(());
     }
     let expected = expected.text.copy(alloc)?;
-    Err(OciDistributionError::DigestError(
-        DigestError::VerificationError { expected, actual },
-    ))
+    Err(OciDistributionError::DigestError(DigestError::VerificationError { expected, actual }))
 }
 
 fn given_compared(

@@ -85,7 +85,8 @@ pub record Answered (s : Settings) (image : Reference) (c : List Exchange) (d : 
   pub url : Parts
   pub address : request_url (manifest_text s image) ≡ Some url
   pub head : FirstAsked Head (serialize url) c
-  pub digest : ByHeader d head.answer ⊎ ((header_digest head.answer.headers ≡ Ok None) × ByDocument image (serialize url) d head.after)
+  pub digest : ByHeader d head.answer ⊎ ((header_digest head.answer.headers ≡ Ok None)
+      × ByDocument image (serialize url) d head.after)
 
 -- the bytes are the body of an answer
 pub record Body (c : List Exchange) (bytes : List ℕ) : Type 0 where

@@ -1,5 +1,6 @@
 -- Why a call was refused. A refusal that speaks of an answer speaks of the last one of the call.
-use Rattle.std.specs.Prelude.{◌≡◌, ◌≢◌, ◌<◌, ◌⊎◌, ℕ, true, false, List, [], ◌∷◌, ◌++◌, Some, None, Result, Ok, Err, codes, length}
+use Rattle.std.specs.Prelude.{◌≡◌, ◌≢◌, ◌<◌, ◌⊎◌, ℕ, true, false, List, [], ◌∷◌, ◌++◌, Some, None, Result, Ok}
+use Rattle.std.specs.Prelude.{Err, codes, length}
 use Rattle.std.specs.List.{Contains}
 use Rattle.json_values.specs.Counts.{Rose}
 use Rattle.oci_transport.specs.Headers.{digest_header, first_of, is_header_value}
@@ -85,7 +86,8 @@ pub record IsClientError (answer : Answer) : Type 0 where
 
 -- one with no list of errors in it, or an answer of no success and no client's error
 abbrev pub IsServerError : Answer → Type 0
-IsServerError answer = (IsClientError answer × (envelope_in answer.body ≡ None)) ⊎ ((is_success answer.status ≡ false) × (is_client_error answer.status ≡ false))
+IsServerError answer = (IsClientError answer × (envelope_in answer.body ≡ None))
+    ⊎ ((is_success answer.status ≡ false) × (is_client_error answer.status ≡ false))
 
 -- ---- digests
 
@@ -99,13 +101,19 @@ Computed text bytes computed = (a : Algorithm) × (named_algorithm text ≡ Ok a
 
 -- two texts with the same name of an algorithm
 abbrev pub SameAlgorithm : List ℕ → List ℕ → Type 0
-SameAlgorithm a b = (name : List ℕ) × (x : List ℕ) × (y : List ℕ) × (parts_of a ≡ Some (name, x)) × (parts_of b ≡ Some (name, y))
+SameAlgorithm a b = (name : List ℕ) × (x : List ℕ) × (y : List ℕ) × (parts_of a ≡ Some (name, x))
+    × (parts_of b ≡ Some (name, y))
 
 abbrev pub DigestCause : (List ℕ → Type 0) → Answer → DigestError → Type 0
-DigestCause Given answer (digest_refusal.InvalidHeader value) = (first_of digest_header answer.headers ≡ Some value) × (is_header_text value ≡ false)
-DigestCause Given answer digest_refusal.MissingAlgorithm = (text : List ℕ) × Claimed Given answer text × (parts_of text ≡ None)
-DigestCause Given answer (digest_refusal.UnsupportedAlgorithm name) = (text : List ℕ) × (rest : List ℕ) × Claimed Given answer text × (parts_of text ≡ Some (name, rest)) × (algorithm_of name ≡ None)
-DigestCause Given answer (digest_refusal.VerificationError expected actual) = Claimed Given answer expected × (expected ≢ actual) × (Computed expected answer.body actual ⊎ ((header_digest answer.headers ≡ Ok (Some actual)) × SameAlgorithm actual expected))
+DigestCause Given answer (digest_refusal.InvalidHeader value) =
+    (first_of digest_header answer.headers ≡ Some value) × (is_header_text value ≡ false)
+DigestCause Given answer digest_refusal.MissingAlgorithm = (text : List ℕ) × Claimed Given answer text
+    × (parts_of text ≡ None)
+DigestCause Given answer (digest_refusal.UnsupportedAlgorithm name) = (text : List ℕ) × (rest : List ℕ)
+    × Claimed Given answer text × (parts_of text ≡ Some (name, rest)) × (algorithm_of name ≡ None)
+DigestCause Given answer (digest_refusal.VerificationError expected actual) = Claimed Given answer expected
+    × (expected ≢ actual) × (Computed expected answer.body actual
+    ⊎ ((header_digest answer.headers ≡ Ok (Some actual)) × SameAlgorithm actual expected))
 DigestCause Given answer digest_refusal.WantOfMemory = ⊥
 
 -- ---- causes
@@ -113,9 +121,12 @@ DigestCause Given answer digest_refusal.WantOfMemory = ⊥
 -- what the last answer shows of a refusal: its status, its digests
 abbrev pub AnswerCause : (List ℕ → Type 0) → List ℕ → Answer → OciDistributionError → Type 0
 AnswerCause Given address answer (refusal.UnauthorizedError url) = (url ≡ address) × (answer.status ≡ 401)
-AnswerCause Given address answer (refusal.RegistryError envelope url) = (url ≡ address) × IsClientError answer × (envelope_in answer.body ≡ Some envelope)
-AnswerCause Given address answer (refusal.ServerError status url body) = (url ≡ address) × IsServerError answer × (status ≡ answer.status) × (body ≡ answer.body)
-AnswerCause Given address answer (refusal.SpecViolationError (Status expected got url)) = (url ≡ address) × (expected ≡ 200) × (got ≡ answer.status) × (is_success got ≡ true) × (got ≢ expected)
+AnswerCause Given address answer (refusal.RegistryError envelope url) = (url ≡ address) × IsClientError answer
+    × (envelope_in answer.body ≡ Some envelope)
+AnswerCause Given address answer (refusal.ServerError status url body) = (url ≡ address) × IsServerError answer
+    × (status ≡ answer.status) × (body ≡ answer.body)
+AnswerCause Given address answer (refusal.SpecViolationError (Status expected got url)) = (url ≡ address)
+    × (expected ≡ 200) × (got ≡ answer.status) × (is_success got ≡ true) × (got ≢ expected)
 AnswerCause Given address answer (refusal.DigestError e) = DigestCause Given answer e
 AnswerCause Given address answer _ = ⊥
 
@@ -124,11 +135,16 @@ abbrev pub IsNoDocument : Answer → OciDistributionError → Type 0
 IsNoDocument answer e = (answer.status ≡ 200) × (document_read answer.body ≡ Err e)
 
 abbrev pub DocumentCause : (List ℕ → Type 0) → List ℕ → Answer → OciDistributionError → Type 0
-DocumentCause Given address answer (refusal.VersionedParsingError body) = IsNoDocument answer (refusal.VersionedParsingError body)
-DocumentCause Given address answer (refusal.ManifestParsingError body) = IsNoDocument answer (refusal.ManifestParsingError body)
-DocumentCause Given address answer (refusal.AmbiguousManifest body) = IsNoDocument answer (refusal.AmbiguousManifest body)
-DocumentCause Given address answer (refusal.UnsupportedSchemaVersionError version) = IsNoDocument answer (refusal.UnsupportedSchemaVersionError version)
-DocumentCause Given address answer (refusal.UnsupportedMediaTypeError kind) = IsNoDocument answer (refusal.UnsupportedMediaTypeError kind)
+DocumentCause Given address answer (refusal.VersionedParsingError body) = IsNoDocument answer
+    (refusal.VersionedParsingError body)
+DocumentCause Given address answer (refusal.ManifestParsingError body) = IsNoDocument answer
+    (refusal.ManifestParsingError body)
+DocumentCause Given address answer (refusal.AmbiguousManifest body) = IsNoDocument answer
+    (refusal.AmbiguousManifest body)
+DocumentCause Given address answer (refusal.UnsupportedSchemaVersionError version) = IsNoDocument answer
+    (refusal.UnsupportedSchemaVersionError version)
+DocumentCause Given address answer (refusal.UnsupportedMediaTypeError kind) = IsNoDocument answer
+    (refusal.UnsupportedMediaTypeError kind)
 DocumentCause Given address answer e = AnswerCause Given address answer e
 
 -- this is so of the last answer and its address
@@ -152,7 +168,8 @@ BadHeader x s types c = HasBadHeader s types ⊎ HasBadToken x c
 
 -- Why a call was refused. A text that is no URL is one of these; of an answer the refusal speaks so,
 -- and of a value that cannot stand in a header so. Memory may be wanting anywhere.
-abbrev pub Cause : (List ℕ → Type 0) → (List ℕ → Answer → OciDistributionError → Type 0) → (List Exchange → Type 0) → Settings → List Exchange → ℕ → OciDistributionError → Type 0
+abbrev pub Cause : (List ℕ → Type 0) → (List ℕ → Answer → OciDistributionError → Type 0)
+    → (List Exchange → Type 0) → Settings → List Exchange → ℕ → OciDistributionError → Type 0
 Cause Text Of Bad s c now (refusal.UrlParseError text) = (request_url text ≡ None) × Text text
 Cause Text Of Bad s c now (refusal.GenericError HeaderText) = Bad c
 Cause Text Of Bad s c now refusal.BodyTooLong = LastTooLong c s.max_body_bytes
@@ -182,7 +199,8 @@ SinkMayFail IntoSink = Unit {0}
 SinkMayFail IntoMemory = ⊥
 
 -- of a blob
-abbrev pub BlobCause : (List ℕ → Type 0) → Destination → (List Exchange → Type 0) → Settings → List ℕ → List Exchange → ℕ → OciDistributionError → Type 0
+abbrev pub BlobCause : (List ℕ → Type 0) → Destination → (List Exchange → Type 0) → Settings → List ℕ
+    → List Exchange → ℕ → OciDistributionError → Type 0
 BlobCause Text to Bad s digest c now refusal.SinkFault = SinkMayFail to
 BlobCause Text to Bad s digest c now e = Cause Text (AnswerCause (AskedDigest digest)) Bad s c now e
 
@@ -205,7 +223,8 @@ ImageDigest image c text = OwnDigest image text ⊎ ReadDigest c text
 -- the address of the registry, of the image's manifest, or of a blob that a descriptor in a manifest
 -- that was read names
 abbrev pub ImageUrl : Settings → Reference → List Exchange → List ℕ → Type 0
-ImageUrl s image c text = ManifestUrl s image text ⊎ ((digest : List ℕ) × ReadDigest c digest × (text ≡ blob_text s image digest))
+ImageUrl s image c text = ManifestUrl s image text
+    ⊎ ((digest : List ℕ) × ReadDigest c digest × (text ≡ blob_text s image digest))
 
 -- a layer of a manifest that was read is of this media type, which is not accepted
 pub record NotAccepted (accepted : List (List ℕ)) (c : List Exchange) (kind : List ℕ) : Type 0 where
@@ -217,9 +236,12 @@ pub record NotAccepted (accepted : List (List ℕ)) (c : List Exchange) (kind : 
   pub other : is_accepted accepted kind ≡ false
 
 -- of a whole image, whose blobs are held
-abbrev pub ImageCause : (List Exchange → Type 0) → Settings → Reference → List (List ℕ) → List Exchange → ℕ → OciDistributionError → Type 0
-ImageCause Bad s image accepted c now refusal.ImageIndexParsingNoPlatformResolverError = ByLast (λ address answer. (index : OciImageIndex) × (document_read answer.body ≡ Ok (ImageIndex index))) c
-ImageCause Bad s image accepted c now refusal.PullNoLayersError = (manifest : OciImageManifest) × ManifestRead c manifest × (manifest.layers ≡ [])
+abbrev pub ImageCause : (List Exchange → Type 0) → Settings → Reference → List (List ℕ) → List Exchange → ℕ
+    → OciDistributionError → Type 0
+ImageCause Bad s image accepted c now refusal.ImageIndexParsingNoPlatformResolverError = ByLast
+    (λ address answer. (index : OciImageIndex) × (document_read answer.body ≡ Ok (ImageIndex index))) c
+ImageCause Bad s image accepted c now refusal.PullNoLayersError = (manifest : OciImageManifest)
+    × ManifestRead c manifest × (manifest.layers ≡ [])
 ImageCause Bad s image accepted c now (refusal.IncompatibleLayerMediaTypeError kind) = NotAccepted accepted c kind
 ImageCause Bad s image accepted c now refusal.SinkFault = ⊥
 ImageCause Bad s image accepted c now e = Cause (ImageUrl s image c) (DocumentCause (ImageDigest image c)) Bad s c now e

@@ -33,11 +33,13 @@ WithAnswer P e = (answer : Answer) × (e.answer ≡ Some answer) × P answer
 
 -- the token of the credentials cannot stand in a header
 abbrev pub HasBadAuth : RegistryAuth → Type 0
-HasBadAuth a = (token : RegistryTokenType) × (own_token a ≡ Some token) × (is_header_value (authorization_of token) ≡ false)
+HasBadAuth a = (token : RegistryTokenType) × (own_token a ≡ Some token)
+    × (is_header_value (authorization_of token) ≡ false)
 
 -- the realm of the challenge in the last answer
 abbrev pub LastRealm : List Exchange → List ℕ → Type 0
-LastRealm c text = LastIs (WithAnswer (λ answer. (challenge : BearerChallenge) × (wanted (head_part answer) ≡ Token challenge) × (text ≡ challenge.realm))) c
+LastRealm c text = LastIs (WithAnswer (λ answer. (challenge : BearerChallenge)
+    × (wanted (head_part answer) ≡ Token challenge) × (text ≡ challenge.realm))) c
 
 -- the address at which the registry says what token it wants, or that realm
 abbrev pub TokenUrl : Settings → Reference → List Exchange → List ℕ → Type 0
@@ -48,7 +50,9 @@ TokenCause s image a c now (refusal.UrlParseError text) = (request_url text ≡ 
 TokenCause s image a c now (refusal.GenericError HeaderText) = (is_header_value s.user_agent ≡ false) ⊎ HasBadAuth a
 TokenCause s image a c now refusal.BodyTooLong = LastIs (WithAnswer (λ answer. s.max_body_bytes < length answer.body)) c
 TokenCause s image a c now refusal.TransportFault = LastIs (λ e. Rose e.faults now) c
-TokenCause s image a c now (refusal.AuthenticationFailure body) = LastIs (WithAnswer (λ answer. (answer.status ≢ 200) × (body ≡ answer.body))) c
-TokenCause s image a c now (refusal.RegistryTokenDecodeError body) = LastIs (WithAnswer (λ answer. (answer.status ≡ 200) × (body ≡ answer.body) × (token_of body ≡ None))) c
+TokenCause s image a c now (refusal.AuthenticationFailure body) = LastIs (WithAnswer (λ answer.
+    (answer.status ≢ 200) × (body ≡ answer.body))) c
+TokenCause s image a c now (refusal.RegistryTokenDecodeError body) = LastIs (WithAnswer (λ answer.
+    (answer.status ≡ 200) × (body ≡ answer.body) × (token_of body ≡ None))) c
 TokenCause s image a c now refusal.WantOfMemory = Unit {0}
 TokenCause s image a c now _ = ⊥

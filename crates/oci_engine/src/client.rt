@@ -10,12 +10,15 @@ ghost use Rattle.engine_requests.specs.Requests.{listed, manifest_types};
 ghost use Rattle.engine_steps.specs.Blobs.{IntoSink, IntoMemory, Spills};
 ghost use Rattle.engine_steps.specs.Rows.{token_given};
 ghost use Rattle.oci_auth.specs.Memory.{fresh, stored};
-ghost use Rattle.engine_pull.specs.Pulls.{fetch_manifest_digest, pull_manifest, pull_manifest_raw, pull_blob, held_blob};
+ghost use Rattle.engine_pull.specs.Pulls.{fetch_manifest_digest, pull_manifest, pull_manifest_raw};
+ghost use Rattle.engine_pull.specs.Pulls.{pull_blob, held_blob};
 ghost use Rattle.engine_pull.specs.Images.{pull};
 ghost use Rattle.oci_engine.specs.Answered.{Answered, Body, LastBody, TookBlob};
 ghost use Rattle.oci_engine.specs.Causes.{HasBadHeader, IsEarly};
 ghost use Rattle.oci_engine.specs.Clients.{settings_of};
-ghost use Rattle.oci_engine.specs.Refusals.{RefusedFor, FaultCounted, UrlRefused, at_moment, DigestRefused, DocumentRefused, ManifestRefused, PullRefused, BlobRefused};
+ghost use Rattle.oci_engine.specs.Refusals.{RefusedFor, FaultCounted, UrlRefused, at_moment};
+ghost use Rattle.oci_engine.specs.Refusals.{DigestRefused, DocumentRefused, ManifestRefused};
+ghost use Rattle.oci_engine.specs.Refusals.{PullRefused, BlobRefused};
 ghost use Rattle.oci_engine.specs.TokenCauses.{TokenCause};
 
 use crate::config::ClientConfig;
@@ -252,7 +255,8 @@ impl Client {
         ensures causes { RefusedFor (BlobRefused IntoSink self.old moment image.now digest.now)
             (T.state transport.old) (T.state transport.new) result }
         ensures fault { FaultCounted (T.state transport.old) (T.state transport.new) result }
-        ensures sink { result ≡ Err OciDistributionError.SinkFault → Rose (K.state out.old).faults (K.state out.new).faults }
+        ensures sink { result ≡ Err OciDistributionError.SinkFault
+            → Rose (K.state out.old).faults (K.state out.new).faults }
         ensures no_url { UrlRefused (blob_text self.old.settings image.now digest.now) result }
         ensures bad_header { HasBadHeader self.old.settings manifest_types → IsEarly result }
     {

@@ -46,10 +46,13 @@ pub fn pour<T: Transport, S: Sink>(
     ensures steady { Steady (T.state transport.old) (T.state transport.new) }
     ensures count { (T.state transport.old).faults ≤ (T.state transport.new).faults }
     ensures sink_count { (S.state sink.old).faults ≤ (S.state sink.new).faults }
-    ensures poured { OnOk result (Pours limit digesters.old digesters.new (T.state transport.old) (T.state transport.new) (S.state sink.old) (S.state sink.new)) }
+    ensures poured { OnOk result (Pours limit digesters.old digesters.new
+        (T.state transport.old) (T.state transport.new) (S.state sink.old) (S.state sink.new)) }
     ensures front { PoursFront (T.state transport.old) (S.state sink.old) (S.state sink.new) }
-    ensures long { IsErrOf result PourError.BodyTooLong → (rest : _) → (T.state transport.old).rest ≡ Some rest → limit < length rest }
-    ensures fault { IsErrOf result PourError.TransportFault → Rose (T.state transport.old).faults (T.state transport.new).faults }
+    ensures long { IsErrOf result PourError.BodyTooLong → (rest : _)
+        → (T.state transport.old).rest ≡ Some rest → limit < length rest }
+    ensures fault { IsErrOf result PourError.TransportFault
+        → Rose (T.state transport.old).faults (T.state transport.new).faults }
     ensures sink_fault { IsErrOf result PourError.SinkFault → Rose (S.state sink.old).faults (S.state sink.new).faults }
 {
     let mut taken: u64 = 0;

@@ -45,7 +45,8 @@ pub trait ClientCapabilities {
         auth: &RegistryAuth,
         accepted_media_types: &[Text],
     ) -> Result<ImageData, SigstoreError>
-        ensures run { (s : Settings) → Made is_memory s (image_call (within s moment) image.now auth.now accepted_media_types.now)
+        ensures run { (s : Settings)
+            → Made is_memory s (image_call (within s moment) image.now auth.now accepted_media_types.now)
             (state self.old) (state self.new) (T.state transport.old) (T.state transport.new) result }
         ensures fault { FaultCounted (T.state transport.old) (T.state transport.new) result }
         ensures no_sink { NoSinkFault result };
@@ -74,7 +75,8 @@ pub trait ClientCapabilities {
         auth: &RegistryAuth,
         accepted_media_types: &[Text],
     ) -> Result<(Blob, Text), SigstoreError>
-        ensures run { (s : Settings) → Made is_memory s (document_call (within s moment) image.now auth.now (listed accepted_media_types.now))
+        ensures run { (s : Settings)
+            → Made is_memory s (document_call (within s moment) image.now auth.now (listed accepted_media_types.now))
             (state self.old) (state self.new) (T.state transport.old) (T.state transport.new) result }
         ensures fault { FaultCounted (T.state transport.old) (T.state transport.new) result }
         ensures no_sink { NoSinkFault result };
