@@ -12,10 +12,6 @@ use Rattle.oci_protocol.specs.Proto.{Done, ◌>>=◌, ◌>>◌}
 use Rattle.engine_requests.specs.Contexts.{Context}
 use Rattle.engine_requests.specs.declared.error.OciDistributionError.{OciDistributionError}
 use Rattle.engine_requests.specs.declared.error.OciDistributionError.TheVariants as refusal
-use Rattle.oci_transport.specs.Link.{Link}
-use Rattle.oci_auth.specs.declared.memory.Memory.{Memory}
-use Rattle.oci_protocol.specs.Runs.{Meets}
-use Rattle.engine_requests.specs.Errors.{is_memory}
 use Rattle.engine_steps.specs.Rows.{Row}
 use Rattle.engine_pull.specs.declared.image.ImageData.{ImageData}
 use Rattle.engine_pull.specs.Pulls.{pull_manifest, held_blob}
@@ -75,8 +71,3 @@ pull s image a accepted = do
     manifest =
         Some manifest;
   }))
-
--- From one row, what was done leads to another: whatever the other then does, the first did.
-pub record Leads {A : Type 0} (p q : Row A) (old mid : Link) (k j : Memory) : Type 0 where
-  pub met : (new : Link) (l : Memory) (r : Result A OciDistributionError) → Meets is_memory q mid new j l r
-      → Meets is_memory p old new k l r

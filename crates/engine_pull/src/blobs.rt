@@ -32,7 +32,6 @@ pub fn pull_blob<T: Transport, K: Sink>(
     let target = Target {
         method: Method::Get,
         url: &url,
-        types: MANIFEST_TYPES,
     };
     let request = prepared(
         alloc,
@@ -41,6 +40,7 @@ pub fn pull_blob<T: Transport, K: Sink>(
         call,
         RegistryOperation::Pull,
         &target,
+        MANIFEST_TYPES,
     )?;
     attempt(
         alloc,
@@ -68,7 +68,6 @@ pub fn pulled_blob<T: Transport>(
     let target = Target {
         method: Method::Get,
         url: &url,
-        types: MANIFEST_TYPES,
     };
     let request = prepared(
         alloc,
@@ -77,6 +76,7 @@ pub fn pulled_blob<T: Transport>(
         call,
         RegistryOperation::Pull,
         &target,
+        MANIFEST_TYPES,
     )?;
     let bytes = held(
         alloc,

@@ -34,7 +34,6 @@ fn document<T: Transport>(
     let target = Target {
         method: Method::Get,
         url,
-        types,
     };
     let request = prepared(
         alloc,
@@ -43,6 +42,7 @@ fn document<T: Transport>(
         call,
         RegistryOperation::Pull,
         &target,
+        types,
     )?;
     let got = whole(alloc, transport, 10, &request, call.settings.max_body_bytes)?;
     let found = document_in(alloc, call.image, got)?;
@@ -123,7 +123,6 @@ pub fn fetch_manifest_digest<T: Transport>(
     let target = Target {
         method: Method::Head,
         url: &url,
-        types: MANIFEST_TYPES,
     };
     let request = prepared(
         alloc,
@@ -132,6 +131,7 @@ pub fn fetch_manifest_digest<T: Transport>(
         call,
         RegistryOperation::Pull,
         &target,
+        MANIFEST_TYPES,
     )?;
     let named = named_after(alloc, transport, 10, &request, call.settings.max_body_bytes)?;
     let digest = digest_by(alloc, transport, memory, call, &url, named)?;

@@ -8,7 +8,8 @@ use Rattle.oci_transport.specs.declared.message.Answer.{Answer}
 use Rattle.oci_transport.specs.declared.message.AnswerHead.{AnswerHead}
 use Rattle.oci_transport.specs.declared.message.Exchange.{Exchange}
 use Rattle.oci_auth.specs.declared.memory.Memory.{Memory}
-use Rattle.oci_protocol.specs.Proto.{Reading, Unread, Within, Piped, Reply, Headed, Answered, Failed, TooLong, SinkFailed, Done}
+use Rattle.oci_protocol.specs.Proto.{Reading, Unread, Within, Piped, Reply, Headed, Answered, Failed, TooLong}
+use Rattle.oci_protocol.specs.Proto.{SinkFailed, Done}
 use Rattle.oci_protocol.specs.Follow.{follow}
 use Rattle.oci_protocol.specs.Runs.{Meets, Told, head_part}
 use Rattle.engine_requests.specs.declared.error.OciDistributionError.{OciDistributionError}
@@ -87,7 +88,8 @@ filled body (Err e) = Err e
 
 -- A call that ran this protocol and put its bytes: those that the protocol answers, or after a
 -- refusal a front of the last answer's body.
-pub record Spills (p : Row (List ℕ)) (old new : Link) (k l : Memory) (before after : Tray) (r : Result Unit OciDistributionError) : Type 0 where
+pub record Spills (p : Row (List ℕ)) (old new : Link) (k l : Memory) (before after : Tray)
+    (r : Result Unit OciDistributionError) : Type 0 where
   pub body : List ℕ
   pub met : Meets is_memory p old new k l (filled body r)
   pub put : Adds body before after

@@ -9,7 +9,9 @@ use Rattle.engine_steps.specs.declared.asking.Named.TheVariants.{ByHeader, Unnam
 -- where exchanges are told, the last one was answered with this head, and its whole body is left
 pub record Untaken (head : AnswerHead) (old new : Link) : Type 0 where
   pub body : List ℕ
-  pub answered : (before : List Exchange) → old.told ≡ Some before → (c : List Exchange) × (last : Exchange) × (new.told ≡ Some (c ++ last ∷ [])) × (last.answer ≡ Some (answer_of head body))
+  pub answered : (before : List Exchange) → old.told ≡ Some before
+      → (c : List Exchange) × (last : Exchange) × (new.told ≡ Some (c ++ last ∷ []))
+      × (last.answer ≡ Some (answer_of head body))
   pub rest : (before : List Exchange) → old.told ≡ Some before → new.rest ≡ Some body
 
 -- nothing is taken of an answer whose header names no digest

@@ -26,7 +26,9 @@ pub fn attempt<T: Transport, K: Sink>(
     request: &Request,
     out: &mut K,
 ) -> Result<(), OciDistributionError>
-    ensures { (k : Memory) → Spills (attempt IntoSink limit digest.now request.now) (T.state transport.old) (T.state transport.new) k k (K.state out.old) (K.state out.new) result }
+    ensures { (k : Memory) → Spills (attempt IntoSink limit digest.now request.now)
+        (T.state transport.old) (T.state transport.new) k k (K.state out.old)
+        (K.state out.new) result }
 {
     let reached = match reach(alloc, transport, 10, request) {
         Ok(reached) => reached,
@@ -81,7 +83,8 @@ pub fn held<T: Transport>(
     digest: &str,
     request: &Request,
 ) -> Result<Blob, OciDistributionError>
-    ensures { (k : Memory) → Meets is_memory (attempt IntoMemory limit digest.now request.now) (T.state transport.old) (T.state transport.new) k k result }
+    ensures { (k : Memory) → Meets is_memory (attempt IntoMemory limit digest.now request.now)
+        (T.state transport.old) (T.state transport.new) k k result }
 {
     let reached = match reach(alloc, transport, 10, request) {
         Ok(reached) => reached,

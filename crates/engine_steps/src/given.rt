@@ -35,7 +35,8 @@ pub fn token_given<T: Transport>(
     auth: &RegistryAuth,
     op: RegistryOperation,
 ) -> Result<Option<Text>, OciDistributionError>
-    ensures { Meets is_memory (token_given (context_of call.now) call.now.image.now auth.now op) (T.state transport.old) (T.state transport.new) memory.old memory.new result }
+    ensures { Meets is_memory (token_given (context_of call.now) call.now.image.now auth.now op)
+        (T.state transport.old) (T.state transport.new) memory.old memory.new result }
 {
     store(alloc, memory, call.image.resolve_registry(), auth)?;
     let Some(token) = token_step(alloc, transport, call, auth, op)? else {

@@ -6,7 +6,8 @@ ghost use Rattle.oci_transport.specs.Urls.{request_url};
 ghost use Rattle.oci_protocol.specs.Runs.{Meets};
 ghost use Rattle.engine_requests.specs.Contexts.{context_of};
 ghost use Rattle.engine_requests.specs.Errors.{is_memory};
-ghost use Rattle.engine_steps.specs.Rows.{realm_asked, registry_asked, token_step, token_asked, token_for, authorized, goes_to, prepared};
+ghost use Rattle.engine_steps.specs.Rows.{realm_asked, registry_asked, token_step, token_asked};
+ghost use Rattle.engine_steps.specs.Rows.{token_for, authorized, goes_to, prepared};
 
 use crate::asking::{head_after, whole};
 use engine_requests::{
@@ -30,7 +31,9 @@ fn realm_asked<T: Transport>(
     op: RegistryOperation,
     challenge: BearerChallenge,
 ) -> Result<Option<RegistryTokenType>, OciDistributionError>
-    ensures { (k : Memory) → Meets is_memory (realm_asked call.now.settings.now call.now.image.now auth.now op challenge) (T.state transport.old) (T.state transport.new) k k result }
+    ensures { (k : Memory) → Meets is_memory
+        (realm_asked call.now.settings.now call.now.image.now auth.now op challenge)
+        (T.state transport.old) (T.state transport.new) k k result }
 {
     let BearerChallenge { realm, service } = challenge;
     let url = read_url(alloc, realm)?;
@@ -49,7 +52,9 @@ fn registry_asked<T: Transport>(
     auth: &RegistryAuth,
     op: RegistryOperation,
 ) -> Result<Option<RegistryTokenType>, OciDistributionError>
-    ensures { (k : Memory) → Meets is_memory (registry_asked call.now.settings.now call.now.image.now auth.now op) (T.state transport.old) (T.state transport.new) k k result }
+    ensures { (k : Memory) → Meets is_memory
+        (registry_asked call.now.settings.now call.now.image.now auth.now op)
+        (T.state transport.old) (T.state transport.new) k k result }
 {
     let url = base_url(alloc, call.settings, call.image)?;
     let request = request_of(alloc, call.settings, Method::Get, &url, None, &None)?;
@@ -77,7 +82,8 @@ pub fn token_step<T: Transport>(
     auth: &RegistryAuth,
     op: RegistryOperation,
 ) -> Result<Option<RegistryTokenType>, OciDistributionError>
-    ensures { (k : Memory) → Meets is_memory (token_step call.now.settings.now call.now.image.now auth.now op) (T.state transport.old) (T.state transport.new) k k result }
+    ensures { (k : Memory) → Meets is_memory (token_step call.now.settings.now call.now.image.now auth.now op)
+        (T.state transport.old) (T.state transport.new) k k result }
 {
     match auth {
         RegistryAuth::Bearer(_) => {
@@ -105,7 +111,8 @@ fn token_asked<T: Transport>(
     op: RegistryOperation,
     auth: &RegistryAuth,
 ) -> Result<Option<RegistryTokenType>, OciDistributionError>
-    ensures { Meets is_memory (token_asked (context_of call.now) call.now.image.now op auth.now) (T.state transport.old) (T.state transport.new) memory.old memory.new result }
+    ensures { Meets is_memory (token_asked (context_of call.now) call.now.image.now op auth.now)
+        (T.state transport.old) (T.state transport.new) memory.old memory.new result }
 {
     match token_step(alloc, transport, call, auth, op) {
         Ok(Some(token)) => {
@@ -132,7 +139,8 @@ fn token_for<T: Transport>(
     call: &Call,
     op: RegistryOperation,
 ) -> Result<Option<RegistryTokenType>, OciDistributionError>
-    ensures { Meets is_memory (token_for (context_of call.now) call.now.image.now op) (T.state transport.old) (T.state transport.new) memory.old memory.new result }
+    ensures { Meets is_memory (token_for (context_of call.now) call.now.image.now op)
+        (T.state transport.old) (T.state transport.new) memory.old memory.new result }
 {
     let auth = match memory.credentials.get(call.image.resolve_registry()) {
         Some(auth) => auth.copy(alloc)?,
@@ -168,7 +176,8 @@ fn authorized<T: Transport>(
     op: RegistryOperation,
     url: &Url,
 ) -> Result<Option<RegistryTokenType>, OciDistributionError>
-    ensures { Meets is_memory (authorized (context_of call.now) call.now.image.now op url.now) (T.state transport.old) (T.state transport.new) memory.old memory.new result }
+    ensures { Meets is_memory (authorized (context_of call.now) call.now.image.now op url.now)
+        (T.state transport.old) (T.state transport.new) memory.old memory.new result }
 {
     let registry = registry_address(alloc, call.settings, call.image)?;
     let goes = goes_to(alloc, url, &registry)?;
@@ -179,16 +188,15 @@ fn authorized<T: Transport>(
     Ok(token)
 }
 
-/// What a request asks for: the URL, by this method, and the media types that are accepted.
+/// What a request asks for: the URL, by this method.
 #[derive(Clone, Copy)]
 pub struct Target<'a> {
     pub method: Method,
     pub url: &'a Url,
-    /// What the header `accept` lists.
-    pub types: &'a str,
 }
 
-/// A request for this target, with its token, which may be asked for before it.
+/// A request for this target and these types, as the header `accept` lists them, with its token, which may be asked for
+/// before it.
 #[tactic(none)]
 pub fn prepared<T: Transport>(
     alloc: Global,
@@ -197,8 +205,11 @@ pub fn prepared<T: Transport>(
     call: &Call,
     op: RegistryOperation,
     target: &Target,
+    types: &str,
 ) -> Result<Request, OciDistributionError>
-    ensures { Meets is_memory (prepared (context_of call.now) call.now.image.now op target.now.method target.now.url.now target.now.types.now) (T.state transport.old) (T.state transport.new) memory.old memory.new result }
+    ensures { Meets is_memory (prepared
+        (context_of call.now) call.now.image.now op target.now.method target.now.url.now types.now)
+        (T.state transport.old) (T.state transport.new) memory.old memory.new result }
 {
     let token = authorized(alloc, transport, memory, call, op, target.url)?;
     let request = request_of(
@@ -206,7 +217,7 @@ pub fn prepared<T: Transport>(
         call.settings,
         target.method,
         target.url,
-        Some(target.types),
+        Some(types),
         &token,
     )?;
     Ok(request)

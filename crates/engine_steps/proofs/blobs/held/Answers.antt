@@ -28,16 +28,16 @@ pub returns-in-Judge : goal.returns-in-Judge
 returns-in-Judge g c = λ k. blob_wanting _ _ _ _ _ _ _ _ _ k _ c.in-Ok.ensures.reached c.read_body.ensures.count c.read_body.ensures.told c.read_body.ensures.steady refl
 
 pub returns-in_err-have_digests-in-Ok-read_body-2 : goal.returns-in_err-have_digests-in-Ok-read_body-2
-returns-in_err-have_digests-in-Ok-read_body-2 g c = λ k. held_other _ _ _ _ _ _ _ _ _ k _ _ _ _ c.in-Ok.ensures.reached (sym c.in_ok-plan.ensures ∙ c.in-Pour.is) c.read_body-2.ensures.count c.read_body-2.ensures.told c.read_body-2.ensures.steady c.in-Ok-read_body-2.ensures.within c.in-Ok-read_body-2.ensures.whole c.in_err-have_digests-in-Ok-read_body-2.ensures c.from_residual-in_err-have_digests-in-Ok-read_body-2.ensures.1
+returns-in_err-have_digests-in-Ok-read_body-2 g c = λ k. held_other _ _ _ _ _ _ _ _ _ k _ _ _ _ c.in-Ok.ensures.reached (sym c.in_ok-plan.ensures ∙ c.in-Pour.is) c.read_body-in-Pour.ensures.count c.read_body-in-Pour.ensures.told c.read_body-in-Pour.ensures.steady c.in-Ok-read_body-2.ensures.within c.in-Ok-read_body-2.ensures.whole c.in_err-have_digests-in-Ok-read_body-2.ensures c.from_residual-in_err-have_digests-in-Ok-read_body-2.ensures.1
 
 pub returns-in-Ok-read_body-2 : goal.returns-in-Ok-read_body-2
-returns-in-Ok-read_body-2 g c = λ k. held_whole _ _ _ _ _ _ _ _ _ k _ _ c.in-Ok.ensures.reached (sym c.in_ok-plan.ensures ∙ c.in-Pour.is) c.read_body-2.ensures.count c.read_body-2.ensures.told c.read_body-2.ensures.steady c.in-Ok-read_body-2.ensures.within c.in-Ok-read_body-2.ensures.whole c.in_ok-have_digests-in-Ok-read_body-2.ensures
+returns-in-Ok-read_body-2 g c = λ k. held_whole _ _ _ _ _ _ _ _ _ k _ _ c.in-Ok.ensures.reached (sym c.in_ok-plan.ensures ∙ c.in-Pour.is) c.read_body-in-Pour.ensures.count c.read_body-in-Pour.ensures.told c.read_body-in-Pour.ensures.steady c.in-Ok-read_body-2.ensures.within c.in-Ok-read_body-2.ensures.whole c.in_ok-have_digests-in-Ok-read_body-2.ensures
 
 pub returns-in-Err-TransportFault-read_body : goal.returns-in-Err-TransportFault-read_body
-returns-in-Err-TransportFault-read_body g c = λ k. blob_failed _ _ _ _ _ _ _ _ _ k c.in-Ok.ensures.reached c.read_body-2.ensures.count c.read_body-2.ensures.told c.read_body-2.ensures.steady (c.in-Err-TransportFault-read_body.ensures.fault (rw c.in-Err-TransportFault-read_body.field-0-is refl))
+returns-in-Err-TransportFault-read_body g c = λ k. blob_failed _ _ _ _ _ _ _ _ _ k c.in-Ok.ensures.reached c.read_body-in-Pour.ensures.count c.read_body-in-Pour.ensures.told c.read_body-in-Pour.ensures.steady (c.in-Err-TransportFault-read_body.ensures.fault (rw c.in-Err-TransportFault-read_body.field-0-is refl))
 
 pub returns-in-Err-BodyTooLong-read_body : goal.returns-in-Err-BodyTooLong-read_body
-returns-in-Err-BodyTooLong-read_body g c = λ k. blob_long _ _ _ _ _ _ _ _ _ k _ c.in-Ok.ensures.reached (sym c.in_ok-plan.ensures ∙ c.in-Pour.is) refl c.read_body-2.ensures.count c.read_body-2.ensures.told c.read_body-2.ensures.steady (c.in-Err-BodyTooLong-read_body.ensures.long (rw c.in-Err-BodyTooLong-read_body.field-0-is refl))
+returns-in-Err-BodyTooLong-read_body g c = λ k. blob_long _ _ _ _ _ _ _ _ _ k _ c.in-Ok.ensures.reached (sym c.in_ok-plan.ensures ∙ c.in-Pour.is) refl c.read_body-in-Pour.ensures.count c.read_body-in-Pour.ensures.told c.read_body-in-Pour.ensures.steady (c.in-Err-BodyTooLong-read_body.ensures.long (rw c.in-Err-BodyTooLong-read_body.field-0-is refl))
 
 pub returns : goal.returns
-returns g c = λ k. blob_wanting _ _ _ _ _ _ _ _ _ k _ c.in-Ok.ensures.reached c.read_body-2.ensures.count c.read_body-2.ensures.told c.read_body-2.ensures.steady refl
+returns g c = λ k. blob_wanting _ _ _ _ _ _ _ _ _ k _ c.in-Ok.ensures.reached c.read_body-in-Pour.ensures.count c.read_body-in-Pour.ensures.told c.read_body-in-Pour.ensures.steady refl
