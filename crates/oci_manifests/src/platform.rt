@@ -2,9 +2,9 @@ ghost use Rattle.std.specs.Prelude.{◌≡◌, IfOk, Ok};
 ghost use Rattle.serde_json.specs.View.{view};
 ghost use Rattle.json_tables.specs.Outcomes.{ReadsDocument};
 
-use json_tables::{Member, ReadError, Reads, present, read_document, row6};
-use json_values::{Copied, List, Text, ToValue, copies6};
-use json_writing::{Writes, object6};
+use json_tables::{Member, ReadError, Reads, present, read_document, read_row};
+use json_values::{Copied, List, Text, ToValue, copied, row};
+use json_writing::{Writes, object};
 use serde_json::Value;
 use std::alloc::{AllocError, Global};
 
@@ -37,15 +37,20 @@ impl Reads for Platform {
 
     #[tactic(auto, unfolding(crate::specs::Platform::platform_of))]
     fn read_value(alloc: Global, value: &Value) -> Result<Platform, ReadError> {
-        let (architecture, os, os_version, os_features, variant, features) = row6(
+        let row![architecture, os, os_version, os_features, variant, features] = read_row::<
+            Self,
+            _,
+        >(
             alloc,
             value,
-            "architecture",
-            "os",
-            "os.version",
-            "os.features",
-            "variant",
-            "features",
+            &[
+                "architecture",
+                "os",
+                "os.version",
+                "os.features",
+                "variant",
+                "features",
+            ],
         )?;
         Ok(Platform {
             architecture,
@@ -76,21 +81,14 @@ impl Writes for Platform {
 
     #[tactic(auto, unfolding(crate::specs::Platform::platform_written))]
     fn write_value(&self, alloc: Global) -> Result<Value, AllocError> {
-        let value = object6(
-            alloc,
-            "architecture",
-            &self.architecture,
-            "os",
-            &self.os,
-            "os.version",
-            &self.os_version,
-            "os.features",
-            &self.os_features,
-            "variant",
-            &self.variant,
-            "features",
-            &self.features,
-        )?;
+        let value = object!(alloc, {
+            "architecture": &self.architecture,
+            "os": &self.os,
+            "os.version": &self.os_version,
+            "os.features": &self.os_features,
+            "variant": &self.variant,
+            "features": &self.features,
+        })?;
         Ok(value)
     }
 }
@@ -113,22 +111,17 @@ impl ToValue for Platform {
 
 impl Copied for Platform {
     fn copy(&self, alloc: Global) -> Result<Platform, AllocError> {
-        let (architecture, os, os_version, os_features, variant, features) = copies6(
+        copied!(
             alloc,
-            &self.architecture,
-            &self.os,
-            &self.os_version,
-            &self.os_features,
-            &self.variant,
-            &self.features,
-        )?;
-        Ok(Platform {
-            architecture,
-            os,
-            os_version,
-            os_features,
-            variant,
-            features,
-        })
+            self,
+            Platform {
+                architecture,
+                os,
+                os_version,
+                os_features,
+                variant,
+                features
+            }
+        )
     }
 }

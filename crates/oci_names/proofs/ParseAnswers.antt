@@ -1,7 +1,7 @@
 -- Which answers come of texts in the grammar.
 use Rattle.std.proofs.Common.{◌≡◌, ◌==◌, not, ℕ, true, false, if◌then◌else◌, List, [], ◌∷◌, Option, Some, None, Result, Ok, Err, IfOk, IfErr, length, nat_lt, refl, sym, ◌∙◌, subst, true≢false, arith, eqb-true}
 use Rattle.std.specs.Option.{option_map_or}
-use Rattle.oci_names.proofs.Written.{in_grammar, is_in_grammar}
+use Rattle.oci_names.proofs.PartWords.{in_grammar, is_in_grammar}
 use Rattle.oci_names.specs.declared.parse_error.ParseError.{ParseError}
 use Rattle.oci_names.specs.declared.parse_error.ParseError.TheVariants.{NameEmpty, ReferenceInvalidFormat, NameTooLong, DigestUnsupported, DigestInvalidLength, WantOfMemory}
 use Rattle.oci_names.specs.declared.reference.Reference.{Reference}

@@ -8,7 +8,7 @@ use Rattle.std.specs.Cmp.Lexicographic.{same_text}
 use Rattle.std.proofs.lemmas.Bool.{leb-true, le-leb}
 use Rattle.std.proofs.lemmas.Bool.Decides.{nat_tests}
 use Rattle.oci_names.proofs.Cuts.{Lacks, before-Lacks, before-at, after-Lacks, after-at}
-use Rattle.oci_names.proofs.Spelled.{and_left, and_right, both_true, Free, spelled, is_spelled, listed, is_listed, free_joined, free_of, apart, unlettered}
+use Rattle.oci_names.proofs.LetterCuts.{and_left, and_right, both_true, Free, spelled, is_spelled, listed, is_listed, free_joined, free_of, apart, unlettered}
 use Rattle.oci_names.specs.Grammar.{before, after, is_dashes, is_domain_component, is_host, is_digits, is_domain, is_path_letter, is_path_separator, is_path_component, is_path, is_tag_start, is_tag_byte, is_tag, is_algorithm_separator, is_algorithm, is_hexadecimal, is_digest}
 use Rattle.oci_names.specs.Parts.{Parts, is_grammatical}
 use Rattle.oci_names.specs.Words.{Run, Dashes, DomainComponent, Host, Domain, PathSeparator, PathComponent, Path, Tag, AlgorithmSeparator, Algorithm, Encoded, InGrammar}

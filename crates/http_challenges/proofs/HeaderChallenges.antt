@@ -8,13 +8,13 @@ use Rattle.http_challenges.specs.declared.element.Element.TheVariants.{Empty, Pa
 use Rattle.http_challenges.specs.declared.split.Place.{Place}
 use Rattle.http_challenges.specs.declared.split.Place.TheVariants.{Outside}
 use Rattle.http_challenges.specs.Grammar.{is_blank_byte, is_token_byte, past_blanks, parameter_in}
-use Rattle.http_challenges.specs.Elements.{split_from, split_rest, is_comma, place_after, element_of, after_token, scheme_or_parameter, begun, whole, challenges_of}
+use Rattle.http_challenges.specs.Elements.{split_from, split_rest, is_comma, place_after, element_of, after_token, scheme_or_parameter, begun, with_parameter, whole, challenges_of}
 use Rattle.http_challenges.specs.Bearer.{is_text, first_bearer, in_header}
 use Rattle.http_challenges.specs.declared.bearer.ChallengeError.TheVariants.{NotText}
-use Rattle.http_challenges.specs.Words.{BeginsScheme, begins, behind_comma, with_parameter, Whole, AreChallenges}
+use Rattle.http_challenges.specs.Words.{BeginsScheme, begins, behind_comma, Whole, AreChallenges}
 use Rattle.http_challenges.proofs.Commas.{elements_left, comma_is, onto_front}
-use Rattle.http_challenges.proofs.Closed.{Walks, split_closed, split_walk, join_walks, walk_blanks, walk_token, walk_added, walk_challenge}
-use Rattle.http_challenges.proofs.Reading.{no_byte, token_element, blanks_element, added_element, challenge_element}
+use Rattle.http_challenges.proofs.ElementCommas.{Walks, split_closed, split_walk, join_walks, walk_blanks, walk_token, walk_added, walk_challenge}
+use Rattle.http_challenges.proofs.ElementReadings.{no_byte, token_element, blanks_element, added_element, challenge_element}
 use Rattle.http_challenges.proofs.Soundness.{IsRead, element_is}
 
 -- the first element of a list, and what follows its comma
