@@ -5,14 +5,17 @@ ghost use Rattle.json_tables.specs.Outcomes.{ReadsDocument};
 use json_tables::{Member, ReadError, Reads, present, read_document, read_row};
 use json_values::{Copied, List, Text, ToValue, copied, row};
 use json_writing::{Writes, object};
+use oci_names::{Arch, Os};
 use serde_json::Value;
 use std::alloc::{AllocError, Global};
 
 /// The platform that an image runs on (OCI image specification, image-index.md).
 #[derive(Debug, PartialEq, Eq, Drop)]
 pub struct Platform {
-    pub architecture: Text,
-    pub os: Text,
+    /// The processor that the programs are for.
+    pub architecture: Arch,
+    /// The operating system that the programs are for.
+    pub os: Os,
     pub os_version: Option<Text>,
     pub os_features: Option<List<Text>>,
     pub variant: Option<Text>,
@@ -53,8 +56,8 @@ impl Reads for Platform {
             ],
         )?;
         Ok(Platform {
-            architecture,
-            os,
+            architecture: Arch::new(architecture),
+            os: Os::new(os),
             os_version,
             os_features,
             variant,
@@ -82,8 +85,8 @@ impl Writes for Platform {
     #[tactic(auto, unfolding(crate::specs::Platform::platform_written))]
     fn write_value(&self, alloc: Global) -> Result<Value, AllocError> {
         let value = object!(alloc, {
-            "architecture": &self.architecture,
-            "os": &self.os,
+            "architecture": &self.architecture.as_str(),
+            "os": &self.os.as_str(),
             "os.version": &self.os_version,
             "os.features": &self.os_features,
             "variant": &self.variant,
