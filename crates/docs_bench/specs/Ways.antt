@@ -2,8 +2,8 @@
 use Rattle.std.specs.Prelude.{◌≡◌, ℕ, List, Option, Some, None, option_map, false}
 use Rattle.serde_json.specs.Data.{Data}
 use Rattle.serde_json.specs.Written.{has_float, compact_text}
-use Rattle.json_values.specs.JsonText.{json_of, plain_json_of}
-use Rattle.json_tables.specs.Reading.{◌>>=◌}
+use Rattle.json_values.specs.JsonText.{json_of}
+use Rattle.json_tables.specs.Plain.{read_plain}
 use Rattle.oci_manifests.specs.Manifest.{manifest_of, manifest_written}
 
 -- the JSON that the bytes say as a compact text; nothing is said where a float stands in it
@@ -16,4 +16,5 @@ PrintsJson bytes found = Prints (json_of bytes) found
 
 -- the manifest that the bytes say, written
 abbrev pub manifest_again : List ℕ → Option (List ℕ)
-manifest_again bytes = plain_json_of bytes >>= λ d. option_map (λ manifest. compact_text (manifest_written manifest)) (manifest_of d)
+manifest_again bytes =
+    option_map (λ manifest. compact_text (manifest_written manifest)) (read_plain manifest_of bytes)

@@ -4,7 +4,7 @@ ghost use Rattle.serde_json.specs.Written.{has_float, compact_text};
 ghost use Rattle.oci_manifests.specs.Manifest.{manifest_written};
 ghost use Rattle.docs_bench.specs.Ways.{PrintsJson, manifest_again};
 
-use json_tables::{holds_float, read_or_none};
+use json_tables::read_plain;
 use json_values::{Blob, ToValue, read_json};
 use oci_docs::OciImageManifest;
 use serde_json::Value;
@@ -25,13 +25,7 @@ pub fn json_again(alloc: Global, bytes: &[u8]) -> Result<Option<Blob>, AllocErro
 pub fn manifest_again(alloc: Global, bytes: &[u8]) -> Result<Option<Blob>, AllocError>
     ensures { IfOk result (λ found. found ≡ manifest_again bytes.now) }
 {
-    let Some(json) = read_json(alloc, bytes)? else {
-        return Ok(None);
-    };
-    if holds_float(json.value()) {
-        return Ok(None);
-    }
-    let found: Option<OciImageManifest> = read_or_none(alloc, json.value())?;
+    let found: Option<OciImageManifest> = read_plain(alloc, bytes)?;
     let Some(manifest) = found else {
         return Ok(None);
     };
