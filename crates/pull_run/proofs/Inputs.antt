@@ -1,5 +1,6 @@
 -- How the input was read.
 use Rattle.std.proofs.Common.{◌≡◌, ◌≤◌, ◌<◌, ◌+◌, ◌-◌, ℕ, List, [], ◌++◌, Option, Some, None, Result, Ok, Err, length, refl, sym, ap, ◌∙◌, append-nil, length-append, arith}
+use Rattle.std.specs.Prelude.{Result, IfOk}
 use Rattle.std.specs.Result.{IsErr, IsErrAnd}
 use Rattle.std.specs.Io.KnownBytes.{Consumes, IsAtEnd}
 use Rattle.pull_edge.specs.Source.{Spring}
@@ -40,3 +41,7 @@ input_is bytes told old new is h = whole_is old.left new.left bytes told is h.0.
 
 pub taken_is : (left right : Option (List ℕ)) (front told rest : List ℕ) → left ≡ Some told → right ≡ Some rest → Consumes left right front → length told ≡ length front + length rest
 taken_is left right front told rest left_is right_is taken = let e : told ≡ front ++ rest = rw (left_is, right_is) at taken in ap length e ∙ length-append front rest
+
+pub no_ok : {X E : Type 0} (r : Result X E) (P : X → Type 0) → IsErr r → IfOk r P
+no_ok (Ok x) P err = absurd (cc err)
+no_ok (Err e) P err = tt
