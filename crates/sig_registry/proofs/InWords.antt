@@ -93,12 +93,12 @@ worded_refusal {A} called text f r (Err x) says held = by_memory (is_memory x) r
   by_memory true is says = absurd (not_memory x f is held)
   by_memory false is says = by_result r says
 
-pub worded_fault : {A : Type 0} (called : Called) (text : List ℕ) {old new : Link} {r : Result A OciDistributionError} {s : Result A SigstoreError} → EngineCounted old new r → Says s (worded called text r) → FaultCounted old new s
-worded_fault called text {r = r} {s = s} fault says held = fault (worded_refusal called text engine_refusal.TransportFault r s says held)
+pub worded_fault : {A : Type 0} (called : Called) (text : List ℕ) (old new : Link) (r : Result A OciDistributionError) (s : Result A SigstoreError) → EngineCounted old new r → Says s (worded called text r) → FaultCounted old new s
+worded_fault called text old new r s fault says held = fault (worded_refusal called text engine_refusal.TransportFault r s says held)
 
 -- where the client's causes leave no fault of a sink
-pub worded_no_sink : {A : Type 0} (called : Called) (text : List ℕ) (Why : List Exchange → ℕ → OciDistributionError → Type 0) {old new : Link} {r : Result A OciDistributionError} {s : Result A SigstoreError} → ((c : List Exchange) (n : ℕ) → Why c n engine_refusal.SinkFault → ⊥) → RefusedFor Why old new r → Says s (worded called text r) → NoSinkFault s
-worded_no_sink {A} called text Why {old} {new} {r} {s} never causes says held = by_result r causes (worded_refusal called text engine_refusal.SinkFault r s says held) where
+pub worded_no_sink : {A : Type 0} (called : Called) (text : List ℕ) (Why : List Exchange → ℕ → OciDistributionError → Type 0) (old new : Link) (r : Result A OciDistributionError) (s : Result A SigstoreError) → ((c : List Exchange) (n : ℕ) → Why c n engine_refusal.SinkFault → ⊥) → RefusedFor Why old new r → Says s (worded called text r) → NoSinkFault s
+worded_no_sink {A} called text Why old new r s never causes says held = by_result r causes (worded_refusal called text engine_refusal.SinkFault r s says held) where
   by_result : (r : Result A OciDistributionError) → RefusedFor Why old new r → r ≡ Err engine_refusal.SinkFault → ⊥
   by_result (Ok a) h is = absurd (cc is)
   by_result (Err e) h is = let same : e ≡ engine_refusal.SinkFault = cc is in never h.conversation new.faults (subst (Why h.conversation new.faults) same h.holds)
