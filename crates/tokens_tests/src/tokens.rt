@@ -1,5 +1,4 @@
 // Credentials and tokens.
-use crate::headers::holds;
 use json_values::{Copied, Text};
 use oci_auth::{
     Memory, RegistryAuth, RegistryOperation, RegistryToken, RegistryTokenType, TokenCache,
@@ -7,6 +6,13 @@ use oci_auth::{
 };
 use oci_names::Reference;
 use std::alloc::{AllocError, Global};
+
+fn holds(answer: Result<bool, AllocError>) -> bool {
+    match answer {
+        Ok(holds) => holds,
+        Err(_) => false,
+    }
+}
 
 fn is_bearer(alloc: Global, body: &str, want: &str) -> bool {
     let Ok(token) = RegistryToken::read(alloc, body.as_bytes()) else {

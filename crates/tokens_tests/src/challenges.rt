@@ -50,19 +50,6 @@ fn challenges_are_read_as_the_grammar_says(rt: HostRuntime) {
     }
 }
 
-#[test]
-fn reading_stops_at_the_first_place_that_does_not_read(rt: HostRuntime) {
-    for (text, want) in [
-        ("Basic realm=\"a\", Bearer realm=\"x", "Basic realm=a;"),
-        ("Basic realm=\"a\", Bear@", "Basic realm=a;"),
-        ("Basic realm=\"a\", @", ""),
-        ("Bearer realm=\"x\" service=\"y\"", ""),
-        ("Basic dGVzdA==", ""),
-    ] {
-        assert!(rt; is_shown(rt.alloc(), text, want), "{text}");
-    }
-}
-
 // Whether the header asks for a token at this realm, of this service.
 fn asks(alloc: Global, header: &[u8], realm: &str, service: &str) -> bool {
     match BearerChallenge::from_header(alloc, header) {
