@@ -11,8 +11,9 @@ use Rattle.oci_protocol.specs.Runs.{Meets}
 use Rattle.engine_requests.specs.Contexts.{Context}
 use Rattle.engine_requests.specs.declared.error.OciDistributionError.{OciDistributionError}
 use Rattle.engine_requests.specs.Errors.{is_memory}
+use Rattle.engine_steps.specs.Rows.{Row}
 use Rattle.engine_steps.proofs.Exits.{done}
-use Rattle.engine_pull.specs.Pulls.{pull_blob}
+use Rattle.engine_pull.specs.Pulls.{held_blob}
 use Rattle.engine_pull.specs.Images.{layer_of, pull_layers}
 
 at_next : {A : Type 0} (xs : List A) (i : ℕ) (x : A) → i < length xs → x ≡ get_or xs i x → drop i xs ≡ x ∷ drop (i + 1) xs
@@ -23,6 +24,11 @@ unfolding pull_layers
 layers_end s image xs layers link k h = rw h done
 
 pub layers_next : (s : Context) (image : Reference) (xs : List OciDescriptor) (i : ℕ) (x : OciDescriptor) (layers : List ImageLayer) {old new : Link} {k l : Memory} {r : Result (List ImageLayer) OciDistributionError} → i < length xs → x ≡ get_or xs i x
-    → Meets is_memory (pull_blob s image x.digest >>= (λ content. pull_layers s image (drop (i + 1) xs) (layers ++ layer_of x content ∷ []))) old new k l r → Meets is_memory (pull_layers s image (drop i xs) layers) old new k l r
+    → Meets is_memory (held_blob s image x.digest >>= (λ content. pull_layers s image (drop (i + 1) xs) (layers ++ layer_of x content ∷ []))) old new k l r → Meets is_memory (pull_layers s image (drop i xs) layers) old new k l r
 unfolding pull_layers
 layers_next s image xs i x layers lt is rest = rw (at_next xs i x lt is) rest
+
+-- From one row, what was done leads to another: whatever the other then does, the first did.
+pub record Leads {A : Type 0} (p q : Row A) (old mid : Link) (k j : Memory) : Type 0 where
+  pub met : (new : Link) (l : Memory) (r : Result A OciDistributionError) → Meets is_memory q mid new j l r
+      → Meets is_memory p old new k l r

@@ -1,3 +1,2 @@
 pub mod Layers
 pub mod NoSink
-pub mod Quiet

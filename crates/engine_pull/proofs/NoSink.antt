@@ -40,27 +40,6 @@ abbrev pub Calm : {A : Type 0} → Result A OciDistributionError → Type 0
 Calm (Ok a) = Unit {0}
 Calm (Err e) = e ≡ refusal.SinkFault → ⊥
 
--- the refusal is neither that nor a value that cannot stand in a header
-abbrev pub IsPlain : OciDistributionError → Type 0
-IsPlain refusal.SinkFault = ⊥
-IsPlain (refusal.GenericError HeaderText) = ⊥
-IsPlain _ = Unit {0}
-
-abbrev pub Plain : {A : Type 0} → Result A OciDistributionError → Type 0
-Plain (Ok a) = Unit {0}
-Plain (Err e) = IsPlain e
-
-plain_other : (e : OciDistributionError) → IsPlain e → e ≡ refusal.SinkFault → ⊥
-plain_other e plain is = subst IsPlain is plain
-
-pub plain_calm : {A : Type 0} (r : Result A OciDistributionError) → Plain r → Calm r
-plain_calm (Ok a) plain = tt
-plain_calm (Err e) plain = plain_other e plain
-
-pub into_plain : {A B : Type 0} (r : Result A OciDistributionError) (f : A → Result B OciDistributionError) → Plain r → ((a : A) → Plain (f a)) → Plain (r into f)
-into_plain (Ok a) f h each = each a
-into_plain (Err e) f h each = h
-
 url_calm : (text : List ℕ) (url : Option Parts) → Calm (url_or text url)
 url_calm text (Some url) = tt
 url_calm text None = λ h. cc
@@ -154,10 +133,3 @@ spills_refused f {e = e} {r = r} tray calm met all is = let at = err_from_is_err
 -- what a refusal spilled, at the exit of a `?`
 pub spills_on : {p : Row (List ℕ)} {old new : Link} {k l : Memory} {before after : Tray} {e : OciDistributionError} {r : Result Unit OciDistributionError} → Spills p old new k l before after (Err e) → IsErrAnd r (λ x. x ≡ e) → Spills p old new k l before after r
 spills_on {r = r} spills is = let at = err_from_is_err_and r is in rw (at.1, at.2) spills
-
--- a sink that was empty has what the call answers
-pub spilled_into : {p : Row (List ℕ)} {old new : Link} {k l : Memory} {before after : Tray} (bytes : List ℕ) → Spills p old new k l before after (Ok tt) → before.taken ≡ Some [] → after.taken ≡ Some bytes → Meets is_memory p old new k l (Ok bytes)
-spilled_into bytes spills empty all =
-    let whole : Some spills.body ≡ Some bytes = sym (spills.put.took [] empty) ∙ all in
-    let same : spills.body ≡ bytes = cc in
-    rw same at spills.met

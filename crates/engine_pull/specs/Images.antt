@@ -12,13 +12,9 @@ use Rattle.oci_protocol.specs.Proto.{Done, ◌>>=◌, ◌>>◌}
 use Rattle.engine_requests.specs.Contexts.{Context}
 use Rattle.engine_requests.specs.declared.error.OciDistributionError.{OciDistributionError}
 use Rattle.engine_requests.specs.declared.error.OciDistributionError.TheVariants as refusal
-use Rattle.oci_transport.specs.Link.{Link}
-use Rattle.oci_auth.specs.declared.memory.Memory.{Memory}
-use Rattle.oci_protocol.specs.Runs.{Meets}
-use Rattle.engine_requests.specs.Errors.{is_memory}
 use Rattle.engine_steps.specs.Rows.{Row}
 use Rattle.engine_pull.specs.declared.image.ImageData.{ImageData}
-use Rattle.engine_pull.specs.Pulls.{pull_manifest, pull_blob}
+use Rattle.engine_pull.specs.Pulls.{pull_manifest, held_blob}
 
 -- the manifest of an image; an index has none without a resolver of platforms
 abbrev pub image_manifest : OciManifest → Result OciImageManifest OciDistributionError
@@ -32,7 +28,8 @@ is_accepted (a ∷ accepted) kind = if bytes_eq a kind then true else is_accepte
 -- each layer's media type is accepted
 abbrev pub all_accepted : List (List ℕ) → List OciDescriptor → Result Unit OciDistributionError
 all_accepted accepted [] = Ok tt
-all_accepted accepted (x ∷ xs) = if is_accepted accepted x.media_type then all_accepted accepted xs else Err (refusal.IncompatibleLayerMediaTypeError x.media_type)
+all_accepted accepted (x ∷ xs) = if is_accepted accepted x.media_type then all_accepted accepted xs else Err
+    (refusal.IncompatibleLayerMediaTypeError x.media_type)
 
 -- there is a layer, and each one's media type is accepted
 abbrev pub layers_accepted : List (List ℕ) → List OciDescriptor → Result Unit OciDistributionError
@@ -45,13 +42,18 @@ layer_of x content = record { content = content; media_type = x.media_type; anno
 
 -- a manifest's configuration
 abbrev pub config_of : OciImageManifest → List ℕ → Config
-config_of manifest content = record { content = content; media_type = manifest.config.media_type; annotations = manifest.annotations }
+config_of manifest content = record {
+  content = content;
+  media_type = manifest.config.media_type;
+  annotations =
+      manifest.annotations;
+}
 
 -- each descriptor's blob, in order
 unfoldable pub pull_layers : Context → Reference → List OciDescriptor → List ImageLayer → Row (List ImageLayer)
 pull_layers s image [] layers = Done (Ok layers)
 pull_layers s image (x ∷ xs) layers = do
-  content ← pull_blob s image x.digest
+  content ← held_blob s image x.digest
   pull_layers s image xs (layers ++ layer_of x content ∷ [])
 
 -- an image whose layers are of these types
@@ -59,11 +61,13 @@ unfoldable pub pull : Context → Reference → RegistryAuth → List (List ℕ)
 pull s image a accepted = do
   found ← pull_manifest s image a
   manifest ← Done (image_manifest found.0)
-  config ← pull_blob s image manifest.config.digest
+  config ← held_blob s image manifest.config.digest
   Done (layers_accepted accepted manifest.layers)
   layers ← pull_layers s image manifest.layers []
-  Done (Ok (record { layers = layers; digest = Some found.1; config = config_of manifest config; manifest = Some manifest }))
-
--- From one row, what was done leads to another: whatever the other then does, the first did.
-pub record Leads {A : Type 0} (p q : Row A) (old mid : Link) (k j : Memory) : Type 0 where
-  pub met : (new : Link) (l : Memory) (r : Result A OciDistributionError) → Meets is_memory q mid new j l r → Meets is_memory p old new k l r
+  Done (Ok (record {
+    layers = layers;
+    digest = Some found.1;
+    config = config_of manifest config;
+    manifest =
+        Some manifest;
+  }))

@@ -17,7 +17,7 @@ use Rattle.engine_requests.specs.Documents.{document_read}
 use Rattle.engine_steps.specs.declared.asking.Named.{Named}
 use Rattle.engine_steps.specs.declared.asking.Named.TheVariants.{ByHeader, Unnamed}
 use Rattle.engine_steps.specs.Rows.{Row, store, whole, named_after, prepared}
-use Rattle.engine_steps.specs.Blobs.{attempt}
+use Rattle.engine_steps.specs.Blobs.{Destination, IntoSink, IntoMemory, attempt}
 
 -- a document's bytes with their digest
 unfoldable pub document : Context → Reference → Parts → List ℕ → Row (List ℕ × List ℕ)
@@ -27,11 +27,16 @@ document s image url types = do
   Done (document_in image got)
 
 -- the bytes of a manifest or an index, with their digest
+unfoldable pub manifest_document : Context → Reference → List ℕ → Row (List ℕ × List ℕ)
+manifest_document s image types = do
+  url ← Done (url_read (manifest_text s.settings image))
+  document s image url types
+
+-- the same, with credentials that are handed in
 unfoldable pub pull_manifest_raw : Context → Reference → RegistryAuth → List ℕ → Row (List ℕ × List ℕ)
 pull_manifest_raw s image a types = do
   store image a
-  url ← Done (url_read (manifest_text s.settings image))
-  document s image url types
+  manifest_document s image types
 
 -- the digest that the answer's header names, else that of the document
 abbrev pub digest_by : Context → Reference → Parts → Named → Row (List ℕ)
@@ -59,8 +64,16 @@ pull_manifest s image a = do
   Done (Ok (document, found.1))
 
 -- the bytes of a blob, which its digest names
-unfoldable pub pull_blob : Context → Reference → List ℕ → Row (List ℕ)
-pull_blob s image digest = do
+unfoldable pub blob_to : Destination → Context → Reference → List ℕ → Row (List ℕ)
+blob_to to s image digest = do
   url ← Done (url_read (blob_text s.settings image digest))
   request ← prepared s image Pull Get url manifest_types
-  attempt s.settings.max_body_bytes digest request
+  attempt to s.settings.max_body_bytes digest request
+
+-- of a blob that goes into a sink
+abbrev pub pull_blob : Context → Reference → List ℕ → Row (List ℕ)
+pull_blob = blob_to IntoSink
+
+-- of a blob that is held in memory
+abbrev pub held_blob : Context → Reference → List ℕ → Row (List ℕ)
+held_blob = blob_to IntoMemory

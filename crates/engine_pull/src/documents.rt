@@ -2,19 +2,19 @@
 ghost use Rattle.std.specs.Prelude.{◌≡◌};
 ghost use Rattle.oci_auth.specs.declared.memory.Memory.{Memory};
 ghost use Rattle.oci_protocol.specs.Runs.{Meets};
-ghost use Rattle.engine_requests.specs.Contexts.{within};
+ghost use Rattle.engine_requests.specs.Contexts.{context_of};
 ghost use Rattle.engine_requests.specs.Errors.{is_memory, Says};
-ghost use Rattle.engine_pull.specs.Pulls.{document, pull_manifest_raw, digest_by, fetch_manifest_digest, pull_manifest};
+ghost use Rattle.engine_pull.specs.Pulls.{document, manifest_document, pull_manifest_raw};
+ghost use Rattle.engine_pull.specs.Pulls.{digest_by, fetch_manifest_digest, pull_manifest};
 
 use engine_requests::{
-    MANIFEST_TYPES, OciDistributionError, Settings, accepted, document_in, fits_reference,
+    Call, MANIFEST_TYPES, OciDistributionError, accepted, document_in, fits_reference,
     manifest_url, read_document,
 };
-use engine_steps::{Named, named_after, prepared, whole};
+use engine_steps::{Named, Target, named_after, prepared, whole};
 use json_values::{Blob, Text};
 use oci_auth::{Memory, RegistryAuth, RegistryOperation, store};
 use oci_manifests::OciManifest;
-use oci_names::Reference;
 use oci_transport::{Method, Transport};
 use std::alloc::Global;
 use url::Url;
@@ -23,50 +23,62 @@ use url::Url;
 fn document<T: Transport>(
     alloc: Global,
     transport: &mut T,
-    settings: &Settings,
     memory: &mut Memory,
-    moment: u64,
-    image: &Reference,
+    call: &Call,
     url: &Url,
     types: &str,
 ) -> Result<(Blob, Text), OciDistributionError>
-    ensures { Meets is_memory (document (within settings.now moment) image.now url.now types.now) (T.state transport.old) (T.state transport.new) memory.old memory.new result }
+    ensures { Meets is_memory (document (context_of call.now) call.now.image.now url.now types.now)
+        (T.state transport.old) (T.state transport.new) memory.old memory.new result }
 {
+    let target = Target {
+        method: Method::Get,
+        url,
+    };
     let request = prepared(
         alloc,
         transport,
-        settings,
         memory,
-        moment,
-        image,
+        call,
         RegistryOperation::Pull,
-        Method::Get,
-        url,
+        &target,
         types,
     )?;
-    let got = whole(alloc, transport, 10, &request, settings.max_body_bytes)?;
-    let found = document_in(alloc, image, got)?;
+    let got = whole(alloc, transport, 10, &request, call.settings.max_body_bytes)?;
+    let found = document_in(alloc, call.image, got)?;
     Ok(found)
 }
 
-/// The bytes of a manifest or an index, with their digest. `types` is what the header `accept` lists.
+/// The bytes of the image's manifest or index, with their digest. `types` is what the header `accept` lists.
+pub fn manifest_document<T: Transport>(
+    alloc: Global,
+    transport: &mut T,
+    memory: &mut Memory,
+    call: &Call,
+    types: &str,
+) -> Result<(Blob, Text), OciDistributionError>
+    ensures { Meets is_memory (manifest_document (context_of call.now) call.now.image.now types.now)
+        (T.state transport.old) (T.state transport.new) memory.old memory.new result }
+{
+    let url = manifest_url(alloc, call.settings, call.image)?;
+    let found = document(alloc, transport, memory, call, &url, types)?;
+    Ok(found)
+}
+
+/// The same, with credentials that are stored for the registry where none are.
 pub fn pull_manifest_raw<T: Transport>(
     alloc: Global,
     transport: &mut T,
-    settings: &Settings,
     memory: &mut Memory,
-    moment: u64,
-    image: &Reference,
+    call: &Call,
     auth: &RegistryAuth,
     types: &str,
 ) -> Result<(Blob, Text), OciDistributionError>
-    ensures { Meets is_memory (pull_manifest_raw (within settings.now moment) image.now auth.now types.now) (T.state transport.old) (T.state transport.new) memory.old memory.new result }
+    ensures { Meets is_memory (pull_manifest_raw (context_of call.now) call.now.image.now auth.now types.now)
+        (T.state transport.old) (T.state transport.new) memory.old memory.new result }
 {
-    store(alloc, memory, image.resolve_registry(), auth)?;
-    let url = manifest_url(alloc, settings, image)?;
-    let found = document(
-        alloc, transport, settings, memory, moment, image, &url, types,
-    )?;
+    store(alloc, memory, call.image.resolve_registry(), auth)?;
+    let found = manifest_document(alloc, transport, memory, call, types)?;
     Ok(found)
 }
 
@@ -74,32 +86,22 @@ pub fn pull_manifest_raw<T: Transport>(
 fn digest_by<T: Transport>(
     alloc: Global,
     transport: &mut T,
-    settings: &Settings,
     memory: &mut Memory,
-    moment: u64,
-    image: &Reference,
+    call: &Call,
     url: &Url,
     named: Named,
 ) -> Result<Text, OciDistributionError>
-    ensures { Meets is_memory (digest_by (within settings.now moment) image.now url.now named) (T.state transport.old) (T.state transport.new) memory.old memory.new result }
+    ensures { Meets is_memory (digest_by (context_of call.now) call.now.image.now url.now named)
+        (T.state transport.old) (T.state transport.new) memory.old memory.new result }
 {
     match named {
         Named::ByHeader(digest, got) => {
             let _body = accepted(alloc, got)?;
-            let digest = fits_reference(alloc, digest, image)?;
+            let digest = fits_reference(alloc, digest, call.image)?;
             Ok(digest)
         }
         Named::Unnamed => {
-            let found = document(
-                alloc,
-                transport,
-                settings,
-                memory,
-                moment,
-                image,
-                url,
-                MANIFEST_TYPES,
-            )?;
+            let found = document(alloc, transport, memory, call, url, MANIFEST_TYPES)?;
             Ok(found.1)
         }
     }
@@ -109,32 +111,30 @@ fn digest_by<T: Transport>(
 pub fn fetch_manifest_digest<T: Transport>(
     alloc: Global,
     transport: &mut T,
-    settings: &Settings,
     memory: &mut Memory,
-    moment: u64,
-    image: &Reference,
+    call: &Call,
     auth: &RegistryAuth,
 ) -> Result<Text, OciDistributionError>
-    ensures { Meets is_memory (fetch_manifest_digest (within settings.now moment) image.now auth.now) (T.state transport.old) (T.state transport.new) memory.old memory.new result }
+    ensures { Meets is_memory (fetch_manifest_digest (context_of call.now) call.now.image.now auth.now)
+        (T.state transport.old) (T.state transport.new) memory.old memory.new result }
 {
-    store(alloc, memory, image.resolve_registry(), auth)?;
-    let url = manifest_url(alloc, settings, image)?;
+    store(alloc, memory, call.image.resolve_registry(), auth)?;
+    let url = manifest_url(alloc, call.settings, call.image)?;
+    let target = Target {
+        method: Method::Head,
+        url: &url,
+    };
     let request = prepared(
         alloc,
         transport,
-        settings,
         memory,
-        moment,
-        image,
+        call,
         RegistryOperation::Pull,
-        Method::Head,
-        &url,
+        &target,
         MANIFEST_TYPES,
     )?;
-    let named = named_after(alloc, transport, 10, &request, settings.max_body_bytes)?;
-    let digest = digest_by(
-        alloc, transport, settings, memory, moment, image, &url, named,
-    )?;
+    let named = named_after(alloc, transport, 10, &request, call.settings.max_body_bytes)?;
+    let digest = digest_by(alloc, transport, memory, call, &url, named)?;
     Ok(digest)
 }
 
@@ -142,24 +142,14 @@ pub fn fetch_manifest_digest<T: Transport>(
 pub fn pull_manifest<T: Transport>(
     alloc: Global,
     transport: &mut T,
-    settings: &Settings,
     memory: &mut Memory,
-    moment: u64,
-    image: &Reference,
+    call: &Call,
     auth: &RegistryAuth,
 ) -> Result<(OciManifest, Text), OciDistributionError>
-    ensures { Meets is_memory (pull_manifest (within settings.now moment) image.now auth.now) (T.state transport.old) (T.state transport.new) memory.old memory.new result }
+    ensures { Meets is_memory (pull_manifest (context_of call.now) call.now.image.now auth.now)
+        (T.state transport.old) (T.state transport.new) memory.old memory.new result }
 {
-    let found = pull_manifest_raw(
-        alloc,
-        transport,
-        settings,
-        memory,
-        moment,
-        image,
-        auth,
-        MANIFEST_TYPES,
-    )?;
+    let found = pull_manifest_raw(alloc, transport, memory, call, auth, MANIFEST_TYPES)?;
     let document = read_document(alloc, &found.0)?;
     Ok((document, found.1))
 }

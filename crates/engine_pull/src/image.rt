@@ -1,19 +1,19 @@
 // Whole images.
-ghost use Rattle.std.specs.Prelude.{◌≡◌, ◌≢◌, Err, IfOk};
+ghost use Rattle.std.specs.Prelude.{◌≡◌, IfOk};
 ghost use Rattle.oci_auth.specs.declared.memory.Memory.{Memory};
 ghost use Rattle.oci_protocol.specs.Runs.{Meets};
-ghost use Rattle.engine_requests.specs.Contexts.{within};
+ghost use Rattle.engine_requests.specs.Contexts.{context_of};
 ghost use Rattle.engine_requests.specs.Errors.{is_memory, Says};
-ghost use Rattle.engine_pull.specs.Images.{image_manifest, is_accepted, all_accepted, layers_accepted, layer_of, config_of, pull_layers, pull};
+ghost use Rattle.engine_pull.specs.Images.{image_manifest, is_accepted, all_accepted};
+ghost use Rattle.engine_pull.specs.Images.{layers_accepted, layer_of, config_of, pull_layers, pull};
 
+use crate::blobs::pulled_blob;
 use crate::documents::pull_manifest;
-use crate::piped::pulled_blob;
-use engine_requests::{OciDistributionError, Settings};
-use json_values::{Blob, Copied, List, Text, copies2};
+use engine_requests::{Call, OciDistributionError};
+use json_values::{Blob, Copied, List, Text, copy_all, row};
 use oci_auth::{Memory, RegistryAuth};
 use oci_manifests::blob::Config;
 use oci_manifests::{ImageLayer, OciDescriptor, OciImageManifest, OciManifest};
-use oci_names::Reference;
 use oci_transport::Transport;
 use std::alloc::{AllocError, Global};
 
@@ -90,10 +90,9 @@ pub fn layer_of(
 ) -> Result<ImageLayer, AllocError>
     ensures { IfOk result (λ layer. layer ≡ layer_of descriptor.now content) }
 {
-    let (media_type, annotations) = copies2(
+    let row![media_type, annotations] = copy_all(
         alloc,
-        &descriptor.media_type,
-        &descriptor.annotations,
+        row![&descriptor.media_type, &descriptor.annotations],
     )?;
     Ok(ImageLayer {
         content,
@@ -110,10 +109,9 @@ pub fn config_of(
 ) -> Result<Config, AllocError>
     ensures { IfOk result (λ config. config ≡ config_of manifest.now content) }
 {
-    let (media_type, annotations) = copies2(
+    let row![media_type, annotations] = copy_all(
         alloc,
-        &manifest.config.media_type,
-        &manifest.annotations,
+        row![&manifest.config.media_type, &manifest.annotations],
     )?;
     Ok(Config {
         content,
@@ -126,56 +124,42 @@ pub fn config_of(
 fn pull_layers<T: Transport>(
     alloc: Global,
     transport: &mut T,
-    settings: &Settings,
     memory: &mut Memory,
-    moment: u64,
-    image: &Reference,
+    call: &Call,
     descriptors: &[OciDescriptor],
     mut layers: List<ImageLayer>,
 ) -> Result<List<ImageLayer>, OciDistributionError>
-    ensures run { Meets is_memory (pull_layers (within settings.now moment) image.now descriptors.now layers) (T.state transport.old) (T.state transport.new) memory.old memory.new result }
-    ensures no_sink { result ≢ Err OciDistributionError.SinkFault }
+    ensures { Meets is_memory (pull_layers (context_of call.now) call.now.image.now descriptors.now layers)
+        (T.state transport.old) (T.state transport.new) memory.old memory.new result }
 {
     for descriptor in descriptors {
-        let content = pulled_blob(
-            alloc,
-            transport,
-            settings,
-            memory,
-            moment,
-            image,
-            descriptor.digest.as_str(),
-        )?;
+        let content = pulled_blob(alloc, transport, memory, call, descriptor.digest.as_str())?;
         let layer = layer_of(alloc, descriptor, content)?;
         layers.push(layer)?;
     }
     Ok(layers)
 }
 
-/// An image whose layers are of these media types. No sink of the caller's takes part.
+/// An image whose layers are of these media types.
 pub fn pull<T: Transport>(
     alloc: Global,
     transport: &mut T,
-    settings: &Settings,
     memory: &mut Memory,
-    moment: u64,
-    image: &Reference,
+    call: &Call,
     auth: &RegistryAuth,
     accepted: &[Text],
 ) -> Result<ImageData, OciDistributionError>
-    ensures run { Meets is_memory (pull (within settings.now moment) image.now auth.now accepted.now) (T.state transport.old) (T.state transport.new) memory.old memory.new result }
-    ensures no_sink { result ≢ Err OciDistributionError.SinkFault }
+    ensures { Meets is_memory (pull (context_of call.now) call.now.image.now auth.now accepted.now)
+        (T.state transport.old) (T.state transport.new) memory.old memory.new result }
 {
-    let found = pull_manifest(alloc, transport, settings, memory, moment, image, auth)?;
+    let found = pull_manifest(alloc, transport, memory, call, auth)?;
     let (document, digest) = found;
     let manifest = image_manifest(document)?;
     let content = pulled_blob(
         alloc,
         transport,
-        settings,
         memory,
-        moment,
-        image,
+        call,
         manifest.config.digest.as_str(),
     )?;
     let config = config_of(alloc, &manifest, content)?;
@@ -183,10 +167,8 @@ pub fn pull<T: Transport>(
     let layers = pull_layers(
         alloc,
         transport,
-        settings,
         memory,
-        moment,
-        image,
+        call,
         manifest.layers.as_slice(),
         List::new(alloc),
     )?;

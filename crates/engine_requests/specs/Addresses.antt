@@ -1,5 +1,6 @@
 -- The URLs of requests (OCI distribution specification, "Endpoints").
-use Rattle.std.specs.Prelude.{ℕ, Bool, true, false, List, [], ◌∷◌, ◌++◌, Option, Some, None, Result, Ok, Err, codes, bytes_eq, if◌then◌else◌}
+use Rattle.std.specs.Prelude.{ℕ, Bool, true, false, List, [], ◌∷◌, ◌++◌, Option, Some, None, Result, Ok, Err}
+use Rattle.std.specs.Prelude.{codes, bytes_eq, if◌then◌else◌}
 use Rattle.url.specs.Parts.{Parts}
 use Rattle.oci_transport.specs.Urls.{request_url}
 use Rattle.oci_names.specs.declared.reference.Reference.{Reference}
@@ -38,10 +39,12 @@ mirrored None = []
 mirrored (Some registry) = codes "?ns=" ++ registry
 
 abbrev pub manifest_text : Settings → Reference → List ℕ
-manifest_text s image = base_text s image ++ repository_of image ++ codes "/manifests/" ++ manifest_name (digest_of image) (tag_of image) ++ mirrored (namespace_of image)
+manifest_text s image = base_text s image ++ repository_of image ++ codes "/manifests/" ++ manifest_name
+    (digest_of image) (tag_of image) ++ mirrored (namespace_of image)
 
 abbrev pub blob_text : Settings → Reference → List ℕ → List ℕ
-blob_text s image digest = base_text s image ++ repository_of image ++ codes "/blobs/" ++ digest ++ mirrored (namespace_of image)
+blob_text s image digest = base_text s image ++ repository_of image ++ codes "/blobs/" ++ digest ++ mirrored
+    (namespace_of image)
 
 abbrev pub url_or : List ℕ → Option Parts → Result Parts OciDistributionError
 url_or text (Some url) = Ok url

@@ -1,5 +1,6 @@
 -- What is made of a whole answer (OCI distribution specification, "Error Codes", "Pulling manifests").
-use Rattle.std.specs.Prelude.{ℕ, Bool, List, Option, Some, None, Result, Ok, Err, codes, if◌then◌else◌, nat_eq, nat_le, nat_lt, ◌&&◌, not, bytes_eq, option_and_then}
+use Rattle.std.specs.Prelude.{ℕ, Bool, List, Option, Some, None, Result, Ok, Err, if◌then◌else◌, nat_eq}
+use Rattle.std.specs.Prelude.{nat_le, nat_lt, ◌&&◌, not, bytes_eq, option_and_then}
 use Rattle.json_values.specs.JsonText.{plain_json_of}
 use Rattle.oci_digests.specs.Checks.{header_digest as digest_in, validated}
 use Rattle.oci_digests.specs.Parts.{parts_of}
@@ -9,7 +10,7 @@ use Rattle.oci_manifests.specs.Envelope.{envelope_of}
 use Rattle.oci_manifests.specs.declared.envelope.OciEnvelope.{OciEnvelope}
 use Rattle.oci_names.specs.declared.reference.Reference.{Reference}
 use Rattle.oci_names.specs.References.{digest_of}
-use Rattle.oci_transport.specs.Headers.{Fields, first_of}
+use Rattle.oci_transport.specs.Headers.{Fields, first_of, digest_header}
 use Rattle.oci_transport.specs.declared.message.Answer.{Answer}
 use Rattle.engine_requests.specs.declared.answers.Got.{Got}
 use Rattle.engine_requests.specs.declared.error.SpecViolation.TheVariants.{Status}
@@ -49,7 +50,7 @@ or_digest_error (Err e) = Err (refusal.DigestError e)
 
 -- the digest that the header names, where it names one
 abbrev pub header_digest : Fields → Result (Option (List ℕ)) OciDistributionError
-header_digest headers = or_digest_error (digest_in (first_of (codes "docker-content-digest") headers))
+header_digest headers = or_digest_error (digest_in (first_of digest_header headers))
 
 -- the digest of a body, which every digest that is given names
 abbrev pub body_digest : List ℕ → Option (List ℕ) → Option (List ℕ) → Result (List ℕ) OciDistributionError
@@ -61,12 +62,14 @@ answer_digest image answer = header_digest answer.headers >>= λ header. body_di
 
 -- the document rule: the body of an accepted answer, with its digest
 abbrev pub document_in : Reference → Got → Result (List ℕ × List ℕ) OciDistributionError
-document_in image got = accepted got.url got.answer >>= λ answer. answer_digest image answer >>= λ digest. Ok (answer.body, digest)
+document_in image got = accepted got.url got.answer >>= λ answer. answer_digest image answer >>= λ digest. Ok
+    (answer.body, digest)
 
 abbrev pub agreed : List ℕ → List ℕ → Option (List ℕ × List ℕ) → Option (List ℕ × List ℕ) → Result (List ℕ) DigestError
 agreed digest own None parts = Err digest_refusal.MissingAlgorithm
 agreed digest own (Some given) None = Err digest_refusal.MissingAlgorithm
-agreed digest own (Some given) (Some named) = if bytes_eq given.0 named.0 && not (bytes_eq digest own) then Err (digest_refusal.VerificationError own digest) else Ok digest
+agreed digest own (Some given) (Some named) = if bytes_eq given.0 named.0 && not
+    (bytes_eq digest own) then Err (digest_refusal.VerificationError own digest) else Ok digest
 
 -- the digest that was answered, which may not be another one than the reference's of the same algorithm
 abbrev pub fits_reference : List ℕ → Option (List ℕ) → Result (List ℕ) OciDistributionError

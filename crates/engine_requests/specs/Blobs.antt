@@ -1,9 +1,9 @@
 -- How the answer to a blob's request is read (OCI distribution specification, "Pulling blobs").
-use Rattle.std.specs.Prelude.{ℕ, Bool, true, false, List, Option, Some, None, Result, Ok, Err, codes, if◌then◌else◌, bytes_eq}
+use Rattle.std.specs.Prelude.{ℕ, Bool, true, false, List, Option, Some, None, Result, Ok, Err, if◌then◌else◌, bytes_eq}
 use Rattle.oci_digests.specs.Names.{digest_text}
 use Rattle.oci_digests.specs.Checks.{header_digest as digest_in, and_then}
 use Rattle.oci_digests.specs.Parts.{named_algorithm}
-use Rattle.oci_transport.specs.Headers.{first_of}
+use Rattle.oci_transport.specs.Headers.{first_of, digest_header}
 use Rattle.oci_digests.specs.declared.digester.Algorithm.{Algorithm}
 use Rattle.oci_digests.specs.declared.error.DigestError.{DigestError}
 use Rattle.oci_digests.specs.declared.error.DigestError.TheVariants.{VerificationError}
@@ -30,7 +30,8 @@ pouring true given own = Pour given own
 pouring false given own = Judge
 
 abbrev pub plan_by : Bool → List ℕ → Option (List ℕ) → Result Plan DigestError
-plan_by good digest header = and_then (given_expected header) (λ given. and_then (digest_expected digest) (λ own. Ok (pouring good given own)))
+plan_by good digest header = and_then (given_expected header) (λ given. and_then (digest_expected digest)
+    (λ own. Ok (pouring good given own)))
 
 abbrev pub planned : Result Plan DigestError → Plan
 planned (Ok plan) = plan
@@ -38,14 +39,16 @@ planned (Err e) = Refuse e
 
 -- the header's digest is looked at, then the descriptor's, then the status
 abbrev pub plan_in : List ℕ → AnswerHead → Result Plan DigestError
-plan_in digest head = and_then (digest_in (first_of (codes "docker-content-digest") head.headers)) (plan_by (is_success head.status) digest)
+plan_in digest head = and_then (digest_in (first_of digest_header head.headers)) (plan_by
+    (is_success head.status) digest)
 
 unfoldable pub plan_of : List ℕ → AnswerHead → Plan
 plan_of digest head = planned (plan_in digest head)
 
 -- the digest has to be that of the body
 abbrev pub compared : Expected → List ℕ → Result Unit OciDistributionError
-compared x body = if bytes_eq x.text (digest_text x.algorithm body) then Ok tt else Err (refusal.DigestError (VerificationError x.text (digest_text x.algorithm body)))
+compared x body = if bytes_eq x.text (digest_text x.algorithm body) then Ok tt else Err (refusal.DigestError
+    (VerificationError x.text (digest_text x.algorithm body)))
 
 abbrev pub given_compared : Option Expected → List ℕ → Result Unit OciDistributionError
 given_compared None body = Ok tt

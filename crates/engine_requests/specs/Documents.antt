@@ -1,5 +1,6 @@
 -- How a document is read (OCI image specification, "Image Manifest", "Image Index").
-use Rattle.std.specs.Prelude.{ℕ, pos, Bool, List, Option, Some, None, Result, Ok, Err, is_some, ◌&&◌, if◌then◌else◌, option_and_then}
+use Rattle.std.specs.Prelude.{ℕ, pos, Bool, List, Option, Some, None, Result, Ok, Err, is_some, ◌&&◌}
+use Rattle.std.specs.Prelude.{if◌then◌else◌, option_and_then}
 use Rattle.std.specs.Ordering.{int_eq}
 use Rattle.serde_json.specs.Data.{Data}
 use Rattle.json_values.specs.JsonText.{json_of, is_plain}
@@ -26,7 +27,8 @@ type_checked (Some kind) = if is_manifest_type kind then Ok tt else Err (refusal
 -- schema version 2, and such a media type
 abbrev pub version_checked : List ℕ → Option Versioned → Result Unit OciDistributionError
 version_checked body None = Err (refusal.VersionedParsingError body)
-version_checked body (Some v) = if int_eq v.schema_version (pos 2) then type_checked v.media_type else Err (refusal.UnsupportedSchemaVersionError v.schema_version)
+version_checked body (Some v) = if int_eq v.schema_version (pos 2) then type_checked v.media_type else Err
+    (refusal.UnsupportedSchemaVersionError v.schema_version)
 
 abbrev pub versioned_in : Option Data → Option Versioned
 versioned_in d = option_and_then versioned_of (plain_of d)
@@ -41,7 +43,8 @@ reads_twice d = is_some (manifest_of d) && is_some (index_of d)
 -- a manifest or an index, and not both
 abbrev pub tables_read : List ℕ → Option Data → Result OciManifest OciDistributionError
 tables_read body None = Err (refusal.ManifestParsingError body)
-tables_read body (Some d) = if reads_twice d then Err (refusal.AmbiguousManifest body) else or_unread body (document_of d)
+tables_read body (Some d) = if reads_twice d then Err (refusal.AmbiguousManifest body) else or_unread body
+    (document_of d)
 
 abbrev pub document_from : List ℕ → Option Data → Result OciManifest OciDistributionError
 document_from body d = version_checked body (versioned_in d) >> tables_read body (plain_of d)

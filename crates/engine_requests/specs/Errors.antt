@@ -1,5 +1,6 @@
 -- Refusals, and steps that make no request.
-use Rattle.std.specs.Prelude.{◌≡◌, ℕ, List, Bool, true, false, Result, Ok, Err, MatchBool, codes}
+use Rattle.std.specs.Prelude.{ℕ, List, Bool, true, false, Result, Ok, Err, codes}
+use Rattle.json_values.specs.Refusals as Refusals
 use Rattle.engine_requests.specs.declared.error.OciDistributionError.{OciDistributionError}
 use Rattle.engine_requests.specs.declared.error.OciDistributionError.TheVariants as refusal
 
@@ -34,12 +35,11 @@ name_of refusal.WantOfMemory = codes "WantOfMemory"
 
 -- what a step with no request answers, unless memory was wanting
 abbrev pub Says : {A : Type 0} → Result A OciDistributionError → Result A OciDistributionError → Type 0
-Says (Ok a) said = said ≡ Ok a
-Says (Err e) said = MatchBool (is_memory e) (Unit {0}) (said ≡ Err e)
+Says answer said = Refusals.Says is_memory answer said
 
 -- the refusal is this one, unless memory was wanting
 abbrev pub SaysError : OciDistributionError → OciDistributionError → Type 0
-SaysError e said = MatchBool (is_memory e) (Unit {0}) (e ≡ said)
+SaysError e said = Refusals.SaysError is_memory e said
 
 infixl 10 ◌>>=◌
 -- a refusal ends the steps

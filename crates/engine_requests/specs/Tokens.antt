@@ -63,7 +63,8 @@ abbrev pub realm_url : Reference → RegistryOperation → Option (List ℕ) →
 realm_url image op service url = with_service service (with_scope image op url)
 
 -- the credentials are shown to the realm
-unfoldable pub realm_request : Settings → Reference → RegistryAuth → RegistryOperation → Option (List ℕ) → Parts → Result Request OciDistributionError
+unfoldable pub realm_request : Settings → Reference → RegistryAuth → RegistryOperation → Option (List ℕ) → Parts
+    → Result Request OciDistributionError
 realm_request s image a op service url = request_of s Get (realm_url image op service url) None (own_token a)
 
 -- ---- its answer
@@ -74,4 +75,5 @@ decoded body (Some token) = Ok (Some (Bearer token))
 
 -- the token in the body of an answer of status 200
 abbrev pub token_read : Answer → Result (Option RegistryTokenType) OciDistributionError
-token_read answer = if nat_eq answer.status 200 then decoded answer.body (token_of answer.body) else Err (refusal.AuthenticationFailure answer.body)
+token_read answer = if nat_eq answer.status 200 then decoded answer.body (token_of answer.body) else Err
+    (refusal.AuthenticationFailure answer.body)

@@ -1,19 +1,22 @@
 // What is made of a whole answer.
-ghost use Rattle.std.specs.Prelude.{◌≡◌, IfOk, Result, Some, option_copied, codes};
+ghost use Rattle.std.specs.Prelude.{◌≡◌, IfOk, Result, Some, option_copied};
 ghost use Rattle.oci_digests.specs.Checks.{Says as DigestSays, header_digest as digest_in};
 ghost use Rattle.oci_digests.specs.declared.error.DigestError.{DigestError};
-ghost use Rattle.oci_transport.specs.Headers.{first_of};
+ghost use Rattle.oci_transport.specs.Headers.{first_of, digest_header};
 ghost use Rattle.oci_digests.specs.Parts.{parts_of};
 ghost use Rattle.oci_names.specs.References.{digest_of};
 ghost use Rattle.engine_requests.specs.Errors.{Says, SaysError};
-ghost use Rattle.engine_requests.specs.Answers.{is_success, is_client_error, envelope_in, by_envelope, refused_answer, accepted, or_digest_error, header_digest, body_digest, answer_digest, document_in, agreed, fits_reference};
+ghost use Rattle.engine_requests.specs.Answers.{is_success, is_client_error, envelope_in};
+ghost use Rattle.engine_requests.specs.Answers.{by_envelope, refused_answer, accepted};
+ghost use Rattle.engine_requests.specs.Answers.{or_digest_error, header_digest, body_digest};
+ghost use Rattle.engine_requests.specs.Answers.{answer_digest, document_in, agreed, fits_reference};
 
 use crate::{OciDistributionError, SpecViolation};
 use json_values::{Blob, Text, read_json};
 use oci_digests::{Digest, DigestError, digest_header_value, validate_digest};
 use oci_manifests::{OciEnvelope, ReadError};
 use oci_names::Reference;
-use oci_transport::{Answer, Headers};
+use oci_transport::{Answer, DIGEST_HEADER, Headers};
 use std::alloc::{AllocError, Global};
 
 /// A whole answer, and the URL that it came from.
@@ -119,9 +122,9 @@ fn of_digest<A: Drop>(checked: Result<A, DigestError>) -> Result<A, OciDistribut
 
 // The digest that the header names, where it names one.
 pub(crate) fn header_in(alloc: Global, headers: &Headers) -> Result<Option<Text>, DigestError>
-    ensures { DigestSays result (digest_in (first_of (codes "docker-content-digest") headers.now)) }
+    ensures { DigestSays result (digest_in (first_of digest_header headers.now)) }
 {
-    digest_header_value(alloc, headers.first("docker-content-digest"))
+    digest_header_value(alloc, headers.first(DIGEST_HEADER))
 }
 
 /// The digest that the header `docker-content-digest` names, where it names one.

@@ -1,15 +1,17 @@
 // How the answer to a blob's request is read.
 ghost use Rattle.std.specs.Prelude.{◌≡◌, List, ℕ, IfOk, []};
-ghost use Rattle.oci_digests.specs.Holds.{Holds};
 ghost use Rattle.oci_digests.specs.Checks.{Says as DigestSays};
-ghost use Rattle.oci_digests.specs.Both.{MayHold, BothHold};
+ghost use Rattle.oci_digests.specs.Names.{digest_text};
+ghost use Rattle.oci_digests.specs.Both.{BothHold, given_text, texts_of};
 ghost use Rattle.engine_requests.specs.Errors.{Says};
-ghost use Rattle.engine_requests.specs.Blobs.{digest_expected, given_expected, pouring, plan_by, plan_in, plan_of, compared, given_compared, both_compared, given_algorithm};
+ghost use Rattle.engine_requests.specs.Blobs.{digest_expected, given_expected, pouring, plan_by};
+ghost use Rattle.engine_requests.specs.Blobs.{plan_in, plan_of, compared, given_compared};
+ghost use Rattle.engine_requests.specs.Blobs.{both_compared, given_algorithm};
 
 use crate::OciDistributionError;
 use crate::answers::{header_in, is_success};
 use json_values::{Copied, Text};
-use oci_digests::{Algorithm, DigestError, Digester, Digesters, named_algorithm};
+use oci_digests::{Algorithm, DigestError, Digesters, named_algorithm};
 use oci_transport::AnswerHead;
 use std::alloc::{AllocError, Global};
 
@@ -98,33 +100,27 @@ pub fn plan_of(alloc: Global, digest: &str, head: &AnswerHead) -> Result<Plan, A
     }
 }
 
-fn given_digester(given: &Option<Expected>) -> Option<Digester>
-    ensures { MayHold result (given_algorithm given.now) [] }
+fn given_algorithm(given: &Option<Expected>) -> Option<Algorithm>
+    ensures { result ≡ given_algorithm given.now }
 {
     match given {
-        Some(given) => Some(Digester::of(given.algorithm)),
+        Some(given) => Some(given.algorithm),
         None => None,
     }
 }
 
-/// Digesters of both algorithms, given nothing yet.
+/// Digesters of the algorithms that are expected, given nothing yet.
 pub fn digesters(given: &Option<Expected>, own: &Expected) -> Digesters
     ensures { BothHold result (given_algorithm given.now) own.now.algorithm [] }
 {
-    let given = given_digester(given);
-    let own = Digester::of(own.algorithm);
-    Digesters { given, own }
+    Digesters::of(given_algorithm(given), own.algorithm)
 }
 
-// The digest is that of what the digester was given.
-fn compared(
-    alloc: Global,
-    digester: &mut Digester,
-    expected: &Expected,
-) -> Result<(), OciDistributionError>
-    ensures { (m : List ℕ) → Holds digester.old expected.now.algorithm m → Says result (compared expected.now m) }
+// The digest of the bytes is the one that is expected.
+fn compared(alloc: Global, actual: Text, expected: &Expected) -> Result<(), OciDistributionError>
+    ensures { (m : List ℕ) → actual ≡ digest_text expected.now.algorithm m
+        → Says result (compared expected.now m) }
 {
-    let actual = digester.finalize(alloc)?;
     if expected.text.as_str() == actual.as_str() {
         return Ok(());
     }
@@ -134,15 +130,16 @@ fn compared(
 
 fn given_compared(
     alloc: Global,
-    digester: &mut Option<Digester>,
+    actual: Option<Text>,
     given: &Option<Expected>,
 ) -> Result<(), OciDistributionError>
-    ensures { (m : List ℕ) → MayHold digester.old (given_algorithm given.now) m → Says result (given_compared given.now m) }
+    ensures { (m : List ℕ) → actual ≡ given_text (given_algorithm given.now) m
+        → Says result (given_compared given.now m) }
 {
-    match digester {
-        Some(digester) => match given {
-            Some(given) => {
-                compared(alloc, digester, given)?;
+    match given {
+        Some(given) => match actual {
+            Some(actual) => {
+                compared(alloc, actual, given)?;
                 Ok(())
             }
             None => Ok(()),
@@ -158,9 +155,11 @@ pub fn both_compared(
     given: &Option<Expected>,
     own: &Expected,
 ) -> Result<(), OciDistributionError>
-    ensures { (m : List ℕ) → BothHold digesters.old (given_algorithm given.now) own.now.algorithm m → Says result (both_compared given.now own.now m) }
+    ensures { (m : List ℕ) → BothHold digesters.old (given_algorithm given.now) own.now.algorithm m
+        → Says result (both_compared given.now own.now m) }
 {
-    given_compared(alloc, &mut digesters.given, given)?;
-    compared(alloc, &mut digesters.own, own)?;
+    let texts = digesters.texts(alloc)?;
+    given_compared(alloc, texts.given, given)?;
+    compared(alloc, texts.own, own)?;
     Ok(())
 }

@@ -2,7 +2,9 @@
 ghost use Rattle.std.specs.Prelude.{◌≡◌, IfOk, Some};
 ghost use Rattle.serde_json.specs.View.{view};
 ghost use Rattle.engine_requests.specs.Errors.{Says};
-ghost use Rattle.engine_requests.specs.Documents.{plain_of, type_checked, version_checked, versioned_in, tables_read, document_from, document_read};
+ghost use Rattle.engine_requests.specs.Documents.{plain_of, type_checked, version_checked};
+ghost use Rattle.engine_requests.specs.Documents.{versioned_in, tables_read, document_from};
+ghost use Rattle.engine_requests.specs.Documents.{document_read};
 
 use crate::OciDistributionError;
 use json_values::{Blob, Copied, Json, Text, read_json};

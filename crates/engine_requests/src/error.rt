@@ -2,6 +2,7 @@
 ghost use Rattle.std.specs.Prelude.{◌≡◌};
 ghost use Rattle.engine_requests.specs.Errors.{is_memory, name_of};
 
+use crate::token_body::TokenBody;
 use json_values::{Blob, Text};
 use oci_digests::DigestError;
 use oci_manifests::OciEnvelope;
@@ -30,7 +31,7 @@ pub enum OciDistributionError {
     /// A document that reads both as a manifest and as an index.
     AmbiguousManifest(Blob),
     /// The realm answered with another status than 200, and with this body.
-    AuthenticationFailure(Blob),
+    AuthenticationFailure(TokenBody),
     /// A body with more bytes than the settings allow.
     BodyTooLong,
     /// A digest in a header, a reference or a descriptor that is none, or that does not name the body.
@@ -47,7 +48,7 @@ pub enum OciDistributionError {
     /// A status from 400 to 499 other than 401, with the registry's own list of errors.
     RegistryError { envelope: OciEnvelope, url: Text },
     /// A body in which the realm names no token.
-    RegistryTokenDecodeError(Blob),
+    RegistryTokenDecodeError(TokenBody),
     /// A status of an error without such a list.
     ServerError { code: u16, url: Text, message: Blob },
     /// The sink failed: the count of its faults rose.

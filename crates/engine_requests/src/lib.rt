@@ -4,17 +4,21 @@
 mod addresses;
 mod answers;
 mod blobs;
+mod call;
 mod documents;
 mod error;
 mod requests;
 mod settings;
+mod token_body;
 mod tokens;
 
 pub use addresses::{base_url, blob_url, manifest_url, read_url, registry_address};
 pub use answers::{Got, accepted, document_in, fits_reference, header_digest, refused_answer};
 pub use blobs::{Expected, Plan, both_compared, digesters, plan_of};
+pub use call::Call;
 pub use documents::read_document;
 pub use error::{GenericCause, OciDistributionError, SpecViolation};
 pub use requests::{MANIFEST_TYPES, listed, request_of};
 pub use settings::{ClientProtocol, Settings};
+pub use token_body::TokenBody;
 pub use tokens::{Wanted, read_challenge, realm_request, token_read};

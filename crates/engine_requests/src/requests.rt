@@ -2,7 +2,8 @@
 ghost use Rattle.std.specs.Prelude.{◌≡◌, ◌++◌, flat_map, IfOk, OnOk, IsTrue, option_copied, Ok};
 ghost use Rattle.http_header.specs.FieldName.{is_header_name};
 ghost use Rattle.engine_requests.specs.Errors.{Says};
-ghost use Rattle.engine_requests.specs.Requests.{behind, listed, with_header, with_accept, with_token, headers_of, request_of};
+ghost use Rattle.engine_requests.specs.Requests.{behind, listed, with_header, with_accept};
+ghost use Rattle.engine_requests.specs.Requests.{with_token, headers_of, request_of};
 
 use crate::{GenericCause, OciDistributionError, Settings};
 use json_values::{Blob, Copied, Text};

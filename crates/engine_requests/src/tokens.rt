@@ -3,9 +3,12 @@ ghost use Rattle.std.specs.Prelude.{◌≡◌, ◌∷◌, [], Some, IfOk};
 ghost use Rattle.url.specs.Setters.{append_query_pairs};
 ghost use Rattle.oci_auth.specs.Tokens.{token_of};
 ghost use Rattle.engine_requests.specs.Errors.{Says};
-ghost use Rattle.engine_requests.specs.Tokens.{wanted_in, wanted, allowed, scope_of, with_scope, with_service, realm_url, realm_request, decoded, token_read};
+ghost use Rattle.engine_requests.specs.Tokens.{wanted_in, wanted, allowed, scope_of, with_scope};
+ghost use Rattle.engine_requests.specs.Tokens.{with_service, realm_url, realm_request, decoded};
+ghost use Rattle.engine_requests.specs.Tokens.{token_read};
 
 use crate::requests::request_of;
+use crate::token_body::TokenBody;
 use crate::{OciDistributionError, Settings};
 use http_challenges::{BearerChallenge, ChallengeError};
 use json_values::{Blob, Text};
@@ -134,7 +137,9 @@ fn decoded(alloc: Global, body: Blob) -> Result<Option<RegistryTokenType>, OciDi
 {
     match RegistryToken::read(alloc, body.as_slice()) {
         Ok(token) => Ok(Some(RegistryTokenType::Bearer(token))),
-        Err(TokenError::Unreadable) => Err(OciDistributionError::RegistryTokenDecodeError(body)),
+        Err(TokenError::Unreadable) => Err(OciDistributionError::RegistryTokenDecodeError(
+            TokenBody::new(body),
+        )),
         Err(TokenError::WantOfMemory) => Err(OciDistributionError::WantOfMemory),
     }
 }
@@ -148,7 +153,7 @@ pub fn token_read(
     ensures { Says result (token_read answer) }
 {
     if answer.status != 200 {
-        return Err(OciDistributionError::AuthenticationFailure(answer.body));
+        return Err(OciDistributionError::AuthenticationFailure(TokenBody::new(answer.body)));
     }
     let token = decoded(alloc, answer.body)?;
     Ok(token)

@@ -16,12 +16,12 @@ use Rattle.oci_digests.specs.declared.both.Digesters.{Digesters}
 use Rattle.oci_digests.specs.Both.{BothHold}
 use Rattle.oci_digests.specs.Names.{digest_text}
 use Rattle.oci_digests.specs.declared.error.DigestError.{DigestError}
-use Rattle.oci_protocol.specs.Proto.{Piped, limit_of, Done, ◌>>=◌}
+use Rattle.oci_protocol.specs.Proto.{limit_of, Done, ◌>>=◌}
 use Rattle.oci_protocol.specs.Follow.{Reaches, Misses, Cuts}
 use Rattle.oci_protocol.specs.Poured.{Pours, PoursFront}
 use Rattle.oci_protocol.specs.Runs.{Meets, Told, Performs, Breaks, Outcome}
 use Rattle.oci_protocol.proofs.Laws.{Meets-err}
-use Rattle.oci_protocol.proofs.Extending.{Extends-more, Extends-still, Extends-untold, Steady-more}
+use Rattle.oci_protocol.proofs.Extending.{Extends-more, Extends-still, Extends-untold, Steady-none, Steady-more}
 use Rattle.oci_protocol.proofs.Following.{reached_headed, reached_answered, reached_long, reached_failed, reached_spilled, reached_cut, missed, cut}
 use Rattle.engine_requests.specs.declared.error.OciDistributionError.{OciDistributionError}
 use Rattle.engine_requests.specs.declared.error.OciDistributionError.TheVariants as refusal
@@ -32,10 +32,12 @@ use Rattle.engine_requests.specs.declared.blobs.Expected.{Expected}
 use Rattle.engine_requests.specs.declared.blobs.Plan.{Plan}
 use Rattle.engine_requests.specs.declared.blobs.Plan.TheVariants as plan
 use Rattle.engine_requests.specs.Errors.{is_memory, Says, SaysError, ◌>>◌}
-use Rattle.engine_requests.specs.Answers.{refused_answer, is_success, is_client_error, by_envelope, envelope_in}
-use Rattle.engine_requests.specs.Blobs.{plan_of, compared, given_compared, both_compared, given_algorithm}
+use Rattle.engine_requests.specs.Answers.{digest_header, refused_answer, is_success, is_client_error, by_envelope, envelope_in}
+use Rattle.oci_digests.specs.Checks.{header_digest as digest_in, and_then as digest_and_then}
+use Rattle.oci_transport.specs.Headers.{first_of}
+use Rattle.engine_requests.specs.Blobs.{digest_expected, given_expected, pouring, plan_by, planned, plan_of, compared, given_compared, both_compared, given_algorithm}
 use Rattle.engine_steps.specs.Rows.{Row}
-use Rattle.engine_steps.specs.Blobs.{reading_by, blob_reading, unread_by, read_by, blob_reply, attempt, IsFront, Spills}
+use Rattle.engine_steps.specs.Blobs.{Destination, IntoSink, IntoMemory, reading_into, reading_by, blob_reading, unread_by, read_by, blob_reply, attempt, IsFrontOfLast, IsFront, Spills}
 use Rattle.engine_steps.proofs.Exits.{said, and_then}
 
 -- what a call told, where it met a protocol
@@ -72,14 +74,44 @@ spills_none tray met fault = record { body = []; met = met; put = adds_none tray
 pub spills_wanting : {p : Row (List ℕ)} {old new : Link} {k l : Memory} (tray : Tray) (r : Result Unit OciDistributionError) → IsErrAnd r (λ x. x ≡ refusal.WantOfMemory) → Meets is_memory p old new k l (Err refusal.WantOfMemory) → Spills p old new k l tray tray r
 spills_wanting tray r is met = let at = err_from_is_err_and r is in rw (at.1, at.2) (spills_none tray met (λ h. cc))
 
+-- only an answer of success is put
+chosen : (b : Bool) (x : Option Expected) (y : Expected) (given : Option Expected) (own : Expected) → pouring b x y ≡ plan.Pour given own → b ≡ true
+chosen true x y given own h = refl
+chosen false x y given own h = absurd (cc h)
+
+own_chosen : (b : Bool) (x : Option Expected) (r : Result Expected DigestError) (given : Option Expected) (own : Expected) → planned (digest_and_then r (λ y. Ok (pouring b x y))) ≡ plan.Pour given own → b ≡ true
+own_chosen b x (Ok y) given own h = chosen b x y given own h
+own_chosen b x (Err e) given own h = absurd (cc h)
+
+given_chosen : (b : Bool) (digest : List ℕ) (r : Result (Option Expected) DigestError) (given : Option Expected) (own : Expected) → planned (digest_and_then r (λ x. digest_and_then (digest_expected digest) (λ y. Ok (pouring b x y)))) ≡ plan.Pour given own → b ≡ true
+given_chosen b digest (Ok x) given own h = own_chosen b x (digest_expected digest) given own h
+given_chosen b digest (Err e) given own h = absurd (cc h)
+
+header_chosen : (b : Bool) (digest : List ℕ) (r : Result (Option (List ℕ)) DigestError) (given : Option Expected) (own : Expected) → planned (digest_and_then r (plan_by b digest)) ≡ plan.Pour given own → b ≡ true
+header_chosen b digest (Ok header) given own h = given_chosen b digest (given_expected header) given own h
+header_chosen b digest (Err e) given own h = absurd (cc h)
+
+pub pours_success : (digest : List ℕ) (head : AnswerHead) (given : Option Expected) (own : Expected) → plan_of digest head ≡ plan.Pour given own → is_success head.status ≡ true
+unfolding plan_of
+pours_success digest head given own h = header_chosen (is_success head.status) digest (digest_in (first_of digest_header head.headers)) given own h
+
 -- a front of the last answer's body was told
-pub front_told : (n : ℕ) (request : Request) (head : AnswerHead) (last : Request) (old mid new : Link) (front : List ℕ) → Reaches n request head last old mid → new.told ≡ mid.told → Steady mid new → ((rest : List ℕ) → mid.rest ≡ Some rest → (left : List ℕ) × (rest ≡ front ++ left)) → Told (IsFront front) old new
-front_told n request head last old mid new front reach same steady part = by_told reach.mid.told refl where
+pub front_told : (n : ℕ) (request : Request) (head : AnswerHead) (last : Request) (old mid new : Link) (front : List ℕ) → Reaches n request head last old mid → is_success head.status ≡ true → new.told ≡ mid.told → Steady mid new → ((rest : List ℕ) → mid.rest ≡ Some rest → (left : List ℕ) × (rest ≡ front ++ left)) → Told (IsFront front) old new
+front_told n request head last old mid new front reach good same steady part = by_told reach.mid.told refl where
   tells : (body left : List ℕ) → body ≡ front ++ left → Extends reach.mid new (record { request = last; answer = Some (answer_of head body); faults = reach.mid.faults } ∷ []) → Told (IsFront front) old new
   tells body left is told = record {
     conversation = reach.follows.conversation ++ record { request = last; answer = Some (answer_of head body); faults = reach.mid.faults } ∷ [];
     told = Extends-more old reach.mid new reach.follows.conversation _ reach.follows.told told;
-    holds = inr (reach.follows.conversation, record { request = last; answer = Some (answer_of head body); faults = reach.mid.faults }, answer_of head body, left, refl, refl, is);
+    holds = inr (record {
+      before = reach.follows.conversation;
+      last = record { request = last; answer = Some (answer_of head body); faults = reach.mid.faults };
+      split = refl;
+      answer = answer_of head body;
+      answered = refl;
+      success = good;
+      left = left;
+      body = is;
+    });
   }
 
   by_told : (t : Option (List Exchange)) → reach.mid.told ≡ t → Told (IsFront front) old new
@@ -88,48 +120,88 @@ front_told n request head last old mid new front reach same steady part = by_tol
 
 -- ---- each exit
 
-pub blob_missed : (limit : ℕ) (digest : List ℕ) (request : Request) (old new : Link) (k : Memory) → Misses 10 request old new → Meets is_memory (attempt limit digest request) old new k k (Err refusal.TransportFault)
+pub blob_missed : (to : Destination) (limit : ℕ) (digest : List ℕ) (request : Request) (old new : Link) (k : Memory) → Misses 10 request old new → Meets is_memory (attempt to limit digest request) old new k k (Err refusal.TransportFault)
 unfolding attempt
-blob_missed limit digest request old new k m = missed 10 request (blob_reading limit digest) (blob_reply digest) m (λ last. Meets-err is_memory new k refusal.TransportFault refl)
+blob_missed to limit digest request old new k m = missed 10 request (blob_reading to limit digest) (blob_reply digest) m (λ last. Meets-err is_memory new k refusal.TransportFault refl)
 
-pub blob_cut : (limit : ℕ) (digest : List ℕ) (request : Request) (old new : Link) (k : Memory) → Cuts 10 request old new → Meets is_memory (attempt limit digest request) old new k k (Err refusal.WantOfMemory)
+pub blob_cut : (to : Destination) (limit : ℕ) (digest : List ℕ) (request : Request) (old new : Link) (k : Memory) → Cuts 10 request old new → Meets is_memory (attempt to limit digest request) old new k k (Err refusal.WantOfMemory)
 unfolding attempt
-blob_cut limit digest request old new k c = cut is_memory 10 request (blob_reading limit digest) (blob_reply digest) k refusal.WantOfMemory c refl
+blob_cut to limit digest request old new k c = cut is_memory 10 request (blob_reading to limit digest) (blob_reply digest) k refusal.WantOfMemory c refl
 
-pub blob_wanting : (limit : ℕ) (digest : List ℕ) (request : Request) (head : AnswerHead) (last : Request) (old mid new : Link) (k : Memory) (e : OciDistributionError) → Reaches 10 request head last old mid → mid.faults ≤ new.faults → new.told ≡ mid.told → Steady mid new → is_memory e ≡ true → Meets is_memory (attempt limit digest request) old new k k (Err e)
+pub blob_wanting : (to : Destination) (limit : ℕ) (digest : List ℕ) (request : Request) (head : AnswerHead) (last : Request) (old mid new : Link) (k : Memory) (e : OciDistributionError) → Reaches 10 request head last old mid → mid.faults ≤ new.faults → new.told ≡ mid.told → Steady mid new → is_memory e ≡ true → Meets is_memory (attempt to limit digest request) old new k k (Err e)
 unfolding attempt
-blob_wanting limit digest request head last old mid new k e reach le same steady is = reached_cut is_memory 10 request (blob_reading limit digest) (blob_reply digest) head last k e reach le same steady is
+blob_wanting to limit digest request head last old mid new k e reach le same steady is = reached_cut is_memory 10 request (blob_reading to limit digest) (blob_reply digest) head last k e reach le same steady is
 
 unread_met : (p q : Plan) (r : Result (List ℕ) OciDistributionError) (link : Link) (k : Memory) → p ≡ q → Says r (unread_by q) → Meets is_memory (Done (unread_by p)) link link k k r
 unread_met p q r link k is says = said r (rw is says)
 
 -- the answer is not read, for this cause
-pub blob_unread : (limit : ℕ) (digest : List ℕ) (request : Request) (head : AnswerHead) (last : Request) (old new : Link) (k : Memory) (e : DigestError) → Reaches 10 request head last old new → plan_of digest head ≡ plan.Refuse e → Meets is_memory (attempt limit digest request) old new k k (Err (refusal.DigestError e))
+pub blob_unread : (to : Destination) (limit : ℕ) (digest : List ℕ) (request : Request) (head : AnswerHead) (last : Request) (old new : Link) (k : Memory) (e : DigestError) → Reaches 10 request head last old new → plan_of digest head ≡ plan.Refuse e → Meets is_memory (attempt to limit digest request) old new k k (Err (refusal.DigestError e))
 unfolding attempt blob_reading
-blob_unread limit digest request head last old new k e reach is = reached_headed 10 request (blob_reading limit digest) (blob_reply digest) head last reach (ap (reading_by limit) is) (unread_met (plan_of digest head) (plan.Refuse e) (Err (refusal.DigestError e)) new k is refl)
+blob_unread to limit digest request head last old new k e reach is = reached_headed 10 request (blob_reading to limit digest) (blob_reply digest) head last reach (ap (reading_by to limit) is) (unread_met (plan_of digest head) (plan.Refuse e) (Err (refusal.DigestError e)) new k is refl)
 
 read_met : (url : List ℕ) (head : AnswerHead) (body : List ℕ) (p q : Plan) (r : Result (List ℕ) OciDistributionError) (link : Link) (k : Memory) → p ≡ q → Says r (read_by url (answer_of head body) q) → Meets is_memory (Done (read_by url (answer_of head body) p)) link link k k r
 read_met url head body p q r link k is says = said r (rw is says)
 
-pub blob_read : (limit : ℕ) (digest : List ℕ) (request : Request) (head : AnswerHead) (last : Request) (body : List ℕ) (old mid new : Link) (k : Memory) (p : Plan) (r : Result (List ℕ) OciDistributionError) → Reaches 10 request head last old mid → plan_of digest head ≡ p → limit_of (reading_by limit p) ≡ Some limit → mid.faults ≤ new.faults → new.told ≡ mid.told → Steady mid new → length body ≤ limit → ((rest : List ℕ) → mid.rest ≡ Some rest → body ≡ rest) → Says r (read_by last.url (answer_of head body) p) → Meets is_memory (attempt limit digest request) old new k k r
+pub blob_read : (to : Destination) (limit : ℕ) (digest : List ℕ) (request : Request) (head : AnswerHead) (last : Request) (body : List ℕ) (old mid new : Link) (k : Memory) (p : Plan) (r : Result (List ℕ) OciDistributionError) → Reaches 10 request head last old mid → plan_of digest head ≡ p → limit_of (reading_by to limit p) ≡ Some limit → mid.faults ≤ new.faults → new.told ≡ mid.told → Steady mid new → length body ≤ limit → ((rest : List ℕ) → mid.rest ≡ Some rest → body ≡ rest) → Says r (read_by last.url (answer_of head body) p) → Meets is_memory (attempt to limit digest request) old new k k r
 unfolding attempt blob_reading
-blob_read limit digest request head last body old mid new k p r reach is reads le same steady small whole says = reached_answered 10 request (blob_reading limit digest) (blob_reply digest) head last limit body reach (ap (λ (q : Plan). limit_of (reading_by limit q)) is ∙ reads) le same steady small whole (read_met last.url head body (plan_of digest head) p r new k is says)
+blob_read to limit digest request head last body old mid new k p r reach is reads le same steady small whole says = reached_answered 10 request (blob_reading to limit digest) (blob_reply digest) head last limit body reach (ap (λ (q : Plan). limit_of (reading_by to limit q)) is ∙ reads) le same steady small whole (read_met last.url head body (plan_of digest head) p r new k is says)
 
-pub blob_long : (limit : ℕ) (digest : List ℕ) (request : Request) (head : AnswerHead) (last : Request) (old mid new : Link) (k : Memory) (p : Plan) → Reaches 10 request head last old mid → plan_of digest head ≡ p → limit_of (reading_by limit p) ≡ Some limit → mid.faults ≤ new.faults → new.told ≡ mid.told → Steady mid new → ((rest : List ℕ) → mid.rest ≡ Some rest → limit < length rest) → Meets is_memory (attempt limit digest request) old new k k (Err refusal.BodyTooLong)
+pub blob_long : (to : Destination) (limit : ℕ) (digest : List ℕ) (request : Request) (head : AnswerHead) (last : Request) (old mid new : Link) (k : Memory) (p : Plan) → Reaches 10 request head last old mid → plan_of digest head ≡ p → limit_of (reading_by to limit p) ≡ Some limit → mid.faults ≤ new.faults → new.told ≡ mid.told → Steady mid new → ((rest : List ℕ) → mid.rest ≡ Some rest → limit < length rest) → Meets is_memory (attempt to limit digest request) old new k k (Err refusal.BodyTooLong)
 unfolding attempt blob_reading
-blob_long limit digest request head last old mid new k p reach is reads le same steady long = reached_long 10 request (blob_reading limit digest) (blob_reply digest) head last limit reach (ap (λ (q : Plan). limit_of (reading_by limit q)) is ∙ reads) le same steady long (Meets-err is_memory new k refusal.BodyTooLong refl)
+blob_long to limit digest request head last old mid new k p reach is reads le same steady long = reached_long 10 request (blob_reading to limit digest) (blob_reply digest) head last limit reach (ap (λ (q : Plan). limit_of (reading_by to limit q)) is ∙ reads) le same steady long (Meets-err is_memory new k refusal.BodyTooLong refl)
 
-pub blob_failed : (limit : ℕ) (digest : List ℕ) (request : Request) (head : AnswerHead) (last : Request) (old mid new : Link) (k : Memory) → Reaches 10 request head last old mid → mid.faults ≤ new.faults → new.told ≡ mid.told → Steady mid new → Rose mid.faults new.faults → Meets is_memory (attempt limit digest request) old new k k (Err refusal.TransportFault)
+pub blob_failed : (to : Destination) (limit : ℕ) (digest : List ℕ) (request : Request) (head : AnswerHead) (last : Request) (old mid new : Link) (k : Memory) → Reaches 10 request head last old mid → mid.faults ≤ new.faults → new.told ≡ mid.told → Steady mid new → Rose mid.faults new.faults → Meets is_memory (attempt to limit digest request) old new k k (Err refusal.TransportFault)
 unfolding attempt
-blob_failed limit digest request head last old mid new k reach le same steady rose = reached_failed 10 request (blob_reading limit digest) (blob_reply digest) head last reach le same steady rose (Meets-err is_memory new k refusal.TransportFault refl)
+blob_failed to limit digest request head last old mid new k reach le same steady rose = reached_failed 10 request (blob_reading to limit digest) (blob_reply digest) head last reach le same steady rose (Meets-err is_memory new k refusal.TransportFault refl)
 
-pub blob_spilled : (limit : ℕ) (digest : List ℕ) (request : Request) (head : AnswerHead) (last : Request) (old mid new : Link) (k : Memory) (p : Plan) → Reaches 10 request head last old mid → plan_of digest head ≡ p → reading_by limit p ≡ Piped limit → mid.faults ≤ new.faults → new.told ≡ mid.told → Steady mid new → Meets is_memory (attempt limit digest request) old new k k (Err refusal.SinkFault)
+pub blob_spilled : (limit : ℕ) (digest : List ℕ) (request : Request) (head : AnswerHead) (last : Request) (old mid new : Link) (k : Memory) (given : Option Expected) (own : Expected) → Reaches 10 request head last old mid → plan_of digest head ≡ plan.Pour given own → mid.faults ≤ new.faults → new.told ≡ mid.told → Steady mid new → Meets is_memory (attempt IntoSink limit digest request) old new k k (Err refusal.SinkFault)
 unfolding attempt blob_reading
-blob_spilled limit digest request head last old mid new k p reach is piped le same steady = reached_spilled 10 request (blob_reading limit digest) (blob_reply digest) head last limit reach (ap (reading_by limit) is ∙ piped) le same steady (Meets-err is_memory new k refusal.SinkFault refl)
+blob_spilled limit digest request head last old mid new k given own reach is le same steady = reached_spilled 10 request (blob_reading IntoSink limit digest) (blob_reply digest) head last limit reach (ap (reading_by IntoSink limit) is) le same steady (Meets-err is_memory new k refusal.SinkFault refl)
+
+-- an answer of another status is refused, or memory was wanting to say why
+pub blob_judged : (to : Destination) (limit : ℕ) (digest : List ℕ) (request : Request) (head : AnswerHead) (last : Request) (body : List ℕ) (old mid new : Link) (k : Memory) (e : OciDistributionError) → Reaches 10 request head last old mid → plan_of digest head ≡ plan.Judge → mid.faults ≤ new.faults → new.told ≡ mid.told → Steady mid new → length body ≤ limit → ((rest : List ℕ) → mid.rest ≡ Some rest → body ≡ rest) → SaysError e (refused_answer last.url (answer_of head body)) → Meets is_memory (attempt to limit digest request) old new k k (Err e)
+blob_judged to limit digest request head last body old mid new k e reach is le same steady small whole says = by_memory (is_memory e) refl says where
+  by_memory : (b : Bool) → is_memory e ≡ b → MatchBool b (Unit {0}) (e ≡ refused_answer last.url (answer_of head body)) → Meets is_memory (attempt to limit digest request) old new k k (Err e)
+  by_memory true of_memory says = blob_wanting to limit digest request head last old mid new k e reach le same steady of_memory
+  by_memory false other says = blob_read to limit digest request head last body old mid new k plan.Judge (Err e) reach is refl le same steady small whole (rw other (ap Err (sym says)))
+
+-- ---- a blob that is held
+
+filled_says : (body : List ℕ) (x : Result Unit OciDistributionError) → x ≡ Ok tt → (x >> Ok body) ≡ Ok body
+filled_says body x is = rw is refl
+
+refused_says : (body : List ℕ) (e : OciDistributionError) (x : Result Unit OciDistributionError) → Says {A = Unit} (Err e) x → Says {A = List ℕ} (Err e) (x >> Ok body)
+refused_says body e x h = by_memory (is_memory e) h where
+  by_memory : (b : Bool) → MatchBool b (Unit {0}) (x ≡ Err e) → MatchBool b (Unit {0}) ((x >> Ok body) ≡ Err e)
+  by_memory true h = tt
+  by_memory false h = rw h refl
+
+limit_into : (to : Destination) (limit : ℕ) → limit_of (reading_into to limit) ≡ Some limit
+limit_into IntoSink limit = refl
+limit_into IntoMemory limit = refl
+
+-- the whole body was read, and what is said of its digests
+pub blob_compared : (to : Destination) (limit : ℕ) (digest : List ℕ) (request : Request) (head : AnswerHead) (last : Request) (body : List ℕ) (old mid new : Link) (k : Memory) (given : Option Expected) (own : Expected) (r : Result (List ℕ) OciDistributionError) → Reaches 10 request head last old mid → plan_of digest head ≡ plan.Pour given own → mid.faults ≤ new.faults → new.told ≡ mid.told → Steady mid new → length body ≤ limit → ((rest : List ℕ) → mid.rest ≡ Some rest → body ≡ rest) → Says r (both_compared given own body >> Ok body) → Meets is_memory (attempt to limit digest request) old new k k r
+blob_compared to limit digest request head last body old mid new k given own r reach is le same steady small whole says = blob_read to limit digest request head last body old mid new k (plan.Pour given own) r reach is (limit_into to limit) le same steady small whole says
+
+-- at the exit of a `?`
+pub compared_on : (e : OciDistributionError) (r s : Result (Unit {0}) OciDistributionError) → Says {A = Unit {0}} (Err e) s → IsErrAnd r (λ x. x ≡ e) → Says r s
+compared_on e r s says is = let at = err_from_is_err_and r is in rw (at.1, at.2) says
+
+pub held_other : (limit : ℕ) (digest : List ℕ) (request : Request) (head : AnswerHead) (last : Request) (body : List ℕ) (old mid new : Link) (k : Memory) (given : Option Expected) (own : Expected) (e : OciDistributionError) (r : Result (List ℕ) OciDistributionError) → Reaches 10 request head last old mid → plan_of digest head ≡ plan.Pour given own → mid.faults ≤ new.faults → new.told ≡ mid.told → Steady mid new → length body ≤ limit → ((rest : List ℕ) → mid.rest ≡ Some rest → body ≡ rest) → Says {A = Unit} (Err e) (both_compared given own body) → IsErrAnd r (λ x. x ≡ e) → Meets is_memory (attempt IntoMemory limit digest request) old new k k r
+held_other limit digest request head last body old mid new k given own e r reach is le same steady small whole bad from_is = let at = err_from_is_err_and r from_is in rw (at.1, at.2) (blob_compared IntoMemory limit digest request head last body old mid new k given own (Err e) reach is le same steady small whole (refused_says body e (both_compared given own body) bad))
+
+pub held_whole : (limit : ℕ) (digest : List ℕ) (request : Request) (head : AnswerHead) (last : Request) (body : List ℕ) (old mid new : Link) (k : Memory) (given : Option Expected) (own : Expected) → Reaches 10 request head last old mid → plan_of digest head ≡ plan.Pour given own → mid.faults ≤ new.faults → new.told ≡ mid.told → Steady mid new → length body ≤ limit → ((rest : List ℕ) → mid.rest ≡ Some rest → body ≡ rest) → both_compared given own body ≡ Ok tt → Meets is_memory (attempt IntoMemory limit digest request) old new k k (Ok body)
+held_whole limit digest request head last body old mid new k given own reach is le same steady small whole good = blob_compared IntoMemory limit digest request head last body old mid new k given own (Ok body) reach is le same steady small whole (filled_says body (both_compared given own body) good)
+
+-- memory was wanting to look at the head
+pub held_wanting : (limit : ℕ) (digest : List ℕ) (request : Request) (head : AnswerHead) (last : Request) (old new : Link) (k : Memory) (r : Result (List ℕ) OciDistributionError) → Reaches 10 request head last old new → IsErrAnd r (λ x. x ≡ refusal.WantOfMemory) → Meets is_memory (attempt IntoMemory limit digest request) old new k k r
+held_wanting limit digest request head last old new k r reach is = let at = err_from_is_err_and r is in rw (at.1, at.2) (blob_wanting IntoMemory limit digest request head last old new new k refusal.WantOfMemory reach (omega arith) refl (Steady-none new) refl)
 
 -- a front was put, and the call was refused
-pub spills_front : {p : Row (List ℕ)} {old mid new : Link} {k l : Memory} {e : OciDistributionError} (n : ℕ) (request : Request) (head : AnswerHead) (last : Request) (before after : Tray) → Reaches n request head last old mid → new.told ≡ mid.told → Steady mid new → before.faults ≤ after.faults → PoursFront mid before after → Meets is_memory p old new k l (Err e) → (◌≡◌ {A = Result Unit OciDistributionError} (Err e) (Err refusal.SinkFault) → Rose before.faults after.faults) → Spills p old new k l before after (Err e)
-spills_front {p} {old} {mid} {new} n request head last before after reach same steady le front met fault = record { body = front.front; met = met; put = front.put; front = front_told n request head last old mid new front.front reach same steady front.part; count = le; fault = fault }
+pub spills_front : {p : Row (List ℕ)} {old mid new : Link} {k l : Memory} {e : OciDistributionError} (n : ℕ) (request : Request) (head : AnswerHead) (last : Request) (before after : Tray) → Reaches n request head last old mid → is_success head.status ≡ true → new.told ≡ mid.told → Steady mid new → before.faults ≤ after.faults → PoursFront mid before after → Meets is_memory p old new k l (Err e) → (◌≡◌ {A = Result Unit OciDistributionError} (Err e) (Err refusal.SinkFault) → Rose before.faults after.faults) → Spills p old new k l before after (Err e)
+spills_front {p} {old} {mid} {new} n request head last before after reach good same steady le front met fault = record { body = front.front; met = met; put = front.put; front = front_told n request head last old mid new front.front reach good same steady front.part; count = le; fault = fault }
 
 -- ---- an answer of another status
 
@@ -146,36 +218,27 @@ not_sink_answer url answer = by_status (nat_eq answer.status 401) (is_success an
   by_status false false false h = cc
 
 -- an answer of another status is refused, or memory was wanting to say why
-pub spills_judged : (limit : ℕ) (digest : List ℕ) (request : Request) (head : AnswerHead) (last : Request) (body : List ℕ) (old mid new : Link) (k : Memory) (tray : Tray) (e : OciDistributionError) → Reaches 10 request head last old mid → plan_of digest head ≡ plan.Judge → mid.faults ≤ new.faults → new.told ≡ mid.told → Steady mid new → length body ≤ limit → ((rest : List ℕ) → mid.rest ≡ Some rest → body ≡ rest) → SaysError e (refused_answer last.url (answer_of head body)) → Spills (attempt limit digest request) old new k k tray tray (Err e)
+pub spills_judged : (limit : ℕ) (digest : List ℕ) (request : Request) (head : AnswerHead) (last : Request) (body : List ℕ) (old mid new : Link) (k : Memory) (tray : Tray) (e : OciDistributionError) → Reaches 10 request head last old mid → plan_of digest head ≡ plan.Judge → mid.faults ≤ new.faults → new.told ≡ mid.told → Steady mid new → length body ≤ limit → ((rest : List ℕ) → mid.rest ≡ Some rest → body ≡ rest) → SaysError e (refused_answer last.url (answer_of head body)) → Spills (attempt IntoSink limit digest request) old new k k tray tray (Err e)
 spills_judged limit digest request head last body old mid new k tray e reach is le same steady small whole says = by_memory (is_memory e) refl says where
-  by_memory : (b : Bool) → is_memory e ≡ b → MatchBool b (Unit {0}) (e ≡ refused_answer last.url (answer_of head body)) → Spills (attempt limit digest request) old new k k tray tray (Err e)
-  by_memory true of_memory says = spills_none tray (blob_wanting limit digest request head last old mid new k e reach le same steady of_memory) (λ h. let is : e ≡ refusal.SinkFault = cc in absurd (cc (rw is at of_memory)))
-  by_memory false other says = spills_none tray (blob_read limit digest request head last body old mid new k plan.Judge (Err e) reach is refl le same steady small whole (rw other (ap Err (sym says)))) (λ h. let is : e ≡ refusal.SinkFault = cc in absurd (not_sink_answer last.url (answer_of head body) (sym says ∙ is)))
+  by_memory : (b : Bool) → is_memory e ≡ b → MatchBool b (Unit {0}) (e ≡ refused_answer last.url (answer_of head body)) → Spills (attempt IntoSink limit digest request) old new k k tray tray (Err e)
+  by_memory true of_memory says = spills_none tray (blob_wanting IntoSink limit digest request head last old mid new k e reach le same steady of_memory) (λ h. let is : e ≡ refusal.SinkFault = cc in absurd (cc (rw is at of_memory)))
+  by_memory false other says = spills_none tray (blob_read IntoSink limit digest request head last body old mid new k plan.Judge (Err e) reach is refl le same steady small whole (rw other (ap Err (sym says)))) (λ h. let is : e ≡ refusal.SinkFault = cc in absurd (not_sink_answer last.url (answer_of head body) (sym says ∙ is)))
 
 -- ---- a body that was put whole
-
-filled_says : (body : List ℕ) (x : Result Unit OciDistributionError) → x ≡ Ok tt → (x >> Ok body) ≡ Ok body
-filled_says body x is = rw is refl
 
 -- the whole body was put, and has its digests
 pub spills_whole : (limit : ℕ) (digest : List ℕ) (request : Request) (head : AnswerHead) (last : Request) (old mid new : Link) (k : Memory) (before after : Tray) (from to : Digesters) (given : Option Expected) (own : Expected)
     → Reaches 10 request head last old mid → plan_of digest head ≡ plan.Pour given own → mid.faults ≤ new.faults → new.told ≡ mid.told → Steady mid new → before.faults ≤ after.faults → Pours limit from to mid new before after → BothHold from (given_algorithm given) own.algorithm []
     → ((m : List ℕ) → BothHold to (given_algorithm given) own.algorithm m → both_compared given own m ≡ Ok tt)
-    → Spills (attempt limit digest request) old new k k before after (Ok tt)
+    → Spills (attempt IntoSink limit digest request) old new k k before after (Ok tt)
 spills_whole limit digest request head last old mid new k before after from to given own reach is le same steady count pours fresh good = record {
   body = pours.body;
-  met = blob_read limit digest request head last pours.body old mid new k (plan.Pour given own) (Ok pours.body) reach is refl le same steady pours.small pours.whole (filled_says pours.body _ (good pours.body (pours.hashed (given_algorithm given) own.algorithm fresh)));
+  met = blob_read IntoSink limit digest request head last pours.body old mid new k (plan.Pour given own) (Ok pours.body) reach is refl le same steady pours.small pours.whole (filled_says pours.body _ (good pours.body (pours.hashed (given_algorithm given) own.algorithm fresh)));
   put = pours.put;
-  front = front_told 10 request head last old mid new pours.body reach same steady (λ rest h. ([], sym (pours.whole rest h) ∙ sym (append-nil pours.body)));
+  front = front_told 10 request head last old mid new pours.body reach (pours_success digest head given own is) same steady (λ rest h. ([], sym (pours.whole rest h) ∙ sym (append-nil pours.body)));
   count = count;
   fault = λ h. cc;
 }
-
-refused_says : (body : List ℕ) (e : OciDistributionError) (x : Result Unit OciDistributionError) → Says {A = Unit} (Err e) x → Says {A = List ℕ} (Err e) (x >> Ok body)
-refused_says body e x h = by_memory (is_memory e) h where
-  by_memory : (b : Bool) → MatchBool b (Unit {0}) (x ≡ Err e) → MatchBool b (Unit {0}) ((x >> Ok body) ≡ Err e)
-  by_memory true h = tt
-  by_memory false h = rw h refl
 
 one_not_sink : (x : Expected) (body : List ℕ) → compared x body ≡ Err refusal.SinkFault → ⊥
 one_not_sink x body = by_same (bytes_eq x.text (digest_text x.algorithm body)) where
@@ -198,12 +261,12 @@ not_sink e x P never says h = let is : e ≡ refusal.SinkFault = cc in absurd (n
 pub spills_other : (limit : ℕ) (digest : List ℕ) (request : Request) (head : AnswerHead) (last : Request) (old mid new : Link) (k : Memory) (before after : Tray) (from to : Digesters) (given : Option Expected) (own : Expected) (e : OciDistributionError) (r : Result Unit OciDistributionError)
     → Reaches 10 request head last old mid → plan_of digest head ≡ plan.Pour given own → mid.faults ≤ new.faults → new.told ≡ mid.told → Steady mid new → before.faults ≤ after.faults → Pours limit from to mid new before after → BothHold from (given_algorithm given) own.algorithm []
     → ((m : List ℕ) → BothHold to (given_algorithm given) own.algorithm m → Says {A = Unit} (Err e) (both_compared given own m)) → IsErrAnd r (λ x. x ≡ e)
-    → Spills (attempt limit digest request) old new k k before after r
+    → Spills (attempt IntoSink limit digest request) old new k k before after r
 spills_other limit digest request head last old mid new k before after from to given own e r reach is le same steady count pours fresh bad from_is = let at = err_from_is_err_and r from_is in rw (at.1, at.2) (record {
   body = pours.body;
-  met = blob_read limit digest request head last pours.body old mid new k (plan.Pour given own) (Err e) reach is refl le same steady pours.small pours.whole (refused_says pours.body e _ (bad pours.body (pours.hashed (given_algorithm given) own.algorithm fresh)));
+  met = blob_read IntoSink limit digest request head last pours.body old mid new k (plan.Pour given own) (Err e) reach is refl le same steady pours.small pours.whole (refused_says pours.body e _ (bad pours.body (pours.hashed (given_algorithm given) own.algorithm fresh)));
   put = pours.put;
-  front = front_told 10 request head last old mid new pours.body reach same steady (λ rest h. ([], sym (pours.whole rest h) ∙ sym (append-nil pours.body)));
+  front = front_told 10 request head last old mid new pours.body reach (pours_success digest head given own is) same steady (λ rest h. ([], sym (pours.whole rest h) ∙ sym (append-nil pours.body)));
   count = count;
   fault = not_sink e (both_compared given own pours.body) (Rose before.faults after.faults) (both_not_sink _ _ (given_not_sink given pours.body) (one_not_sink own pours.body)) (bad pours.body (pours.hashed (given_algorithm given) own.algorithm fresh));
 })
@@ -212,7 +275,16 @@ spills_other limit digest request head last old mid new k before after from to g
 
 later_front : (bytes : List ℕ) (c d : List Exchange) → IsFront bytes d → IsFront bytes (c ++ d)
 later_front bytes c d (inl none) = inl none
-later_front bytes c d (inr h) = inr (c ++ h.0, h.1, h.2, h.3, ap (λ (x : List Exchange). c ++ x) h.4 ∙ sym (append_assoc c h.0 (h.1 ∷ [])), h.5, h.6)
+later_front bytes c d (inr h) = inr (record {
+  before = c ++ h.before;
+  last = h.last;
+  split = ap (λ (x : List Exchange). c ++ x) h.split ∙ sym (append_assoc c h.before (h.last ∷ []));
+  answer = h.answer;
+  answered = h.answered;
+  success = h.success;
+  left = h.left;
+  body = h.body;
+})
 
 -- what was met first puts its exchanges in front
 pub spills_next : {A : Type 0} {p : Row A} (f : A → Row (List ℕ)) {old mid new : Link} {k l j : Memory} {a : A} {before after : Tray} {r : Result Unit OciDistributionError} → Meets is_memory p old mid k l (Ok a) → Spills (f a) mid new l j before after r → Spills (p >>= f) old new k j before after r

@@ -1,5 +1,7 @@
 -- The ways to ask, each outcome of them.
-use Rattle.std.proofs.Common.{◌≡◌, ◌≤◌, ◌<◌, ℕ, List, Some, Ok, Err, length, refl}
+use Rattle.std.proofs.Common.{◌≡◌, ◌≤◌, ◌<◌, ℕ, List, ◌++◌, Some, Result, Ok, Err, IfOk, length, refl}
+use Rattle.std.specs.Result.{IsErrAnd}
+use Rattle.std.proofs.lemmas.Result.{err_from_is_err_and}
 use Rattle.oci_transport.specs.Link.{Link, Steady, answer_of}
 use Rattle.json_values.specs.Counts.{Rose}
 use Rattle.oci_transport.specs.declared.message.Request.{Request}
@@ -13,6 +15,7 @@ use Rattle.engine_requests.specs.declared.error.OciDistributionError.TheVariants
 use Rattle.oci_auth.specs.declared.memory.Memory.{Memory}
 use Rattle.engine_requests.specs.Errors.{is_memory}
 use Rattle.engine_steps.specs.Rows.{whole, whole_reply, head_after, head_reply}
+use Rattle.engine_steps.specs.Untaken.{Untaken}
 
 within : (limit : ℕ) (head : AnswerHead) → limit_of (read_within limit head) ≡ Some limit
 unfolding read_within
@@ -61,3 +64,15 @@ head_missed times request old new m k = missed times request read_none head_repl
 pub head_wanting : (times : ℕ) (request : Request) (old new : Link) → Cuts times request old new → (k : Memory) → Meets is_memory (head_after times request) old new k k (Err refusal.WantOfMemory)
 unfolding head_after
 head_wanting times request old new c k = cut is_memory times request read_none head_reply k refusal.WantOfMemory c refl
+
+-- nothing was taken yet
+pub reached_untaken : (times : ℕ) (request : Request) (head : AnswerHead) (last : Request) (old new : Link) → Reaches times request head last old new → Untaken head old new
+reached_untaken times request head last old new r = record {
+  body = r.sent.body;
+  answered = λ before h. (before ++ r.follows.conversation, record { request = last; answer = Some (answer_of head r.sent.body); faults = r.mid.faults }, r.sent.added.told (before ++ r.follows.conversation) (r.follows.told.told before h), refl);
+  rest = λ before h. r.sent.rest (before ++ r.follows.conversation) (r.follows.told.told before h);
+}
+
+-- at the exit of a `?`
+pub not_ok : {A E : Type 0} (P : A → Type 0) (r : Result A E) (e : E) → IsErrAnd r (λ x. x ≡ e) → IfOk r P
+not_ok P r e is = let at = err_from_is_err_and r is in rw at.1 tt

@@ -1,5 +1,5 @@
 -- One request for a blob, and what a sink took of it.
-use Rattle.std.specs.Prelude.{◌≡◌, ◌≤◌, ◌⊎◌, ℕ, List, [], ◌∷◌, ◌++◌, Some, Result, Ok, Err}
+use Rattle.std.specs.Prelude.{◌≡◌, ◌≤◌, ◌⊎◌, ℕ, true, List, [], ◌∷◌, ◌++◌, Some, Result, Ok, Err}
 use Rattle.json_values.specs.Counts.{Rose}
 use Rattle.json_values.specs.Tray.{Tray, Adds}
 use Rattle.oci_transport.specs.Link.{Link}
@@ -8,7 +8,8 @@ use Rattle.oci_transport.specs.declared.message.Answer.{Answer}
 use Rattle.oci_transport.specs.declared.message.AnswerHead.{AnswerHead}
 use Rattle.oci_transport.specs.declared.message.Exchange.{Exchange}
 use Rattle.oci_auth.specs.declared.memory.Memory.{Memory}
-use Rattle.oci_protocol.specs.Proto.{Reading, Unread, Within, Piped, Reply, Headed, Answered, Failed, TooLong, SinkFailed, Done}
+use Rattle.oci_protocol.specs.Proto.{Reading, Unread, Within, Piped, Reply, Headed, Answered, Failed, TooLong}
+use Rattle.oci_protocol.specs.Proto.{SinkFailed, Done}
 use Rattle.oci_protocol.specs.Follow.{follow}
 use Rattle.oci_protocol.specs.Runs.{Meets, Told, head_part}
 use Rattle.engine_requests.specs.declared.error.OciDistributionError.{OciDistributionError}
@@ -16,18 +17,27 @@ use Rattle.engine_requests.specs.declared.error.OciDistributionError.TheVariants
 use Rattle.engine_requests.specs.declared.blobs.Plan.{Plan}
 use Rattle.engine_requests.specs.declared.blobs.Plan.TheVariants as plan
 use Rattle.engine_requests.specs.Errors.{is_memory, ◌>>◌}
-use Rattle.engine_requests.specs.Answers.{refused_answer}
+use Rattle.engine_requests.specs.Answers.{refused_answer, is_success}
 use Rattle.engine_requests.specs.Blobs.{plan_of, both_compared}
 use Rattle.engine_steps.specs.Rows.{Row}
 
--- how the body is read by a plan
-abbrev pub reading_by : ℕ → Plan → Reading
-reading_by limit (plan.Refuse e) = Unread
-reading_by limit plan.Judge = Within limit
-reading_by limit (plan.Pour given own) = Piped limit
+-- where a blob goes: piece by piece into a sink, or whole into memory
+pub data Destination : Type 0 where
+  IntoSink : Destination
+  IntoMemory : Destination
 
-unfoldable pub blob_reading : ℕ → List ℕ → AnswerHead → Reading
-blob_reading limit digest head = reading_by limit (plan_of digest head)
+abbrev pub reading_into : Destination → ℕ → Reading
+reading_into IntoSink limit = Piped limit
+reading_into IntoMemory limit = Within limit
+
+-- how the body is read by a plan
+abbrev pub reading_by : Destination → ℕ → Plan → Reading
+reading_by to limit (plan.Refuse e) = Unread
+reading_by to limit plan.Judge = Within limit
+reading_by to limit (plan.Pour given own) = reading_into to limit
+
+unfoldable pub blob_reading : Destination → ℕ → List ℕ → AnswerHead → Reading
+blob_reading to limit digest head = reading_by to limit (plan_of digest head)
 
 -- what is made of an unread answer
 abbrev pub unread_by : Plan → Result (List ℕ) OciDistributionError
@@ -51,14 +61,25 @@ blob_reply digest last TooLong = Done (Err refusal.BodyTooLong)
 blob_reply digest last SinkFailed = Done (Err refusal.SinkFault)
 
 -- one request for a blob, and its bytes
-unfoldable pub attempt : ℕ → List ℕ → Request → Row (List ℕ)
-attempt limit digest request = follow 10 request (blob_reading limit digest) (blob_reply digest)
+unfoldable pub attempt : Destination → ℕ → List ℕ → Request → Row (List ℕ)
+attempt to limit digest request = follow 10 request (blob_reading to limit digest) (blob_reply digest)
 
 -- ---- what a sink took
 
--- it is a front of the last answer's body, or nothing
+-- a front of the body of the last answer, whose status is one of success
+pub record IsFrontOfLast (bytes : List ℕ) (c : List Exchange) : Type 0 where
+  pub before : List Exchange
+  pub last : Exchange
+  pub split : c ≡ before ++ last ∷ []
+  pub answer : Answer
+  pub answered : last.answer ≡ Some answer
+  pub success : is_success answer.status ≡ true
+  pub left : List ℕ
+  pub body : answer.body ≡ bytes ++ left
+
+-- or nothing
 abbrev pub IsFront : List ℕ → List Exchange → Type 0
-IsFront bytes c = (bytes ≡ []) ⊎ ((before : List Exchange) × (last : Exchange) × (answer : Answer) × (left : List ℕ) × (c ≡ before ++ last ∷ []) × (last.answer ≡ Some answer) × (answer.body ≡ bytes ++ left))
+IsFront bytes c = (bytes ≡ []) ⊎ IsFrontOfLast bytes c
 
 -- what the protocol answers, by what the call answered and the bytes that were put
 abbrev pub filled : List ℕ → Result Unit OciDistributionError → Result (List ℕ) OciDistributionError
@@ -67,7 +88,8 @@ filled body (Err e) = Err e
 
 -- A call that ran this protocol and put its bytes: those that the protocol answers, or after a
 -- refusal a front of the last answer's body.
-pub record Spills (p : Row (List ℕ)) (old new : Link) (k l : Memory) (before after : Tray) (r : Result Unit OciDistributionError) : Type 0 where
+pub record Spills (p : Row (List ℕ)) (old new : Link) (k l : Memory) (before after : Tray)
+    (r : Result Unit OciDistributionError) : Type 0 where
   pub body : List ℕ
   pub met : Meets is_memory p old new k l (filled body r)
   pub put : Adds body before after

@@ -1,2 +1,3 @@
 pub mod Blobs
 pub mod Rows
+pub mod Untaken

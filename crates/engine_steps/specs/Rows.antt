@@ -23,7 +23,9 @@ use Rattle.oci_auth.specs.declared.token_type.RegistryOperation.{RegistryOperati
 use Rattle.oci_auth.specs.declared.token_type.RegistryTokenType.{RegistryTokenType}
 use Rattle.oci_auth.specs.declared.token_type.RegistryTokenType.TheVariants as token
 use Rattle.http_challenges.specs.declared.bearer.BearerChallenge.{BearerChallenge}
-use Rattle.oci_protocol.specs.Proto.{Reading, Unread, Within, Reply, Headed, Answered, Failed, TooLong, SinkFailed, read_within, read_none, Proto, Done, Recall, Keep, bind, ◌>>=◌, ◌>>◌}
+use Rattle.oci_protocol.specs.Proto.{Reading, Unread, Within, Reply, Headed, Answered, Failed, TooLong}
+use Rattle.oci_protocol.specs.Proto.{SinkFailed, read_within, read_none, Proto, Done, Recall, Keep, bind}
+use Rattle.oci_protocol.specs.Proto.{◌>>=◌, ◌>>◌}
 use Rattle.oci_protocol.specs.Follow.{follow}
 use Rattle.engine_requests.specs.declared.answers.Got.{Got}
 use Rattle.engine_requests.specs.declared.settings.Settings.{Settings}
@@ -85,7 +87,8 @@ read_named got (Err e) = Err e
 
 abbrev pub named_reply : Request → Reply → Row Named
 named_reply last (Headed head) = Done (unread_named (header_digest head.headers))
-named_reply last (Answered answer) = Done (read_named (record { url = last.url; answer = answer }) (header_digest answer.headers))
+named_reply last (Answered answer) = Done (read_named (record { url = last.url; answer = answer })
+    (header_digest answer.headers))
 named_reply last TooLong = Done (Err refusal.BodyTooLong)
 named_reply last Failed = Done (Err refusal.TransportFault)
 named_reply last SinkFailed = Done (Err refusal.SinkFault)
@@ -111,7 +114,8 @@ store image a = do
 -- ---- tokens
 
 -- the realm of a challenge is asked for a token
-unfoldable pub realm_asked : Settings → Reference → RegistryAuth → RegistryOperation → BearerChallenge → Row (Option RegistryTokenType)
+unfoldable pub realm_asked : Settings → Reference → RegistryAuth → RegistryOperation → BearerChallenge
+    → Row (Option RegistryTokenType)
 realm_asked s image a op challenge = do
   url ← Done (url_read challenge.realm)
   request ← Done (realm_request s image a op challenge.service url)
@@ -157,11 +161,13 @@ unfoldable pub token_asked : Context → Reference → RegistryOperation → Reg
 token_asked s image op a = bind (token_step s.settings image a op) (taken s.moment (key_of image op))
 
 -- the kept token, or else one that is asked for
-abbrev pub kept_or_asked : Context → Reference → RegistryOperation → RegistryAuth → Option RegistryTokenType → Row (Option RegistryTokenType)
+abbrev pub kept_or_asked : Context → Reference → RegistryOperation → RegistryAuth → Option RegistryTokenType
+    → Row (Option RegistryTokenType)
 kept_or_asked s image op a (Some token) = Done (Ok (Some token))
 kept_or_asked s image op a None = token_asked s image op a
 
-abbrev pub token_by : Context → Reference → RegistryOperation → Option RegistryAuth → Option RegistryTokenType → Row (Option RegistryTokenType)
+abbrev pub token_by : Context → Reference → RegistryOperation → Option RegistryAuth → Option RegistryTokenType
+    → Row (Option RegistryTokenType)
 token_by s image op None kept = Done (Ok None)
 token_by s image op (Some a) kept = kept_or_asked s image op a kept
 

@@ -1,10 +1,11 @@
 // The ways to ask, as steps of a row.
-ghost use Rattle.std.specs.Prelude.{◌≡◌};
+ghost use Rattle.std.specs.Prelude.{◌≡◌, IfOk};
 ghost use Rattle.oci_auth.specs.declared.memory.Memory.{Memory};
 ghost use Rattle.oci_transport.specs.Link.{answer_of};
 ghost use Rattle.oci_protocol.specs.Runs.{Meets};
 ghost use Rattle.engine_requests.specs.Errors.{is_memory};
 ghost use Rattle.engine_steps.specs.Rows.{whole, head_after, named_after};
+ghost use Rattle.engine_steps.specs.Untaken.{Untaken, UntakenUnnamed};
 
 use engine_requests::{Got, OciDistributionError, header_digest};
 use json_values::{Blob, Text};
@@ -45,7 +46,8 @@ pub fn whole<T: Transport>(
     request: &Request,
     limit: u64,
 ) -> Result<Got, OciDistributionError>
-    ensures { (k : Memory) → Meets is_memory (whole times request.now limit) (T.state transport.old) (T.state transport.new) k k result }
+    ensures { (k : Memory) → Meets is_memory (whole times request.now limit)
+        (T.state transport.old) (T.state transport.new) k k result }
 {
     let reached = match reach(alloc, transport, times, request) {
         Ok(reached) => reached,
@@ -61,14 +63,16 @@ pub fn whole<T: Transport>(
 }
 
 /// The head of the last answer, whose body is not read.
-#[tactic(auto, using(crate::proofs::HelperTrees::head_came, crate::proofs::HelperTrees::head_missed, crate::proofs::HelperTrees::head_wanting))]
+#[tactic(auto, using(crate::proofs::HelperTrees::reached_untaken, crate::proofs::HelperTrees::head_came, crate::proofs::HelperTrees::head_missed, crate::proofs::HelperTrees::head_wanting))]
 pub(crate) fn head_after<T: Transport>(
     alloc: Global,
     transport: &mut T,
     times: u64,
     request: &Request,
 ) -> Result<AnswerHead, OciDistributionError>
-    ensures { (k : Memory) → Meets is_memory (head_after times request.now) (T.state transport.old) (T.state transport.new) k k result }
+    ensures run { (k : Memory) → Meets is_memory (head_after times request.now)
+        (T.state transport.old) (T.state transport.new) k k result }
+    ensures untaken { IfOk result (λ head. Untaken head (T.state transport.old) (T.state transport.new)) }
 {
     match reach(alloc, transport, times, request) {
         Ok(reached) => Ok(reached.head),
@@ -77,8 +81,8 @@ pub(crate) fn head_after<T: Transport>(
     }
 }
 
-#[tactic(none)]
 /// The whole last answer, where its header names a digest. Without one the body is not read.
+#[tactic(none)]
 pub fn named_after<T: Transport>(
     alloc: Global,
     transport: &mut T,
@@ -86,7 +90,10 @@ pub fn named_after<T: Transport>(
     request: &Request,
     limit: u64,
 ) -> Result<Named, OciDistributionError>
-    ensures { (k : Memory) → Meets is_memory (named_after times request.now limit) (T.state transport.old) (T.state transport.new) k k result }
+    ensures run { (k : Memory) → Meets is_memory (named_after times request.now limit)
+        (T.state transport.old) (T.state transport.new) k k result }
+    ensures untaken { IfOk result (λ named. UntakenUnnamed named
+        (T.state transport.old) (T.state transport.new)) }
 {
     let reached = match reach(alloc, transport, times, request) {
         Ok(reached) => reached,

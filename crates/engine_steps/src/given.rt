@@ -2,15 +2,14 @@
 ghost use Rattle.std.specs.Prelude.{◌≡◌, IfOk};
 ghost use Rattle.oci_auth.specs.Caches.{key_of};
 ghost use Rattle.oci_protocol.specs.Runs.{Meets};
-ghost use Rattle.engine_requests.specs.Contexts.{within};
+ghost use Rattle.engine_requests.specs.Contexts.{context_of};
 ghost use Rattle.engine_requests.specs.Errors.{is_memory};
 ghost use Rattle.engine_steps.specs.Rows.{shown_text, kept_text, token_given};
 
 use crate::tokens::token_step;
-use engine_requests::{OciDistributionError, Settings};
+use engine_requests::{Call, OciDistributionError};
 use json_values::Text;
 use oci_auth::{Memory, RegistryAuth, RegistryOperation, RegistryTokenType, store};
-use oci_names::Reference;
 use oci_transport::Transport;
 use std::alloc::{AllocError, Global};
 
@@ -31,20 +30,19 @@ fn shown_text(alloc: Global, token: &RegistryTokenType) -> Result<Option<Text>, 
 pub fn token_given<T: Transport>(
     alloc: Global,
     transport: &mut T,
-    settings: &Settings,
     memory: &mut Memory,
-    moment: u64,
-    image: &Reference,
+    call: &Call,
     auth: &RegistryAuth,
     op: RegistryOperation,
 ) -> Result<Option<Text>, OciDistributionError>
-    ensures { Meets is_memory (token_given (within settings.now moment) image.now auth.now op) (T.state transport.old) (T.state transport.new) memory.old memory.new result }
+    ensures { Meets is_memory (token_given (context_of call.now) call.now.image.now auth.now op)
+        (T.state transport.old) (T.state transport.new) memory.old memory.new result }
 {
-    store(alloc, memory, image.resolve_registry(), auth)?;
-    let Some(token) = token_step(alloc, transport, settings, image, auth, op)? else {
+    store(alloc, memory, call.image.resolve_registry(), auth)?;
+    let Some(token) = token_step(alloc, transport, call, auth, op)? else {
         return Ok(None);
     };
     let text = shown_text(alloc, &token)?;
-    memory.tokens.insert(image, op, token, moment)?;
+    memory.tokens.insert(call.image, op, token, call.moment)?;
     Ok(text)
 }

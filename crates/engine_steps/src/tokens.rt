@@ -4,19 +4,19 @@ ghost use Rattle.url.specs.Parts.{serialize};
 ghost use Rattle.oci_auth.specs.declared.memory.Memory.{Memory};
 ghost use Rattle.oci_transport.specs.Urls.{request_url};
 ghost use Rattle.oci_protocol.specs.Runs.{Meets};
-ghost use Rattle.engine_requests.specs.Contexts.{within};
+ghost use Rattle.engine_requests.specs.Contexts.{context_of};
 ghost use Rattle.engine_requests.specs.Errors.{is_memory};
-ghost use Rattle.engine_steps.specs.Rows.{realm_asked, registry_asked, token_step, token_asked, token_for, authorized, goes_to, prepared};
+ghost use Rattle.engine_steps.specs.Rows.{realm_asked, registry_asked, token_step, token_asked};
+ghost use Rattle.engine_steps.specs.Rows.{token_for, authorized, goes_to, prepared};
 
 use crate::asking::{head_after, whole};
 use engine_requests::{
-    OciDistributionError, Settings, Wanted, base_url, read_challenge, read_url, realm_request,
+    Call, OciDistributionError, Wanted, base_url, read_challenge, read_url, realm_request,
     registry_address, request_of, token_read,
 };
 use http_challenges::BearerChallenge;
 use json_values::Copied;
 use oci_auth::{Memory, RegistryAuth, RegistryOperation, RegistryTokenType};
-use oci_names::Reference;
 use oci_transport::{Method, Request, Transport, UrlError, request_url, targets};
 use std::alloc::{AllocError, Global};
 use url::Url;
@@ -26,18 +26,19 @@ use url::Url;
 fn realm_asked<T: Transport>(
     alloc: Global,
     transport: &mut T,
-    settings: &Settings,
-    image: &Reference,
+    call: &Call,
     auth: &RegistryAuth,
     op: RegistryOperation,
     challenge: BearerChallenge,
 ) -> Result<Option<RegistryTokenType>, OciDistributionError>
-    ensures { (k : Memory) → Meets is_memory (realm_asked settings.now image.now auth.now op challenge) (T.state transport.old) (T.state transport.new) k k result }
+    ensures { (k : Memory) → Meets is_memory
+        (realm_asked call.now.settings.now call.now.image.now auth.now op challenge)
+        (T.state transport.old) (T.state transport.new) k k result }
 {
     let BearerChallenge { realm, service } = challenge;
     let url = read_url(alloc, realm)?;
-    let request = realm_request(alloc, settings, image, auth, op, &service, url)?;
-    let got = whole(alloc, transport, 0, &request, settings.max_body_bytes)?;
+    let request = realm_request(alloc, call.settings, call.image, auth, op, &service, url)?;
+    let got = whole(alloc, transport, 0, &request, call.settings.max_body_bytes)?;
     let token = token_read(alloc, got.answer)?;
     Ok(token)
 }
@@ -47,15 +48,16 @@ fn realm_asked<T: Transport>(
 fn registry_asked<T: Transport>(
     alloc: Global,
     transport: &mut T,
-    settings: &Settings,
-    image: &Reference,
+    call: &Call,
     auth: &RegistryAuth,
     op: RegistryOperation,
 ) -> Result<Option<RegistryTokenType>, OciDistributionError>
-    ensures { (k : Memory) → Meets is_memory (registry_asked settings.now image.now auth.now op) (T.state transport.old) (T.state transport.new) k k result }
+    ensures { (k : Memory) → Meets is_memory
+        (registry_asked call.now.settings.now call.now.image.now auth.now op)
+        (T.state transport.old) (T.state transport.new) k k result }
 {
-    let url = base_url(alloc, settings, image)?;
-    let request = request_of(alloc, settings, Method::Get, &url, None, &None)?;
+    let url = base_url(alloc, call.settings, call.image)?;
+    let request = request_of(alloc, call.settings, Method::Get, &url, None, &None)?;
     let head = head_after(alloc, transport, 0, &request)?;
     match read_challenge(alloc, &head)? {
         Wanted::Nothing => Ok(None),
@@ -64,7 +66,7 @@ fn registry_asked<T: Transport>(
             Ok(token)
         }
         Wanted::Token(challenge) => {
-            let token = realm_asked(alloc, transport, settings, image, auth, op, challenge)?;
+            let token = realm_asked(alloc, transport, call, auth, op, challenge)?;
             Ok(token)
         }
     }
@@ -76,12 +78,12 @@ fn registry_asked<T: Transport>(
 pub fn token_step<T: Transport>(
     alloc: Global,
     transport: &mut T,
-    settings: &Settings,
-    image: &Reference,
+    call: &Call,
     auth: &RegistryAuth,
     op: RegistryOperation,
 ) -> Result<Option<RegistryTokenType>, OciDistributionError>
-    ensures { (k : Memory) → Meets is_memory (token_step settings.now image.now auth.now op) (T.state transport.old) (T.state transport.new) k k result }
+    ensures { (k : Memory) → Meets is_memory (token_step call.now.settings.now call.now.image.now auth.now op)
+        (T.state transport.old) (T.state transport.new) k k result }
 {
     match auth {
         RegistryAuth::Bearer(_) => {
@@ -89,11 +91,11 @@ pub fn token_step<T: Transport>(
             Ok(token)
         }
         RegistryAuth::Basic(_, _) => {
-            let token = registry_asked(alloc, transport, settings, image, auth, op)?;
+            let token = registry_asked(alloc, transport, call, auth, op)?;
             Ok(token)
         }
         RegistryAuth::Anonymous => {
-            let token = registry_asked(alloc, transport, settings, image, auth, op)?;
+            let token = registry_asked(alloc, transport, call, auth, op)?;
             Ok(token)
         }
     }
@@ -104,19 +106,18 @@ pub fn token_step<T: Transport>(
 fn token_asked<T: Transport>(
     alloc: Global,
     transport: &mut T,
-    settings: &Settings,
     memory: &mut Memory,
-    moment: u64,
-    image: &Reference,
+    call: &Call,
     op: RegistryOperation,
     auth: &RegistryAuth,
 ) -> Result<Option<RegistryTokenType>, OciDistributionError>
-    ensures { Meets is_memory (token_asked (within settings.now moment) image.now op auth.now) (T.state transport.old) (T.state transport.new) memory.old memory.new result }
+    ensures { Meets is_memory (token_asked (context_of call.now) call.now.image.now op auth.now)
+        (T.state transport.old) (T.state transport.new) memory.old memory.new result }
 {
-    match token_step(alloc, transport, settings, image, auth, op) {
+    match token_step(alloc, transport, call, auth, op) {
         Ok(Some(token)) => {
             let kept = token.copy(alloc)?;
-            memory.tokens.insert(image, op, kept, moment)?;
+            memory.tokens.insert(call.image, op, kept, call.moment)?;
             Ok(Some(token))
         }
         Ok(None) => Ok(None),
@@ -134,22 +135,21 @@ fn token_asked<T: Transport>(
 fn token_for<T: Transport>(
     alloc: Global,
     transport: &mut T,
-    settings: &Settings,
     memory: &mut Memory,
-    moment: u64,
-    image: &Reference,
+    call: &Call,
     op: RegistryOperation,
 ) -> Result<Option<RegistryTokenType>, OciDistributionError>
-    ensures { Meets is_memory (token_for (within settings.now moment) image.now op) (T.state transport.old) (T.state transport.new) memory.old memory.new result }
+    ensures { Meets is_memory (token_for (context_of call.now) call.now.image.now op)
+        (T.state transport.old) (T.state transport.new) memory.old memory.new result }
 {
-    let auth = match memory.credentials.get(image.resolve_registry()) {
+    let auth = match memory.credentials.get(call.image.resolve_registry()) {
         Some(auth) => auth.copy(alloc)?,
         None => return Ok(None),
     };
-    match memory.tokens.get(image, op, moment)? {
+    match memory.tokens.get(call.image, op, call.moment)? {
         Some(token) => Ok(Some(token)),
         None => {
-            let token = token_asked(alloc, transport, settings, memory, moment, image, op, &auth)?;
+            let token = token_asked(alloc, transport, memory, call, op, &auth)?;
             Ok(token)
         }
     }
@@ -171,41 +171,54 @@ fn goes_to(alloc: Global, url: &Url, registry: &Url) -> Result<bool, AllocError>
 fn authorized<T: Transport>(
     alloc: Global,
     transport: &mut T,
-    settings: &Settings,
     memory: &mut Memory,
-    moment: u64,
-    image: &Reference,
+    call: &Call,
     op: RegistryOperation,
     url: &Url,
 ) -> Result<Option<RegistryTokenType>, OciDistributionError>
-    ensures { Meets is_memory (authorized (within settings.now moment) image.now op url.now) (T.state transport.old) (T.state transport.new) memory.old memory.new result }
+    ensures { Meets is_memory (authorized (context_of call.now) call.now.image.now op url.now)
+        (T.state transport.old) (T.state transport.new) memory.old memory.new result }
 {
-    let registry = registry_address(alloc, settings, image)?;
+    let registry = registry_address(alloc, call.settings, call.image)?;
     let goes = goes_to(alloc, url, &registry)?;
     if !goes {
         return Ok(None);
     }
-    let token = token_for(alloc, transport, settings, memory, moment, image, op)?;
+    let token = token_for(alloc, transport, memory, call, op)?;
     Ok(token)
 }
 
+/// What a request asks for: the URL, by this method.
+#[derive(Clone, Copy)]
+pub struct Target<'a> {
+    pub method: Method,
+    pub url: &'a Url,
+}
+
+/// A request for this target and these types, as the header `accept` lists them, with its token, which may be asked for
+/// before it.
 #[tactic(none)]
-/// A request for this URL and these types, with its token, which may be asked for before it.
 pub fn prepared<T: Transport>(
     alloc: Global,
     transport: &mut T,
-    settings: &Settings,
     memory: &mut Memory,
-    moment: u64,
-    image: &Reference,
+    call: &Call,
     op: RegistryOperation,
-    method: Method,
-    url: &Url,
+    target: &Target,
     types: &str,
 ) -> Result<Request, OciDistributionError>
-    ensures { Meets is_memory (prepared (within settings.now moment) image.now op method url.now types.now) (T.state transport.old) (T.state transport.new) memory.old memory.new result }
+    ensures { Meets is_memory (prepared
+        (context_of call.now) call.now.image.now op target.now.method target.now.url.now types.now)
+        (T.state transport.old) (T.state transport.new) memory.old memory.new result }
 {
-    let token = authorized(alloc, transport, settings, memory, moment, image, op, url)?;
-    let request = request_of(alloc, settings, method, url, Some(types), &token)?;
+    let token = authorized(alloc, transport, memory, call, op, target.url)?;
+    let request = request_of(
+        alloc,
+        call.settings,
+        target.method,
+        target.url,
+        Some(types),
+        &token,
+    )?;
     Ok(request)
 }

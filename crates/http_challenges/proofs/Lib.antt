@@ -1,8 +1,8 @@
-pub mod Cuts
-pub mod Fronts
-pub mod Quotes
 pub mod Commas
-pub mod Closed
-pub mod Reading
+pub mod Cuts
+pub mod ElementCommas
+pub mod ElementReadings
+pub mod Fronts
+pub mod HeaderChallenges
+pub mod Quotes
 pub mod Soundness
-pub mod Listing

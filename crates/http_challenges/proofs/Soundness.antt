@@ -10,7 +10,7 @@ use Rattle.http_challenges.specs.Elements.{element_of, element_in, after_token, 
 use Rattle.http_challenges.specs.Words.{Blanks, Token, Says, Value, IsParameter, AddsParameter, FirstParameter, BeginsChallenge, BeginsScheme, is_plain_byte, begins, behind_comma}
 use Rattle.http_challenges.proofs.Cuts.{front_all, rest_stops, cut_whole, begins_append, begins_front, all_begins, and_left, and_right}
 use Rattle.http_challenges.proofs.Quotes.{quote_ends, plain_byte, literal_byte, unquoted-nil}
-use Rattle.http_challenges.proofs.Reading.{blanks_passed}
+use Rattle.http_challenges.proofs.ElementReadings.{blanks_passed}
 
 mapped : (f : List ℕ → List ℕ) (o : Option (List ℕ)) (v : List ℕ) → option_map f o ≡ Some v → (w : List ℕ) × (o ≡ Some w) × (v ≡ f w)
 mapped f None v h = cc h

@@ -27,7 +27,10 @@ with_realm (Some realm) service = Ok (record { realm = realm; service = service 
 with_realm None service = Err NoRealm
 
 unfoldable pub bearer_of : Challenge → Result BearerChallenge ChallengeError
-bearer_of challenge = if is_named (codes "bearer") challenge.scheme then with_realm (last_value (codes "realm") challenge.params) (last_value (codes "service") challenge.params) else Err OtherScheme
+bearer_of challenge =
+    if is_named (codes "bearer") challenge.scheme
+    then with_realm (last_value (codes "realm") challenge.params) (last_value (codes "service") challenge.params)
+    else Err OtherScheme
 
 -- this one, or else the first of those
 abbrev pub first_bearer : List Challenge → Result BearerChallenge ChallengeError

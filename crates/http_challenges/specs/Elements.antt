@@ -1,4 +1,5 @@
--- Challenges are a list of elements, separated by commas: each begins a challenge, or adds a parameter to the one begun last.
+-- Challenges are a list of elements, separated by commas: each begins a challenge, or adds a parameter
+-- to the one begun last.
 use Rattle.std.specs.Prelude.{◌≡◌, ℕ, ◌+◌, ◌<◌, ◌==◌, Bool, false, List, [], ◌∷◌, ◌++◌, length, take, drop, slice_index, Option, Some, None, map, if◌then◌else◌}
 use Rattle.std.specs.Option.{option_to_list}
 use Rattle.std.specs.List.{onto_first}
@@ -23,7 +24,8 @@ is_comma Escaped b = false
 -- what stands between the commas outside of quoted strings, from a place on
 abbrev pub split_from : Place → List ℕ → List (List ℕ)
 split_from place [] = [] ∷ []
-split_from place (b ∷ text) = if is_comma place b then [] ∷ split_from Outside text else onto_first b (split_from (place_after place b) text)
+split_from place (b ∷ text) =
+    if is_comma place b then [] ∷ split_from Outside text else onto_first b (split_from (place_after place b) text)
 
 -- of what follows a comma, where there is one
 abbrev pub split_rest : Option (List ℕ) → List (List ℕ)
@@ -51,21 +53,32 @@ scheme_or_parameter token text None = begun token (parameter_in text)
 
 -- a token that is not followed by `=` is a scheme
 abbrev pub after_token : List ℕ → List ℕ → Element
-after_token token text = if is_empty text then Begins (record { scheme = token; params = [] }) else scheme_or_parameter token text (after_byte 61 text)
+after_token token text =
+    if is_empty text
+    then Begins (record { scheme = token; params = [] })
+    else scheme_or_parameter token text (after_byte 61 text)
 
 -- an element without the white space in front
 abbrev pub element_in : List ℕ → Element
-element_in text = if is_empty text then Empty else (if is_empty (token_in text) then Unreadable else after_token (token_in text) (past_blanks (past_token text)))
+element_in text =
+    if is_empty text then Empty
+    else (if is_empty (token_in text) then Unreadable
+    else after_token (token_in text) (past_blanks (past_token text)))
 
 unfoldable pub element_of : List ℕ → Element
 element_of text = element_in (past_blanks text)
 
--- reading goes from the left and stops at the first place that does not read; a challenge is whole where the next one begins or the text ends
+-- the challenge with this parameter behind the others
+abbrev pub with_parameter : Challenge → List ℕ × List ℕ → Challenge
+with_parameter challenge parameter = record challenge { params = challenge.params ++ parameter ∷ [] }
+
+-- reading goes from the left and stops at the first place that does not read; a challenge is whole where
+-- the next one begins or the text ends
 abbrev pub whole : Option Challenge → List Element → List Challenge
 whole last [] = option_to_list last
 whole last (Empty ∷ elements) = whole last elements
 whole None (Parameter parameter ∷ elements) = []
-whole (Some challenge) (Parameter parameter ∷ elements) = whole (Some (record challenge { params = challenge.params ++ parameter ∷ [] })) elements
+whole (Some challenge) (Parameter parameter ∷ elements) = whole (Some (with_parameter challenge parameter)) elements
 whole last (Begins challenge ∷ elements) = option_to_list last ++ whole (Some challenge) elements
 whole last (BreaksOff ∷ elements) = option_to_list last
 whole last (Unreadable ∷ elements) = []

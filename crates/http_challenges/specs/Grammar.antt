@@ -36,7 +36,8 @@ past_token text = drop (prefix_len is_token_byte text) text
 abbrev pub is_blank : List ℕ → Bool
 is_blank text = list_all is_blank_byte text
 
--- what a quoted string says, whose first quote stands before this text: `\` makes the next byte literal, and only white space follows the last quote
+-- what a quoted string says, whose first quote stands before this text: `\` makes the next byte literal,
+-- and only white space follows the last quote
 unfoldable pub unquoted : List ℕ → Option (List ℕ)
 unquoted [] = None
 unquoted (b ∷ []) = if b == 34 then Some [] else None

@@ -3,6 +3,7 @@ use Rattle.std.specs.Prelude.{◌≡◌, ◌≢◌, ◌==◌, ◌⊎◌, ◌&&�
 use Rattle.std.specs.List.{list_all}
 use Rattle.std.specs.Option.{option_to_list}
 use Rattle.http_challenges.specs.declared.challenge.Challenge.{Challenge}
+use Rattle.http_challenges.specs.Elements.{with_parameter}
 use Rattle.http_challenges.specs.Grammar.{is_blank_byte, is_token_byte, past_blanks}
 
 -- white space, or nothing
@@ -54,7 +55,10 @@ pub record AddsParameter (text : List ℕ) (parameter : List ℕ × List ℕ) : 
 
 -- no parameter, or one behind white space
 abbrev pub FirstParameter : List ℕ → List (List ℕ × List ℕ) → Type 0
-FirstParameter text params = (Blanks text × (params ≡ [])) ⊎ ((b : ℕ) × (rest : List ℕ) × (parameter : List ℕ × List ℕ) × (text ≡ b ∷ rest) × IsTrue (is_blank_byte b) × AddsParameter rest parameter × (params ≡ parameter ∷ []))
+FirstParameter text params =
+    (Blanks text × (params ≡ []))
+    ⊎ ((b : ℕ) × (rest : List ℕ) × (parameter : List ℕ × List ℕ) × (text ≡ b ∷ rest)
+    × IsTrue (is_blank_byte b) × AddsParameter rest parameter × (params ≡ parameter ∷ []))
 
 -- a scheme in white space, with its first parameter where it has one
 pub record BeginsChallenge (text : List ℕ) (challenge : Challenge) : Type 0 where
@@ -86,19 +90,26 @@ abbrev pub behind_comma : Option (List ℕ) → List ℕ
 behind_comma None = []
 behind_comma (Some text) = 44 ∷ text
 
--- this parameter behind the others
-abbrev pub with_parameter : Challenge → List ℕ × List ℕ → Challenge
-with_parameter challenge parameter = record challenge { params = challenge.params ++ parameter ∷ [] }
-
--- These challenges stand whole in a list, of which the first may have begun before this text: the elements of the list stand between commas, each is empty, adds a parameter, or begins a challenge, and a challenge is whole where the next one begins or the text ends.
+-- These challenges stand whole in a list, of which the first may have begun before this text: the
+-- elements of the list stand between commas, each is empty, adds a parameter, or begins a challenge,
+-- and a challenge is whole where the next one begins or the text ends.
 pub data Whole : Option Challenge → Option (List ℕ) → List Challenge → Type 0 where
   at_end : (last : Option Challenge) → Whole last None (option_to_list last)
-  at_scheme : (last : Option Challenge) (text : List ℕ) → BeginsScheme text → Whole last (Some text) (option_to_list last)
-  empty : (last : Option Challenge) (part : List ℕ) (tail : Option (List ℕ)) (found : List Challenge) → Blanks part → Whole last tail found → Whole last (Some (part ++ behind_comma tail)) found
-  adds : (challenge : Challenge) (parameter : List ℕ × List ℕ) (part : List ℕ) (tail : Option (List ℕ)) (found : List Challenge) → AddsParameter part parameter → Whole (Some (with_parameter challenge parameter)) tail found → Whole (Some challenge) (Some (part ++ behind_comma tail)) found
-  next : (last : Option Challenge) (challenge : Challenge) (part : List ℕ) (tail : Option (List ℕ)) (found : List Challenge) → BeginsChallenge part challenge → Whole (Some challenge) tail found → Whole last (Some (part ++ behind_comma tail)) (option_to_list last ++ found)
+  at_scheme : (last : Option Challenge) (text : List ℕ) → BeginsScheme text
+      → Whole last (Some text) (option_to_list last)
+  empty : (last : Option Challenge) (part : List ℕ) (tail : Option (List ℕ)) (found : List Challenge)
+      → Blanks part → Whole last tail found → Whole last (Some (part ++ behind_comma tail)) found
+  adds : (challenge : Challenge) (parameter : List ℕ × List ℕ) (part : List ℕ) (tail : Option (List ℕ))
+      (found : List Challenge) → AddsParameter part parameter
+      → Whole (Some (with_parameter challenge parameter)) tail found
+      → Whole (Some challenge) (Some (part ++ behind_comma tail)) found
+  next : (last : Option Challenge) (challenge : Challenge) (part : List ℕ) (tail : Option (List ℕ))
+      (found : List Challenge) → BeginsChallenge part challenge → Whole (Some challenge) tail found
+      → Whole last (Some (part ++ behind_comma tail)) (option_to_list last ++ found)
 
--- the challenges of a text: they stand whole in it, and are as many as may be, so that no other stands whole before the first place that does not read
+-- the challenges of a text: they stand whole in it, and are as many as may be, so that no other stands
+-- whole before the first place that does not read
 pub record AreChallenges (text : List ℕ) (found : List Challenge) : Type 0 where
   pub whole : (found ≡ []) ⊎ Whole None (Some text) found
-  pub most : (others : List Challenge) → Whole None (Some text) others → (more : List Challenge) × (found ≡ others ++ more)
+  pub most : (others : List Challenge) → Whole None (Some text) others
+      → (more : List Challenge) × (found ≡ others ++ more)

@@ -7,7 +7,7 @@ ghost use Rattle.http_challenges.specs.declared.challenge.Challenge.{Challenge a
 ghost use Rattle.http_challenges.specs.declared.bearer.ChallengeError.TheVariants.{WantOfMemory as out_of_memory};
 
 use crate::challenge::{Challenge, challenges};
-use json_values::{Copied, Text, copies2};
+use json_values::{Copied, Text, copied};
 use std::alloc::{AllocError, Global};
 use thiserror::Error;
 
@@ -16,6 +16,7 @@ use thiserror::Error;
 pub struct BearerChallenge {
     /// The text of the URL to ask.
     pub realm: Text,
+    /// The service that the token is for, where it is named.
     pub service: Option<Text>,
 }
 
@@ -23,23 +24,25 @@ pub struct BearerChallenge {
 #[derive(Clone, Copy, Debug, PartialEq, Eq, Error)]
 pub enum ChallengeError {
     /// The header has a byte that is neither a tab nor from 0x20 to 0x7E.
-    #[error("the header is not text")]
+    #[error("the header of challenges is not text: ask the registry for visible ASCII")]
     NotText,
     /// No challenge of the header is of the scheme Bearer and has a realm.
-    #[error("no Bearer challenge with a realm")]
+    #[error("no challenge is of the scheme Bearer and has a realm: show credentials in another way")]
     NoBearer,
-    #[error("the challenge is of another scheme than Bearer")]
+    /// The challenge is of another scheme than Bearer.
+    #[error("the challenge is of another scheme than Bearer: show credentials in another way")]
     OtherScheme,
-    #[error("the challenge has no realm")]
+    /// The challenge has no parameter `realm`.
+    #[error("the challenge has no realm: there is no URL to ask for a token")]
     NoRealm,
-    #[error("out of memory")]
+    /// The allocator had no memory.
+    #[error("out of memory: free some and try again")]
     WantOfMemory,
 }
 
 impl Copied for BearerChallenge {
     fn copy(&self, alloc: Global) -> Result<BearerChallenge, AllocError> {
-        let (realm, service) = copies2(alloc, &self.realm, &self.service)?;
-        Ok(BearerChallenge { realm, service })
+        copied!(alloc, self, BearerChallenge { realm, service })
     }
 }
 
@@ -115,11 +118,12 @@ impl BearerChallenge {
     /// The first challenge of the scheme Bearer that has a realm, in the value of a header `www-authenticate`.
     ///
     /// `NotText` where the value is not text, and else `NoBearer` where no challenge is such.
-    #[tactic(auto, using(crate::proofs::Listing::header_list), unfolding(crate::specs::Bearer::in_header))]
+    #[tactic(auto, using(crate::proofs::HeaderChallenges::header_list), unfolding(crate::specs::Bearer::in_header))]
     pub fn from_header(alloc: Global, value: &[u8]) -> Result<BearerChallenge, ChallengeError>
         ensures ok { IfOk result (λ bearer. in_header value.now ≡ Ok bearer) }
         ensures refused { IfErr result (IsRefusal (in_header value.now)) }
-        ensures listed { (list : List OneChallenge) → is_text value.now ≡ true → AreChallenges value.now list → in_header value.now ≡ first_bearer list }
+        ensures listed { (list : List OneChallenge) → is_text value.now ≡ true
+            → AreChallenges value.now list → in_header value.now ≡ first_bearer list }
     {
         let Some(text) = text_of(value) else {
             return Err(ChallengeError::NotText);

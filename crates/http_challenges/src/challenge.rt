@@ -7,20 +7,21 @@ ghost use Rattle.http_challenges.specs.declared.element.Element.{Element as OneE
 
 use crate::element::{Element, read_element};
 use crate::split::cut_element;
-use json_values::{Copied, List, Text, copies2};
+use json_values::{Copied, List, Text, copied};
 use std::alloc::{AllocError, Global};
 
 /// A challenge: its scheme, and its parameters by name, in their order.
 #[derive(Drop)]
 pub struct Challenge {
+    /// The scheme as it is written.
     pub scheme: Text,
+    /// Names and values, the values without their quotes.
     pub params: List<(Text, Text)>,
 }
 
 impl Copied for Challenge {
     fn copy(&self, alloc: Global) -> Result<Challenge, AllocError> {
-        let (scheme, params) = copies2(alloc, &self.scheme, &self.params)?;
-        Ok(Challenge { scheme, params })
+        copied!(alloc, self, Challenge { scheme, params })
     }
 }
 
@@ -30,7 +31,9 @@ fn take(
     last: &mut Option<Challenge>,
     element: Element,
 ) -> Result<bool, AllocError>
-    ensures { IfOk result (λ more. (elements : List OneElement) → found.old ++ whole last.old (element ∷ elements) ≡ (if more then found.new ++ whole last.new elements else found.new)) }
+    ensures { IfOk result (λ more. (elements : List OneElement)
+        → found.old ++ whole last.old (element ∷ elements)
+        ≡ (if more then found.new ++ whole last.new elements else found.new)) }
 {
     match element {
         Element::Empty => Ok(true),
@@ -84,7 +87,8 @@ fn listed(alloc: Global, text: &str) -> Result<List<Challenge>, AllocError>
 pub fn challenges(alloc: Global, text: &str) -> Result<List<Challenge>, AllocError>
     ensures ok { IfOk result (λ found. found ≡ challenges_of text.now) }
     ensures grammar { IfOk result (λ found. AreChallenges text.now found) }
-    ensures only { IfOk result (λ found. (others : List OneChallenge) → AreChallenges text.now others → others ≡ found) }
+    ensures only { IfOk result (λ found.
+        (others : List OneChallenge) → AreChallenges text.now others → others ≡ found) }
 {
     let found = listed(alloc, text)?;
     Ok(found)

@@ -59,6 +59,7 @@ fn cut_front(class: Class, text: &str) -> (&str, &str)
     text.split_at(front_len(class, text.as_bytes()))
 }
 
+/// The text without the white space in front.
 pub fn past_blanks(text: &str) -> &str
     ensures { result.now ≡ words.past_blanks text.now }
 {
@@ -92,7 +93,8 @@ pub fn after_byte(byte: u8, text: &str) -> Option<&str>
 
 // The bytes in front that are neither a quote nor a backslash, and what follows.
 fn cut_plain(text: &str) -> (&str, &str)
-    ensures reads { words.unquoted text.now ≡ words.behind result.0.now (words.unquoted result.1.now) }
+    ensures reads { words.unquoted text.now
+        ≡ words.behind result.0.now (words.unquoted result.1.now) }
     ensures stops { prefix_len (has Class.Plain) result.1.now ≡ 0 }
     ensures shorter { length result.1.now ≤ length text.now }
 {
@@ -114,7 +116,8 @@ fn literal_len(bytes: &[u8]) -> usize
 fn cut_literal(text: &str) -> (&str, &str)
     requires plain { prefix_len (has Class.Plain) text.now ≡ 0 }
     requires open { words.after_byte 34 text.now ≡ None }
-    ensures reads { words.unquoted text.now ≡ words.behind result.0.now (words.unquoted result.1.now) }
+    ensures reads { words.unquoted text.now
+        ≡ words.behind result.0.now (words.unquoted result.1.now) }
     ensures shorter { length result.1.now ≤ length text.now - 1 }
 {
     match after_byte(b'\\', text) {
@@ -189,6 +192,7 @@ pub fn assigned(alloc: Global, name: &str, text: &str) -> Result<Option<(Text, T
     }
 }
 
+/// The parameter that the text is, with white space round it.
 #[tactic(auto, unfolding(crate::specs::Grammar::parameter_in))]
 pub fn parameter_in(alloc: Global, text: &str) -> Result<Option<(Text, Text)>, AllocError>
     ensures { IfOk result (λ parameter. parameter ≡ words.parameter_in text.now) }

@@ -38,7 +38,9 @@ fn is_comma(place: Place, byte: u8) -> bool
 
 // Where the first comma stands that is in no quoted string.
 fn comma_in(bytes: &[u8]) -> Option<usize>
-    ensures { MatchOption result (list.split_from Place.Outside bytes.now ≡ bytes.now ∷ []) (λ at. list.SplitsAt bytes.now at) }
+    ensures { MatchOption result
+        (list.split_from Place.Outside bytes.now ≡ bytes.now ∷ [])
+        (λ at. list.SplitsAt bytes.now at) }
 {
     let mut place = Place::Outside;
     for (at, byte) in bytes.iter().enumerate() {
@@ -52,7 +54,8 @@ fn comma_in(bytes: &[u8]) -> Option<usize>
 
 /// The first element of a list, and what follows its comma.
 pub fn cut_element(text: &str) -> (&str, Option<&str>)
-    ensures split { list.split_from Place.Outside text.now ≡ result.0.now ∷ list.split_rest (option_copied result.1) }
+    ensures split { list.split_from Place.Outside text.now
+        ≡ result.0.now ∷ list.split_rest (option_copied result.1) }
     ensures shorter { IfSome result.1 (λ rest. length rest.now < length text.now) }
 {
     match comma_in(text.as_bytes()) {

@@ -9,25 +9,35 @@ use Rattle.oci_auth.specs.declared.token_type.RegistryOperation.{RegistryOperati
 use Rattle.oci_auth.specs.declared.token_type.RegistryTokenType.{RegistryTokenType}
 use Rattle.oci_auth.specs.declared.token_type.RegistryTokenType.TheVariants.{Bearer, Basic}
 use Rattle.oci_auth.specs.Expirations.{expiration_of}
-use Rattle.oci_auth.specs.Keys.{Key, kept_under, inserted}
+use Rattle.oci_auth.specs.Keys.{Key, under, kept_under, inserted}
 use Rattle.oci_auth.specs.Tokens.{token_text}
 
 -- what a token of this reference is kept under: the registry that is asked, the repository and the operation
 abbrev pub key_of : Reference → RegistryOperation → Key
-key_of image operation = record { registry = resolved_registry image; repository = repository_of image; operation = operation }
+key_of image operation = under (resolved_registry image) (repository_of image) operation
 
 -- until when a token is kept: credentials are kept for good
 abbrev pub kept_until : RegistryTokenType → ℕ → ℕ → Option ℕ
 kept_until (Bearer token) default moment = expiration_of (token_text token) default moment
 kept_until (Basic user password) default moment = Some (2 ^ 64 - 1)
 
+-- a token with what it is kept under and until when
 abbrev pub kept_token : Key → RegistryTokenType → ℕ → KeptToken
-kept_token key token until = record { registry = key.registry; repository = key.repository; operation = key.operation; token = token; expiration = until }
+kept_token key token until = record {
+  registry = key.registry;
+  repository = key.repository;
+  operation = key.operation;
+  token = token;
+  expiration = until;
+}
 
 -- the cache with this token, which is kept where it is known until when
 abbrev pub with_token : TokenCache → Key → RegistryTokenType → ℕ → TokenCache
 with_token cache key token moment =
-    option_map_or (λ until. record cache { tokens = inserted cache.tokens (kept_token key token until) }) (kept_until token cache.default_expiration_secs moment) cache
+    option_map_or
+    (λ until. record cache { tokens = inserted cache.tokens (kept_token key token until) })
+    (kept_until token cache.default_expiration_secs moment)
+    cache
 
 -- a token is given up to its expiration
 abbrev pub given_at : ℕ → KeptToken → Option RegistryTokenType

@@ -1,6 +1,5 @@
--- Credentials, the tokens that they are, and how they are shown.
-use Rattle.std.specs.Prelude.{ℕ, List, ◌++◌, codes, Option, Some, None, option_map}
-use Rattle.std.specs.Fmt.{debug_str}
+-- Credentials, and the tokens that they are.
+use Rattle.std.specs.Prelude.{ℕ, List, ◌++◌, codes, Option, Some, None}
 use Rattle.base64.specs.Engines.{standard}
 use Rattle.base64.specs.GeneralPurpose.{encode_of}
 use Rattle.oci_auth.specs.declared.auth.RegistryAuth.{RegistryAuth}
@@ -20,9 +19,3 @@ own_token (Bearer token) = Some (shown.Bearer (Token token))
 abbrev pub authorization_of : RegistryTokenType → List ℕ
 authorization_of (shown.Bearer token) = codes "Bearer " ++ token_text token
 authorization_of (shown.Basic user password) = codes "Basic " ++ encode_of standard (user ++ codes ":" ++ password)
-
--- what is shown of credentials: the user name alone, in Rust's form, of which nothing is said past ASCII
-abbrev pub redacted_auth : RegistryAuth → Option (List ℕ)
-redacted_auth Anonymous = Some (codes "Anonymous")
-redacted_auth (Basic user password) = option_map (λ name. codes "Basic(" ++ name ++ codes ", \"<redacted>\")") (debug_str user)
-redacted_auth (Bearer token) = Some (codes "Bearer(\"<redacted>\")")

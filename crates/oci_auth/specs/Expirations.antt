@@ -30,13 +30,16 @@ named_expiration d = as_object d >>= λ members. optional u64_of (codes "exp") d
 
 -- the same of a payload: unpadded URL-safe base64 (RFC 4648, 5) of JSON in which no float stands
 abbrev pub claimed_expiration : List ℕ → Option (Option ℕ)
-claimed_expiration payload = decoded_of url_safe_no_pad payload >>= plain_json_of >>= named_expiration
+claimed_expiration payload =
+    decoded_of url_safe_no_pad payload >>= plain_json_of >>= named_expiration
 
 -- a token of no three parts has the default life; one of three parts expires as its payload names it, after a day at most
 abbrev pub expiration_by : Option (List ℕ) → ℕ → ℕ → Option ℕ
 expiration_by None default moment = Some (later moment default)
 expiration_by (Some payload) default moment =
-    option_map (λ named. min (unwrap_or named (later moment default)) (later moment 86400)) (claimed_expiration payload)
+    option_map
+    (λ named. min (unwrap_or named (later moment default)) (later moment 86400))
+    (claimed_expiration payload)
 
 abbrev pub expiration_of : List ℕ → ℕ → ℕ → Option ℕ
 expiration_of text default moment = expiration_by (payload_in text) default moment

@@ -6,17 +6,24 @@ use Rattle.oci_auth.specs.declared.kept.KeptToken.{KeptToken}
 use Rattle.oci_auth.specs.declared.token_type.RegistryOperation.{RegistryOperation}
 use Rattle.oci_auth.specs.Operations.{is_same_operation}
 
+-- what a token is kept under
 pub record Key : Type 0 where
   pub registry : List ℕ
   pub repository : List ℕ
   pub operation : RegistryOperation
 
+abbrev pub under : List ℕ → List ℕ → RegistryOperation → Key
+under registry repository operation =
+    record { registry = registry; repository = repository; operation = operation }
+
 abbrev pub key_in : KeptToken → Key
-key_in t = record { registry = t.registry; repository = t.repository; operation = t.operation }
+key_in t = under t.registry t.repository t.operation
 
 -- whether a token is kept under this key
 abbrev pub is_under : Key → KeptToken → Bool
-is_under key t = bytes_eq t.registry key.registry && bytes_eq t.repository key.repository && is_same_operation t.operation key.operation
+is_under key t =
+    bytes_eq t.registry key.registry && bytes_eq t.repository key.repository
+    && is_same_operation t.operation key.operation
 
 -- the token that is kept under this key
 abbrev pub kept_under : Key → List KeptToken → Option KeptToken
@@ -24,7 +31,8 @@ kept_under key ts = find (is_under key) ts
 
 -- the token stands in the place of the one under its key, else at the end
 abbrev pub inserted : List KeptToken → KeptToken → List KeptToken
-inserted ts t = option_map_or (λ place. slice_set ts place t) (position (is_under (key_in t)) ts) (ts ++ t ∷ [])
+inserted ts t =
+    option_map_or (λ place. slice_set ts place t) (position (is_under (key_in t)) ts) (ts ++ t ∷ [])
 
 -- afterwards the token is what is kept under its key, and under each other key is kept what was kept before
 pub record IsKept (old new : List KeptToken) (t : KeptToken) : Type 0 where

@@ -4,4 +4,5 @@ pub mod Expirations
 pub mod Keys
 pub mod Memory
 pub mod Operations
+pub mod Shown
 pub mod Tokens

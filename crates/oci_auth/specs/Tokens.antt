@@ -15,7 +15,9 @@ text_in name d = option_and_then as_str (get name d)
 
 -- the text `token`, else the text `access_token`
 abbrev pub token_in : Data → Option RegistryToken
-token_in d = option_or (option_map Token (text_in (codes "token") d)) (option_map AccessToken (text_in (codes "access_token") d))
+token_in d = option_or
+    (option_map Token (text_in (codes "token") d))
+    (option_map AccessToken (text_in (codes "access_token") d))
 
 -- the token in a body: JSON in which no float stands
 abbrev pub token_of : List ℕ → Option RegistryToken
@@ -31,8 +33,3 @@ abbrev pub ReadsToken : Result RegistryToken TokenError → Option RegistryToken
 ReadsToken (Ok t) read = read ≡ Some t
 ReadsToken (Err Unreadable) read = read ≡ None
 ReadsToken (Err WantOfMemory) read = ⊤
-
--- what is shown in place of a token
-abbrev pub redacted_token : RegistryToken → List ℕ
-redacted_token (Token token) = codes "Token { token: \"<redacted>\" }"
-redacted_token (AccessToken token) = codes "AccessToken { access_token: \"<redacted>\" }"

@@ -1,9 +1,10 @@
 // What a client shows a registry.
 ghost use Rattle.std.specs.Prelude.{◌≡◌, IfOk};
 
+use crate::shown::write_basic;
 use crate::token::RegistryToken;
 use crate::token_type::RegistryTokenType;
-use json_values::{Copied, Text, copies2};
+use json_values::{Copied, Text, copy_all, row};
 use std::alloc::{AllocError, Global};
 use std::fmt;
 
@@ -11,7 +12,9 @@ use std::fmt;
 #[derive(Drop, PartialEq, Eq)]
 pub enum RegistryAuth {
     Anonymous,
+    /// A user name and a password.
     Basic(Text, Text),
+    /// A token.
     Bearer(Text),
 }
 
@@ -25,7 +28,7 @@ impl RegistryAuth {
         match self {
             RegistryAuth::Anonymous => Ok(None),
             RegistryAuth::Basic(user, password) => {
-                let (user, password) = copies2(alloc, user, password)?;
+                let row![user, password] = copy_all(alloc, row![user, password])?;
                 Ok(Some(RegistryTokenType::Basic(user, password)))
             }
             RegistryAuth::Bearer(token) => {
@@ -41,7 +44,7 @@ impl Copied for RegistryAuth {
         match self {
             RegistryAuth::Anonymous => Ok(RegistryAuth::Anonymous),
             RegistryAuth::Basic(user, password) => {
-                let (user, password) = copies2(alloc, user, password)?;
+                let row![user, password] = copy_all(alloc, row![user, password])?;
                 Ok(RegistryAuth::Basic(user, password))
             }
             RegistryAuth::Bearer(token) => Ok(RegistryAuth::Bearer(token.copy(alloc)?)),
@@ -49,16 +52,21 @@ impl Copied for RegistryAuth {
     }
 }
 
-/// Neither the password nor the token is shown.
+/// Neither the password nor the token is shown, whatever the formatter.
 impl fmt::Debug for RegistryAuth {
-    ghost use Rattle.oci_auth.specs.Credentials.{redacted_auth};
+    ghost use Rattle.std.specs.Prelude.{Some};
+    ghost use Rattle.std.specs.Fmt.{DisplaysOnOk, WritesStyledOnOk};
+    ghost use Rattle.oci_auth.specs.Shown.{shown_auth};
 
-    ghost debug_output = { redacted_auth };
+    ghost debug_output = { λ auth. Some (shown_auth auth) };
 
-    fn fmt<W: fmt::Write>(&self, f: &mut fmt::Formatter<W>) -> fmt::Result {
+    fn fmt<W: fmt::Write>(&self, f: &mut fmt::Formatter<W>) -> fmt::Result
+        ensures writes { DisplaysOnOk W.write_str_gives f.old result (Some (shown_auth self.now)) f.new }
+        ensures styled { WritesStyledOnOk W.write_str_gives f.old result (shown_auth self.now) f.new }
+    {
         match self {
             RegistryAuth::Anonymous => f.write_str("Anonymous"),
-            RegistryAuth::Basic(user, _) => write!(f, "Basic({:?}, \"<redacted>\")", user.as_str()),
+            RegistryAuth::Basic(user, _) => write_basic(f, user.as_str()),
             RegistryAuth::Bearer(_) => f.write_str("Bearer(\"<redacted>\")"),
         }
     }

@@ -69,7 +69,8 @@ impl TokenCache {
     ) -> Result<(), AllocError>
         ensures ok { OnOk result (self.new ≡ with_token self.old (key_of reference.now op) token moment) }
         ensures err { OnErr result (self.new ≡ self.old) }
-        ensures last { OnOk result (GivesFrom self.old self.new (key_of reference.now op) token (kept_until token self.old.default_expiration_secs moment)) }
+        ensures last { OnOk result (GivesFrom self.old self.new (key_of reference.now op) token
+            (kept_until token self.old.default_expiration_secs moment)) }
     {
         let alloc = self.tokens.alloc();
         let Some(expiration) = kept_until(alloc, &token, self.default_expiration_secs, moment)?

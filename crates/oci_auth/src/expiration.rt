@@ -5,9 +5,9 @@ ghost use Rattle.base64.specs.Engines.{url_safe_no_pad};
 ghost use Rattle.base64.specs.GeneralPurpose.{decoded_of};
 ghost use Rattle.oci_auth.specs.Expirations.{parts_of, payload_in, named_expiration, claimed_expiration, expiration_of};
 
-use crate::plain::read_plain_json;
 use base64::DecodeAllocError;
 use base64::engine::general_purpose::URL_SAFE_NO_PAD;
+use json_tables::read_plain_json;
 use json_values::Blob;
 use serde_json::Value;
 use std::alloc::{AllocError, Global};
@@ -17,7 +17,9 @@ const LONGEST_LIFE: u64 = 86400;
 
 // What stands before and behind the first dot.
 fn cut(text: &str) -> Option<(&str, &str)>
-    ensures { MatchOption result (parts_of text.now ≡ text.now ∷ []) (λ cut. parts_of text.now ≡ cut.0.now ∷ parts_of cut.1.now) }
+    ensures { MatchOption result
+        (parts_of text.now ≡ text.now ∷ [])
+        (λ cut. parts_of text.now ≡ cut.0.now ∷ parts_of cut.1.now) }
 {
     text.split_once('.')
 }
@@ -70,10 +72,12 @@ fn claimed_expiration(alloc: Global, payload: &str) -> Result<Option<Option<u64>
     Ok(named_expiration(json.value()))
 }
 
-/// Until when a token with this text is kept, in seconds since 1970; `moment` is when it was got. A text of exactly three
-/// parts between dots is a JSON web token (RFC 7519): none where its middle part is not unpadded URL-safe base64 of a JSON
-/// object without floats whose `exp` is absent, null or a whole number of 64 bits. It expires at `exp`, or where there
-/// is none after the default life, and in both cases after a day at the latest. Every other text has the default life.
+/// Until when a token with this text is kept, in seconds since 1970; `moment` is when it was got.
+///
+/// A text of exactly three parts between dots is a JSON web token (RFC 7519): none where its middle part is not
+/// unpadded URL-safe base64 of a JSON object without floats whose `exp` is absent, null or a whole number of 64 bits.
+/// It expires at `exp`, or where there is none after the default life, and in both cases after a day at the latest.
+/// Every other text has the default life.
 pub fn bearer_token_cache_expiration(
     alloc: Global,
     text: &str,

@@ -1,7 +1,7 @@
 // Kept tokens, each under a registry, a repository and an operation.
 ghost use Rattle.std.specs.Prelude.{◌≡◌, [], OnOk, OnErr, IfOk, option_copied};
 ghost use Rattle.std.specs.List.{position};
-ghost use Rattle.oci_auth.specs.Keys.{Key, is_under, key_in, inserted, kept_under, IsKept};
+ghost use Rattle.oci_auth.specs.Keys.{Key, under, is_under, key_in, inserted, kept_under, IsKept};
 
 use crate::token_type::{RegistryOperation, RegistryTokenType};
 use json_values::{Copied, Text};
@@ -35,7 +35,7 @@ impl Model for KeptTokens {
 
 impl KeptToken {
     fn is_under(&self, registry: &str, repository: &str, operation: RegistryOperation) -> bool
-        ensures { result ≡ is_under (record { registry = registry.now; repository = repository.now; operation = operation }) self.now }
+        ensures { result ≡ is_under (under registry.now repository.now operation) self.now }
     {
         self.registry.as_str() == registry
             && self.repository.as_str() == repository
@@ -58,7 +58,8 @@ impl KeptTokens {
     }
 
     fn place(&self, registry: &str, repository: &str, operation: RegistryOperation) -> Option<usize>
-        ensures { result ≡ position (is_under (record { registry = registry.now; repository = repository.now; operation = operation })) self.now }
+        ensures { result
+            ≡ position (is_under (under registry.now repository.now operation)) self.now }
     {
         self.inner
             .iter()
@@ -72,7 +73,8 @@ impl KeptTokens {
         repository: &str,
         operation: RegistryOperation,
     ) -> Option<&KeptToken>
-        ensures { option_copied result ≡ kept_under (record { registry = registry.now; repository = repository.now; operation = operation }) self.now }
+        ensures { option_copied result
+            ≡ kept_under (under registry.now repository.now operation) self.now }
     {
         self.inner
             .iter()

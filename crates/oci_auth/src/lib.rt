@@ -1,4 +1,5 @@
-//! Credentials of registries, the tokens that realms give for them, and what a client keeps between its calls.
+//! Credentials of registries, the tokens that realms give for them, and what a client keeps
+//! between its calls.
 #![tactic(auto)]
 
 mod auth;
@@ -6,7 +7,7 @@ mod cache;
 mod expiration;
 mod kept;
 mod memory;
-mod plain;
+mod shown;
 mod token;
 mod token_type;
 

@@ -2,7 +2,7 @@ ghost use Rattle.std.specs.Prelude.{◌≡◌, ◌++◌, IfOk, codes, option_cop
 ghost use Rattle.serde_json.specs.View.{view};
 ghost use Rattle.oci_auth.specs.Tokens.{ReadsToken, token_of, token_in, text_in};
 
-use crate::plain::read_plain_json;
+use json_tables::read_plain_json;
 use json_values::{Copied, Text};
 use serde_json::Value;
 use std::alloc::{AllocError, Global};
@@ -12,7 +12,9 @@ use thiserror::Error;
 /// A registry's token, as its realm names it in the answer's body.
 #[derive(Drop)]
 pub enum RegistryToken {
+    /// It stands in the member `token`.
     Token { token: Text },
+    /// It stands in the member `access_token`.
     AccessToken { access_token: Text },
 }
 
@@ -20,10 +22,16 @@ pub enum RegistryToken {
 #[derive(Clone, Copy, Debug, PartialEq, Eq, Error)]
 pub enum TokenError {
     /// The body is no JSON object without floats that has a text `token` or a text `access_token`.
-    #[error("the body holds no token")]
+    #[error("the realm's answer holds no token: it should have a text `token` or `access_token`")]
     Unreadable,
     #[error("out of memory")]
     WantOfMemory,
+}
+
+impl Copied for TokenError {
+    fn copy(&self, _alloc: Global) -> Result<TokenError, AllocError> {
+        Ok(*self)
+    }
 }
 
 impl From<AllocError> for TokenError {
@@ -76,6 +84,7 @@ impl RegistryToken {
         }
     }
 
+    /// The token as its realm gave it.
     pub fn token(&self) -> &str
         ensures { result.now ≡ token_text self.now }
     {
@@ -108,14 +117,18 @@ impl Copied for RegistryToken {
     }
 }
 
-/// The token itself is not shown.
+/// The token itself is not shown, whatever the formatter.
 impl fmt::Debug for RegistryToken {
     ghost use Rattle.std.specs.Prelude.{Some};
-    ghost use Rattle.oci_auth.specs.Tokens.{redacted_token};
+    ghost use Rattle.std.specs.Fmt.{DisplaysOnOk, WritesStyledOnOk};
+    ghost use Rattle.oci_auth.specs.Shown.{shown_token};
 
-    ghost debug_output = { λ t. Some (redacted_token t) };
+    ghost debug_output = { λ token. Some (shown_token token) };
 
-    fn fmt<W: fmt::Write>(&self, f: &mut fmt::Formatter<W>) -> fmt::Result {
+    fn fmt<W: fmt::Write>(&self, f: &mut fmt::Formatter<W>) -> fmt::Result
+        ensures writes { DisplaysOnOk W.write_str_gives f.old result (Some (shown_token self.now)) f.new }
+        ensures styled { WritesStyledOnOk W.write_str_gives f.old result (shown_token self.now) f.new }
+    {
         match self {
             RegistryToken::Token { .. } => f.write_str("Token { token: \"<redacted>\" }"),
             RegistryToken::AccessToken { .. } => f.write_str(

@@ -3,9 +3,10 @@ ghost use Rattle.std.specs.Prelude.{◌≡◌, ◌↔◌, ◌++◌, IfOk, IsTrue
 ghost use Rattle.base64.specs.Engines.{standard};
 ghost use Rattle.base64.specs.GeneralPurpose.{encode_of};
 
+use crate::shown::write_basic;
 use crate::token::RegistryToken;
 use base64::engine::general_purpose::STANDARD;
-use json_values::{Copied, Text, copies2};
+use json_values::{Copied, Text, copy_all, row};
 use std::alloc::{AllocError, Global};
 use std::cmp::Ordering;
 use std::fmt;
@@ -15,13 +16,16 @@ use std::fmt;
 #[derive(Drop)]
 pub enum RegistryTokenType {
     Bearer(RegistryToken),
+    /// A user name and a password.
     Basic(Text, Text),
 }
 
 /// What a token allows. `Push` comes before `Pull`.
 #[derive(Clone, Copy, Debug)]
 pub enum RegistryOperation {
+    /// To put blobs and manifests into a repository.
     Push,
+    /// To get them.
     Pull,
 }
 
@@ -60,7 +64,8 @@ impl RegistryTokenType {
 }
 
 fn basic_value(alloc: Global, user: &str, password: &str) -> Result<Text, AllocError>
-    ensures { IfOk result (λ value. value ≡ codes "Basic " ++ encode_of standard (user.now ++ codes ":" ++ password.now)) }
+    ensures { IfOk result (λ value. value
+        ≡ codes "Basic " ++ encode_of standard (user.now ++ codes ":" ++ password.now)) }
 {
     let mut both = Text::new(alloc, user)?;
     both.push_str(":")?;
@@ -76,27 +81,32 @@ impl Copied for RegistryTokenType {
         match self {
             RegistryTokenType::Bearer(token) => Ok(RegistryTokenType::Bearer(token.copy(alloc)?)),
             RegistryTokenType::Basic(user, password) => {
-                let (user, password) = copies2(alloc, user, password)?;
+                let row![user, password] = copy_all(alloc, row![user, password])?;
                 Ok(RegistryTokenType::Basic(user, password))
             }
         }
     }
 }
 
-/// Neither the token nor the password is shown.
+/// Neither the token nor the password is shown, whatever the formatter.
 impl fmt::Debug for RegistryTokenType {
-    ghost use Rattle.oci_auth.specs.Operations.{redacted};
+    ghost use Rattle.std.specs.Prelude.{Some};
+    ghost use Rattle.std.specs.Fmt.{DisplaysOnOk, WritesStyledOnOk};
+    ghost use Rattle.oci_auth.specs.Shown.{shown_token_type};
 
-    ghost debug_output = { redacted };
+    ghost debug_output = { λ token. Some (shown_token_type token) };
 
-    fn fmt<W: fmt::Write>(&self, f: &mut fmt::Formatter<W>) -> fmt::Result {
+    fn fmt<W: fmt::Write>(&self, f: &mut fmt::Formatter<W>) -> fmt::Result
+        ensures writes { DisplaysOnOk W.write_str_gives f.old result (Some (shown_token_type self.now)) f.new }
+        ensures styled { WritesStyledOnOk W.write_str_gives f.old result (shown_token_type self.now) f.new }
+    {
         match self {
-            RegistryTokenType::Bearer(token) => write!(f, "Bearer({:?})", token),
-            RegistryTokenType::Basic(user, _) => write!(
-                f,
-                "Basic({:?}, \"<redacted>\")",
-                user.as_str()
-            ),
+            RegistryTokenType::Bearer(token) => {
+                f.write_str("Bearer(")?;
+                token.fmt(f)?;
+                f.write_str(")")
+            }
+            RegistryTokenType::Basic(user, _) => write_basic(f, user.as_str()),
         }
     }
 }

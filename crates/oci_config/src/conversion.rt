@@ -3,7 +3,7 @@ ghost use Rattle.oci_config.specs.Conversion.{file_text};
 
 use crate::file::ConfigFile;
 use json_tables::read_plain;
-use json_values::{Annotations, Blob, ToValue};
+use json_values::{Annotations, Blob, Copied, ToValue};
 use oci_manifests::blob::Config;
 use std::alloc::{AllocError, Global};
 use thiserror::Error;
@@ -12,10 +12,17 @@ use thiserror::Error;
 #[derive(Clone, Copy, Debug, PartialEq, Eq, Error)]
 pub enum ConfigError {
     /// Its bytes are no JSON, or no configuration file.
-    #[error("the configuration does not read")]
+    #[error("the configuration is no configuration file: its bytes are no JSON, or lack a member of config.md")]
     Unreadable,
-    #[error("out of memory")]
+    /// There was no memory for it.
+    #[error("out of memory: the same call may be made again")]
     WantOfMemory,
+}
+
+impl Copied for ConfigError {
+    fn copy(&self, _alloc: Global) -> Result<ConfigError, AllocError> {
+        Ok(*self)
+    }
 }
 
 impl From<AllocError> for ConfigError {

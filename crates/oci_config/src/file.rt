@@ -8,6 +8,7 @@ use crate::rootfs::Rootfs;
 use json_tables::{ReadError, Reads, read_document, read_row};
 use json_values::{Copied, List, Text, ToValue, copied, row};
 use json_writing::{Required, UnlessEmpty, Writes, object};
+use oci_names::{Arch, Os};
 use oci_times::Time;
 use serde_json::Value;
 use std::alloc::{AllocError, Global};
@@ -20,9 +21,9 @@ pub struct ConfigFile {
     /// Who made the image.
     pub author: Option<Text>,
     /// The processor that the programs are for, as `amd64`.
-    pub architecture: Text,
+    pub architecture: Arch,
     /// The operating system that the programs are for, as `linux`.
-    pub os: Text,
+    pub os: Os,
     /// How a container of the image is started.
     pub config: Option<Config>,
     /// The layers of the file system.
@@ -65,8 +66,8 @@ impl Reads for ConfigFile {
         Ok(ConfigFile {
             created,
             author,
-            architecture,
-            os,
+            architecture: Arch::new(architecture),
+            os: Os::new(os),
             config,
             rootfs,
             history,
@@ -86,8 +87,8 @@ impl Writes for ConfigFile {
         let value = object!(alloc, {
             "created": &self.created,
             "author": &self.author,
-            "architecture": &self.architecture,
-            "os": &self.os,
+            "architecture": &self.architecture.as_str(),
+            "os": &self.os.as_str(),
             "config": &self.config,
             "rootfs": &Required(&self.rootfs),
             "history": &UnlessEmpty(&self.history),

@@ -9,6 +9,7 @@ use std::alloc::{AllocError, Global};
 /// The repositories of a registry (Docker Registry HTTP API V2, "Catalog").
 #[derive(Debug, Drop)]
 pub struct CatalogResponse {
+    /// The names of its repositories.
     pub repositories: List<Text>,
 }
 

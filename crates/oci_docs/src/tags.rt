@@ -11,6 +11,7 @@ use std::alloc::{AllocError, Global};
 /// The tags of a repository (OCI distribution specification, "Listing Tags").
 #[derive(Debug, Drop)]
 pub struct TagResponse {
+    /// The repository.
     pub name: Text,
     /// Empty where the registry said null.
     pub tags: List<Text>,

@@ -41,7 +41,7 @@ use Rattle.engine_requests.specs.declared.tokens.Wanted.{Wanted}
 use Rattle.engine_requests.specs.declared.tokens.Wanted.TheVariants as wants
 use Rattle.engine_requests.specs.declared.error.OciDistributionError.{OciDistributionError}
 use Rattle.engine_steps.specs.Rows.{whole_reply, whole, head_reply, head_after, recalled, store, realm_asked, fetched, registry_asked, token_step, with_kept, passed_over, taken, token_asked, kept_or_asked, token_by, token_for, goes_to, token_where, authorized, prepared}
-use Rattle.oci_engine.specs.Answered.{Asks, NoneAsks}
+use Rattle.oci_engine.specs.Answered.{OfTokenExchange, Asks, NoneAsks}
 
 -- ---- what a request lists
 
@@ -108,17 +108,16 @@ asks_of s method url types token request is =
     record {
       method_is = ap (λ (r : Request). r.method) made.is;
       address_is = ap (λ (r : Request). r.url) made.is;
-      types = types;
-      accepts = accepts_of s method url types token request is;
+      own = λ exchange. cc (sym (accepts_of s method url types token request is) ∙ exchange.lists_none);
     }
 
 -- one that lists none does not ask
-pub asks_none : (s : Settings) (method of_method : Method) (url : Parts) (token : Option RegistryTokenType) (address : List ℕ) (request : Request) → request_of s of_method url None token ≡ Ok request → Asks method address request → ⊥
-asks_none s method of_method url token address request is asks =
-    let made = made_of s of_method url None token request is in
+pub asks_none : (s : Settings) (method : Method) (url : Parts) (token : Option RegistryTokenType) (address : List ℕ) (request : Request) → request_of s Get url None token ≡ Ok request → Asks method address request → ⊥
+asks_none s method url token address request is asks =
+    let made = made_of s Get url None token request is in
     let listing : made.listing ≡ added map.empty (codes "user-agent") s.user_agent = cc (made.listed) in
     let none : first_of (codes "accept") request.headers ≡ None = ap (λ (r : Request). first_of (codes "accept") r.headers) made.is ∙ with_token_keeps made.listing token made.headers made.shown ∙ ap (first_of (codes "accept")) listing ∙ ap (λ xs. slice_get xs 0) (accept_none s.user_agent) in
-    cc (none, asks.accepts)
+    asks.own (record { method_is = ap (λ (r : Request). r.method) made.is; lists_none = none })
 
 -- ---- what the token step asks
 
@@ -178,7 +177,7 @@ quiet_whole method address request limit not = Shows-follow (Quiet method addres
 
 quiet_realm : (method : Method) (address : List ℕ) (s : Settings) (image : Reference) (a : RegistryAuth) (op : RegistryOperation) (challenge : BearerChallenge) → Shows (Quiet method address) (realm_asked s image a op challenge)
 unfolding realm_asked realm_request
-quiet_realm method address s image a op challenge = quiet_step method address (url_read challenge.realm) _ (λ url is. quiet_step method address (request_of s Get (realm_url image op challenge.service url) None (own_token a)) _ (λ request made. quiet_next method address (whole 0 request s.max_body_bytes) _ (quiet_whole method address request s.max_body_bytes (asks_none s method Get (realm_url image op challenge.service url) (own_token a) address request made)) (λ got. quiet_done method address (token_read got.answer))))
+quiet_realm method address s image a op challenge = quiet_step method address (url_read challenge.realm) _ (λ url is. quiet_step method address (request_of s Get (realm_url image op challenge.service url) None (own_token a)) _ (λ request made. quiet_next method address (whole 0 request s.max_body_bytes) _ (quiet_whole method address request s.max_body_bytes (asks_none s method (realm_url image op challenge.service url) (own_token a) address request made)) (λ got. quiet_done method address (token_read got.answer))))
 
 quiet_fetched : (method : Method) (address : List ℕ) (s : Settings) (image : Reference) (a : RegistryAuth) (op : RegistryOperation) (w : Wanted) → Shows (Quiet method address) (fetched s image a op w)
 quiet_fetched method address s image a op wants.Nothing = quiet_done method address (Ok None)
@@ -187,7 +186,7 @@ quiet_fetched method address s image a op (wants.Token challenge) = quiet_realm 
 
 quiet_registry : (method : Method) (address : List ℕ) (s : Settings) (image : Reference) (a : RegistryAuth) (op : RegistryOperation) → Shows (Quiet method address) (registry_asked s image a op)
 unfolding registry_asked
-quiet_registry method address s image a op = quiet_step method address (url_read (base_text s image)) _ (λ url is. quiet_step method address (request_of s Get url None None) _ (λ request made. quiet_next method address (head_after 0 request) _ (quiet_head method address request (asks_none s method Get url None address request made)) (λ head. quiet_fetched method address s image a op (wanted head))))
+quiet_registry method address s image a op = quiet_step method address (url_read (base_text s image)) _ (λ url is. quiet_step method address (request_of s Get url None None) _ (λ request made. quiet_next method address (head_after 0 request) _ (quiet_head method address request (asks_none s method url None address request made)) (λ head. quiet_fetched method address s image a op (wanted head))))
 
 pub quiet_step_token : (method : Method) (address : List ℕ) (s : Settings) (image : Reference) (a : RegistryAuth) (op : RegistryOperation) → Shows (Quiet method address) (token_step s image a op)
 quiet_step_token method address s image (credentials.Bearer token) op = quiet_done method address _

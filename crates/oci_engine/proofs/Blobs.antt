@@ -33,8 +33,8 @@ use Rattle.engine_requests.specs.Requests.{manifest_types}
 use Rattle.engine_requests.specs.Answers.{is_success}
 use Rattle.engine_requests.specs.Blobs.{digest_expected, given_expected, pouring, plan_by, planned, plan_in, plan_of, compared, given_compared, both_compared}
 use Rattle.engine_steps.specs.Rows.{prepared}
-use Rattle.engine_steps.specs.Blobs.{reading_by, blob_reading, unread_by, read_by, blob_reply, attempt}
-use Rattle.engine_pull.specs.Pulls.{pull_blob}
+use Rattle.engine_steps.specs.Blobs.{Destination, IntoSink, IntoMemory, reading_into, reading_by, blob_reading, unread_by, read_by, blob_reply, attempt}
+use Rattle.engine_pull.specs.Pulls.{blob_to}
 use Rattle.oci_engine.specs.Answered.{LedTo, Body, LastBody}
 use Rattle.oci_engine.proofs.Asking.{into_ok, Prepared, prepared_shows}
 use Rattle.oci_engine.proofs.Documents.{led_of, body_after, body_led}
@@ -93,10 +93,14 @@ last_led {answer = answer} led = record { before = led.redirects; last = led.las
 last_after : (c : List Exchange) {d : List Exchange} {bytes : List ℕ} → LastBody d bytes → LastBody (c ++ d) bytes
 last_after c b = record { before = c ++ b.before; last = b.last; split = ap (λ x. c ++ x) b.split ∙ sym (append_assoc c b.before (b.last ∷ [])); answer = b.answer; answered = b.answered; body = b.body }
 
-unread_where : (digest : List ℕ) (limit m after : ℕ) (c : List Exchange) (p : Plan) → reading_by limit p ≡ Unread → WhereOk (λ m c n bytes. Blob digest c bytes) m (c ++ []) after (unread_by p)
-unread_where digest limit m after c (plan.Refuse e) reading = tt
-unread_where digest limit m after c plan.Judge reading = absurd (cc reading)
-unread_where digest limit m after c (plan.Pour given own) reading = absurd (cc reading)
+never_unread : (to : Destination) (limit : ℕ) → reading_into to limit ≡ Unread → ⊥
+never_unread IntoSink limit is = cc is
+never_unread IntoMemory limit is = cc is
+
+unread_where : (to : Destination) (digest : List ℕ) (limit m after : ℕ) (c : List Exchange) (p : Plan) → reading_by to limit p ≡ Unread → WhereOk (λ m c n bytes. Blob digest c bytes) m (c ++ []) after (unread_by p)
+unread_where to digest limit m after c (plan.Refuse e) reading = tt
+unread_where to digest limit m after c plan.Judge reading = absurd (cc reading)
+unread_where to digest limit m after c (plan.Pour given own) reading = absurd (never_unread to limit reading)
 
 blob_of : (digest : List ℕ) (url : List ℕ) (m after : ℕ) (c : List Exchange) (answer : Answer) (given : Option Expected) (own : Expected) → digest ≡ own.text → Body c answer.body → LastBody c answer.body → (r : Result (List ℕ) OciDistributionError) → (both_compared given own answer.body before Ok answer.body) ≡ r → WhereOk (λ m c n bytes. Blob digest c bytes) m (c ++ []) after r
 blob_of digest url m after c answer given own same body last (Ok bytes) is =
@@ -109,26 +113,26 @@ read_where digest url m after c answer (plan.Refuse e) is body last = tt
 read_where digest url m after c answer plan.Judge is body last = tt
 read_where digest url m after c answer (plan.Pour given own) is body last = blob_of digest url m after c answer given own (own_text digest (head_part answer) given own is) body last (both_compared given own answer.body before Ok answer.body) refl
 
-blob_run : (digest : List ℕ) (request : Request) (limit : ℕ) (k l : Memory) (m after o : ℕ) (c d : List Exchange) (last : Request) (reply : Reply) (r : Result (List ℕ) OciDistributionError) → Heard 10 request (blob_reading limit digest) m c after last reply → Runs (blob_reply digest last reply) k after d o l r → WhereOk (λ m c n bytes. Blob digest c bytes) m (c ++ d) o r
+blob_run : (to : Destination) (digest : List ℕ) (request : Request) (limit : ℕ) (k l : Memory) (m after o : ℕ) (c d : List Exchange) (last : Request) (reply : Reply) (r : Result (List ℕ) OciDistributionError) → Heard 10 request (blob_reading to limit digest) m c after last reply → Runs (blob_reply digest last reply) k after d o l r → WhereOk (λ m c n bytes. Blob digest c bytes) m (c ++ d) o r
 unfolding blob_reading
-blob_run digest request limit k l m after o c d last (Headed head) r h run = done_run (λ s d o r. WhereOk (λ m c n bytes. Blob digest c bytes) m (c ++ d) o r) (unread_by (plan_of digest head)) k l after o d r (unread_where digest limit m after c (plan_of digest head) h.replies.reply_is.2) run
-blob_run digest request limit k l m after o c d last (Answered answer) r h run = done_run (λ s d o r. WhereOk (λ m c n bytes. Blob digest c bytes) m (c ++ d) o r) (read_by last.url answer (plan_of digest (head_part answer))) k l after o d r (read_where digest last.url m after c answer (plan_of digest (head_part answer)) refl (body_led (led_of h answer h.replies.reply_is.1 h.settles)) (last_led (led_of h answer h.replies.reply_is.1 h.settles))) run
-blob_run digest request limit k l m after o c d last Failed r h run = done_run (λ s d o r. WhereOk (λ m c n bytes. Blob digest c bytes) m (c ++ d) o r) (Err refusal.TransportFault) k l after o d r tt run
-blob_run digest request limit k l m after o c d last TooLong r h run = done_run (λ s d o r. WhereOk (λ m c n bytes. Blob digest c bytes) m (c ++ d) o r) (Err refusal.BodyTooLong) k l after o d r tt run
-blob_run digest request limit k l m after o c d last SinkFailed r h run = done_run (λ s d o r. WhereOk (λ m c n bytes. Blob digest c bytes) m (c ++ d) o r) (Err refusal.SinkFault) k l after o d r tt run
+blob_run to digest request limit k l m after o c d last (Headed head) r h run = done_run (λ s d o r. WhereOk (λ m c n bytes. Blob digest c bytes) m (c ++ d) o r) (unread_by (plan_of digest head)) k l after o d r (unread_where to digest limit m after c (plan_of digest head) h.replies.reply_is.2) run
+blob_run to digest request limit k l m after o c d last (Answered answer) r h run = done_run (λ s d o r. WhereOk (λ m c n bytes. Blob digest c bytes) m (c ++ d) o r) (read_by last.url answer (plan_of digest (head_part answer))) k l after o d r (read_where digest last.url m after c answer (plan_of digest (head_part answer)) refl (body_led (led_of h answer h.replies.reply_is.1 h.settles)) (last_led (led_of h answer h.replies.reply_is.1 h.settles))) run
+blob_run to digest request limit k l m after o c d last Failed r h run = done_run (λ s d o r. WhereOk (λ m c n bytes. Blob digest c bytes) m (c ++ d) o r) (Err refusal.TransportFault) k l after o d r tt run
+blob_run to digest request limit k l m after o c d last TooLong r h run = done_run (λ s d o r. WhereOk (λ m c n bytes. Blob digest c bytes) m (c ++ d) o r) (Err refusal.BodyTooLong) k l after o d r tt run
+blob_run to digest request limit k l m after o c d last SinkFailed r h run = done_run (λ s d o r. WhereOk (λ m c n bytes. Blob digest c bytes) m (c ++ d) o r) (Err refusal.SinkFault) k l after o d r tt run
 
-attempt_shows : (digest : List ℕ) (request : Request) (limit : ℕ) → Shows (WhereOk (λ m c n bytes. Blob digest c bytes)) (attempt limit digest request)
+attempt_shows : (to : Destination) (digest : List ℕ) (request : Request) (limit : ℕ) → Shows (WhereOk (λ m c n bytes. Blob digest c bytes)) (attempt to limit digest request)
 unfolding attempt
-attempt_shows digest request limit = Shows-follow (WhereOk (λ m c n bytes. Blob digest c bytes)) 10 request (blob_reading limit digest) (blob_reply digest) (blob_run digest request limit)
+attempt_shows to digest request limit = Shows-follow (WhereOk (λ m c n bytes. Blob digest c bytes)) 10 request (blob_reading to limit digest) (blob_reply digest) (blob_run to digest request limit)
 
 later_where : (digest : List ℕ) (c : List Exchange) (m start n : ℕ) (d : List Exchange) (r : Result (List ℕ) OciDistributionError) → WhereOk (λ m c n bytes. Blob digest c bytes) start d n r → WhereOk (λ m c n bytes. Blob digest c bytes) m (c ++ d) n r
 later_where digest c m start n d (Ok bytes) h = (body_after c h.0, h.1, last_after c h.2)
 later_where digest c m start n d (Err e) h = tt
 
 -- the bytes are those of an answer, and the digest names them
-pub blob_shows : (s : Context) (image : Reference) (digest : List ℕ) → Shows (WhereOk (λ m c n bytes. Blob digest c bytes)) (pull_blob s image digest)
-unfolding pull_blob
-blob_shows s image digest = Shows-step (WhereOk (λ m c n bytes. Blob digest c bytes)) (url_read (blob_text s.settings image digest)) (λ url. prepared s image Pull Get url manifest_types >>= λ request. attempt s.settings.max_body_bytes digest request)
-    (λ url is. Shows-next (λ m c n request. Prepared s.settings Get url manifest_types Get (serialize url) c request) (λ m c n bytes. Blob digest c bytes) (prepared s image Pull Get url manifest_types) (λ request. attempt s.settings.max_body_bytes digest request) (prepared_shows s image Pull Get url manifest_types Get (serialize url))
-    (λ m n c request p. Shows-more (WhereOk (λ m c n bytes. Blob digest c bytes)) (λ start d o r. WhereOk (λ m c n bytes. Blob digest c bytes) m (c ++ d) o r) (attempt s.settings.max_body_bytes digest request) (attempt_shows digest request s.settings.max_body_bytes) (λ start o d r h. later_where digest c m start o d r h)))
+pub blob_shows : (to : Destination) (s : Context) (image : Reference) (digest : List ℕ) → Shows (WhereOk (λ m c n bytes. Blob digest c bytes)) (blob_to to s image digest)
+unfolding blob_to
+blob_shows to s image digest = Shows-step (WhereOk (λ m c n bytes. Blob digest c bytes)) (url_read (blob_text s.settings image digest)) (λ url. prepared s image Pull Get url manifest_types >>= λ request. attempt to s.settings.max_body_bytes digest request)
+    (λ url is. Shows-next (λ m c n request. Prepared s.settings Get url manifest_types Get (serialize url) c request) (λ m c n bytes. Blob digest c bytes) (prepared s image Pull Get url manifest_types) (λ request. attempt to s.settings.max_body_bytes digest request) (prepared_shows s image Pull Get url manifest_types Get (serialize url))
+    (λ m n c request p. Shows-more (WhereOk (λ m c n bytes. Blob digest c bytes)) (λ start d o r. WhereOk (λ m c n bytes. Blob digest c bytes) m (c ++ d) o r) (attempt to s.settings.max_body_bytes digest request) (attempt_shows to digest request s.settings.max_body_bytes) (λ start o d r h. later_where digest c m start o d r h)))
     (λ e is m. tt)

@@ -3,7 +3,7 @@ use Rattle.std.proofs.Common.{◌≡◌, ◌≢◌, ◌⊎◌, inl, inr, ℕ, Bo
 use Rattle.std.specs.Prelude.{nat_eq, if◌then◌else◌}
 use Rattle.std.proofs.lemmas.Bool.Decides.{nat_tests}
 use Rattle.url.specs.Parts.{Parts, serialize}
-use Rattle.oci_transport.specs.Headers.{first_of}
+use Rattle.oci_transport.specs.Headers.{digest_header, first_of}
 use Rattle.oci_transport.specs.declared.message.Request.{Request}
 use Rattle.oci_transport.specs.declared.message.Answer.{Answer}
 use Rattle.oci_transport.specs.declared.message.AnswerHead.{AnswerHead}
@@ -33,8 +33,8 @@ use Rattle.engine_requests.specs.Errors.{◌>>=◌ as ◌into◌}
 use Rattle.engine_requests.specs.Addresses.{manifest_text, url_read}
 use Rattle.engine_requests.specs.Answers.{is_success, is_client_error, envelope_in, by_envelope, refused_answer, accepted, header_digest, body_digest, answer_digest, document_in}
 use Rattle.engine_steps.specs.Rows.{Row, store, whole, whole_reply, prepared}
-use Rattle.engine_pull.specs.Pulls.{document, pull_manifest_raw}
-use Rattle.oci_engine.specs.Causes.{LastAsked, LastAnswer, LastFailed, LastTooLong, IsClientError, DigestCause, AnswerCause, ByLast, OwnDigest}
+use Rattle.engine_pull.specs.Pulls.{document, manifest_document, pull_manifest_raw}
+use Rattle.oci_engine.specs.Causes.{ManifestUrl, LastAsked, LastAnswer, LastFailed, LastTooLong, IsClientError, DigestCause, AnswerCause, ByLast, OwnDigest}
 use Rattle.oci_engine.proofs.Early.{Loose}
 use Rattle.oci_engine.proofs.Asking.{accepts_of, Prepared}
 use Rattle.oci_engine.proofs.Documents.{accepted_is}
@@ -80,28 +80,28 @@ pub last_later : {P : List ℕ → Answer → Type 0} (Q : List ℕ → Answer �
 last_later Q c more b = record { address = b.address; answer = b.answer; last = answer_later c b.last; holds = more b.address b.answer b.holds }
 
 -- a cause stays one after other exchanges
-pub cause_later : (P Q : List ℕ → Answer → OciDistributionError → Type 0) (s : Settings) (types : List ℕ) (now : ℕ) (c d : List Exchange) (e : OciDistributionError) → ((address : List ℕ) (answer : Answer) → P address answer e → Q address answer e) → Loose P s types d now e → Loose Q s types (c ++ d) now e
-cause_later P Q s types now c d (refusal.UrlParseError text) more h = h
-cause_later P Q s types now c d (refusal.GenericError HeaderText) more h = h
-cause_later P Q s types now c d refusal.BodyTooLong more h = record { last = h.last; asked = asked_later c h.asked; answer = h.answer; answered = h.answered; long = h.long }
-cause_later P Q s types now c d refusal.TransportFault more h = record { last = h.last; asked = asked_later c h.asked; rose = h.rose }
-cause_later P Q s types now c d refusal.WantOfMemory more h = tt
-cause_later P Q s types now c d e more h = last_later (λ address answer. Q address answer e) c more h
+pub cause_later : (T U : List ℕ → Type 0) (P Q : List ℕ → Answer → OciDistributionError → Type 0) (s : Settings) (types : List ℕ) (now : ℕ) (c d : List Exchange) (e : OciDistributionError) → ((text : List ℕ) → T text → U text) → ((address : List ℕ) (answer : Answer) → P address answer e → Q address answer e) → Loose T P s types d now e → Loose U Q s types (c ++ d) now e
+cause_later T U P Q s types now c d (refusal.UrlParseError text) texts more h = (h.0, texts text h.1)
+cause_later T U P Q s types now c d (refusal.GenericError HeaderText) texts more h = h
+cause_later T U P Q s types now c d refusal.BodyTooLong texts more h = record { last = h.last; asked = asked_later c h.asked; answer = h.answer; answered = h.answered; long = h.long }
+cause_later T U P Q s types now c d refusal.TransportFault texts more h = record { last = h.last; asked = asked_later c h.asked; rose = h.rose }
+cause_later T U P Q s types now c d refusal.WantOfMemory texts more h = tt
+cause_later T U P Q s types now c d e texts more h = last_later (λ address answer. Q address answer e) c more h
 
-pub early_cause : (Of : List ℕ → Answer → OciDistributionError → Type 0) (s : Settings) (types : List ℕ) (now : ℕ) (c : List Exchange) (e : OciDistributionError) → EarlyCause s types e → Loose Of s types c now e
-early_cause Of s types now c (refusal.UrlParseError text) h = h
-early_cause Of s types now c (refusal.GenericError HeaderText) h = h
-early_cause Of s types now c refusal.WantOfMemory h = tt
-early_cause Of s types now c e h = absurd h
+pub early_cause : (T : List ℕ → Type 0) (Of : List ℕ → Answer → OciDistributionError → Type 0) (s : Settings) (types : List ℕ) (now : ℕ) (c : List Exchange) (e : OciDistributionError) → EarlyCause T e → Loose T Of s types c now e
+early_cause T Of s types now c (refusal.UrlParseError text) h = h
+early_cause T Of s types now c (refusal.GenericError HeaderText) h = h
+early_cause T Of s types now c refusal.WantOfMemory h = tt
+early_cause T Of s types now c e h = absurd h
 
 -- what the last answer shows
-pub answer_cause : (Given : List ℕ → Type 0) (s : Settings) (types : List ℕ) (now : ℕ) (c : List Exchange) (address : List ℕ) (answer : Answer) (e : OciDistributionError) → LastAnswer c address answer → AnswerCause Given address answer e → Loose (AnswerCause Given) s types c now e
-answer_cause Given s types now c address answer (refusal.UrlParseError text) last h = absurd h
-answer_cause Given s types now c address answer (refusal.GenericError HeaderText) last h = absurd h
-answer_cause Given s types now c address answer refusal.BodyTooLong last h = absurd h
-answer_cause Given s types now c address answer refusal.TransportFault last h = absurd h
-answer_cause Given s types now c address answer refusal.WantOfMemory last h = absurd h
-answer_cause Given s types now c address answer e last h = record { address = address; answer = answer; last = last; holds = h }
+pub answer_cause : (T : List ℕ → Type 0) (Given : List ℕ → Type 0) (s : Settings) (types : List ℕ) (now : ℕ) (c : List Exchange) (address : List ℕ) (answer : Answer) (e : OciDistributionError) → LastAnswer c address answer → AnswerCause Given address answer e → Loose T (AnswerCause Given) s types c now e
+answer_cause T Given s types now c address answer (refusal.UrlParseError text) last h = absurd h
+answer_cause T Given s types now c address answer (refusal.GenericError HeaderText) last h = absurd h
+answer_cause T Given s types now c address answer refusal.BodyTooLong last h = absurd h
+answer_cause T Given s types now c address answer refusal.TransportFault last h = absurd h
+answer_cause T Given s types now c address answer refusal.WantOfMemory last h = absurd h
+answer_cause T Given s types now c address answer e last h = record { address = address; answer = answer; last = last; holds = h }
 
 -- ---- the status
 
@@ -153,8 +153,8 @@ digest_refused Given address answer e x is h = subst (AnswerCause Given address 
 -- the header's digest was refused
 pub header_refused : (Given : List ℕ → Type 0) (address : List ℕ) (answer : Answer) (e : OciDistributionError) → header_digest answer.headers ≡ Err e → AnswerCause Given address answer e
 header_refused Given address answer e is =
-    let x = digest_err (digest_in (first_of (codes "docker-content-digest") answer.headers)) e is in
-    digest_refused Given address answer e x.0 x.1 (header_cause Given answer (first_of (codes "docker-content-digest") answer.headers) x.0 refl x.2)
+    let x = digest_err (digest_in (first_of digest_header answer.headers)) e is in
+    digest_refused Given address answer e x.0 x.1 (header_cause Given answer (first_of digest_header answer.headers) x.0 refl x.2)
 
 body_refused : (image : Reference) (address : List ℕ) (answer : Answer) (header : Option (List ℕ)) (e : OciDistributionError) → header_digest answer.headers ≡ Ok header → body_digest answer.body header (digest_of image) ≡ Err e → AnswerCause (OwnDigest image) address answer e
 body_refused image address answer header e named is =
@@ -215,16 +215,16 @@ heard_long {reading = reading} h types limit accepts within =
 abbrev Whole : ℕ → List Exchange → ℕ → Got → Type 0
 Whole m c n got = LastAnswer c got.url got.answer
 
-whole_run : (Of : List ℕ → Answer → OciDistributionError → Type 0) (s : Settings) (types : List ℕ) (request : Request) → first_of (codes "accept") request.headers ≡ Some types → (k l : Memory) (m after o : ℕ) (c d : List Exchange) (last : Request) (reply : Reply) (r : Result Got OciDistributionError) → Heard 10 request (read_within s.max_body_bytes) m c after last reply → Runs (whole_reply last reply) k after d o l r → ByAnswer Whole (λ m c n e. Loose Of s types c n e) m (c ++ d) o r
-whole_run Of s types request accepts k l m after o c d last (Headed head) r h run = absurd (read_never s.max_body_bytes head h.replies.reply_is.2)
-whole_run Of s types request accepts k l m after o c d last (Answered answer) r h run = done_run (λ start d o r. ByAnswer Whole (λ m c n e. Loose Of s types c n e) m (c ++ d) o r) (Ok (record { url = last.url; answer = answer })) k l after o d r (rw append-nil (heard_answer h types accepts answer h.replies.reply_is.1 h.settles)) run
-whole_run Of s types request accepts k l m after o c d last Failed r h run = done_run (λ start d o r. ByAnswer Whole (λ m c n e. Loose Of s types c n e) m (c ++ d) o r) (Err refusal.TransportFault) k l after o d r (rw append-nil (heard_failed h types accepts)) run
-whole_run Of s types request accepts k l m after o c d last TooLong r h run = done_run (λ start d o r. ByAnswer Whole (λ m c n e. Loose Of s types c n e) m (c ++ d) o r) (Err refusal.BodyTooLong) k l after o d r (rw append-nil (heard_long h types s.max_body_bytes accepts (read_limit s.max_body_bytes))) run
-whole_run Of s types request accepts k l m after o c d last SinkFailed r h run = let b = h.replies.reply_is in absurd (piped_never s.max_body_bytes b.1 (head_part b.0) b.3)
+whole_run : (T : List ℕ → Type 0) (Of : List ℕ → Answer → OciDistributionError → Type 0) (s : Settings) (types : List ℕ) (request : Request) → first_of (codes "accept") request.headers ≡ Some types → (k l : Memory) (m after o : ℕ) (c d : List Exchange) (last : Request) (reply : Reply) (r : Result Got OciDistributionError) → Heard 10 request (read_within s.max_body_bytes) m c after last reply → Runs (whole_reply last reply) k after d o l r → ByAnswer Whole (λ m c n e. Loose T Of s types c n e) m (c ++ d) o r
+whole_run T Of s types request accepts k l m after o c d last (Headed head) r h run = absurd (read_never s.max_body_bytes head h.replies.reply_is.2)
+whole_run T Of s types request accepts k l m after o c d last (Answered answer) r h run = done_run (λ start d o r. ByAnswer Whole (λ m c n e. Loose T Of s types c n e) m (c ++ d) o r) (Ok (record { url = last.url; answer = answer })) k l after o d r (rw append-nil (heard_answer h types accepts answer h.replies.reply_is.1 h.settles)) run
+whole_run T Of s types request accepts k l m after o c d last Failed r h run = done_run (λ start d o r. ByAnswer Whole (λ m c n e. Loose T Of s types c n e) m (c ++ d) o r) (Err refusal.TransportFault) k l after o d r (rw append-nil (heard_failed h types accepts)) run
+whole_run T Of s types request accepts k l m after o c d last TooLong r h run = done_run (λ start d o r. ByAnswer Whole (λ m c n e. Loose T Of s types c n e) m (c ++ d) o r) (Err refusal.BodyTooLong) k l after o d r (rw append-nil (heard_long h types s.max_body_bytes accepts (read_limit s.max_body_bytes))) run
+whole_run T Of s types request accepts k l m after o c d last SinkFailed r h run = let b = h.replies.reply_is in absurd (piped_never s.max_body_bytes b.1 (head_part b.0) b.3)
 
-whole_causes : (Of : List ℕ → Answer → OciDistributionError → Type 0) (s : Settings) (types : List ℕ) (request : Request) → first_of (codes "accept") request.headers ≡ Some types → Shows (ByAnswer Whole (λ m c n e. Loose Of s types c n e)) (whole 10 request s.max_body_bytes)
+whole_causes : (T : List ℕ → Type 0) (Of : List ℕ → Answer → OciDistributionError → Type 0) (s : Settings) (types : List ℕ) (request : Request) → first_of (codes "accept") request.headers ≡ Some types → Shows (ByAnswer Whole (λ m c n e. Loose T Of s types c n e)) (whole 10 request s.max_body_bytes)
 unfolding whole
-whole_causes Of s types request accepts = Shows-follow (ByAnswer Whole (λ m c n e. Loose Of s types c n e)) 10 request (read_within s.max_body_bytes) whole_reply (whole_run Of s types request accepts)
+whole_causes T Of s types request accepts = Shows-follow (ByAnswer Whole (λ m c n e. Loose T Of s types c n e)) 10 request (read_within s.max_body_bytes) whole_reply (whole_run T Of s types request accepts)
 
 -- the last answer was accepted, and the bytes are its body
 abbrev pub Accepted : List Exchange → List ℕ → Type 0
@@ -246,13 +246,13 @@ found_accepted image got found c last is =
 
 -- why an answer's digest or document was refused
 abbrev pub OwnCause : Settings → Reference → List ℕ → ℕ → List Exchange → ℕ → OciDistributionError → Type 0
-OwnCause s image types m c n e = Loose (AnswerCause (OwnDigest image)) s types c n e
+OwnCause s image types m c n e = Loose (ManifestUrl s image) (AnswerCause (OwnDigest image)) s types c n e
 
 got_causes : (s : Settings) (image : Reference) (types : List ℕ) (request : Request) → first_of (codes "accept") request.headers ≡ Some types → Shows (ByAnswer (λ m c n found. Accepted c found.0) (OwnCause s image types)) (whole 10 request s.max_body_bytes >>= λ got. Done (document_in image got))
-got_causes s image types request accepts = Shows-each Whole (λ m c n found. Accepted c found.0) (OwnCause s image types) (whole 10 request s.max_body_bytes) (λ got. Done (document_in image got)) (whole_causes (AnswerCause (OwnDigest image)) s types request accepts)
+got_causes s image types request accepts = Shows-each Whole (λ m c n found. Accepted c found.0) (OwnCause s image types) (whole 10 request s.max_body_bytes) (λ got. Done (document_in image got)) (whole_causes (ManifestUrl s image) (AnswerCause (OwnDigest image)) s types request accepts)
     (λ m n c got last. Shows-last (λ start d o found. Accepted (c ++ d) found.0) (λ start d o e. OwnCause s image types m (c ++ d) o e) (document_in image got)
     (λ found is o. rw append-nil (found_accepted image got found c last is))
-    (λ e is o. subst (λ x. OwnCause s image types m x o e) (sym (append-nil c)) (answer_cause (OwnDigest image) s types o c got.url got.answer e last (document_cause image got e is))))
+    (λ e is o. subst (λ x. OwnCause s image types m x o e) (sym (append-nil c)) (answer_cause (ManifestUrl s image) (OwnDigest image) s types o c got.url got.answer e last (document_cause image got e is))))
 
 -- after other exchanges
 pub accepted_later : (c : List Exchange) {d : List Exchange} {bytes : List ℕ} → Accepted d bytes → Accepted (c ++ d) bytes
@@ -260,33 +260,33 @@ accepted_later c {bytes = bytes} h = last_later (λ address answer. (answer.stat
 
 pub found_later : (s : Settings) (image : Reference) (types : List ℕ) (c : List Exchange) (m start o : ℕ) (d : List Exchange) (r : Result (List ℕ × List ℕ) OciDistributionError) → ByAnswer (λ m c n found. Accepted c found.0) (OwnCause s image types) start d o r → ByAnswer (λ m c n found. Accepted c found.0) (OwnCause s image types) m (c ++ d) o r
 found_later s image types c m start o d (Ok found) h = accepted_later c h
-found_later s image types c m start o d (Err e) h = cause_later (AnswerCause (OwnDigest image)) (AnswerCause (OwnDigest image)) s types o c d e (λ address answer h. h) h
+found_later s image types c m start o d (Err e) h = cause_later (ManifestUrl s image) (ManifestUrl s image) (AnswerCause (OwnDigest image)) (AnswerCause (OwnDigest image)) s types o c d e (λ text h. h) (λ address answer h. h) h
 
 -- a step before the request was refused
-early_where : {A : Type 0} (Of : List ℕ → Answer → OciDistributionError → Type 0) (s : Settings) (types : List ℕ) (P : ℕ → List Exchange → ℕ → A → Type 0) (m n : ℕ) (c : List Exchange) (r : Result A OciDistributionError) → ByAnswer P (λ m c n e. EarlyCause s types e) m c n r → ByAnswer P (λ m c n e. Loose Of s types c n e) m c n r
-early_where Of s types P m n c (Ok a) h = h
-early_where Of s types P m n c (Err e) h = early_cause Of s types n c e h
+early_where : (T : List ℕ → Type 0) {A : Type 0} (Of : List ℕ → Answer → OciDistributionError → Type 0) (s : Settings) (types : List ℕ) (P : ℕ → List Exchange → ℕ → A → Type 0) (m n : ℕ) (c : List Exchange) (r : Result A OciDistributionError) → ByAnswer P (λ m c n e. EarlyCause T e) m c n r → ByAnswer P (λ m c n e. Loose T Of s types c n e) m c n r
+early_where T Of s types P m n c (Ok a) h = h
+early_where T Of s types P m n c (Err e) h = early_cause T Of s types n c e h
 
-pub early_shown : {A : Type 0} (Of : List ℕ → Answer → OciDistributionError → Type 0) (s : Settings) (types : List ℕ) (P : ℕ → List Exchange → ℕ → A → Type 0) (p : Row A) → Shows (ByAnswer P (λ m c n e. EarlyCause s types e)) p → Shows (ByAnswer P (λ m c n e. Loose Of s types c n e)) p
-early_shown Of s types P p h = Shows-more (ByAnswer P (λ m c n e. EarlyCause s types e)) (ByAnswer P (λ m c n e. Loose Of s types c n e)) p h (early_where Of s types P)
+pub early_shown : (T : List ℕ → Type 0) {A : Type 0} (Of : List ℕ → Answer → OciDistributionError → Type 0) (s : Settings) (types : List ℕ) (P : ℕ → List Exchange → ℕ → A → Type 0) (p : Row A) → Shows (ByAnswer P (λ m c n e. EarlyCause T e)) p → Shows (ByAnswer P (λ m c n e. Loose T Of s types c n e)) p
+early_shown T Of s types P p h = Shows-more (ByAnswer P (λ m c n e. EarlyCause T e)) (ByAnswer P (λ m c n e. Loose T Of s types c n e)) p h (early_where T Of s types P)
 
 -- a URL was refused
-pub url_cause : (Of : List ℕ → Answer → OciDistributionError → Type 0) (s : Settings) (types text : List ℕ) (now : ℕ) (c : List Exchange) (e : OciDistributionError) → url_read text ≡ Err e → Loose Of s types c now e
-url_cause Of s types text now c e is = early_cause Of s types now c e (by_read (url_read text) is (read_early s types text)) where
-  by_read : (r : Result Parts OciDistributionError) → r ≡ Err e → Early s types r → EarlyCause s types e
+pub url_cause : (T : List ℕ → Type 0) (Of : List ℕ → Answer → OciDistributionError → Type 0) (s : Settings) (types text : List ℕ) (now : ℕ) (c : List Exchange) (e : OciDistributionError) → T text → url_read text ≡ Err e → Loose T Of s types c now e
+url_cause T Of s types text now c e here is = early_cause T Of s types now c e (by_read (url_read text) is (read_early T s types text here)) where
+  by_read : (r : Result Parts OciDistributionError) → r ≡ Err e → Early T r → EarlyCause T e
   by_read (Ok url) is h = absurd (cc is)
-  by_read (Err x) is h = let same : x ≡ e = cc is in subst (EarlyCause s types) same h
+  by_read (Err x) is h = let same : x ≡ e = cc is in subst (EarlyCause T) same h
 
 pub document_causes : (s : Context) (image : Reference) (url : Parts) (types : List ℕ) → Shows (ByAnswer (λ m c n found. Accepted c found.0) (OwnCause s.settings image types)) (document s image url types)
 unfolding document
 document_causes s image url types = Shows-each (λ m c n request. Prepared s.settings Get url types Get (serialize url) c request) (λ m c n found. Accepted c found.0) (OwnCause s.settings image types) (prepared s image Pull Get url types) (λ request. whole 10 request s.settings.max_body_bytes >>= λ got. Done (document_in image got))
-    (early_shown (AnswerCause (OwnDigest image)) s.settings types (λ m c n request. Prepared s.settings Get url types Get (serialize url) c request) (prepared s image Pull Get url types) (prepared_causes s image Pull Get url types Get (serialize url)))
+    (early_shown (ManifestUrl s.settings image) (AnswerCause (OwnDigest image)) s.settings types (λ m c n request. Prepared s.settings Get url types Get (serialize url) c request) (prepared s image Pull Get url types) (prepared_causes (ManifestUrl s.settings image) s image Pull Get url types Get (serialize url) (inl refl)))
     (λ m n c request p. Shows-more (ByAnswer (λ m c n found. Accepted c found.0) (OwnCause s.settings image types)) (λ start d o r. ByAnswer (λ m c n found. Accepted c found.0) (OwnCause s.settings image types) m (c ++ d) o r) (whole 10 request s.settings.max_body_bytes >>= λ got. Done (document_in image got)) (got_causes s.settings image types request (accepts_of s.settings Get url types p.token request p.made)) (λ start o d r h. found_later s.settings image types c m start o d r h))
 
 pub raw_causes : (s : Context) (image : Reference) (a : RegistryAuth) (types : List ℕ) → Shows (ByAnswer (λ m c n found. Accepted c found.0) (OwnCause s.settings image types)) (pull_manifest_raw s image a types)
-unfolding pull_manifest_raw
+unfolding pull_manifest_raw manifest_document
 raw_causes s image a types = Shows-each (λ m c n u. Unit {0}) (λ m c n found. Accepted c found.0) (OwnCause s.settings image types) (store image a) (λ u. Done (url_read (manifest_text s.settings image)) >>= λ url. document s image url types)
-    (early_shown (AnswerCause (OwnDigest image)) s.settings types (λ m c n u. Unit {0}) (store image a) (store_causes s.settings types image a))
+    (early_shown (ManifestUrl s.settings image) (AnswerCause (OwnDigest image)) s.settings types (λ m c n u. Unit {0}) (store image a) (store_causes (ManifestUrl s.settings image) s.settings types image a))
     (λ m n c u h. Shows-step (λ start d o r. ByAnswer (λ m c n found. Accepted c found.0) (OwnCause s.settings image types) m (c ++ d) o r) (url_read (manifest_text s.settings image)) (λ url. document s image url types)
     (λ url is. Shows-more (ByAnswer (λ m c n found. Accepted c found.0) (OwnCause s.settings image types)) (λ start d o r. ByAnswer (λ m c n found. Accepted c found.0) (OwnCause s.settings image types) m (c ++ d) o r) (document s image url types) (document_causes s image url types) (λ start o d r h. found_later s.settings image types c m start o d r h))
-    (λ e is o. url_cause (AnswerCause (OwnDigest image)) s.settings types (manifest_text s.settings image) o (c ++ []) e is))
+    (λ e is o. url_cause (ManifestUrl s.settings image) (AnswerCause (OwnDigest image)) s.settings types (manifest_text s.settings image) o (c ++ []) e (inr refl) is))

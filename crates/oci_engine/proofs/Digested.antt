@@ -2,7 +2,7 @@
 use Rattle.std.proofs.Common.{◌≡◌, ◌≢◌, inl, inr, ℕ, Bool, true, false, List, [], ◌∷◌, Option, Some, None, Result, Ok, Err, bytes_eq, refl, sym, ap, subst, ◌∙◌}
 use Rattle.std.specs.Prelude.{if◌then◌else◌, ok_or, not, ◌&&◌, codes}
 use Rattle.std.proofs.lemmas.Slice.Eq.{bytes_eq-Decides}
-use Rattle.oci_transport.specs.Headers.{first_of}
+use Rattle.oci_transport.specs.Headers.{digest_header, first_of}
 use Rattle.oci_transport.specs.declared.message.Answer.{Answer}
 use Rattle.oci_digests.specs.Names.{digest_text}
 use Rattle.oci_digests.specs.Parts.{parts_of, algorithm_of, named_by, named_algorithm}
@@ -81,11 +81,11 @@ validated_cause Given answer (Some h) (Some r) e named given is = both_parts Giv
 
 -- ---- the header
 
-by_text : (Given : List ℕ → Type 0) (answer : Answer) (value : List ℕ) (e : DigestError) (b : Bool) → first_of (codes "docker-content-digest") answer.headers ≡ Some value → is_header_text value ≡ b → ◌≡◌ {A = Result (Option (List ℕ)) DigestError} (if b then Ok (Some value) else Err (InvalidHeader value)) (Err e) → DigestCause Given answer e
+by_text : (Given : List ℕ → Type 0) (answer : Answer) (value : List ℕ) (e : DigestError) (b : Bool) → first_of digest_header answer.headers ≡ Some value → is_header_text value ≡ b → ◌≡◌ {A = Result (Option (List ℕ)) DigestError} (if b then Ok (Some value) else Err (InvalidHeader value)) (Err e) → DigestCause Given answer e
 by_text Given answer value e true first test is = absurd (cc is)
 by_text Given answer value e false first test is = let same : InvalidHeader value ≡ e = cc is in subst (DigestCause Given answer) same (first, test)
 
-pub header_cause : (Given : List ℕ → Type 0) (answer : Answer) (o : Option (List ℕ)) (e : DigestError) → first_of (codes "docker-content-digest") answer.headers ≡ o → digest_in o ≡ Err e → DigestCause Given answer e
+pub header_cause : (Given : List ℕ → Type 0) (answer : Answer) (o : Option (List ℕ)) (e : DigestError) → first_of digest_header answer.headers ≡ o → digest_in o ≡ Err e → DigestCause Given answer e
 header_cause Given answer None e first is = absurd (cc is)
 header_cause Given answer (Some []) e first is = absurd (cc is)
 header_cause Given answer (Some (b ∷ bs)) e first is = by_text Given answer (b ∷ bs) e (is_header_text (b ∷ bs)) first refl is

@@ -34,7 +34,7 @@ use Rattle.engine_requests.specs.Errors.{◌>>=◌ as ◌into◌}
 use Rattle.engine_requests.specs.Addresses.{manifest_text, url_or, url_read}
 use Rattle.engine_requests.specs.Answers.{accepted, refused_answer, or_digest_error, header_digest, body_digest, answer_digest, document_in}
 use Rattle.engine_steps.specs.Rows.{store, whole, whole_reply, prepared}
-use Rattle.engine_pull.specs.Pulls.{document, pull_manifest_raw}
+use Rattle.engine_pull.specs.Pulls.{manifest_document, document, pull_manifest_raw}
 use Rattle.oci_engine.specs.Answered.{Asks, NoneAsks, LedTo, FirstAsked, Body, Document}
 use Rattle.oci_engine.proofs.Asking.{asks_of, into_ok, none_more, quiet_store, Prepared, prepared_shows}
 
@@ -216,7 +216,7 @@ later_where image address c m start n d (Err e) f = tt
 
 -- the bytes are those of an answer, and the digest names them
 pub raw_shows : (s : Context) (image : Reference) (a : RegistryAuth) (types : List ℕ) → Shows (WhereOk (λ m c n found. Document image c found.0 found.1)) (pull_manifest_raw s image a types)
-unfolding pull_manifest_raw
+unfolding pull_manifest_raw manifest_document
 raw_shows s image a types = Shows-next (λ m c n u. Unit {0}) (λ m c n found. Document image c found.0 found.1) (store image a) (λ u. Done (url_read (manifest_text s.settings image)) >>= λ url. document s image url types)
     (Shows-more (λ m c n u. NoneAsks Get [] c) (WhereOk (λ m c n u. Unit {0})) (store image a) (quiet_store Get [] image a) (λ m n c r h. any_where m n c r))
     (λ m n c u h. Shows-step (λ start d o r. WhereOk (λ m c n found. Document image c found.0 found.1) m (c ++ d) o r) (url_read (manifest_text s.settings image)) (λ url. document s image url types)

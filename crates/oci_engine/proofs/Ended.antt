@@ -35,11 +35,10 @@ use Rattle.engine_requests.specs.Requests.{manifest_types}
 use Rattle.engine_steps.specs.declared.asking.Named.{Named}
 use Rattle.engine_steps.specs.declared.asking.Named.TheVariants as named
 use Rattle.engine_steps.specs.Rows.{Row, store, whole_reply, whole, named_reading, unread_named, read_named, named_reply, named_after, prepared}
-use Rattle.engine_steps.specs.Blobs.{blob_reading, unread_by, read_by, blob_reply, attempt}
-use Rattle.engine_pull.specs.Pulls.{document, digest_by, pull_manifest_raw, fetch_manifest_digest, pull_manifest, pull_blob}
+use Rattle.engine_steps.specs.Blobs.{Destination, IntoMemory, blob_reading, unread_by, read_by, blob_reply, attempt}
+use Rattle.engine_pull.specs.Pulls.{document, digest_by, manifest_document, pull_manifest_raw, fetch_manifest_digest, pull_manifest, blob_to, held_blob}
 use Rattle.engine_pull.specs.Images.{image_manifest, layers_accepted, layer_of, pull_layers, pull}
-use Rattle.engine_pull.proofs.NoSink.{Plain, into_plain}
-use Rattle.engine_pull.proofs.Quiet.{refused_plain, accepted_plain, digest_plain, found_plain, read_document_plain, kind_plain, layers_plain}
+use Rattle.oci_engine.proofs.Plain.{Plain, into_plain, refused_plain, accepted_plain, digest_plain, found_plain, read_document_plain, kind_plain, layers_plain}
 use Rattle.oci_engine.specs.Held.{Entry, pulling}
 use Rattle.oci_engine.proofs.Keeping.{Keeps}
 use Rattle.oci_engine.proofs.Shown.{Free, Ended, safe_done, safe_next, safe_follow, prepared_safe, store_safe, plain_step, plain_last, url_first}
@@ -99,9 +98,9 @@ read_blob url answer (plan.Refuse e) = tt
 read_blob url answer plan.Judge = refused_plain url answer
 read_blob url answer (plan.Pour given own) = into_plain (both_compared given own answer.body) _ (into_plain (given_compared given answer.body) _ (given_plain given answer.body) (λ u. compared_plain own answer.body)) (λ u. tt)
 
-attempt_sound : (x : Entry) (s : Settings) (types : List ℕ) (limit : ℕ) (digest : List ℕ) (request : Request) (l : Memory) (c : List Exchange) → Keeps x l c → Sound x s types l c (attempt limit digest request)
+attempt_sound : (to : Destination) (x : Entry) (s : Settings) (types : List ℕ) (limit : ℕ) (digest : List ℕ) (request : Request) (l : Memory) (c : List Exchange) → Keeps x l c → Sound x s types l c (attempt to limit digest request)
 unfolding attempt
-attempt_sound x s types limit digest request l c keeps = safe_follow x (Ended x s types) 10 request (blob_reading limit digest) (blob_reply digest) l c keeps (λ last d e before after other reply h replies. by_reply last reply (d ++ e ∷ []) h) where
+attempt_sound to x s types limit digest request l c keeps = safe_follow x (Ended x s types) 10 request (blob_reading to limit digest) (blob_reply digest) l c keeps (λ last d e before after other reply h replies. by_reply last reply (d ++ e ∷ []) h) where
   by_reply : (last : Request) (reply : Reply) (d : List Exchange) → Keeps x l d → Sound x s types l d (blob_reply digest last reply)
   by_reply last (Headed head) d h = plain_last x s types (unread_by (plan_of digest head)) l d (unread_blob (plan_of digest head)) h
   by_reply last (Answered answer) d h = plain_last x s types (read_by last.url answer (plan_of digest (head_part answer))) l d (read_blob last.url answer (plan_of digest (head_part answer))) h
@@ -120,7 +119,7 @@ document_sound s image k handed url types l c keeps =
     plain_last x s.settings types (document_in image got) l c (found_plain image got) keeps))
 
 pub raw_sound : (s : Context) (image : Reference) (a : RegistryAuth) (types : List ℕ) (k l : Memory) (c : List Exchange) → Keeps (pulling k s image (Some a)) l c → Sound (pulling k s image (Some a)) s.settings types l c (pull_manifest_raw s image a types)
-unfolding pull_manifest_raw
+unfolding pull_manifest_raw manifest_document
 raw_sound s image a types k l c keeps =
     let x = pulling k s image (Some a) in
     safe_next x s.settings types (store image a) _ l c (store_safe x s.settings types a l c refl keeps) (λ l c u keeps.
@@ -154,18 +153,18 @@ manifest_sound s image a k l c keeps =
     safe_next x s.settings manifest_types (pull_manifest_raw s image a manifest_types) _ l c (raw_sound s image a manifest_types k l c keeps) (λ l c found keeps.
     plain_step x s.settings manifest_types (document_read found.0) _ l c (read_document_plain found.0) (λ document is. plain_last x s.settings manifest_types (Ok (document, found.1)) l c tt keeps))
 
-pub blob_sound : (s : Context) (image : Reference) (digest : List ℕ) (k : Memory) (handed : Option RegistryAuth) (l : Memory) (c : List Exchange) → Keeps (pulling k s image handed) l c → Sound (pulling k s image handed) s.settings manifest_types l c (pull_blob s image digest)
-unfolding pull_blob
-blob_sound s image digest k handed l c keeps =
+pub blob_sound : (to : Destination) (s : Context) (image : Reference) (digest : List ℕ) (k : Memory) (handed : Option RegistryAuth) (l : Memory) (c : List Exchange) → Keeps (pulling k s image handed) l c → Sound (pulling k s image handed) s.settings manifest_types l c (blob_to to s image digest)
+unfolding blob_to
+blob_sound to s image digest k handed l c keeps =
     let x = pulling k s image handed in
     url_first x s.settings manifest_types (blob_text s.settings image digest) _ l c (λ url.
     safe_next x s.settings manifest_types (prepared s image Pull Get url manifest_types) _ l c (prepared_safe x s.settings Get url manifest_types l c keeps) (λ l c request keeps.
-    attempt_sound x s.settings manifest_types s.settings.max_body_bytes digest request l c keeps))
+    attempt_sound to x s.settings manifest_types s.settings.max_body_bytes digest request l c keeps))
 
 layers_sound : (s : Context) (image : Reference) (xs : List OciDescriptor) (layers : List ImageLayer) (k : Memory) (handed : Option RegistryAuth) (l : Memory) (c : List Exchange) → Keeps (pulling k s image handed) l c → Sound (pulling k s image handed) s.settings manifest_types l c (pull_layers s image xs layers)
 unfolding pull_layers
 layers_sound s image [] layers k handed l c keeps = plain_last (pulling k s image handed) s.settings manifest_types (Ok layers) l c tt keeps
-layers_sound s image (x ∷ xs) layers k handed l c keeps = safe_next (pulling k s image handed) s.settings manifest_types (pull_blob s image x.digest) _ l c (blob_sound s image x.digest k handed l c keeps) (λ l c content keeps. layers_sound s image xs (layers ++ layer_of x content ∷ []) k handed l c keeps)
+layers_sound s image (x ∷ xs) layers k handed l c keeps = safe_next (pulling k s image handed) s.settings manifest_types (held_blob s image x.digest) _ l c (blob_sound IntoMemory s image x.digest k handed l c keeps) (λ l c content keeps. layers_sound s image xs (layers ++ layer_of x content ∷ []) k handed l c keeps)
 
 pub image_sound : (s : Context) (image : Reference) (a : RegistryAuth) (accepted : List (List ℕ)) (k l : Memory) (c : List Exchange) → Keeps (pulling k s image (Some a)) l c → Sound (pulling k s image (Some a)) s.settings manifest_types l c (pull s image a accepted)
 unfolding pull
@@ -173,6 +172,6 @@ image_sound s image a accepted k l c keeps =
     let x = pulling k s image (Some a) in
     safe_next x s.settings manifest_types (pull_manifest s image a) _ l c (manifest_sound s image a k l c keeps) (λ l c found keeps.
     plain_step x s.settings manifest_types (image_manifest found.0) _ l c (kind_plain found.0) (λ manifest is.
-    safe_next x s.settings manifest_types (pull_blob s image manifest.config.digest) _ l c (blob_sound s image manifest.config.digest k (Some a) l c keeps) (λ l c config keeps.
+    safe_next x s.settings manifest_types (held_blob s image manifest.config.digest) _ l c (blob_sound IntoMemory s image manifest.config.digest k (Some a) l c keeps) (λ l c config keeps.
     plain_step x s.settings manifest_types (layers_accepted accepted manifest.layers) _ l c (layers_plain accepted manifest.layers) (λ u is.
     safe_next x s.settings manifest_types (pull_layers s image manifest.layers []) _ l c (layers_sound s image manifest.layers [] k (Some a) l c keeps) (λ l c layers keeps. plain_last x s.settings manifest_types (Ok _) l c tt keeps)))))

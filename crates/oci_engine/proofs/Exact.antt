@@ -28,8 +28,8 @@ use Rattle.engine_requests.specs.Errors.{is_memory, ◌>>=◌ as ◌into◌}
 use Rattle.engine_requests.specs.Addresses.{manifest_text, blob_text, url_or, url_read}
 use Rattle.engine_requests.specs.Requests.{with_header, with_accept, with_token, headers_of, request_of, bare_request, manifest_types}
 use Rattle.engine_steps.specs.Rows.{Row, store, authorized, prepared, named_after}
-use Rattle.engine_steps.specs.Blobs.{Spills, filled, attempt}
-use Rattle.engine_pull.specs.Pulls.{document, digest_by, pull_manifest_raw, fetch_manifest_digest, pull_manifest, pull_blob}
+use Rattle.engine_steps.specs.Blobs.{Destination, Spills, filled, attempt}
+use Rattle.engine_pull.specs.Pulls.{document, digest_by, manifest_document, pull_manifest_raw, fetch_manifest_digest, pull_manifest, blob_to}
 use Rattle.engine_pull.specs.Images.{pull}
 use Rattle.oci_engine.specs.Causes.{IsEarly, IsEarlyRefusal, HasBadHeader, IsRefusedAs}
 use Rattle.oci_engine.proofs.Early.{Early, EarlyCause, authorized_early}
@@ -59,7 +59,7 @@ unfolding store Ends bind
 stored_before Q image a p h = λ k. h
 
 pub raw_url : (s : Context) (image : Reference) (a : RegistryAuth) (types : List ℕ) → request_url (manifest_text s.settings image) ≡ None → Ends (Only (refusal.UrlParseError (manifest_text s.settings image))) (pull_manifest_raw s image a types)
-unfolding pull_manifest_raw
+unfolding pull_manifest_raw manifest_document
 raw_url s image a types none = stored_before (Only (refusal.UrlParseError (manifest_text s.settings image))) image a (Done (url_read (manifest_text s.settings image)) >>= λ url. document s image url types) (no_url (manifest_text s.settings image) (λ url. document s image url types) none)
 
 pub digest_url : (s : Context) (image : Reference) (a : RegistryAuth) → request_url (manifest_text s.settings image) ≡ None → Ends (Only (refusal.UrlParseError (manifest_text s.settings image))) (fetch_manifest_digest s image a)
@@ -75,9 +75,9 @@ pub image_url : (s : Context) (image : Reference) (a : RegistryAuth) (accepted :
 unfolding pull
 image_url s image a accepted none = handed_on (refusal.UrlParseError (manifest_text s.settings image)) (pull_manifest s image a) _ (manifest_url s image a none)
 
-pub blob_url : (s : Context) (image : Reference) (digest : List ℕ) → request_url (blob_text s.settings image digest) ≡ None → Ends (Only (refusal.UrlParseError (blob_text s.settings image digest))) (pull_blob s image digest)
-unfolding pull_blob
-blob_url s image digest none = no_url (blob_text s.settings image digest) (λ url. prepared s image Pull Get url manifest_types >>= λ request. attempt s.settings.max_body_bytes digest request) none
+pub blob_url : (to : Destination) (s : Context) (image : Reference) (digest : List ℕ) → request_url (blob_text s.settings image digest) ≡ None → Ends (Only (refusal.UrlParseError (blob_text s.settings image digest))) (blob_to to s image digest)
+unfolding blob_to
+blob_url to s image digest none = no_url (blob_text s.settings image digest) (λ url. prepared s image Pull Get url manifest_types >>= λ request. attempt to s.settings.max_body_bytes digest request) none
 
 -- ---- a value that cannot stand in a header
 
@@ -114,14 +114,18 @@ request_bad : (s : Settings) (method : Method) (url : Parts) (types : List ℕ) 
 unfolding request_of
 request_bad s method url types token bad = unmade (headers_of s (Some types) token) (headers_bad s types token bad) (λ headers. Ok (bare_request method url headers))
 
-early_is : (s : Settings) (types : List ℕ) (e : OciDistributionError) → EarlyCause s types e → IsEarlyRefusal e
-early_is s types (refusal.UrlParseError text) h = h
+-- whatever text it is
+abbrev AnyText : List ℕ → Type 0
+AnyText text = Unit {0}
+
+early_is : (s : Settings) (types : List ℕ) (e : OciDistributionError) → EarlyCause AnyText e → IsEarlyRefusal e
+early_is s types (refusal.UrlParseError text) h = h.0
 early_is s types (refusal.GenericError HeaderText) h = tt
 early_is s types refusal.WantOfMemory h = tt
 early_is s types e h = absurd h
 
 -- after a step that may be refused early
-unless_early : {A B : Type 0} (s : Settings) (types : List ℕ) (f : A → Row B) → ((a : A) → Ends IsEarly (f a)) → (r : Result A OciDistributionError) → Early s types r → Ends IsEarly (unless_refused f r)
+unless_early : {A B : Type 0} (s : Settings) (types : List ℕ) (f : A → Row B) → ((a : A) → Ends IsEarly (f a)) → (r : Result A OciDistributionError) → Early AnyText r → Ends IsEarly (unless_refused f r)
 unfolding Ends
 unless_early s types f each (Ok a) h = each a
 unless_early s types f each (Err e) h = early_is s types e h
@@ -141,7 +145,7 @@ done_bad s method url types token bad = subst IsEarly (sym (request_bad s method
 
 prepared_bad : (s : Context) (image : Reference) (op : RegistryOperation) (method : Method) (url : Parts) (types : List ℕ) → HasBadHeader s.settings types → Ends IsEarly (prepared s image op method url types)
 unfolding prepared
-prepared_bad s image op method url types bad = Ends-bind (Early s.settings types) IsEarly (authorized s image op url) (unless_refused (λ token. Done (request_of s.settings method url (Some types) token))) (authorized_early s types image op url) (unless_early s.settings types (λ token. Done (request_of s.settings method url (Some types) token)) (λ token. done_bad s.settings method url types token bad))
+prepared_bad s image op method url types bad = Ends-bind (Early AnyText) IsEarly (authorized s image op url) (unless_refused (λ token. Done (request_of s.settings method url (Some types) token))) (authorized_early AnyText s types image op url tt) (unless_early s.settings types (λ token. Done (request_of s.settings method url (Some types) token)) (λ token. done_bad s.settings method url types token bad))
 
 by_url : {B : Type 0} (text : List ℕ) (f : Parts → Row B) (o : Option Parts) → request_url text ≡ o → ((url : Parts) → Ends IsEarly (f url)) → Ends IsEarly (unless_refused f (url_or text o))
 unfolding Ends
@@ -153,7 +157,7 @@ unfolding bind
 url_first text f each = by_url text f (request_url text) refl each
 
 pub raw_bad : (s : Context) (image : Reference) (a : RegistryAuth) (types : List ℕ) → HasBadHeader s.settings types → Ends IsEarly (pull_manifest_raw s image a types)
-unfolding pull_manifest_raw document
+unfolding pull_manifest_raw manifest_document document
 raw_bad s image a types bad = stored_before IsEarly image a (Done (url_read (manifest_text s.settings image)) >>= λ url. document s image url types) (url_first (manifest_text s.settings image) (λ url. document s image url types) (λ url. early_on (prepared s image Pull Get url types) _ (prepared_bad s image Pull Get url types bad)))
 
 pub digest_bad : (s : Context) (image : Reference) (a : RegistryAuth) → HasBadHeader s.settings manifest_types → Ends IsEarly (fetch_manifest_digest s image a)
@@ -169,9 +173,9 @@ pub image_bad : (s : Context) (image : Reference) (a : RegistryAuth) (accepted :
 unfolding pull
 image_bad s image a accepted bad = early_on (pull_manifest s image a) _ (manifest_bad s image a bad)
 
-pub blob_bad : (s : Context) (image : Reference) (digest : List ℕ) → HasBadHeader s.settings manifest_types → Ends IsEarly (pull_blob s image digest)
-unfolding pull_blob
-blob_bad s image digest bad = url_first (blob_text s.settings image digest) (λ url. prepared s image Pull Get url manifest_types >>= λ request. attempt s.settings.max_body_bytes digest request) (λ url. early_on (prepared s image Pull Get url manifest_types) _ (prepared_bad s image Pull Get url manifest_types bad))
+pub blob_bad : (to : Destination) (s : Context) (image : Reference) (digest : List ℕ) → HasBadHeader s.settings manifest_types → Ends IsEarly (blob_to to s image digest)
+unfolding blob_to
+blob_bad to s image digest bad = url_first (blob_text s.settings image digest) (λ url. prepared s image Pull Get url manifest_types >>= λ request. attempt to s.settings.max_body_bytes digest request) (λ url. early_on (prepared s image Pull Get url manifest_types) _ (prepared_bad s image Pull Get url manifest_types bad))
 
 -- ---- results
 

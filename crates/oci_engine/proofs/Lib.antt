@@ -2,6 +2,7 @@ pub mod Asking
 pub mod BlobRefused
 pub mod Blobs
 pub mod Causing
+pub mod Constants
 pub mod Counting
 pub mod Digested
 pub mod Digests
@@ -11,6 +12,7 @@ pub mod Ended
 pub mod Exact
 pub mod ImageRefused
 pub mod Keeping
+pub mod Plain
 pub mod Reasons
 pub mod Refused
 pub mod Results

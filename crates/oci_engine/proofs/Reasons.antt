@@ -1,5 +1,5 @@
 -- Why the results of a client's calls are refusals.
-use Rattle.std.proofs.Common.{◌≡◌, ◌≢◌, ℕ, true, List, [], Some, None, Result, Ok, Err, IfErr, refl, ap}
+use Rattle.std.proofs.Common.{◌≡◌, ℕ, true, List, [], Some, None, Result, Ok, Err, IfErr, refl}
 use Rattle.json_values.specs.Counts.{Rose}
 use Rattle.json_values.specs.Tray.{Tray}
 use Rattle.oci_transport.specs.Link.{Link}
@@ -20,12 +20,13 @@ use Rattle.engine_requests.specs.Errors.{is_memory}
 use Rattle.engine_requests.specs.Requests.{manifest_types}
 use Rattle.engine_steps.specs.Rows.{Row}
 use Rattle.engine_steps.specs.Blobs.{Spills}
-use Rattle.engine_pull.specs.Pulls.{fetch_manifest_digest, pull_manifest_raw, pull_manifest, pull_blob}
+use Rattle.engine_pull.specs.Pulls.{fetch_manifest_digest, pull_manifest_raw, pull_manifest, blob_to, pull_blob}
 use Rattle.engine_pull.specs.Images.{pull}
 use Rattle.engine_pull.specs.declared.image.ImageData.{ImageData}
 use Rattle.oci_engine.specs.Held.{Entry, pulling}
-use Rattle.oci_engine.specs.Causes.{LastFailed, AnswerCause, DocumentCause, BadHeader, Cause, OwnDigest, BlobCause, PouredCause, ImageCause}
-use Rattle.oci_engine.proofs.Early.{Loose, LoosePoured}
+use Rattle.engine_steps.specs.Blobs.{Destination, IntoSink}
+use Rattle.oci_engine.specs.Causes.{ManifestUrl, BlobUrl, LastFailed, AnswerCause, DocumentCause, BadHeader, Cause, OwnDigest, BlobCause, ImageCause}
+use Rattle.oci_engine.proofs.Early.{Loose, LooseBlob}
 use Rattle.oci_engine.proofs.Causing.{Accepted, raw_causes}
 use Rattle.oci_engine.proofs.Refused.{digest_causes}
 use Rattle.oci_engine.proofs.BlobRefused.{blob_causes}
@@ -36,40 +37,30 @@ use Rattle.oci_engine.proofs.Shown.{HeaderCause, Ended}
 use Rattle.oci_engine.proofs.Ended.{digest_sound, raw_sound, manifest_sound, image_sound, blob_sound}
 
 -- a cause with the values that could not stand in a header
-tight : (Of : List ℕ → Answer → OciDistributionError → Type 0) (x : Entry) (s : Settings) (types : List ℕ) (now : ℕ) (c : List Exchange) (e : OciDistributionError) → Loose Of s types c now e → HeaderCause x s types c e → Cause Of (BadHeader x s types) s c now e
-tight Of x s types now c (refusal.GenericError HeaderText) h bad = bad
-tight Of x s types now c _ h bad = h
+tight : (T : List ℕ → Type 0) (Of : List ℕ → Answer → OciDistributionError → Type 0) (x : Entry) (s : Settings) (types : List ℕ) (now : ℕ) (c : List Exchange) (e : OciDistributionError) → Loose T Of s types c now e → HeaderCause x s types c e → Cause T Of (BadHeader x s types) s c now e
+tight T Of x s types now c (refusal.GenericError HeaderText) h bad = bad
+tight T Of x s types now c _ h bad = h
 
 -- want of memory has no cause
-cause_free : (Of : List ℕ → Answer → OciDistributionError → Type 0) (Bad : List Exchange → Type 0) (s : Settings) (now : ℕ) (c : List Exchange) (e : OciDistributionError) → is_memory e ≡ true → Cause Of Bad s c now e
-cause_free Of Bad s now c refusal.WantOfMemory is = tt
-cause_free Of Bad s now c _ is = absurd (cc is)
+cause_free : (T : List ℕ → Type 0) (Of : List ℕ → Answer → OciDistributionError → Type 0) (Bad : List Exchange → Type 0) (s : Settings) (now : ℕ) (c : List Exchange) (e : OciDistributionError) → is_memory e ≡ true → Cause T Of Bad s c now e
+cause_free T Of Bad s now c refusal.WantOfMemory is = tt
+cause_free T Of Bad s now c _ is = absurd (cc is)
 
-tight_poured : (x : Entry) (s : Settings) (digest : List ℕ) (now : ℕ) (c : List Exchange) (e : OciDistributionError) → LoosePoured s digest c now e → HeaderCause x s manifest_types c e → PouredCause (BadHeader x s manifest_types) s digest c now e
-tight_poured x s digest now c (refusal.GenericError HeaderText) h bad = bad
-tight_poured x s digest now c _ h bad = h
+tight_blob : (T : List ℕ → Type 0) (to : Destination) (x : Entry) (s : Settings) (digest : List ℕ) (now : ℕ) (c : List Exchange) (e : OciDistributionError) → LooseBlob T to s digest c now e → HeaderCause x s manifest_types c e → BlobCause T to (BadHeader x s manifest_types) s digest c now e
+tight_blob T to x s digest now c (refusal.GenericError HeaderText) h bad = bad
+tight_blob T to x s digest now c _ h bad = h
 
-blob_free : (Bad : List Exchange → Type 0) (s : Settings) (digest : List ℕ) (now : ℕ) (c : List Exchange) (e : OciDistributionError) → is_memory e ≡ true → PouredCause Bad s digest c now e
-blob_free Bad s digest now c refusal.WantOfMemory is = tt
-blob_free Bad s digest now c _ is = absurd (cc is)
+blob_free : (T : List ℕ → Type 0) (to : Destination) (Bad : List Exchange → Type 0) (s : Settings) (digest : List ℕ) (now : ℕ) (c : List Exchange) (e : OciDistributionError) → is_memory e ≡ true → BlobCause T to Bad s digest c now e
+blob_free T to Bad s digest now c refusal.WantOfMemory is = tt
+blob_free T to Bad s digest now c _ is = absurd (cc is)
 
--- of an image, whatever its sink did
-abbrev Whole : (List Exchange → Type 0) → Settings → Reference → List (List ℕ) → List Exchange → ℕ → OciDistributionError → Type 0
-Whole Bad s image accepted c now refusal.SinkFault = Unit {0}
-Whole Bad s image accepted c now e = ImageCause Bad s image accepted c now e
+tight_image : (x : Entry) (s : Settings) (image : Reference) (accepted : List (List ℕ)) (now : ℕ) (c : List Exchange) (e : OciDistributionError) → RowCause s image accepted c now e → HeaderCause x s manifest_types c e → ImageCause (BadHeader x s manifest_types) s image accepted c now e
+tight_image x s image accepted now c (refusal.GenericError HeaderText) h bad = bad
+tight_image x s image accepted now c _ h bad = h
 
-tight_whole : (x : Entry) (s : Settings) (image : Reference) (accepted : List (List ℕ)) (now : ℕ) (c : List Exchange) (e : OciDistributionError) → RowCause s image accepted c now e → HeaderCause x s manifest_types c e → Whole (BadHeader x s manifest_types) s image accepted c now e
-tight_whole x s image accepted now c (refusal.GenericError HeaderText) h bad = bad
-tight_whole x s image accepted now c _ h bad = h
-
-row_free : (Bad : List Exchange → Type 0) (s : Settings) (image : Reference) (accepted : List (List ℕ)) (now : ℕ) (c : List Exchange) (e : OciDistributionError) → is_memory e ≡ true → Whole Bad s image accepted c now e
-row_free Bad s image accepted now c refusal.WantOfMemory is = tt
-row_free Bad s image accepted now c _ is = absurd (cc is)
-
--- where no sink failed, another cause is left
-told_unsunk : {A : Type 0} (P Q : List Exchange → OciDistributionError → Type 0) (old new : Link) (r : Result A OciDistributionError) → ((c : List Exchange) (e : OciDistributionError) → e ≢ refusal.SinkFault → P c e → Q c e) → r ≢ Err refusal.SinkFault → IfErr r (λ e. Told (λ c. P c e) old new) → IfErr r (λ e. Told (λ c. Q c e) old new)
-told_unsunk P Q old new (Ok a) more calm h = tt
-told_unsunk P Q old new (Err e) more calm h = record { conversation = h.conversation; told = h.told; holds = more h.conversation e (λ is. calm (ap Err is)) h.holds }
+image_free : (Bad : List Exchange → Type 0) (s : Settings) (image : Reference) (accepted : List (List ℕ)) (now : ℕ) (c : List Exchange) (e : OciDistributionError) → is_memory e ≡ true → ImageCause Bad s image accepted c now e
+image_free Bad s image accepted now c refusal.WantOfMemory is = tt
+image_free Bad s image accepted now c _ is = absurd (cc is)
 
 -- a fault of the transport, where a result is one
 faulted : {A : Type 0} (P : ℕ → List Exchange → ℕ → A → Type 0) (R : ℕ → List Exchange → ℕ → OciDistributionError → Type 0) (p : Row A) {old new : Link} {k l : Memory} {r : Result A OciDistributionError} → ((m n : ℕ) (c : List Exchange) → R m c n refusal.TransportFault → LastFailed c n) → Shows (ByAnswer P R) p → Meets is_memory p old new k l r → r ≡ Err refusal.TransportFault → Rose old.faults new.faults
@@ -77,89 +68,71 @@ faulted P R p {old} {new} {k} {l} {r} fails h met is = fault_rose P R p refusal.
 
 -- ---- the digest
 
-pub digest_reason : (s : Context) (image : Reference) (a : RegistryAuth) {old new : Link} {k l : Memory} {r : Result (List ℕ) OciDistributionError} → Meets is_memory (fetch_manifest_digest s image a) old new k l r → IfErr r (λ e. Told (λ c. Cause (AnswerCause (OwnDigest image)) (BadHeader (pulling k s image (Some a)) s.settings manifest_types) s.settings c new.faults e) old new)
+pub digest_reason : (s : Context) (image : Reference) (a : RegistryAuth) {old new : Link} {k l : Memory} {r : Result (List ℕ) OciDistributionError} → Meets is_memory (fetch_manifest_digest s image a) old new k l r → IfErr r (λ e. Told (λ c. Cause (ManifestUrl s.settings image) (AnswerCause (OwnDigest image)) (BadHeader (pulling k s image (Some a)) s.settings manifest_types) s.settings c new.faults e) old new)
 digest_reason s image a {k = k} met =
     let x = pulling k s image (Some a) in
-    refusal_both (λ m c n digest. Unit {0}) (λ m c n e. Loose (AnswerCause (OwnDigest image)) s.settings manifest_types c n e) (Keeps x) (Ended x s.settings manifest_types) (λ c n e. Cause (AnswerCause (OwnDigest image)) (BadHeader x s.settings manifest_types) s.settings c n e) (fetch_manifest_digest s image a)
-    (λ n c e is. cause_free (AnswerCause (OwnDigest image)) (BadHeader x s.settings manifest_types) s.settings n c e is) (λ m n c e h bad. tight (AnswerCause (OwnDigest image)) x s.settings manifest_types n c e h bad) (digest_causes s image a) (digest_sound s image a k k [] (keeps_first x)) met
+    refusal_both (λ m c n digest. Unit {0}) (λ m c n e. Loose (ManifestUrl s.settings image) (AnswerCause (OwnDigest image)) s.settings manifest_types c n e) (Keeps x) (Ended x s.settings manifest_types) (λ c n e. Cause (ManifestUrl s.settings image) (AnswerCause (OwnDigest image)) (BadHeader x s.settings manifest_types) s.settings c n e) (fetch_manifest_digest s image a)
+    (λ n c e is. cause_free (ManifestUrl s.settings image) (AnswerCause (OwnDigest image)) (BadHeader x s.settings manifest_types) s.settings n c e is) (λ m n c e h bad. tight (ManifestUrl s.settings image) (AnswerCause (OwnDigest image)) x s.settings manifest_types n c e h bad) (digest_causes s image a) (digest_sound s image a k k [] (keeps_first x)) met
 
 pub digest_fault : (s : Context) (image : Reference) (a : RegistryAuth) {old new : Link} {k l : Memory} {r : Result (List ℕ) OciDistributionError} → Meets is_memory (fetch_manifest_digest s image a) old new k l r → r ≡ Err refusal.TransportFault → Rose old.faults new.faults
-digest_fault s image a met is = faulted (λ m c n digest. Unit {0}) (λ m c n e. Loose (AnswerCause (OwnDigest image)) s.settings manifest_types c n e) (fetch_manifest_digest s image a) (λ m n c h. h) (digest_causes s image a) met is
+digest_fault s image a met is = faulted (λ m c n digest. Unit {0}) (λ m c n e. Loose (ManifestUrl s.settings image) (AnswerCause (OwnDigest image)) s.settings manifest_types c n e) (fetch_manifest_digest s image a) (λ m n c h. h) (digest_causes s image a) met is
 
 -- ---- documents
 
-pub raw_reason : (s : Context) (image : Reference) (a : RegistryAuth) (types : List ℕ) {old new : Link} {k l : Memory} {r : Result (List ℕ × List ℕ) OciDistributionError} → Meets is_memory (pull_manifest_raw s image a types) old new k l r → IfErr r (λ e. Told (λ c. Cause (AnswerCause (OwnDigest image)) (BadHeader (pulling k s image (Some a)) s.settings types) s.settings c new.faults e) old new)
+pub raw_reason : (s : Context) (image : Reference) (a : RegistryAuth) (types : List ℕ) {old new : Link} {k l : Memory} {r : Result (List ℕ × List ℕ) OciDistributionError} → Meets is_memory (pull_manifest_raw s image a types) old new k l r → IfErr r (λ e. Told (λ c. Cause (ManifestUrl s.settings image) (AnswerCause (OwnDigest image)) (BadHeader (pulling k s image (Some a)) s.settings types) s.settings c new.faults e) old new)
 raw_reason s image a types {k = k} met =
     let x = pulling k s image (Some a) in
-    refusal_both (λ m c n found. Accepted c found.0) (λ m c n e. Loose (AnswerCause (OwnDigest image)) s.settings types c n e) (Keeps x) (Ended x s.settings types) (λ c n e. Cause (AnswerCause (OwnDigest image)) (BadHeader x s.settings types) s.settings c n e) (pull_manifest_raw s image a types)
-    (λ n c e is. cause_free (AnswerCause (OwnDigest image)) (BadHeader x s.settings types) s.settings n c e is) (λ m n c e h bad. tight (AnswerCause (OwnDigest image)) x s.settings types n c e h bad) (raw_causes s image a types) (raw_sound s image a types k k [] (keeps_first x)) met
+    refusal_both (λ m c n found. Accepted c found.0) (λ m c n e. Loose (ManifestUrl s.settings image) (AnswerCause (OwnDigest image)) s.settings types c n e) (Keeps x) (Ended x s.settings types) (λ c n e. Cause (ManifestUrl s.settings image) (AnswerCause (OwnDigest image)) (BadHeader x s.settings types) s.settings c n e) (pull_manifest_raw s image a types)
+    (λ n c e is. cause_free (ManifestUrl s.settings image) (AnswerCause (OwnDigest image)) (BadHeader x s.settings types) s.settings n c e is) (λ m n c e h bad. tight (ManifestUrl s.settings image) (AnswerCause (OwnDigest image)) x s.settings types n c e h bad) (raw_causes s image a types) (raw_sound s image a types k k [] (keeps_first x)) met
 
 pub raw_fault : (s : Context) (image : Reference) (a : RegistryAuth) (types : List ℕ) {old new : Link} {k l : Memory} {r : Result (List ℕ × List ℕ) OciDistributionError} → Meets is_memory (pull_manifest_raw s image a types) old new k l r → r ≡ Err refusal.TransportFault → Rose old.faults new.faults
-raw_fault s image a types met is = faulted (λ m c n found. Accepted c found.0) (λ m c n e. Loose (AnswerCause (OwnDigest image)) s.settings types c n e) (pull_manifest_raw s image a types) (λ m n c h. h) (raw_causes s image a types) met is
+raw_fault s image a types met is = faulted (λ m c n found. Accepted c found.0) (λ m c n e. Loose (ManifestUrl s.settings image) (AnswerCause (OwnDigest image)) s.settings types c n e) (pull_manifest_raw s image a types) (λ m n c h. h) (raw_causes s image a types) met is
 
 -- for types that were put into one text
-pub listed_reason : (s : Context) (image : Reference) (a : RegistryAuth) (text types : List ℕ) {old new : Link} {k l : Memory} {r : Result (List ℕ × List ℕ) OciDistributionError} → text ≡ types → Meets is_memory (pull_manifest_raw s image a text) old new k l r → IfErr r (λ e. Told (λ c. Cause (AnswerCause (OwnDigest image)) (BadHeader (pulling k s image (Some a)) s.settings types) s.settings c new.faults e) old new)
+pub listed_reason : (s : Context) (image : Reference) (a : RegistryAuth) (text types : List ℕ) {old new : Link} {k l : Memory} {r : Result (List ℕ × List ℕ) OciDistributionError} → text ≡ types → Meets is_memory (pull_manifest_raw s image a text) old new k l r → IfErr r (λ e. Told (λ c. Cause (ManifestUrl s.settings image) (AnswerCause (OwnDigest image)) (BadHeader (pulling k s image (Some a)) s.settings types) s.settings c new.faults e) old new)
 listed_reason s image a text types is met = raw_reason s image a types (rw is at met)
 
 -- ---- manifests
 
-pub manifest_reason : (s : Context) (image : Reference) (a : RegistryAuth) {old new : Link} {k l : Memory} {r : Result (OciManifest × List ℕ) OciDistributionError} → Meets is_memory (pull_manifest s image a) old new k l r → IfErr r (λ e. Told (λ c. Cause (DocumentCause (OwnDigest image)) (BadHeader (pulling k s image (Some a)) s.settings manifest_types) s.settings c new.faults e) old new)
+pub manifest_reason : (s : Context) (image : Reference) (a : RegistryAuth) {old new : Link} {k l : Memory} {r : Result (OciManifest × List ℕ) OciDistributionError} → Meets is_memory (pull_manifest s image a) old new k l r → IfErr r (λ e. Told (λ c. Cause (ManifestUrl s.settings image) (DocumentCause (OwnDigest image)) (BadHeader (pulling k s image (Some a)) s.settings manifest_types) s.settings c new.faults e) old new)
 manifest_reason s image a {k = k} met =
     let x = pulling k s image (Some a) in
-    refusal_both (λ m c n found. ReadLast c found.0) (λ m c n e. Loose (DocumentCause (OwnDigest image)) s.settings manifest_types c n e) (Keeps x) (Ended x s.settings manifest_types) (λ c n e. Cause (DocumentCause (OwnDigest image)) (BadHeader x s.settings manifest_types) s.settings c n e) (pull_manifest s image a)
-    (λ n c e is. cause_free (DocumentCause (OwnDigest image)) (BadHeader x s.settings manifest_types) s.settings n c e is) (λ m n c e h bad. tight (DocumentCause (OwnDigest image)) x s.settings manifest_types n c e h bad) (manifest_causes s image a) (manifest_sound s image a k k [] (keeps_first x)) met
+    refusal_both (λ m c n found. ReadLast c found.0) (λ m c n e. Loose (ManifestUrl s.settings image) (DocumentCause (OwnDigest image)) s.settings manifest_types c n e) (Keeps x) (Ended x s.settings manifest_types) (λ c n e. Cause (ManifestUrl s.settings image) (DocumentCause (OwnDigest image)) (BadHeader x s.settings manifest_types) s.settings c n e) (pull_manifest s image a)
+    (λ n c e is. cause_free (ManifestUrl s.settings image) (DocumentCause (OwnDigest image)) (BadHeader x s.settings manifest_types) s.settings n c e is) (λ m n c e h bad. tight (ManifestUrl s.settings image) (DocumentCause (OwnDigest image)) x s.settings manifest_types n c e h bad) (manifest_causes s image a) (manifest_sound s image a k k [] (keeps_first x)) met
 
 pub manifest_fault : (s : Context) (image : Reference) (a : RegistryAuth) {old new : Link} {k l : Memory} {r : Result (OciManifest × List ℕ) OciDistributionError} → Meets is_memory (pull_manifest s image a) old new k l r → r ≡ Err refusal.TransportFault → Rose old.faults new.faults
-manifest_fault s image a met is = faulted (λ m c n found. ReadLast c found.0) (λ m c n e. Loose (DocumentCause (OwnDigest image)) s.settings manifest_types c n e) (pull_manifest s image a) (λ m n c h. h) (manifest_causes s image a) met is
+manifest_fault s image a met is = faulted (λ m c n found. ReadLast c found.0) (λ m c n e. Loose (ManifestUrl s.settings image) (DocumentCause (OwnDigest image)) s.settings manifest_types c n e) (pull_manifest s image a) (λ m n c h. h) (manifest_causes s image a) met is
 
 -- ---- images
 
-row_reason : (s : Context) (image : Reference) (a : RegistryAuth) (accepted : List (List ℕ)) {old new : Link} {k l : Memory} {r : Result ImageData OciDistributionError} → Meets is_memory (pull s image a accepted) old new k l r → IfErr r (λ e. Told (λ c. Whole (BadHeader (pulling k s image (Some a)) s.settings manifest_types) s.settings image accepted c new.faults e) old new)
-row_reason s image a accepted {k = k} met =
+pub image_reason : (s : Context) (image : Reference) (a : RegistryAuth) (accepted : List (List ℕ)) {old new : Link} {k l : Memory} {r : Result ImageData OciDistributionError} → Meets is_memory (pull s image a accepted) old new k l r → IfErr r (λ e. Told (λ c. ImageCause (BadHeader (pulling k s image (Some a)) s.settings manifest_types) s.settings image accepted c new.faults e) old new)
+image_reason s image a accepted {k = k} met =
     let x = pulling k s image (Some a) in
-    refusal_both (λ m c n found. Unit {0}) (λ m c n e. RowCause s.settings image accepted c n e) (Keeps x) (Ended x s.settings manifest_types) (λ c n e. Whole (BadHeader x s.settings manifest_types) s.settings image accepted c n e) (pull s image a accepted)
-    (λ n c e is. row_free (BadHeader x s.settings manifest_types) s.settings image accepted n c e is) (λ m n c e h bad. tight_whole x s.settings image accepted n c e h bad) (image_causes s image a accepted) (image_sound s image a accepted k k [] (keeps_first x)) met
-
-row_unsunk : (Bad : List Exchange → Type 0) (s : Settings) (image : Reference) (accepted : List (List ℕ)) (now : ℕ) (c : List Exchange) (e : OciDistributionError) → e ≢ refusal.SinkFault → Whole Bad s image accepted c now e → ImageCause Bad s image accepted c now e
-row_unsunk Bad s image accepted now c refusal.SinkFault calm h = absurd (calm refl)
-row_unsunk Bad s image accepted now c _ calm h = h
-
-pub image_reason : (s : Context) (image : Reference) (a : RegistryAuth) (accepted : List (List ℕ)) {old new : Link} {k l : Memory} {r : Result ImageData OciDistributionError} → Meets is_memory (pull s image a accepted) old new k l r → r ≢ Err refusal.SinkFault → IfErr r (λ e. Told (λ c. ImageCause (BadHeader (pulling k s image (Some a)) s.settings manifest_types) s.settings image accepted c new.faults e) old new)
-image_reason s image a accepted {old = old} {new = new} {k = k} {r = r} met calm =
-    let Bad = BadHeader (pulling k s image (Some a)) s.settings manifest_types in
-    told_unsunk (λ c e. Whole Bad s.settings image accepted c new.faults e) (λ c e. ImageCause Bad s.settings image accepted c new.faults e) old new r (λ c e. row_unsunk Bad s.settings image accepted new.faults c e) calm (row_reason s image a accepted met)
+    refusal_both (λ m c n found. Unit {0}) (λ m c n e. RowCause s.settings image accepted c n e) (Keeps x) (Ended x s.settings manifest_types) (λ c n e. ImageCause (BadHeader x s.settings manifest_types) s.settings image accepted c n e) (pull s image a accepted)
+    (λ n c e is. image_free (BadHeader x s.settings manifest_types) s.settings image accepted n c e is) (λ m n c e h bad. tight_image x s.settings image accepted n c e h bad) (image_causes s image a accepted) (image_sound s image a accepted k k [] (keeps_first x)) met
 
 pub image_fault : (s : Context) (image : Reference) (a : RegistryAuth) (accepted : List (List ℕ)) {old new : Link} {k l : Memory} {r : Result ImageData OciDistributionError} → Meets is_memory (pull s image a accepted) old new k l r → r ≡ Err refusal.TransportFault → Rose old.faults new.faults
 image_fault s image a accepted met is = faulted (λ m c n found. Unit {0}) (λ m c n e. RowCause s.settings image accepted c n e) (pull s image a accepted) (λ m n c h. h) (image_causes s image a accepted) met is
 
 -- ---- blobs
 
-poured_reason : (s : Context) (image : Reference) (digest : List ℕ) {old new : Link} {k l : Memory} {r : Result (List ℕ) OciDistributionError} → Meets is_memory (pull_blob s image digest) old new k l r → IfErr r (λ e. Told (λ c. PouredCause (BadHeader (pulling k s image None) s.settings manifest_types) s.settings digest c new.faults e) old new)
-poured_reason s image digest {k = k} met =
+pub blob_reason : (to : Destination) (s : Context) (image : Reference) (digest : List ℕ) {old new : Link} {k l : Memory} {r : Result (List ℕ) OciDistributionError} → Meets is_memory (blob_to to s image digest) old new k l r → IfErr r (λ e. Told (λ c. BlobCause (BlobUrl s.settings image digest) to (BadHeader (pulling k s image None) s.settings manifest_types) s.settings digest c new.faults e) old new)
+blob_reason to s image digest {k = k} met =
     let x = pulling k s image None in
-    refusal_both (λ m c n bytes. Unit {0}) (λ m c n e. LoosePoured s.settings digest c n e) (Keeps x) (Ended x s.settings manifest_types) (λ c n e. PouredCause (BadHeader x s.settings manifest_types) s.settings digest c n e) (pull_blob s image digest)
-    (λ n c e is. blob_free (BadHeader x s.settings manifest_types) s.settings digest n c e is) (λ m n c e h bad. tight_poured x s.settings digest n c e h bad) (blob_causes s image digest) (blob_sound s image digest k None k [] (keeps_first x)) met
+    refusal_both (λ m c n bytes. Unit {0}) (λ m c n e. LooseBlob (BlobUrl s.settings image digest) to s.settings digest c n e) (Keeps x) (Ended x s.settings manifest_types) (λ c n e. BlobCause (BlobUrl s.settings image digest) to (BadHeader x s.settings manifest_types) s.settings digest c n e) (blob_to to s image digest)
+    (λ n c e is. blob_free (BlobUrl s.settings image digest) to (BadHeader x s.settings manifest_types) s.settings digest n c e is) (λ m n c e h bad. tight_blob (BlobUrl s.settings image digest) to x s.settings digest n c e h bad) (blob_causes to s image digest) (blob_sound to s image digest k None k [] (keeps_first x)) met
 
-poured_unsunk : (Bad : List Exchange → Type 0) (s : Settings) (digest : List ℕ) (now : ℕ) (c : List Exchange) (e : OciDistributionError) → e ≢ refusal.SinkFault → PouredCause Bad s digest c now e → BlobCause Bad s digest c now e
-poured_unsunk Bad s digest now c refusal.SinkFault calm h = absurd (calm refl)
-poured_unsunk Bad s digest now c _ calm h = h
-
-pub blob_reason : (s : Context) (image : Reference) (digest : List ℕ) {old new : Link} {k l : Memory} {r : Result (List ℕ) OciDistributionError} → Meets is_memory (pull_blob s image digest) old new k l r → r ≢ Err refusal.SinkFault → IfErr r (λ e. Told (λ c. BlobCause (BadHeader (pulling k s image None) s.settings manifest_types) s.settings digest c new.faults e) old new)
-blob_reason s image digest {old = old} {new = new} {k = k} {r = r} met calm =
-    let Bad = BadHeader (pulling k s image None) s.settings manifest_types in
-    told_unsunk (λ c e. PouredCause Bad s.settings digest c new.faults e) (λ c e. BlobCause Bad s.settings digest c new.faults e) old new r (λ c e. poured_unsunk Bad s.settings digest new.faults c e) calm (poured_reason s image digest met)
-
-pub blob_fault : (s : Context) (image : Reference) (digest : List ℕ) {old new : Link} {k l : Memory} {r : Result (List ℕ) OciDistributionError} → Meets is_memory (pull_blob s image digest) old new k l r → r ≡ Err refusal.TransportFault → Rose old.faults new.faults
-blob_fault s image digest met is = faulted (λ m c n bytes. Unit {0}) (λ m c n e. LoosePoured s.settings digest c n e) (pull_blob s image digest) (λ m n c h. h) (blob_causes s image digest) met is
+pub blob_fault : (to : Destination) (s : Context) (image : Reference) (digest : List ℕ) {old new : Link} {k l : Memory} {r : Result (List ℕ) OciDistributionError} → Meets is_memory (blob_to to s image digest) old new k l r → r ≡ Err refusal.TransportFault → Rose old.faults new.faults
+blob_fault to s image digest met is = faulted (λ m c n bytes. Unit {0}) (λ m c n e. LooseBlob (BlobUrl s.settings image digest) to s.settings digest c n e) (blob_to to s image digest) (λ m n c h. h) (blob_causes to s image digest) met is
 
 -- into a sink
-pub spilled_reason : (s : Context) (image : Reference) (digest : List ℕ) {old new : Link} {k l : Memory} {before after : Tray} {r : Result (Unit {0}) OciDistributionError} → Spills (pull_blob s image digest) old new k l before after r → IfErr r (λ e. Told (λ c. PouredCause (BadHeader (pulling k s image None) s.settings manifest_types) s.settings digest c new.faults e) old new)
+pub spilled_reason : (s : Context) (image : Reference) (digest : List ℕ) {old new : Link} {k l : Memory} {before after : Tray} {r : Result (Unit {0}) OciDistributionError} → Spills (pull_blob s image digest) old new k l before after r → IfErr r (λ e. Told (λ c. BlobCause (BlobUrl s.settings image digest) IntoSink (BadHeader (pulling k s image None) s.settings manifest_types) s.settings digest c new.faults e) old new)
 spilled_reason s image digest {old} {new} {k} {l} {before} {after} {r} spills = by_result r spills where
-  by_result : (r : Result (Unit {0}) OciDistributionError) → Spills (pull_blob s image digest) old new k l before after r → IfErr r (λ e. Told (λ c. PouredCause (BadHeader (pulling k s image None) s.settings manifest_types) s.settings digest c new.faults e) old new)
+  by_result : (r : Result (Unit {0}) OciDistributionError) → Spills (pull_blob s image digest) old new k l before after r → IfErr r (λ e. Told (λ c. BlobCause (BlobUrl s.settings image digest) IntoSink (BadHeader (pulling k s image None) s.settings manifest_types) s.settings digest c new.faults e) old new)
   by_result (Ok u) spills = tt
-  by_result (Err e) spills = poured_reason s image digest spills.met
+  by_result (Err e) spills = blob_reason IntoSink s image digest spills.met
 
 pub spilled_fault : (s : Context) (image : Reference) (digest : List ℕ) {old new : Link} {k l : Memory} {before after : Tray} {r : Result (Unit {0}) OciDistributionError} → Spills (pull_blob s image digest) old new k l before after r → r ≡ Err refusal.TransportFault → Rose old.faults new.faults
 spilled_fault s image digest {old} {new} {k} {l} {before} {after} {r} spills is = failed (rw is at spills) where
   failed : Spills (pull_blob s image digest) old new k l before after (Err refusal.TransportFault) → Rose old.faults new.faults
-  failed spills = blob_fault s image digest spills.met refl
+  failed spills = blob_fault IntoSink s image digest spills.met refl

@@ -1,5 +1,5 @@
 -- Why the call for a digest was refused.
-use Rattle.std.proofs.Common.{◌≡◌, ℕ, List, [], ◌++◌, Option, Some, None, Result, Ok, Err, codes, refl, sym, subst, append-nil}
+use Rattle.std.proofs.Common.{◌≡◌, inl, inr, ℕ, List, [], ◌++◌, Option, Some, None, Result, Ok, Err, codes, refl, sym, subst, append-nil}
 use Rattle.url.specs.Parts.{Parts, serialize}
 use Rattle.oci_transport.specs.Link.{answer_of}
 use Rattle.oci_transport.specs.Headers.{first_of}
@@ -29,7 +29,7 @@ use Rattle.engine_steps.specs.declared.asking.Named.{Named}
 use Rattle.engine_steps.specs.declared.asking.Named.TheVariants as named
 use Rattle.engine_steps.specs.Rows.{store, reading_named, named_reading, unread_named, read_named, named_reply, named_after, prepared}
 use Rattle.engine_pull.specs.Pulls.{document, digest_by, fetch_manifest_digest}
-use Rattle.oci_engine.specs.Causes.{LastAnswer, AnswerCause, OwnDigest}
+use Rattle.oci_engine.specs.Causes.{ManifestUrl, LastAnswer, AnswerCause, OwnDigest}
 use Rattle.oci_engine.proofs.Asking.{accepts_of, Prepared}
 use Rattle.oci_engine.proofs.Digested.{digest_err, agreed_cause}
 use Rattle.oci_engine.proofs.Early.{prepared_causes, store_causes}
@@ -42,12 +42,12 @@ NamedLast m c n named.Unnamed = Unit {0}
 
 unread_where : (s : Settings) (image : Reference) (m after : ℕ) (c : List Exchange) (address : List ℕ) (answer : Answer) (d : Result (Option (List ℕ)) OciDistributionError) → header_digest answer.headers ≡ d → LastAnswer c address answer → ByAnswer NamedLast (OwnCause s image manifest_types) m c after (unread_named d)
 unread_where s image m after c address answer (Ok digest) is last = tt
-unread_where s image m after c address answer (Err e) is last = answer_cause (OwnDigest image) s manifest_types after c address answer e last (header_refused (OwnDigest image) address answer e is)
+unread_where s image m after c address answer (Err e) is last = answer_cause (ManifestUrl s image) (OwnDigest image) s manifest_types after c address answer e last (header_refused (OwnDigest image) address answer e is)
 
 read_where : (s : Settings) (image : Reference) (m after : ℕ) (c : List Exchange) (got : Got) (d : Result (Option (List ℕ)) OciDistributionError) → header_digest got.answer.headers ≡ d → LastAnswer c got.url got.answer → ByAnswer NamedLast (OwnCause s image manifest_types) m c after (read_named got d)
 read_where s image m after c got (Ok (Some digest)) is last = (last, is)
 read_where s image m after c got (Ok None) is last = tt
-read_where s image m after c got (Err e) is last = answer_cause (OwnDigest image) s manifest_types after c got.url got.answer e last (header_refused (OwnDigest image) got.url got.answer e is)
+read_where s image m after c got (Err e) is last = answer_cause (ManifestUrl s image) (OwnDigest image) s manifest_types after c got.url got.answer e last (header_refused (OwnDigest image) got.url got.answer e is)
 
 limit_is : (limit n : ℕ) (d : Result (Option (List ℕ)) OciDistributionError) → limit_of (reading_named limit d) ≡ Some n → limit ≡ n
 limit_is limit n (Ok (Some digest)) is = cc is
@@ -90,7 +90,7 @@ Any m c n digest = Unit {0}
 
 any_later : (s : Settings) (image : Reference) (m start o : ℕ) (c d : List Exchange) (r : Result (List ℕ) OciDistributionError) → ByAnswer Any (OwnCause s image manifest_types) start d o r → ByAnswer Any (OwnCause s image manifest_types) m (c ++ d) o r
 any_later s image m start o c d (Ok x) h = tt
-any_later s image m start o c d (Err e) h = cause_later (AnswerCause (OwnDigest image)) (AnswerCause (OwnDigest image)) s manifest_types o c d e (λ address answer h. h) h
+any_later s image m start o c d (Err e) h = cause_later (ManifestUrl s image) (ManifestUrl s image) (AnswerCause (OwnDigest image)) (AnswerCause (OwnDigest image)) s manifest_types o c d e (λ text h. h) (λ address answer h. h) h
 
 document_digest : (s : Context) (image : Reference) (url : Parts) → Shows (ByAnswer Any (OwnCause s.settings image manifest_types)) (document s image url manifest_types >>= λ found. Done (Ok found.1))
 document_digest s image url = Shows-each (λ m c n found. Accepted c found.0) Any (OwnCause s.settings image manifest_types) (document s image url manifest_types) (λ found. Done (Ok found.1)) (document_causes s image url manifest_types)
@@ -101,7 +101,7 @@ by_causes s image url m n c (named.ByHeader digest got) h = Shows-step (λ start
     (λ answer is. Shows-last (λ start d o x. Unit {0}) (λ start d o e. OwnCause s.settings image manifest_types m (c ++ d) o e) (fits_reference digest (digest_of image)) (λ x is o. tt) (λ e is o. at_last o e (fits_refused image got.answer got.url digest (digest_of image) e refl h.1 is)))
     (λ e is o. at_last o e (not_accepted (OwnDigest image) got.url got.answer e is)) where
       at_last : (o : ℕ) (e : OciDistributionError) → AnswerCause (OwnDigest image) got.url got.answer e → OwnCause s.settings image manifest_types m (c ++ []) o e
-      at_last o e cause = subst (λ x. OwnCause s.settings image manifest_types m x o e) (sym (append-nil c)) (answer_cause (OwnDigest image) s.settings manifest_types o c got.url got.answer e h.0 cause)
+      at_last o e cause = subst (λ x. OwnCause s.settings image manifest_types m x o e) (sym (append-nil c)) (answer_cause (ManifestUrl s.settings image) (OwnDigest image) s.settings manifest_types o c got.url got.answer e h.0 cause)
 by_causes s image url m n c named.Unnamed h = Shows-more (ByAnswer Any (OwnCause s.settings image manifest_types)) (λ start d o r. ByAnswer Any (OwnCause s.settings image manifest_types) m (c ++ d) o r) (document s image url manifest_types >>= λ found. Done (Ok found.1)) (document_digest s image url) (λ start o d r h. any_later s.settings image m start o c d r h)
 
 asked_causes : (s : Context) (image : Reference) (url : Parts) (request : Request) → first_of (codes "accept") request.headers ≡ Some manifest_types → Shows (ByAnswer Any (OwnCause s.settings image manifest_types)) (named_after 10 request s.settings.max_body_bytes >>= λ x. digest_by s image url x)
@@ -109,14 +109,14 @@ asked_causes s image url request accepts = Shows-each NamedLast Any (OwnCause s.
 
 head_causes : (s : Context) (image : Reference) (url : Parts) → Shows (ByAnswer Any (OwnCause s.settings image manifest_types)) (prepared s image Pull Head url manifest_types >>= λ request. named_after 10 request s.settings.max_body_bytes >>= λ x. digest_by s image url x)
 head_causes s image url = Shows-each (λ m c n request. Prepared s.settings Head url manifest_types Head (serialize url) c request) Any (OwnCause s.settings image manifest_types) (prepared s image Pull Head url manifest_types) (λ request. named_after 10 request s.settings.max_body_bytes >>= λ x. digest_by s image url x)
-    (early_shown (AnswerCause (OwnDigest image)) s.settings manifest_types (λ m c n request. Prepared s.settings Head url manifest_types Head (serialize url) c request) (prepared s image Pull Head url manifest_types) (prepared_causes s image Pull Head url manifest_types Head (serialize url)))
+    (early_shown (ManifestUrl s.settings image) (AnswerCause (OwnDigest image)) s.settings manifest_types (λ m c n request. Prepared s.settings Head url manifest_types Head (serialize url) c request) (prepared s image Pull Head url manifest_types) (prepared_causes (ManifestUrl s.settings image) s image Pull Head url manifest_types Head (serialize url) (inl refl)))
     (λ m n c request p. Shows-more (ByAnswer Any (OwnCause s.settings image manifest_types)) (λ start d o r. ByAnswer Any (OwnCause s.settings image manifest_types) m (c ++ d) o r) (named_after 10 request s.settings.max_body_bytes >>= λ x. digest_by s image url x) (asked_causes s image url request (accepts_of s.settings Head url manifest_types p.token request p.made)) (λ start o d r h. any_later s.settings image m start o c d r h))
 
 -- each refusal has its cause
 pub digest_causes : (s : Context) (image : Reference) (a : RegistryAuth) → Shows (ByAnswer (λ m c n digest. Unit {0}) (OwnCause s.settings image manifest_types)) (fetch_manifest_digest s image a)
 unfolding fetch_manifest_digest
 digest_causes s image a = Shows-each (λ m c n u. Unit {0}) Any (OwnCause s.settings image manifest_types) (store image a) (λ u. Done (url_read (manifest_text s.settings image)) >>= λ url. prepared s image Pull Head url manifest_types >>= λ request. named_after 10 request s.settings.max_body_bytes >>= λ x. digest_by s image url x)
-    (early_shown (AnswerCause (OwnDigest image)) s.settings manifest_types (λ m c n u. Unit {0}) (store image a) (store_causes s.settings manifest_types image a))
+    (early_shown (ManifestUrl s.settings image) (AnswerCause (OwnDigest image)) s.settings manifest_types (λ m c n u. Unit {0}) (store image a) (store_causes (ManifestUrl s.settings image) s.settings manifest_types image a))
     (λ m n c u h. Shows-step (λ start d o r. ByAnswer Any (OwnCause s.settings image manifest_types) m (c ++ d) o r) (url_read (manifest_text s.settings image)) (λ url. prepared s image Pull Head url manifest_types >>= λ request. named_after 10 request s.settings.max_body_bytes >>= λ x. digest_by s image url x)
     (λ url is. Shows-more (ByAnswer Any (OwnCause s.settings image manifest_types)) (λ start d o r. ByAnswer Any (OwnCause s.settings image manifest_types) m (c ++ d) o r) (prepared s image Pull Head url manifest_types >>= λ request. named_after 10 request s.settings.max_body_bytes >>= λ x. digest_by s image url x) (head_causes s image url) (λ start o d r h. any_later s.settings image m start o c d r h))
-    (λ e is o. url_cause (AnswerCause (OwnDigest image)) s.settings manifest_types (manifest_text s.settings image) o (c ++ []) e is))
+    (λ e is o. url_cause (ManifestUrl s.settings image) (AnswerCause (OwnDigest image)) s.settings manifest_types (manifest_text s.settings image) o (c ++ []) e (inr refl) is))

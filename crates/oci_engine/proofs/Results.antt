@@ -13,8 +13,8 @@ use Rattle.oci_protocol.proofs.Showing.{Meets-shows-ok}
 use Rattle.engine_requests.specs.Contexts.{Context}
 use Rattle.engine_requests.specs.declared.error.OciDistributionError.{OciDistributionError}
 use Rattle.engine_requests.specs.Errors.{is_memory}
-use Rattle.engine_steps.specs.Blobs.{Spills}
-use Rattle.engine_pull.specs.Pulls.{fetch_manifest_digest, pull_manifest_raw, pull_blob}
+use Rattle.engine_steps.specs.Blobs.{Destination, IntoSink, Spills}
+use Rattle.engine_pull.specs.Pulls.{fetch_manifest_digest, pull_manifest_raw, blob_to, pull_blob}
 use Rattle.oci_engine.specs.Answered.{Answered, Body, LastBody, Document, TookBlob}
 use Rattle.oci_engine.proofs.Documents.{raw_shows}
 use Rattle.oci_engine.proofs.Digests.{digest_shows}
@@ -43,20 +43,20 @@ raw_named s image a types {old = old} {new = new} {r = r} met = ok_more (λ foun
 pub raw_given : (s : Context) (image : Reference) (a : RegistryAuth) (types : List ℕ) {old new : Link} {k l : Memory} {r : Result (List ℕ × List ℕ) OciDistributionError} → Meets is_memory (pull_manifest_raw s image a types) old new k l r → IfOk r (λ found. (d : List ℕ) → digest_of image ≡ Some d → Names d found.0)
 raw_given s image a types {old = old} {new = new} {r = r} met = ok_more (λ found. Told (λ c. Document image c found.0 found.1) old new) (λ found. (d : List ℕ) → digest_of image ≡ Some d → Names d found.0) r (raw_told s image a types met) (λ found told. told.holds.named)
 
-blob_told : (s : Context) (image : Reference) (digest : List ℕ) {old new : Link} {k l : Memory} {r : Result (List ℕ) OciDistributionError} → Meets is_memory (pull_blob s image digest) old new k l r → IfOk r (λ bytes. Told (λ c. Blob digest c bytes) old new)
-blob_told s image digest met = Meets-shows-ok (λ m c n bytes. Blob digest c bytes) (blob_shows s image digest) met
+blob_told : (to : Destination) (s : Context) (image : Reference) (digest : List ℕ) {old new : Link} {k l : Memory} {r : Result (List ℕ) OciDistributionError} → Meets is_memory (blob_to to s image digest) old new k l r → IfOk r (λ bytes. Told (λ c. Blob digest c bytes) old new)
+blob_told to s image digest met = Meets-shows-ok (λ m c n bytes. Blob digest c bytes) (blob_shows to s image digest) met
 
-pub blob_body : (s : Context) (image : Reference) (digest : List ℕ) {old new : Link} {k l : Memory} {r : Result (List ℕ) OciDistributionError} → Meets is_memory (pull_blob s image digest) old new k l r → IfOk r (λ bytes. Told (λ c. Body c bytes) old new)
-blob_body s image digest {old = old} {new = new} {r = r} met = ok_more (λ bytes. Told (λ c. Blob digest c bytes) old new) (λ bytes. Told (λ c. Body c bytes) old new) r (blob_told s image digest met) (λ bytes told. told_more (λ c b. b.0) told)
+pub blob_body : (to : Destination) (s : Context) (image : Reference) (digest : List ℕ) {old new : Link} {k l : Memory} {r : Result (List ℕ) OciDistributionError} → Meets is_memory (blob_to to s image digest) old new k l r → IfOk r (λ bytes. Told (λ c. Body c bytes) old new)
+blob_body to s image digest {old = old} {new = new} {r = r} met = ok_more (λ bytes. Told (λ c. Blob digest c bytes) old new) (λ bytes. Told (λ c. Body c bytes) old new) r (blob_told to s image digest met) (λ bytes told. told_more (λ c b. b.0) told)
 
-pub blob_last : (s : Context) (image : Reference) (digest : List ℕ) {old new : Link} {k l : Memory} {r : Result (List ℕ) OciDistributionError} → Meets is_memory (pull_blob s image digest) old new k l r → IfOk r (λ bytes. Told (λ c. LastBody c bytes) old new)
-blob_last s image digest {old = old} {new = new} {r = r} met = ok_more (λ bytes. Told (λ c. Blob digest c bytes) old new) (λ bytes. Told (λ c. LastBody c bytes) old new) r (blob_told s image digest met) (λ bytes told. told_more (λ c b. b.2) told)
+pub blob_last : (to : Destination) (s : Context) (image : Reference) (digest : List ℕ) {old new : Link} {k l : Memory} {r : Result (List ℕ) OciDistributionError} → Meets is_memory (blob_to to s image digest) old new k l r → IfOk r (λ bytes. Told (λ c. LastBody c bytes) old new)
+blob_last to s image digest {old = old} {new = new} {r = r} met = ok_more (λ bytes. Told (λ c. Blob digest c bytes) old new) (λ bytes. Told (λ c. LastBody c bytes) old new) r (blob_told to s image digest met) (λ bytes told. told_more (λ c b. b.2) told)
 
-pub blob_named : (s : Context) (image : Reference) (digest : List ℕ) {old new : Link} {k l : Memory} {r : Result (List ℕ) OciDistributionError} → Meets is_memory (pull_blob s image digest) old new k l r → IfOk r (λ bytes. Names digest bytes)
-blob_named s image digest {old = old} {new = new} {r = r} met = ok_more (λ bytes. Told (λ c. Blob digest c bytes) old new) (λ bytes. Names digest bytes) r (blob_told s image digest met) (λ bytes told. told.holds.1)
+pub blob_named : (to : Destination) (s : Context) (image : Reference) (digest : List ℕ) {old new : Link} {k l : Memory} {r : Result (List ℕ) OciDistributionError} → Meets is_memory (blob_to to s image digest) old new k l r → IfOk r (λ bytes. Names digest bytes)
+blob_named to s image digest {old = old} {new = new} {r = r} met = ok_more (λ bytes. Told (λ c. Blob digest c bytes) old new) (λ bytes. Names digest bytes) r (blob_told to s image digest met) (λ bytes told. told.holds.1)
 
 pub blob_took : (s : Context) (image : Reference) (digest : List ℕ) {old new : Link} {k l : Memory} {before after : Tray} {r : Result (Unit {0}) OciDistributionError} → Spills (pull_blob s image digest) old new k l before after r → IfOk r (λ u. TookBlob digest old new before after)
 blob_took s image digest {old} {new} {k} {l} {before} {after} {r} spills = by_result r spills where
   by_result : (r : Result (Unit {0}) OciDistributionError) → Spills (pull_blob s image digest) old new k l before after r → IfOk r (λ u. TookBlob digest old new before after)
-  by_result (Ok u) spills = record { bytes = spills.body; took = spills.put; names = blob_named s image digest spills.met; body = blob_last s image digest spills.met }
+  by_result (Ok u) spills = record { bytes = spills.body; took = spills.put; names = blob_named IntoSink s image digest spills.met; body = blob_last IntoSink s image digest spills.met }
   by_result (Err e) spills = tt

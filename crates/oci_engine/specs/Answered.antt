@@ -20,12 +20,16 @@ use Rattle.engine_requests.specs.declared.settings.Settings.{Settings}
 use Rattle.engine_requests.specs.Addresses.{manifest_text}
 use Rattle.engine_requests.specs.Answers.{header_digest}
 
--- the request is of this method and for this address, and lists the types that are accepted
+-- a request by which a token is asked for: the registry's `/v2/` or a realm, by GET, which lists no types
+pub record OfTokenExchange (request : Request) : Type 0 where
+  pub method_is : request.method ≡ Get
+  pub lists_none : first_of (codes "accept") request.headers ≡ None
+
+-- The request is of this method and for this address, and asks for no token. A HEAD never does.
 pub record Asks (method : Method) (address : List ℕ) (request : Request) : Type 0 where
   pub method_is : request.method ≡ method
   pub address_is : request.url ≡ address
-  pub types : List ℕ
-  pub accepts : first_of (codes "accept") request.headers ≡ Some types
+  pub own : OfTokenExchange request → ⊥
 
 -- no exchange asks so
 abbrev pub NoneAsks : Method → List ℕ → List Exchange → Type 0
@@ -81,7 +85,8 @@ pub record Answered (s : Settings) (image : Reference) (c : List Exchange) (d : 
   pub url : Parts
   pub address : request_url (manifest_text s image) ≡ Some url
   pub head : FirstAsked Head (serialize url) c
-  pub digest : ByHeader d head.answer ⊎ ((header_digest head.answer.headers ≡ Ok None) × ByDocument image (serialize url) d head.after)
+  pub digest : ByHeader d head.answer ⊎ ((header_digest head.answer.headers ≡ Ok None)
+      × ByDocument image (serialize url) d head.after)
 
 -- the bytes are the body of an answer
 pub record Body (c : List Exchange) (bytes : List ℕ) : Type 0 where

@@ -1,8 +1,9 @@
 -- Why a call was refused. A refusal that speaks of an answer speaks of the last one of the call.
-use Rattle.std.specs.Prelude.{◌≡◌, ◌≢◌, ◌<◌, ◌⊎◌, ℕ, true, false, List, [], ◌∷◌, ◌++◌, Some, None, Result, Ok, Err, codes, length}
+use Rattle.std.specs.Prelude.{◌≡◌, ◌≢◌, ◌<◌, ◌⊎◌, ℕ, true, false, List, [], ◌∷◌, ◌++◌, Some, None, Result, Ok}
+use Rattle.std.specs.Prelude.{Err, codes, length}
 use Rattle.std.specs.List.{Contains}
 use Rattle.json_values.specs.Counts.{Rose}
-use Rattle.oci_transport.specs.Headers.{first_of, is_header_value}
+use Rattle.oci_transport.specs.Headers.{digest_header, first_of, is_header_value}
 use Rattle.oci_transport.specs.Urls.{request_url}
 use Rattle.oci_transport.specs.declared.message.Request.{Request}
 use Rattle.oci_transport.specs.declared.message.Answer.{Answer}
@@ -29,9 +30,11 @@ use Rattle.engine_requests.specs.declared.error.GenericCause.TheVariants.{Header
 use Rattle.engine_requests.specs.declared.error.SpecViolation.TheVariants.{Status}
 use Rattle.engine_requests.specs.declared.error.OciDistributionError.{OciDistributionError}
 use Rattle.engine_requests.specs.declared.error.OciDistributionError.TheVariants as refusal
+use Rattle.engine_requests.specs.Addresses.{registry_text, manifest_text, blob_text}
 use Rattle.engine_requests.specs.Answers.{is_success, is_client_error, envelope_in, header_digest}
 use Rattle.engine_requests.specs.Errors.{is_memory}
 use Rattle.engine_requests.specs.Documents.{document_read}
+use Rattle.engine_steps.specs.Blobs.{Destination, IntoSink, IntoMemory}
 use Rattle.engine_pull.specs.Images.{is_accepted}
 use Rattle.oci_engine.specs.Answered.{Body}
 use Rattle.oci_engine.specs.Held.{Entry, IsHeld}
@@ -83,7 +86,8 @@ pub record IsClientError (answer : Answer) : Type 0 where
 
 -- one with no list of errors in it, or an answer of no success and no client's error
 abbrev pub IsServerError : Answer → Type 0
-IsServerError answer = (IsClientError answer × (envelope_in answer.body ≡ None)) ⊎ ((is_success answer.status ≡ false) × (is_client_error answer.status ≡ false))
+IsServerError answer = (IsClientError answer × (envelope_in answer.body ≡ None))
+    ⊎ ((is_success answer.status ≡ false) × (is_client_error answer.status ≡ false))
 
 -- ---- digests
 
@@ -97,13 +101,19 @@ Computed text bytes computed = (a : Algorithm) × (named_algorithm text ≡ Ok a
 
 -- two texts with the same name of an algorithm
 abbrev pub SameAlgorithm : List ℕ → List ℕ → Type 0
-SameAlgorithm a b = (name : List ℕ) × (x : List ℕ) × (y : List ℕ) × (parts_of a ≡ Some (name, x)) × (parts_of b ≡ Some (name, y))
+SameAlgorithm a b = (name : List ℕ) × (x : List ℕ) × (y : List ℕ) × (parts_of a ≡ Some (name, x))
+    × (parts_of b ≡ Some (name, y))
 
 abbrev pub DigestCause : (List ℕ → Type 0) → Answer → DigestError → Type 0
-DigestCause Given answer (digest_refusal.InvalidHeader value) = (first_of (codes "docker-content-digest") answer.headers ≡ Some value) × (is_header_text value ≡ false)
-DigestCause Given answer digest_refusal.MissingAlgorithm = (text : List ℕ) × Claimed Given answer text × (parts_of text ≡ None)
-DigestCause Given answer (digest_refusal.UnsupportedAlgorithm name) = (text : List ℕ) × (rest : List ℕ) × Claimed Given answer text × (parts_of text ≡ Some (name, rest)) × (algorithm_of name ≡ None)
-DigestCause Given answer (digest_refusal.VerificationError expected actual) = Claimed Given answer expected × (expected ≢ actual) × (Computed expected answer.body actual ⊎ ((header_digest answer.headers ≡ Ok (Some actual)) × SameAlgorithm actual expected))
+DigestCause Given answer (digest_refusal.InvalidHeader value) =
+    (first_of digest_header answer.headers ≡ Some value) × (is_header_text value ≡ false)
+DigestCause Given answer digest_refusal.MissingAlgorithm = (text : List ℕ) × Claimed Given answer text
+    × (parts_of text ≡ None)
+DigestCause Given answer (digest_refusal.UnsupportedAlgorithm name) = (text : List ℕ) × (rest : List ℕ)
+    × Claimed Given answer text × (parts_of text ≡ Some (name, rest)) × (algorithm_of name ≡ None)
+DigestCause Given answer (digest_refusal.VerificationError expected actual) = Claimed Given answer expected
+    × (expected ≢ actual) × (Computed expected answer.body actual
+    ⊎ ((header_digest answer.headers ≡ Ok (Some actual)) × SameAlgorithm actual expected))
 DigestCause Given answer digest_refusal.WantOfMemory = ⊥
 
 -- ---- causes
@@ -111,22 +121,30 @@ DigestCause Given answer digest_refusal.WantOfMemory = ⊥
 -- what the last answer shows of a refusal: its status, its digests
 abbrev pub AnswerCause : (List ℕ → Type 0) → List ℕ → Answer → OciDistributionError → Type 0
 AnswerCause Given address answer (refusal.UnauthorizedError url) = (url ≡ address) × (answer.status ≡ 401)
-AnswerCause Given address answer (refusal.RegistryError envelope url) = (url ≡ address) × IsClientError answer × (envelope_in answer.body ≡ Some envelope)
-AnswerCause Given address answer (refusal.ServerError status url body) = (url ≡ address) × IsServerError answer × (status ≡ answer.status) × (body ≡ answer.body)
-AnswerCause Given address answer (refusal.SpecViolationError (Status expected got url)) = (url ≡ address) × (expected ≡ 200) × (got ≡ answer.status) × (is_success got ≡ true) × (got ≢ expected)
+AnswerCause Given address answer (refusal.RegistryError envelope url) = (url ≡ address) × IsClientError answer
+    × (envelope_in answer.body ≡ Some envelope)
+AnswerCause Given address answer (refusal.ServerError status url body) = (url ≡ address) × IsServerError answer
+    × (status ≡ answer.status) × (body ≡ answer.body)
+AnswerCause Given address answer (refusal.SpecViolationError (Status expected got url)) = (url ≡ address)
+    × (expected ≡ 200) × (got ≡ answer.status) × (is_success got ≡ true) × (got ≢ expected)
 AnswerCause Given address answer (refusal.DigestError e) = DigestCause Given answer e
 AnswerCause Given address answer _ = ⊥
 
 -- and that its body does not read as a document, as the refusal says
-abbrev pub Unread : Answer → OciDistributionError → Type 0
-Unread answer e = (answer.status ≡ 200) × (document_read answer.body ≡ Err e)
+abbrev pub IsNoDocument : Answer → OciDistributionError → Type 0
+IsNoDocument answer e = (answer.status ≡ 200) × (document_read answer.body ≡ Err e)
 
 abbrev pub DocumentCause : (List ℕ → Type 0) → List ℕ → Answer → OciDistributionError → Type 0
-DocumentCause Given address answer (refusal.VersionedParsingError body) = Unread answer (refusal.VersionedParsingError body)
-DocumentCause Given address answer (refusal.ManifestParsingError body) = Unread answer (refusal.ManifestParsingError body)
-DocumentCause Given address answer (refusal.AmbiguousManifest body) = Unread answer (refusal.AmbiguousManifest body)
-DocumentCause Given address answer (refusal.UnsupportedSchemaVersionError version) = Unread answer (refusal.UnsupportedSchemaVersionError version)
-DocumentCause Given address answer (refusal.UnsupportedMediaTypeError kind) = Unread answer (refusal.UnsupportedMediaTypeError kind)
+DocumentCause Given address answer (refusal.VersionedParsingError body) = IsNoDocument answer
+    (refusal.VersionedParsingError body)
+DocumentCause Given address answer (refusal.ManifestParsingError body) = IsNoDocument answer
+    (refusal.ManifestParsingError body)
+DocumentCause Given address answer (refusal.AmbiguousManifest body) = IsNoDocument answer
+    (refusal.AmbiguousManifest body)
+DocumentCause Given address answer (refusal.UnsupportedSchemaVersionError version) = IsNoDocument answer
+    (refusal.UnsupportedSchemaVersionError version)
+DocumentCause Given address answer (refusal.UnsupportedMediaTypeError kind) = IsNoDocument answer
+    (refusal.UnsupportedMediaTypeError kind)
 DocumentCause Given address answer e = AnswerCause Given address answer e
 
 -- this is so of the last answer and its address
@@ -148,15 +166,24 @@ HasBadToken x c = (token : RegistryTokenType) × IsHeld x c token × (is_header_
 abbrev pub BadHeader : Entry → Settings → List ℕ → List Exchange → Type 0
 BadHeader x s types c = HasBadHeader s types ⊎ HasBadToken x c
 
--- Why a call was refused. Of an answer the refusal speaks so, and of a value that cannot stand in a
--- header so. Memory may be wanting anywhere.
-abbrev pub Cause : (List ℕ → Answer → OciDistributionError → Type 0) → (List Exchange → Type 0) → Settings → List Exchange → ℕ → OciDistributionError → Type 0
-Cause Of Bad s c now (refusal.UrlParseError text) = request_url text ≡ None
-Cause Of Bad s c now (refusal.GenericError HeaderText) = Bad c
-Cause Of Bad s c now refusal.BodyTooLong = LastTooLong c s.max_body_bytes
-Cause Of Bad s c now refusal.TransportFault = LastFailed c now
-Cause Of Bad s c now refusal.WantOfMemory = Unit {0}
-Cause Of Bad s c now e = ByLast (λ address answer. Of address answer e) c
+-- Why a call was refused. A text that is no URL is one of these; of an answer the refusal speaks so,
+-- and of a value that cannot stand in a header so. Memory may be wanting anywhere.
+abbrev pub Cause : (List ℕ → Type 0) → (List ℕ → Answer → OciDistributionError → Type 0)
+    → (List Exchange → Type 0) → Settings → List Exchange → ℕ → OciDistributionError → Type 0
+Cause Text Of Bad s c now (refusal.UrlParseError text) = (request_url text ≡ None) × Text text
+Cause Text Of Bad s c now (refusal.GenericError HeaderText) = Bad c
+Cause Text Of Bad s c now refusal.BodyTooLong = LastTooLong c s.max_body_bytes
+Cause Text Of Bad s c now refusal.TransportFault = LastFailed c now
+Cause Text Of Bad s c now refusal.WantOfMemory = Unit {0}
+Cause Text Of Bad s c now e = ByLast (λ address answer. Of address answer e) c
+
+-- the address of the registry, or of the image's manifest
+abbrev pub ManifestUrl : Settings → Reference → List ℕ → Type 0
+ManifestUrl s image text = (text ≡ registry_text s image) ⊎ (text ≡ manifest_text s image)
+
+-- the address of the registry, or of the blob
+abbrev pub BlobUrl : Settings → Reference → List ℕ → List ℕ → Type 0
+BlobUrl s image digest text = (text ≡ registry_text s image) ⊎ (text ≡ blob_text s image digest)
 
 -- the digest that a reference has
 abbrev pub OwnDigest : Reference → List ℕ → Type 0
@@ -166,15 +193,16 @@ OwnDigest image text = digest_of image ≡ Some text
 abbrev pub AskedDigest : List ℕ → List ℕ → Type 0
 AskedDigest digest text = text ≡ digest
 
--- of a blob that is answered: no sink of the caller's can fail
-abbrev pub BlobCause : (List Exchange → Type 0) → Settings → List ℕ → List Exchange → ℕ → OciDistributionError → Type 0
-BlobCause Bad s digest c now refusal.SinkFault = ⊥
-BlobCause Bad s digest c now e = Cause (AnswerCause (AskedDigest digest)) Bad s c now e
+-- only a call that has a sink can find that it failed; the count of its faults is not told here
+abbrev pub SinkMayFail : Destination → Type 0
+SinkMayFail IntoSink = Unit {0}
+SinkMayFail IntoMemory = ⊥
 
--- of a blob that goes into the caller's sink: the count of the sink's faults is not told here
-abbrev pub PouredCause : (List Exchange → Type 0) → Settings → List ℕ → List Exchange → ℕ → OciDistributionError → Type 0
-PouredCause Bad s digest c now refusal.SinkFault = Unit {0}
-PouredCause Bad s digest c now e = BlobCause Bad s digest c now e
+-- of a blob
+abbrev pub BlobCause : (List ℕ → Type 0) → Destination → (List Exchange → Type 0) → Settings → List ℕ
+    → List Exchange → ℕ → OciDistributionError → Type 0
+BlobCause Text to Bad s digest c now refusal.SinkFault = SinkMayFail to
+BlobCause Text to Bad s digest c now e = Cause Text (AnswerCause (AskedDigest digest)) Bad s c now e
 
 -- the manifest was read from an answer's body
 pub record ManifestRead (c : List Exchange) (manifest : OciImageManifest) : Type 0 where
@@ -192,6 +220,12 @@ pub record ReadDigest (c : List Exchange) (text : List ℕ) : Type 0 where
 abbrev pub ImageDigest : Reference → List Exchange → List ℕ → Type 0
 ImageDigest image c text = OwnDigest image text ⊎ ReadDigest c text
 
+-- the address of the registry, of the image's manifest, or of a blob that a descriptor in a manifest
+-- that was read names
+abbrev pub ImageUrl : Settings → Reference → List Exchange → List ℕ → Type 0
+ImageUrl s image c text = ManifestUrl s image text
+    ⊎ ((digest : List ℕ) × ReadDigest c digest × (text ≡ blob_text s image digest))
+
 -- a layer of a manifest that was read is of this media type, which is not accepted
 pub record NotAccepted (accepted : List (List ℕ)) (c : List Exchange) (kind : List ℕ) : Type 0 where
   pub manifest : OciImageManifest
@@ -201,13 +235,16 @@ pub record NotAccepted (accepted : List (List ℕ)) (c : List Exchange) (kind : 
   pub media_type : layer.media_type ≡ kind
   pub other : is_accepted accepted kind ≡ false
 
--- of a whole image, whose blobs are answered too
-abbrev pub ImageCause : (List Exchange → Type 0) → Settings → Reference → List (List ℕ) → List Exchange → ℕ → OciDistributionError → Type 0
-ImageCause Bad s image accepted c now refusal.ImageIndexParsingNoPlatformResolverError = ByLast (λ address answer. (index : OciImageIndex) × (document_read answer.body ≡ Ok (ImageIndex index))) c
-ImageCause Bad s image accepted c now refusal.PullNoLayersError = (manifest : OciImageManifest) × ManifestRead c manifest × (manifest.layers ≡ [])
+-- of a whole image, whose blobs are held
+abbrev pub ImageCause : (List Exchange → Type 0) → Settings → Reference → List (List ℕ) → List Exchange → ℕ
+    → OciDistributionError → Type 0
+ImageCause Bad s image accepted c now refusal.ImageIndexParsingNoPlatformResolverError = ByLast
+    (λ address answer. (index : OciImageIndex) × (document_read answer.body ≡ Ok (ImageIndex index))) c
+ImageCause Bad s image accepted c now refusal.PullNoLayersError = (manifest : OciImageManifest)
+    × ManifestRead c manifest × (manifest.layers ≡ [])
 ImageCause Bad s image accepted c now (refusal.IncompatibleLayerMediaTypeError kind) = NotAccepted accepted c kind
 ImageCause Bad s image accepted c now refusal.SinkFault = ⊥
-ImageCause Bad s image accepted c now e = Cause (DocumentCause (ImageDigest image c)) Bad s c now e
+ImageCause Bad s image accepted c now e = Cause (ImageUrl s image c) (DocumentCause (ImageDigest image c)) Bad s c now e
 
 -- ---- refusals that must come
 

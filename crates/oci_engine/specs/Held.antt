@@ -26,7 +26,14 @@ pub record Entry : Type 0 where
 
 -- a call that pulls
 abbrev pub pulling : Memory → Context → Reference → Option RegistryAuth → Entry
-pulling kept s image handed = record { kept = kept; image = image; operation = Pull; moment = s.moment; handed = handed }
+pulling kept s image handed = record {
+  kept = kept;
+  image = image;
+  operation = Pull;
+  moment = s.moment;
+  handed
+      = handed;
+}
 
 -- credentials that are stored for the registry, or handed in
 abbrev pub IsAuth : Entry → RegistryAuth → Type 0

@@ -9,6 +9,12 @@ use Rattle.oci_auth.specs.Credentials.{own_token, authorization_of}
 use Rattle.oci_auth.specs.Tokens.{token_of}
 use Rattle.oci_auth.specs.declared.auth.RegistryAuth.{RegistryAuth}
 use Rattle.oci_auth.specs.declared.token_type.RegistryTokenType.{RegistryTokenType}
+use Rattle.http_challenges.specs.declared.bearer.BearerChallenge.{BearerChallenge}
+use Rattle.oci_names.specs.declared.reference.Reference.{Reference}
+use Rattle.oci_protocol.specs.Runs.{head_part}
+use Rattle.engine_requests.specs.Addresses.{base_text}
+use Rattle.engine_requests.specs.Tokens.{wanted}
+use Rattle.engine_requests.specs.declared.tokens.Wanted.TheVariants.{Token}
 use Rattle.engine_requests.specs.declared.settings.Settings.{Settings}
 use Rattle.engine_requests.specs.declared.error.GenericCause.TheVariants.{HeaderText}
 use Rattle.engine_requests.specs.declared.error.OciDistributionError.{OciDistributionError}
@@ -27,14 +33,26 @@ WithAnswer P e = (answer : Answer) × (e.answer ≡ Some answer) × P answer
 
 -- the token of the credentials cannot stand in a header
 abbrev pub HasBadAuth : RegistryAuth → Type 0
-HasBadAuth a = (token : RegistryTokenType) × (own_token a ≡ Some token) × (is_header_value (authorization_of token) ≡ false)
+HasBadAuth a = (token : RegistryTokenType) × (own_token a ≡ Some token)
+    × (is_header_value (authorization_of token) ≡ false)
 
-abbrev pub TokenCause : Settings → RegistryAuth → List Exchange → ℕ → OciDistributionError → Type 0
-TokenCause s a c now (refusal.UrlParseError text) = request_url text ≡ None
-TokenCause s a c now (refusal.GenericError HeaderText) = (is_header_value s.user_agent ≡ false) ⊎ HasBadAuth a
-TokenCause s a c now refusal.BodyTooLong = LastIs (WithAnswer (λ answer. s.max_body_bytes < length answer.body)) c
-TokenCause s a c now refusal.TransportFault = LastIs (λ e. Rose e.faults now) c
-TokenCause s a c now (refusal.AuthenticationFailure body) = LastIs (WithAnswer (λ answer. (answer.status ≢ 200) × (body ≡ answer.body))) c
-TokenCause s a c now (refusal.RegistryTokenDecodeError body) = LastIs (WithAnswer (λ answer. (answer.status ≡ 200) × (body ≡ answer.body) × (token_of body ≡ None))) c
-TokenCause s a c now refusal.WantOfMemory = Unit {0}
-TokenCause s a c now _ = ⊥
+-- the realm of the challenge in the last answer
+abbrev pub LastRealm : List Exchange → List ℕ → Type 0
+LastRealm c text = LastIs (WithAnswer (λ answer. (challenge : BearerChallenge)
+    × (wanted (head_part answer) ≡ Token challenge) × (text ≡ challenge.realm))) c
+
+-- the address at which the registry says what token it wants, or that realm
+abbrev pub TokenUrl : Settings → Reference → List Exchange → List ℕ → Type 0
+TokenUrl s image c text = (text ≡ base_text s image) ⊎ LastRealm c text
+
+abbrev pub TokenCause : Settings → Reference → RegistryAuth → List Exchange → ℕ → OciDistributionError → Type 0
+TokenCause s image a c now (refusal.UrlParseError text) = (request_url text ≡ None) × TokenUrl s image c text
+TokenCause s image a c now (refusal.GenericError HeaderText) = (is_header_value s.user_agent ≡ false) ⊎ HasBadAuth a
+TokenCause s image a c now refusal.BodyTooLong = LastIs (WithAnswer (λ answer. s.max_body_bytes < length answer.body)) c
+TokenCause s image a c now refusal.TransportFault = LastIs (λ e. Rose e.faults now) c
+TokenCause s image a c now (refusal.AuthenticationFailure body) = LastIs (WithAnswer (λ answer.
+    (answer.status ≢ 200) × (body ≡ answer.body))) c
+TokenCause s image a c now (refusal.RegistryTokenDecodeError body) = LastIs (WithAnswer (λ answer.
+    (answer.status ≡ 200) × (body ≡ answer.body) × (token_of body ≡ None))) c
+TokenCause s image a c now refusal.WantOfMemory = Unit {0}
+TokenCause s image a c now _ = ⊥

@@ -1,27 +1,29 @@
-ghost use Rattle.std.specs.Prelude.{◌≡◌, ℕ, List, Some, None, Err, OnOk, OnErr, IfOk, IfErr};
+// The calls that users make.
+ghost use Rattle.std.specs.Prelude.{◌≡◌, ℕ, List, Some, OnOk, OnErr, Err, IfOk};
 ghost use Rattle.json_values.specs.Counts.{Rose};
 ghost use Rattle.oci_digests.specs.Names.{Names};
-ghost use Rattle.oci_transport.specs.Urls.{request_url};
 ghost use Rattle.oci_names.specs.References.{digest_of};
 ghost use Rattle.oci_protocol.specs.Runs.{Meets, Told};
-ghost use Rattle.engine_requests.specs.Contexts.{within};
 ghost use Rattle.engine_requests.specs.Addresses.{manifest_text, blob_text};
 ghost use Rattle.engine_requests.specs.Errors.{is_memory};
 ghost use Rattle.engine_requests.specs.Requests.{listed, manifest_types};
-ghost use Rattle.engine_steps.specs.Blobs.{Spills};
+ghost use Rattle.engine_steps.specs.Blobs.{IntoSink, IntoMemory, Spills};
 ghost use Rattle.engine_steps.specs.Rows.{token_given};
 ghost use Rattle.oci_auth.specs.Memory.{fresh, stored};
-ghost use Rattle.engine_pull.specs.Pulls.{fetch_manifest_digest, pull_manifest, pull_manifest_raw, pull_blob};
+ghost use Rattle.engine_pull.specs.Pulls.{fetch_manifest_digest, pull_manifest, pull_manifest_raw};
+ghost use Rattle.engine_pull.specs.Pulls.{pull_blob, held_blob};
 ghost use Rattle.engine_pull.specs.Images.{pull};
 ghost use Rattle.oci_engine.specs.Answered.{Answered, Body, LastBody, TookBlob};
-ghost use Rattle.oci_engine.specs.Causes.{AnswerCause, DocumentCause, BadHeader, Cause, OwnDigest, BlobCause, PouredCause, ImageCause, HasBadHeader, IsEarly, IsRefusedAs};
+ghost use Rattle.oci_engine.specs.Causes.{HasBadHeader, IsEarly};
 ghost use Rattle.oci_engine.specs.Clients.{settings_of};
-ghost use Rattle.oci_engine.specs.Held.{pulling};
+ghost use Rattle.oci_engine.specs.Refusals.{RefusedFor, FaultCounted, UrlRefused, at_moment};
+ghost use Rattle.oci_engine.specs.Refusals.{DigestRefused, DocumentRefused, ManifestRefused};
+ghost use Rattle.oci_engine.specs.Refusals.{PullRefused, BlobRefused};
 ghost use Rattle.oci_engine.specs.TokenCauses.{TokenCause};
 
 use crate::config::ClientConfig;
 use engine_pull::ImageData;
-use engine_requests::{OciDistributionError, Settings};
+use engine_requests::{Call, OciDistributionError, Settings};
 use json_values::{Blob, Sink, Text};
 use oci_auth::{Memory, RegistryAuth, RegistryOperation};
 use oci_manifests::OciManifest;
@@ -82,18 +84,23 @@ impl Client {
         authentication: &RegistryAuth,
         operation: RegistryOperation,
     ) -> Result<Option<Text>, OciDistributionError>
-        ensures run { Meets is_memory (token_given (within self.old.settings moment) image.now authentication.now operation) (T.state transport.old) (T.state transport.new) self.old.memory self.new.memory result }
+        ensures run { Meets is_memory (token_given (at_moment self.old moment) image.now authentication.now operation)
+            (T.state transport.old) (T.state transport.new) self.old.memory self.new.memory result }
         ensures settings { self.new.settings ≡ self.old.settings }
-        ensures causes { IfErr result (λ e. Told (λ c. TokenCause self.old.settings authentication.now c (T.state transport.new).faults e) (T.state transport.old) (T.state transport.new)) }
-        ensures fault { result ≡ Err OciDistributionError.TransportFault → Rose (T.state transport.old).faults (T.state transport.new).faults }
+        ensures causes { RefusedFor (TokenCause self.old.settings image.now authentication.now)
+            (T.state transport.old) (T.state transport.new) result }
+        ensures fault { FaultCounted (T.state transport.old) (T.state transport.new) result }
     {
+        let call = Call {
+            settings: &self.settings,
+            image,
+            moment,
+        };
         engine_steps::token_given(
             alloc,
             transport,
-            &self.settings,
             &mut self.memory,
-            moment,
-            image,
+            &call,
             authentication,
             operation,
         )
@@ -108,23 +115,23 @@ impl Client {
         image: &Reference,
         auth: &RegistryAuth,
     ) -> Result<Text, OciDistributionError>
-        ensures run { Meets is_memory (fetch_manifest_digest (within self.old.settings moment) image.now auth.now) (T.state transport.old) (T.state transport.new) self.old.memory self.new.memory result }
+        ensures run { Meets is_memory (fetch_manifest_digest (at_moment self.old moment) image.now auth.now)
+            (T.state transport.old) (T.state transport.new) self.old.memory self.new.memory result }
         ensures settings { self.new.settings ≡ self.old.settings }
-        ensures answered { IfOk result (λ d. Told (λ c. Answered self.old.settings image.now c d) (T.state transport.old) (T.state transport.new)) }
-        ensures causes { IfErr result (λ e. Told (λ c. Cause (AnswerCause (OwnDigest image.now)) (BadHeader (pulling self.old.memory (within self.old.settings moment) image.now (Some auth.now)) self.old.settings manifest_types) self.old.settings c (T.state transport.new).faults e) (T.state transport.old) (T.state transport.new)) }
-        ensures fault { result ≡ Err OciDistributionError.TransportFault → Rose (T.state transport.old).faults (T.state transport.new).faults }
-        ensures no_url { request_url (manifest_text self.old.settings image.now) ≡ None → IsRefusedAs (OciDistributionError.UrlParseError (manifest_text self.old.settings image.now)) result }
+        ensures answered { IfOk result (λ d. Told (λ c. Answered self.old.settings image.now c d)
+            (T.state transport.old) (T.state transport.new)) }
+        ensures causes { RefusedFor (DigestRefused self.old moment image.now auth.now)
+            (T.state transport.old) (T.state transport.new) result }
+        ensures fault { FaultCounted (T.state transport.old) (T.state transport.new) result }
+        ensures no_url { UrlRefused (manifest_text self.old.settings image.now) result }
         ensures bad_header { HasBadHeader self.old.settings manifest_types → IsEarly result }
     {
-        engine_pull::fetch_manifest_digest(
-            alloc,
-            transport,
-            &self.settings,
-            &mut self.memory,
-            moment,
+        let call = Call {
+            settings: &self.settings,
             image,
-            auth,
-        )
+            moment,
+        };
+        engine_pull::fetch_manifest_digest(alloc, transport, &mut self.memory, &call, auth)
     }
 
     /// The bytes of the image's manifest or index, with their digest.
@@ -137,24 +144,31 @@ impl Client {
         auth: &RegistryAuth,
         accepted_media_types: &[Text],
     ) -> Result<(Blob, Text), OciDistributionError>
-        ensures run { Meets is_memory (pull_manifest_raw (within self.old.settings moment) image.now auth.now (listed accepted_media_types.now)) (T.state transport.old) (T.state transport.new) self.old.memory self.new.memory result }
+        ensures run { Meets is_memory (pull_manifest_raw (at_moment self.old moment) image.now auth.now (listed accepted_media_types.now))
+            (T.state transport.old) (T.state transport.new) self.old.memory self.new.memory result }
         ensures settings { self.new.settings ≡ self.old.settings }
-        ensures body { IfOk result (λ found. Told (λ c. Body c found.0) (T.state transport.old) (T.state transport.new)) }
+        ensures body { IfOk result (λ found. Told (λ c. Body c found.0)
+            (T.state transport.old) (T.state transport.new)) }
         ensures named { IfOk result (λ found. Names found.1 found.0) }
         ensures given { IfOk result (λ found. (d : List ℕ) → digest_of image.now ≡ Some d → Names d found.0) }
-        ensures causes { IfErr result (λ e. Told (λ c. Cause (AnswerCause (OwnDigest image.now)) (BadHeader (pulling self.old.memory (within self.old.settings moment) image.now (Some auth.now)) self.old.settings (listed accepted_media_types.now)) self.old.settings c (T.state transport.new).faults e) (T.state transport.old) (T.state transport.new)) }
-        ensures fault { result ≡ Err OciDistributionError.TransportFault → Rose (T.state transport.old).faults (T.state transport.new).faults }
-        ensures no_url { request_url (manifest_text self.old.settings image.now) ≡ None → IsRefusedAs (OciDistributionError.UrlParseError (manifest_text self.old.settings image.now)) result }
+        ensures causes { RefusedFor
+            (DocumentRefused self.old moment image.now auth.now (listed accepted_media_types.now))
+            (T.state transport.old) (T.state transport.new) result }
+        ensures fault { FaultCounted (T.state transport.old) (T.state transport.new) result }
+        ensures no_url { UrlRefused (manifest_text self.old.settings image.now) result }
         ensures bad_header { HasBadHeader self.old.settings (listed accepted_media_types.now) → IsEarly result }
     {
         let types = engine_requests::listed(alloc, accepted_media_types)?;
+        let call = Call {
+            settings: &self.settings,
+            image,
+            moment,
+        };
         let found = engine_pull::pull_manifest_raw(
             alloc,
             transport,
-            &self.settings,
             &mut self.memory,
-            moment,
-            image,
+            &call,
             auth,
             types.as_str(),
         )?;
@@ -170,22 +184,21 @@ impl Client {
         image: &Reference,
         auth: &RegistryAuth,
     ) -> Result<(OciManifest, Text), OciDistributionError>
-        ensures run { Meets is_memory (pull_manifest (within self.old.settings moment) image.now auth.now) (T.state transport.old) (T.state transport.new) self.old.memory self.new.memory result }
+        ensures run { Meets is_memory (pull_manifest (at_moment self.old moment) image.now auth.now)
+            (T.state transport.old) (T.state transport.new) self.old.memory self.new.memory result }
         ensures settings { self.new.settings ≡ self.old.settings }
-        ensures causes { IfErr result (λ e. Told (λ c. Cause (DocumentCause (OwnDigest image.now)) (BadHeader (pulling self.old.memory (within self.old.settings moment) image.now (Some auth.now)) self.old.settings manifest_types) self.old.settings c (T.state transport.new).faults e) (T.state transport.old) (T.state transport.new)) }
-        ensures fault { result ≡ Err OciDistributionError.TransportFault → Rose (T.state transport.old).faults (T.state transport.new).faults }
-        ensures no_url { request_url (manifest_text self.old.settings image.now) ≡ None → IsRefusedAs (OciDistributionError.UrlParseError (manifest_text self.old.settings image.now)) result }
+        ensures causes { RefusedFor (ManifestRefused self.old moment image.now auth.now)
+            (T.state transport.old) (T.state transport.new) result }
+        ensures fault { FaultCounted (T.state transport.old) (T.state transport.new) result }
+        ensures no_url { UrlRefused (manifest_text self.old.settings image.now) result }
         ensures bad_header { HasBadHeader self.old.settings manifest_types → IsEarly result }
     {
-        engine_pull::pull_manifest(
-            alloc,
-            transport,
-            &self.settings,
-            &mut self.memory,
-            moment,
+        let call = Call {
+            settings: &self.settings,
             image,
-            auth,
-        )
+            moment,
+        };
+        engine_pull::pull_manifest(alloc, transport, &mut self.memory, &call, auth)
     }
 
     /// The image with its configuration and its layers, whose media types are among these.
@@ -198,20 +211,26 @@ impl Client {
         auth: &RegistryAuth,
         accepted_media_types: &[Text],
     ) -> Result<ImageData, OciDistributionError>
-        ensures run { Meets is_memory (pull (within self.old.settings moment) image.now auth.now accepted_media_types.now) (T.state transport.old) (T.state transport.new) self.old.memory self.new.memory result }
+        ensures run { Meets is_memory (pull (at_moment self.old moment) image.now auth.now accepted_media_types.now)
+            (T.state transport.old) (T.state transport.new) self.old.memory self.new.memory result }
         ensures settings { self.new.settings ≡ self.old.settings }
-        ensures causes { IfErr result (λ e. Told (λ c. ImageCause (BadHeader (pulling self.old.memory (within self.old.settings moment) image.now (Some auth.now)) self.old.settings manifest_types) self.old.settings image.now accepted_media_types.now c (T.state transport.new).faults e) (T.state transport.old) (T.state transport.new)) }
-        ensures fault { result ≡ Err OciDistributionError.TransportFault → Rose (T.state transport.old).faults (T.state transport.new).faults }
-        ensures no_url { request_url (manifest_text self.old.settings image.now) ≡ None → IsRefusedAs (OciDistributionError.UrlParseError (manifest_text self.old.settings image.now)) result }
+        ensures causes { RefusedFor
+            (PullRefused self.old moment image.now auth.now accepted_media_types.now)
+            (T.state transport.old) (T.state transport.new) result }
+        ensures fault { FaultCounted (T.state transport.old) (T.state transport.new) result }
+        ensures no_url { UrlRefused (manifest_text self.old.settings image.now) result }
         ensures bad_header { HasBadHeader self.old.settings manifest_types → IsEarly result }
     {
+        let call = Call {
+            settings: &self.settings,
+            image,
+            moment,
+        };
         engine_pull::pull(
             alloc,
             transport,
-            &self.settings,
             &mut self.memory,
-            moment,
-            image,
+            &call,
             auth,
             accepted_media_types,
         )
@@ -227,25 +246,26 @@ impl Client {
         digest: &str,
         out: &mut K,
     ) -> Result<(), OciDistributionError>
-        ensures spills { Spills (pull_blob (within self.old.settings moment) image.now digest.now) (T.state transport.old) (T.state transport.new) self.old.memory self.new.memory (K.state out.old) (K.state out.new) result }
+        ensures spills { Spills (pull_blob (at_moment self.old moment) image.now digest.now)
+            (T.state transport.old) (T.state transport.new) self.old.memory self.new.memory
+            (K.state out.old) (K.state out.new) result }
         ensures settings { self.new.settings ≡ self.old.settings }
-        ensures took { IfOk result (λ u. TookBlob digest.now (T.state transport.old) (T.state transport.new) (K.state out.old) (K.state out.new)) }
-        ensures causes { IfErr result (λ e. Told (λ c. PouredCause (BadHeader (pulling self.old.memory (within self.old.settings moment) image.now None) self.old.settings manifest_types) self.old.settings digest.now c (T.state transport.new).faults e) (T.state transport.old) (T.state transport.new)) }
-        ensures fault { result ≡ Err OciDistributionError.TransportFault → Rose (T.state transport.old).faults (T.state transport.new).faults }
-        ensures sink { result ≡ Err OciDistributionError.SinkFault → Rose (K.state out.old).faults (K.state out.new).faults }
-        ensures no_url { request_url (blob_text self.old.settings image.now digest.now) ≡ None → IsRefusedAs (OciDistributionError.UrlParseError (blob_text self.old.settings image.now digest.now)) result }
+        ensures took { IfOk result (λ u. TookBlob digest.now
+            (T.state transport.old) (T.state transport.new) (K.state out.old) (K.state out.new)) }
+        ensures causes { RefusedFor (BlobRefused IntoSink self.old moment image.now digest.now)
+            (T.state transport.old) (T.state transport.new) result }
+        ensures fault { FaultCounted (T.state transport.old) (T.state transport.new) result }
+        ensures sink { result ≡ Err OciDistributionError.SinkFault
+            → Rose (K.state out.old).faults (K.state out.new).faults }
+        ensures no_url { UrlRefused (blob_text self.old.settings image.now digest.now) result }
         ensures bad_header { HasBadHeader self.old.settings manifest_types → IsEarly result }
     {
-        engine_pull::pull_blob(
-            alloc,
-            transport,
-            &self.settings,
-            &mut self.memory,
-            moment,
+        let call = Call {
+            settings: &self.settings,
             image,
-            digest,
-            out,
-        )
+            moment,
+        };
+        engine_pull::pull_blob(alloc, transport, &mut self.memory, &call, digest, out)
     }
 
     /// The bytes of a blob of the image's repository.
@@ -257,24 +277,25 @@ impl Client {
         image: &Reference,
         digest: &str,
     ) -> Result<Blob, OciDistributionError>
-        ensures run { Meets is_memory (pull_blob (within self.old.settings moment) image.now digest.now) (T.state transport.old) (T.state transport.new) self.old.memory self.new.memory result }
+        ensures run { Meets is_memory (held_blob (at_moment self.old moment) image.now digest.now)
+            (T.state transport.old) (T.state transport.new) self.old.memory self.new.memory result }
         ensures settings { self.new.settings ≡ self.old.settings }
-        ensures body { IfOk result (λ bytes. Told (λ c. Body c bytes) (T.state transport.old) (T.state transport.new)) }
-        ensures last { IfOk result (λ bytes. Told (λ c. LastBody c bytes) (T.state transport.old) (T.state transport.new)) }
+        ensures body { IfOk result (λ bytes. Told (λ c. Body c bytes)
+            (T.state transport.old) (T.state transport.new)) }
+        ensures last { IfOk result (λ bytes. Told (λ c. LastBody c bytes)
+            (T.state transport.old) (T.state transport.new)) }
         ensures named { IfOk result (λ bytes. Names digest.now bytes) }
-        ensures causes { IfErr result (λ e. Told (λ c. BlobCause (BadHeader (pulling self.old.memory (within self.old.settings moment) image.now None) self.old.settings manifest_types) self.old.settings digest.now c (T.state transport.new).faults e) (T.state transport.old) (T.state transport.new)) }
-        ensures fault { result ≡ Err OciDistributionError.TransportFault → Rose (T.state transport.old).faults (T.state transport.new).faults }
-        ensures no_url { request_url (blob_text self.old.settings image.now digest.now) ≡ None → IsRefusedAs (OciDistributionError.UrlParseError (blob_text self.old.settings image.now digest.now)) result }
+        ensures causes { RefusedFor (BlobRefused IntoMemory self.old moment image.now digest.now)
+            (T.state transport.old) (T.state transport.new) result }
+        ensures fault { FaultCounted (T.state transport.old) (T.state transport.new) result }
+        ensures no_url { UrlRefused (blob_text self.old.settings image.now digest.now) result }
         ensures bad_header { HasBadHeader self.old.settings manifest_types → IsEarly result }
     {
-        engine_pull::pulled_blob(
-            alloc,
-            transport,
-            &self.settings,
-            &mut self.memory,
-            moment,
+        let call = Call {
+            settings: &self.settings,
             image,
-            digest,
-        )
+            moment,
+        };
+        engine_pull::pulled_blob(alloc, transport, &mut self.memory, &call, digest)
     }
 }

@@ -1,9 +1,19 @@
-ghost use Rattle.std.specs.Prelude.{◌≡◌, IfOk, codes};
-ghost use Rattle.engine_requests.specs.declared.settings.ClientProtocol.TheVariants.{Https};
+// What a client is made of.
+ghost use Rattle.std.specs.Prelude.{◌≡◌, IfOk};
+ghost use Rattle.oci_engine.specs.Clients.{default_config};
 
 use engine_requests::ClientProtocol;
 use json_values::Text;
 use std::alloc::{AllocError, Global};
+
+/// How many uploads a client may have under way at once.
+pub const DEFAULT_MAX_CONCURRENT_UPLOAD: usize = 16;
+
+/// How many downloads a client may have under way at once.
+pub const DEFAULT_MAX_CONCURRENT_DOWNLOAD: usize = 16;
+
+/// For how many seconds a token is kept that does not say when it expires.
+pub const DEFAULT_TOKEN_EXPIRATION_SECS: u64 = 60;
 
 /// What a client is made of.
 #[derive(Debug, Drop)]
@@ -20,12 +30,12 @@ pub struct ClientConfig {
 impl ClientConfig {
     /// `https`, tokens that are kept for a minute, `oci-client/0.18.0`, and bodies of less than 4 GiB.
     pub fn default(alloc: Global) -> Result<ClientConfig, AllocError>
-        ensures { IfOk result (λ config. config ≡ record { protocol = Https; default_token_expiration_secs = 60; user_agent = codes "oci-client/0.18.0"; max_body_bytes = 4294967295 }) }
+        ensures { IfOk result (λ config. config ≡ default_config) }
     {
         let user_agent = Text::new(alloc, "oci-client/0.18.0")?;
         Ok(ClientConfig {
             protocol: ClientProtocol::Https,
-            default_token_expiration_secs: 60,
+            default_token_expiration_secs: DEFAULT_TOKEN_EXPIRATION_SECS,
             user_agent,
             max_body_bytes: 4294967295,
         })

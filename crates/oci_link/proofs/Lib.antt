@@ -1,2 +1,7 @@
-pub mod Paths
-pub mod Standing
+pub mod Fronts
+pub mod LinkSteps
+pub mod PlainReading
+pub mod PlainSegments
+pub mod RedirectEnds
+pub mod ServedLinks
+pub mod ShelfAnswers

@@ -15,7 +15,9 @@ abbrev pub is_segment_byte : ℕ → Bool
 is_segment_byte b = is_first_byte b || (b == 46 || (b == 45 || b == 58))
 
 abbrev pub Segment : List ℕ → Type 0
-Segment text = (first : ℕ) × (rest : List ℕ) × (text ≡ first ∷ rest) × IsTrue (is_first_byte first) × IsTrue (list_all is_segment_byte rest)
+Segment text =
+    (first : ℕ) × (rest : List ℕ) × (text ≡ first ∷ rest)
+    × IsTrue (is_first_byte first) × IsTrue (list_all is_segment_byte rest)
 
 -- a slash before each segment, of which the last may be empty
 pub data PlainPath : List ℕ → Type 0 where
@@ -35,6 +37,11 @@ pub record ReadsAs (text : List ℕ) (url : Parts) : Type 0 where
   pub host : read.host ≡ url.host
   pub port : read.port ≡ url.port
 
--- where a registry is a domain, and its URL has the text `scheme://registry/`, each plain path behind `scheme://registry` reads as it stands
+-- where a registry is a domain, and its URL has the text `scheme://registry/`, each plain path behind
+-- `scheme://registry` reads as it stands
 abbrev pub PlainPathsRead : Parts → Type 0
-PlainPathsRead url = (scheme registry path : List ℕ) → Scheme scheme → Domain registry → request_url (registry_text scheme registry) ≡ Some url → serialize url ≡ registry_text scheme registry ++ codes "/" → PlainPath path → ReadsAs (registry_text scheme registry ++ path) url
+PlainPathsRead url =
+    (scheme registry path : List ℕ) → Scheme scheme → Domain registry
+    → request_url (registry_text scheme registry) ≡ Some url
+    → serialize url ≡ registry_text scheme registry ++ codes "/"
+    → PlainPath path → ReadsAs (registry_text scheme registry ++ path) url

@@ -1,16 +1,24 @@
-//! What carries requests to a registry and its answers back: transports over connections, recorded answers and shelves,
-//! the bodies, headers and URLs of requests, and the challenges of registries.
+//! What carries requests to a registry and its answers back: transports over connections, recorded answers and a
+//! registry in memory, the bodies, headers and URLs of requests, and the challenges of registries.
 #![tactic(auto)]
 
-mod plain;
+mod faulty_shelf;
+mod leads;
+mod paths;
+mod plain_paths;
+mod served;
+mod shelf;
+mod shelf_transport;
+mod table;
 
+pub use faulty_shelf::FaultyShelf;
 pub use http_challenges::{BearerChallenge, Challenge, ChallengeError, challenges};
-pub use oci_shelf::{
-    FaultyShelf, Shelf, ShelfBlobs, ShelfDocument, ShelfDocuments, ShelfTransport, answer,
-};
 pub use oci_transport::{
-    Answer, AnswerHead, BodyError, Conversation, Exchange, HeaderError, Headers, LinkError, Method,
-    Recorded, Request, Script, Transport, UrlError, header_text, read_body, redirected,
-    registry_url, request_url, targets,
+    Answer, AnswerHead, BodyError, Conversation, DIGEST_HEADER, Exchange, HeaderError, Headers,
+    LinkError, Method, Recorded, Request, Script, Transport, UrlError, header_text, read_body,
+    redirected, registry_url, request_url, targets,
 };
-pub use plain::plain_paths_read;
+pub use plain_paths::plain_paths_read;
+pub use shelf::{Shelf, ShelfBlobs, ShelfDocument, ShelfDocuments};
+pub use shelf_transport::ShelfTransport;
+pub use table::answer;

@@ -15,7 +15,14 @@ descriptor_of d = do
   urls ← optional (list_of text_of) (codes "urls") d
   annotations ← optional (map_of text_of) (codes "annotations") d
   artifact_type ← optional text_of (codes "artifactType") d
-  Some (record { media_type = media_type; digest = digest; size = size; urls = urls; annotations = annotations; artifact_type = artifact_type })
+  Some (record {
+    media_type = media_type;
+    digest = digest;
+    size = size;
+    urls = urls;
+    annotations = annotations;
+    artifact_type = artifact_type;
+  })
 
 -- how it is written
 abbrev pub descriptor_fields : OciDescriptor → List Field

@@ -1,10 +1,9 @@
 -- An image manifest or an image index.
-use Rattle.std.specs.Prelude.{◌≡◌, ℕ, List, true, false, Option, Some, None, IsSome, Result, Ok, Err, ⊤, unwrap_or}
+use Rattle.std.specs.Prelude.{◌≡◌, ℕ, List, true, false, Option, Some, None, IsSome, Result, Ok, Err, ⊤, unwrap_or, codes}
 use Rattle.serde_json.specs.Data.{Data}
 use Rattle.serde_json.specs.Written.{has_float}
 use Rattle.json_tables.specs.declared.error.ReadError.{ReadError}
 use Rattle.json_tables.specs.declared.error.ReadError.TheVariants.{Float, Shape, Ambiguous, WantOfMemory}
-use Rattle.oci_manifests.specs.declared.media_types.TheConstants.{OCI_IMAGE_MEDIA_TYPE, IMAGE_MANIFEST_LIST_MEDIA_TYPE}
 use Rattle.oci_manifests.specs.declared.manifest.OciImageManifest.{OciImageManifest}
 use Rattle.oci_manifests.specs.declared.index.OciImageIndex.{OciImageIndex}
 use Rattle.oci_manifests.specs.declared.document.OciManifest.{OciManifest}
@@ -22,7 +21,8 @@ one_of manifest index = None
 unfoldable pub document_of : Data → Option OciManifest
 document_of d = one_of (manifest_of d) (index_of d)
 
--- `Float` exactly where a float stands, else `Ambiguous` exactly where both tables read, else `Shape` exactly where neither does, unless memory runs out
+-- `Float` exactly where a float stands, else `Ambiguous` exactly where both tables read, else `Shape` exactly where
+-- neither does, unless memory runs out
 abbrev pub RefusesManifest : ReadError → Data → Type 0
 RefusesManifest Float d = has_float d ≡ true
 RefusesManifest Ambiguous d = (has_float d ≡ false) × IsSome (manifest_of d) × IsSome (index_of d)
@@ -36,8 +36,10 @@ ReadsManifest (Err e) d = RefusesManifest e d
 
 -- the media type, else OCI's for a manifest and Docker's for an index
 abbrev pub content_type_of : OciManifest → List ℕ
-content_type_of (Image manifest) = unwrap_or manifest.media_type OCI_IMAGE_MEDIA_TYPE.now
-content_type_of (ImageIndex index) = unwrap_or index.media_type IMAGE_MANIFEST_LIST_MEDIA_TYPE.now
+content_type_of (Image manifest) =
+    unwrap_or manifest.media_type (codes "application/vnd.oci.image.manifest.v1+json")
+content_type_of (ImageIndex index) =
+    unwrap_or index.media_type (codes "application/vnd.docker.distribution.manifest.list.v2+json")
 
 -- how the document is written
 abbrev pub document_written : OciManifest → Data

@@ -14,7 +14,13 @@ index_of d = do
   manifests ← required (list_of entry_of) (codes "manifests") d
   artifact_type ← optional text_of (codes "artifactType") d
   annotations ← optional (map_of text_of) (codes "annotations") d
-  Some (record { schema_version = schema_version; media_type = media_type; manifests = manifests; artifact_type = artifact_type; annotations = annotations })
+  Some (record {
+    schema_version = schema_version;
+    media_type = media_type;
+    manifests = manifests;
+    artifact_type = artifact_type;
+    annotations = annotations;
+  })
 
 -- how it is written
 abbrev pub index_fields : OciImageIndex → List Field

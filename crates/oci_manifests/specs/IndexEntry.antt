@@ -16,7 +16,14 @@ entry_of d = do
   platform ← optional platform_of (codes "platform") d
   annotations ← optional (map_of text_of) (codes "annotations") d
   artifact_type ← optional text_of (codes "artifactType") d
-  Some (record { media_type = media_type; digest = digest; size = size; platform = platform; annotations = annotations; artifact_type = artifact_type })
+  Some (record {
+    media_type = media_type;
+    digest = digest;
+    size = size;
+    platform = platform;
+    annotations = annotations;
+    artifact_type = artifact_type;
+  })
 
 -- how it is written
 abbrev pub entry_fields : ImageIndexEntry → List Field

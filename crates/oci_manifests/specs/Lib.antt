@@ -1,3 +1,5 @@
+pub mod AnnotationNames
+pub mod Blob
 pub mod Built
 pub mod Descriptor
 pub mod Document
@@ -6,6 +8,7 @@ pub mod ErrorCode
 pub mod Index
 pub mod IndexEntry
 pub mod Manifest
+pub mod MediaTypes
 pub mod Platform
 pub mod Types
 pub mod Versioned

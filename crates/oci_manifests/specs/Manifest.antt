@@ -16,7 +16,15 @@ manifest_of d = do
   subject ← optional descriptor_of (codes "subject") d
   artifact_type ← optional text_of (codes "artifactType") d
   annotations ← optional (map_of text_of) (codes "annotations") d
-  Some (record { schema_version = schema_version; media_type = media_type; config = config; layers = layers; subject = subject; artifact_type = artifact_type; annotations = annotations })
+  Some (record {
+    schema_version = schema_version;
+    media_type = media_type;
+    config = config;
+    layers = layers;
+    subject = subject;
+    artifact_type = artifact_type;
+    annotations = annotations;
+  })
 
 -- how it is written
 abbrev pub manifest_fields : OciImageManifest → List Field

@@ -14,7 +14,14 @@ platform_of d = do
   os_features ← optional (list_of text_of) (codes "os.features") d
   variant ← optional text_of (codes "variant") d
   features ← optional (list_of text_of) (codes "features") d
-  Some (record { architecture = architecture; os = os; os_version = os_version; os_features = os_features; variant = variant; features = features })
+  Some (record {
+    architecture = architecture;
+    os = os;
+    os_version = os_version;
+    os_features = os_features;
+    variant = variant;
+    features = features;
+  })
 
 -- how it is written
 abbrev pub platform_fields : Platform → List Field

@@ -1,15 +1,14 @@
-//! Layers and configurations with their bytes.
-ghost use Rattle.std.specs.Prelude.{◌≡◌, IfOk};
+//! Bytes that a registry keeps, with their media type: layers and configurations.
+ghost use Rattle.std.specs.Prelude.{◌≡◌, IfOk, codes};
 ghost use Rattle.oci_digests.specs.Names.{digest_text};
 ghost use Rattle.oci_digests.specs.declared.digester.Algorithm.TheVariants.{Sha256};
+ghost use Rattle.oci_manifests.specs.Blob.{typed_layer, typed_config};
 
-use crate::media_types::{
-    IMAGE_CONFIG_MEDIA_TYPE, IMAGE_LAYER_GZIP_MEDIA_TYPE, IMAGE_LAYER_MEDIA_TYPE,
-};
-use json_values::{Annotations, Blob, Copied, Text, copies3};
+use crate::media_types;
+use json_values::{Annotations, Blob, Copied, Text, copied};
 use std::alloc::{AllocError, Global};
 
-/// A layer: its bytes, their media type and its annotations.
+/// The bytes of a layer, their media type, and the annotations of its descriptor.
 #[derive(Debug, PartialEq, Eq, Drop)]
 pub struct ImageLayer {
     pub content: Blob,
@@ -18,8 +17,10 @@ pub struct ImageLayer {
 }
 
 impl ImageLayer {
+    /// A layer of these parts.
     pub fn new(content: Blob, media_type: Text, annotations: Option<Annotations>) -> ImageLayer
-        ensures { result ≡ record { content = content; media_type = media_type; annotations = annotations } }
+        ensures { result
+            ≡ record { content = content; media_type = media_type; annotations = annotations } }
     {
         ImageLayer {
             content,
@@ -34,10 +35,10 @@ impl ImageLayer {
         content: Blob,
         annotations: Option<Annotations>,
     ) -> Result<ImageLayer, AllocError>
-        ensures { IfOk result (λ made. made
-            ≡ record { content = content; media_type = IMAGE_LAYER_MEDIA_TYPE.now; annotations = annotations }) }
+        ensures { IfOk result (λ made. made ≡ typed_layer
+            (codes "application/vnd.oci.image.layer.v1.tar") content annotations) }
     {
-        let media_type = Text::new(alloc, IMAGE_LAYER_MEDIA_TYPE)?;
+        let media_type = Text::new(alloc, media_types::IMAGE_LAYER_MEDIA_TYPE)?;
         Ok(ImageLayer::new(content, media_type, annotations))
     }
 
@@ -47,10 +48,10 @@ impl ImageLayer {
         content: Blob,
         annotations: Option<Annotations>,
     ) -> Result<ImageLayer, AllocError>
-        ensures { IfOk result (λ made. made
-            ≡ record { content = content; media_type = IMAGE_LAYER_GZIP_MEDIA_TYPE.now; annotations = annotations }) }
+        ensures { IfOk result (λ made. made ≡ typed_layer
+            (codes "application/vnd.oci.image.layer.v1.tar+gzip") content annotations) }
     {
-        let media_type = Text::new(alloc, IMAGE_LAYER_GZIP_MEDIA_TYPE)?;
+        let media_type = Text::new(alloc, media_types::IMAGE_LAYER_GZIP_MEDIA_TYPE)?;
         Ok(ImageLayer::new(content, media_type, annotations))
     }
 
@@ -64,21 +65,19 @@ impl ImageLayer {
 
 impl Copied for ImageLayer {
     fn copy(&self, alloc: Global) -> Result<ImageLayer, AllocError> {
-        let (content, media_type, annotations) = copies3(
+        copied!(
             alloc,
-            &self.content,
-            &self.media_type,
-            &self.annotations,
-        )?;
-        Ok(ImageLayer {
-            content,
-            media_type,
-            annotations,
-        })
+            self,
+            ImageLayer {
+                content,
+                media_type,
+                annotations
+            }
+        )
     }
 }
 
-/// A configuration: its bytes, their media type and its annotations.
+/// The bytes of a configuration, their media type, and the annotations of its descriptor.
 #[derive(Debug, Drop)]
 pub struct Config {
     pub content: Blob,
@@ -87,8 +86,10 @@ pub struct Config {
 }
 
 impl Config {
+    /// A configuration of these parts.
     pub fn new(content: Blob, media_type: Text, annotations: Option<Annotations>) -> Config
-        ensures { result ≡ record { content = content; media_type = media_type; annotations = annotations } }
+        ensures { result
+            ≡ record { content = content; media_type = media_type; annotations = annotations } }
     {
         Config {
             content,
@@ -103,10 +104,10 @@ impl Config {
         content: Blob,
         annotations: Option<Annotations>,
     ) -> Result<Config, AllocError>
-        ensures { IfOk result (λ made. made
-            ≡ record { content = content; media_type = IMAGE_CONFIG_MEDIA_TYPE.now; annotations = annotations }) }
+        ensures { IfOk result (λ made. made ≡ typed_config
+            (codes "application/vnd.oci.image.config.v1+json") content annotations) }
     {
-        let media_type = Text::new(alloc, IMAGE_CONFIG_MEDIA_TYPE)?;
+        let media_type = Text::new(alloc, media_types::IMAGE_CONFIG_MEDIA_TYPE)?;
         Ok(Config::new(content, media_type, annotations))
     }
 
@@ -120,16 +121,14 @@ impl Config {
 
 impl Copied for Config {
     fn copy(&self, alloc: Global) -> Result<Config, AllocError> {
-        let (content, media_type, annotations) = copies3(
+        copied!(
             alloc,
-            &self.content,
-            &self.media_type,
-            &self.annotations,
-        )?;
-        Ok(Config {
-            content,
-            media_type,
-            annotations,
-        })
+            self,
+            Config {
+                content,
+                media_type,
+                annotations
+            }
+        )
     }
 }

@@ -2,20 +2,25 @@ ghost use Rattle.std.specs.Prelude.{◌≡◌, IfOk, Ok};
 ghost use Rattle.serde_json.specs.View.{view};
 ghost use Rattle.json_tables.specs.Outcomes.{ReadsDocument};
 
-use json_tables::{Member, ReadError, Reads, present, read_document, row6};
-use json_values::{Annotations, Copied, List, Text, ToValue, copies5};
-use json_writing::{Writes, object6};
+use json_tables::{Member, ReadError, Reads, present, read_document, read_row};
+use json_values::{Annotations, Copied, List, Text, ToValue, copied, row};
+use json_writing::{Writes, object};
 use serde_json::Value;
 use std::alloc::{AllocError, Global};
 
 /// A descriptor (OCI image specification, descriptor.md).
 #[derive(Debug, Drop)]
 pub struct OciDescriptor {
+    /// What the bytes are.
     pub media_type: Text,
+    /// The digest that names the bytes.
     pub digest: Text,
+    /// How many bytes there are.
     pub size: i64,
+    /// Where else the bytes may be got.
     pub urls: Option<List<Text>>,
     pub annotations: Option<Annotations>,
+    /// What the artifact is that the descriptor leads to.
     pub artifact_type: Option<Text>,
 }
 
@@ -37,15 +42,17 @@ impl Reads for OciDescriptor {
 
     #[tactic(auto, unfolding(crate::specs::Descriptor::descriptor_of))]
     fn read_value(alloc: Global, value: &Value) -> Result<OciDescriptor, ReadError> {
-        let (media_type, digest, size, urls, annotations, artifact_type) = row6(
+        let row![media_type, digest, size, urls, annotations, artifact_type] = read_row::<Self, _>(
             alloc,
             value,
-            "mediaType",
-            "digest",
-            "size",
-            "urls",
-            "annotations",
-            "artifactType",
+            &[
+                "mediaType",
+                "digest",
+                "size",
+                "urls",
+                "annotations",
+                "artifactType",
+            ],
         )?;
         Ok(OciDescriptor {
             media_type,
@@ -76,21 +83,14 @@ impl Writes for OciDescriptor {
 
     #[tactic(auto, unfolding(crate::specs::Descriptor::descriptor_written))]
     fn write_value(&self, alloc: Global) -> Result<Value, AllocError> {
-        let value = object6(
-            alloc,
-            "mediaType",
-            &self.media_type,
-            "digest",
-            &self.digest,
-            "size",
-            &self.size,
-            "urls",
-            &self.urls,
-            "annotations",
-            &self.annotations,
-            "artifactType",
-            &self.artifact_type,
-        )?;
+        let value = object!(alloc, {
+            "mediaType": &self.media_type,
+            "digest": &self.digest,
+            "size": &self.size,
+            "urls": &self.urls,
+            "annotations": &self.annotations,
+            "artifactType": &self.artifact_type,
+        })?;
         Ok(value)
     }
 }
@@ -113,21 +113,17 @@ impl ToValue for OciDescriptor {
 
 impl Copied for OciDescriptor {
     fn copy(&self, alloc: Global) -> Result<OciDescriptor, AllocError> {
-        let (media_type, digest, urls, annotations, artifact_type) = copies5(
+        copied!(
             alloc,
-            &self.media_type,
-            &self.digest,
-            &self.urls,
-            &self.annotations,
-            &self.artifact_type,
-        )?;
-        Ok(OciDescriptor {
-            media_type,
-            digest,
-            size: self.size,
-            urls,
-            annotations,
-            artifact_type,
-        })
+            self,
+            OciDescriptor {
+                media_type,
+                digest,
+                size,
+                urls,
+                annotations,
+                artifact_type
+            }
+        )
     }
 }

@@ -5,8 +5,8 @@ ghost use Rattle.oci_manifests.specs.Envelope.{text_or_empty};
 
 use crate::error_code::OciErrorCode;
 use json_tables::{ReadError, Reads, or_null, read_document, required};
-use json_values::{Copied, Json, List, Text, ToValue, copies3};
-use json_writing::{Required, Writes, object1, object3};
+use json_values::{Copied, Json, List, Text, ToValue, copied};
+use json_writing::{Required, Writes, object};
 use serde_json::Value;
 use std::alloc::{AllocError, Global};
 
@@ -98,15 +98,11 @@ impl Writes for OciError {
 
     #[tactic(auto, unfolding(crate::specs::Envelope::error_written))]
     fn write_value(&self, alloc: Global) -> Result<Value, AllocError> {
-        let value = object3(
-            alloc,
-            "code",
-            &Required(&self.code),
-            "message",
-            &self.message,
-            "detail",
-            &self.detail,
-        )?;
+        let value = object!(alloc, {
+            "code": &Required(&self.code),
+            "message": &self.message,
+            "detail": &self.detail,
+        })?;
         Ok(value)
     }
 }
@@ -140,19 +136,24 @@ impl ToValue for OciEnvelope {
         ensures reads_back { IfOk result (λ v. details_have_float self.now ≡ false
             → ReadsDocument (Ok (normal_envelope self.now)) envelope_of (view v)) }
     {
-        let value = object1(alloc, "errors", &self.errors)?;
+        let value = object!(alloc, {
+            "errors": &self.errors,
+        })?;
         Ok(value)
     }
 }
 
 impl Copied for OciError {
     fn copy(&self, alloc: Global) -> Result<OciError, AllocError> {
-        let (code, message, detail) = copies3(alloc, &self.code, &self.message, &self.detail)?;
-        Ok(OciError {
-            code,
-            message,
-            detail,
-        })
+        copied!(
+            alloc,
+            self,
+            OciError {
+                code,
+                message,
+                detail
+            }
+        )
     }
 }
 

@@ -3,9 +3,9 @@ ghost use Rattle.serde_json.specs.View.{view};
 ghost use Rattle.json_tables.specs.Outcomes.{ReadsDocument};
 
 use crate::index_entry::ImageIndexEntry;
-use json_tables::{ReadError, Reads, read_document, row5};
-use json_values::{Annotations, Copied, List, Text, ToValue, copies4};
-use json_writing::object5;
+use json_tables::{ReadError, Reads, read_document, read_row};
+use json_values::{Annotations, Copied, List, Text, ToValue, copied, row};
+use json_writing::object;
 use serde_json::Value;
 use std::alloc::{AllocError, Global};
 
@@ -37,14 +37,22 @@ impl Reads for OciImageIndex {
 
     #[tactic(auto, unfolding(crate::specs::Index::index_of))]
     fn read_value(alloc: Global, value: &Value) -> Result<OciImageIndex, ReadError> {
-        let (schema_version, media_type, manifests, artifact_type, annotations) = row5(
+        let row![
+            schema_version,
+            media_type,
+            manifests,
+            artifact_type,
+            annotations
+        ] = read_row::<Self, _>(
             alloc,
             value,
-            "schemaVersion",
-            "mediaType",
-            "manifests",
-            "artifactType",
-            "annotations",
+            &[
+                "schemaVersion",
+                "mediaType",
+                "manifests",
+                "artifactType",
+                "annotations",
+            ],
         )?;
         Ok(OciImageIndex {
             schema_version,
@@ -67,38 +75,29 @@ impl ToValue for OciImageIndex {
         ensures exact { IfOk result (λ v. view v ≡ index_written self.now) }
         ensures reads_back { IfOk result (λ v. ReadsDocument (Ok self.now) index_of (view v)) }
     {
-        let value = object5(
-            alloc,
-            "schemaVersion",
-            &self.schema_version,
-            "mediaType",
-            &self.media_type,
-            "manifests",
-            &self.manifests,
-            "artifactType",
-            &self.artifact_type,
-            "annotations",
-            &self.annotations,
-        )?;
+        let value = object!(alloc, {
+            "schemaVersion": &self.schema_version,
+            "mediaType": &self.media_type,
+            "manifests": &self.manifests,
+            "artifactType": &self.artifact_type,
+            "annotations": &self.annotations,
+        })?;
         Ok(value)
     }
 }
 
 impl Copied for OciImageIndex {
     fn copy(&self, alloc: Global) -> Result<OciImageIndex, AllocError> {
-        let (media_type, manifests, artifact_type, annotations) = copies4(
+        copied!(
             alloc,
-            &self.media_type,
-            &self.manifests,
-            &self.artifact_type,
-            &self.annotations,
-        )?;
-        Ok(OciImageIndex {
-            schema_version: self.schema_version,
-            media_type,
-            manifests,
-            artifact_type,
-            annotations,
-        })
+            self,
+            OciImageIndex {
+                schema_version,
+                media_type,
+                manifests,
+                artifact_type,
+                annotations
+            }
+        )
     }
 }

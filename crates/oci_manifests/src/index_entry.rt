@@ -3,9 +3,9 @@ ghost use Rattle.serde_json.specs.View.{view};
 ghost use Rattle.json_tables.specs.Outcomes.{ReadsDocument};
 
 use crate::platform::Platform;
-use json_tables::{Member, ReadError, Reads, present, read_document, row6};
-use json_values::{Annotations, Copied, Text, ToValue, copies5};
-use json_writing::{Writes, object6};
+use json_tables::{Member, ReadError, Reads, present, read_document, read_row};
+use json_values::{Annotations, Copied, Text, ToValue, copied, row};
+use json_writing::{Writes, object};
 use serde_json::Value;
 use std::alloc::{AllocError, Global};
 
@@ -38,15 +38,24 @@ impl Reads for ImageIndexEntry {
 
     #[tactic(auto, unfolding(crate::specs::IndexEntry::entry_of))]
     fn read_value(alloc: Global, value: &Value) -> Result<ImageIndexEntry, ReadError> {
-        let (media_type, digest, size, platform, annotations, artifact_type) = row6(
+        let row![
+            media_type,
+            digest,
+            size,
+            platform,
+            annotations,
+            artifact_type
+        ] = read_row::<Self, _>(
             alloc,
             value,
-            "mediaType",
-            "digest",
-            "size",
-            "platform",
-            "annotations",
-            "artifactType",
+            &[
+                "mediaType",
+                "digest",
+                "size",
+                "platform",
+                "annotations",
+                "artifactType",
+            ],
         )?;
         Ok(ImageIndexEntry {
             media_type,
@@ -77,21 +86,14 @@ impl Writes for ImageIndexEntry {
 
     #[tactic(auto, unfolding(crate::specs::IndexEntry::entry_written))]
     fn write_value(&self, alloc: Global) -> Result<Value, AllocError> {
-        let value = object6(
-            alloc,
-            "mediaType",
-            &self.media_type,
-            "digest",
-            &self.digest,
-            "size",
-            &self.size,
-            "platform",
-            &self.platform,
-            "annotations",
-            &self.annotations,
-            "artifactType",
-            &self.artifact_type,
-        )?;
+        let value = object!(alloc, {
+            "mediaType": &self.media_type,
+            "digest": &self.digest,
+            "size": &self.size,
+            "platform": &self.platform,
+            "annotations": &self.annotations,
+            "artifactType": &self.artifact_type,
+        })?;
         Ok(value)
     }
 }
@@ -114,21 +116,17 @@ impl ToValue for ImageIndexEntry {
 
 impl Copied for ImageIndexEntry {
     fn copy(&self, alloc: Global) -> Result<ImageIndexEntry, AllocError> {
-        let (media_type, digest, platform, annotations, artifact_type) = copies5(
+        copied!(
             alloc,
-            &self.media_type,
-            &self.digest,
-            &self.platform,
-            &self.annotations,
-            &self.artifact_type,
-        )?;
-        Ok(ImageIndexEntry {
-            media_type,
-            digest,
-            size: self.size,
-            platform,
-            annotations,
-            artifact_type,
-        })
+            self,
+            ImageIndexEntry {
+                media_type,
+                digest,
+                size,
+                platform,
+                annotations,
+                artifact_type
+            }
+        )
     }
 }

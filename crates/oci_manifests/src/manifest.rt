@@ -3,9 +3,9 @@ ghost use Rattle.serde_json.specs.View.{view};
 ghost use Rattle.json_tables.specs.Outcomes.{ReadsDocument};
 
 use crate::descriptor::OciDescriptor;
-use json_tables::{ReadError, Reads, read_document, row7};
-use json_values::{Annotations, Copied, List, Text, ToValue, copies6};
-use json_writing::{Required, object7};
+use json_tables::{ReadError, Reads, read_document, read_row};
+use json_values::{Annotations, Copied, List, Text, ToValue, copied, row};
+use json_writing::{Required, object};
 use serde_json::Value;
 use std::alloc::{AllocError, Global};
 
@@ -39,10 +39,18 @@ impl Reads for OciImageManifest {
 
     #[tactic(auto, unfolding(crate::specs::Manifest::manifest_of))]
     fn read_value(alloc: Global, value: &Value) -> Result<OciImageManifest, ReadError> {
-        let (schema_version, media_type, config, layers, subject, artifact_type, annotations) =
-            row7(
-                alloc,
-                value,
+        let row![
+            schema_version,
+            media_type,
+            config,
+            layers,
+            subject,
+            artifact_type,
+            annotations
+        ] = read_row::<Self, _>(
+            alloc,
+            value,
+            &[
                 "schemaVersion",
                 "mediaType",
                 "config",
@@ -50,7 +58,8 @@ impl Reads for OciImageManifest {
                 "subject",
                 "artifactType",
                 "annotations",
-            )?;
+            ],
+        )?;
         Ok(OciImageManifest {
             schema_version,
             media_type,
@@ -74,46 +83,33 @@ impl ToValue for OciImageManifest {
         ensures exact { IfOk result (λ v. view v ≡ manifest_written self.now) }
         ensures reads_back { IfOk result (λ v. ReadsDocument (Ok self.now) manifest_of (view v)) }
     {
-        let value = object7(
-            alloc,
-            "schemaVersion",
-            &self.schema_version,
-            "mediaType",
-            &self.media_type,
-            "config",
-            &Required(&self.config),
-            "layers",
-            &self.layers,
-            "subject",
-            &self.subject,
-            "artifactType",
-            &self.artifact_type,
-            "annotations",
-            &self.annotations,
-        )?;
+        let value = object!(alloc, {
+            "schemaVersion": &self.schema_version,
+            "mediaType": &self.media_type,
+            "config": &Required(&self.config),
+            "layers": &self.layers,
+            "subject": &self.subject,
+            "artifactType": &self.artifact_type,
+            "annotations": &self.annotations,
+        })?;
         Ok(value)
     }
 }
 
 impl Copied for OciImageManifest {
     fn copy(&self, alloc: Global) -> Result<OciImageManifest, AllocError> {
-        let (media_type, config, layers, subject, artifact_type, annotations) = copies6(
+        copied!(
             alloc,
-            &self.media_type,
-            &self.config,
-            &self.layers,
-            &self.subject,
-            &self.artifact_type,
-            &self.annotations,
-        )?;
-        Ok(OciImageManifest {
-            schema_version: self.schema_version,
-            media_type,
-            config,
-            layers,
-            subject,
-            artifact_type,
-            annotations,
-        })
+            self,
+            OciImageManifest {
+                schema_version,
+                media_type,
+                config,
+                layers,
+                subject,
+                artifact_type,
+                annotations
+            }
+        )
     }
 }

@@ -2,17 +2,20 @@ ghost use Rattle.std.specs.Prelude.{◌≡◌, IfOk, Ok};
 ghost use Rattle.serde_json.specs.View.{view};
 ghost use Rattle.json_tables.specs.Outcomes.{ReadsDocument};
 
-use json_tables::{Member, ReadError, Reads, present, read_document, row6};
-use json_values::{Copied, List, Text, ToValue, copies6};
-use json_writing::{Writes, object6};
+use json_tables::{Member, ReadError, Reads, present, read_document, read_row};
+use json_values::{Copied, List, Text, ToValue, copied, row};
+use json_writing::{Writes, object};
+use oci_names::{Arch, Os};
 use serde_json::Value;
 use std::alloc::{AllocError, Global};
 
 /// The platform that an image runs on (OCI image specification, image-index.md).
 #[derive(Debug, PartialEq, Eq, Drop)]
 pub struct Platform {
-    pub architecture: Text,
-    pub os: Text,
+    /// The processor that the programs are for.
+    pub architecture: Arch,
+    /// The operating system that the programs are for.
+    pub os: Os,
     pub os_version: Option<Text>,
     pub os_features: Option<List<Text>>,
     pub variant: Option<Text>,
@@ -37,19 +40,24 @@ impl Reads for Platform {
 
     #[tactic(auto, unfolding(crate::specs::Platform::platform_of))]
     fn read_value(alloc: Global, value: &Value) -> Result<Platform, ReadError> {
-        let (architecture, os, os_version, os_features, variant, features) = row6(
+        let row![architecture, os, os_version, os_features, variant, features] = read_row::<
+            Self,
+            _,
+        >(
             alloc,
             value,
-            "architecture",
-            "os",
-            "os.version",
-            "os.features",
-            "variant",
-            "features",
+            &[
+                "architecture",
+                "os",
+                "os.version",
+                "os.features",
+                "variant",
+                "features",
+            ],
         )?;
         Ok(Platform {
-            architecture,
-            os,
+            architecture: Arch::new(architecture),
+            os: Os::new(os),
             os_version,
             os_features,
             variant,
@@ -76,21 +84,14 @@ impl Writes for Platform {
 
     #[tactic(auto, unfolding(crate::specs::Platform::platform_written))]
     fn write_value(&self, alloc: Global) -> Result<Value, AllocError> {
-        let value = object6(
-            alloc,
-            "architecture",
-            &self.architecture,
-            "os",
-            &self.os,
-            "os.version",
-            &self.os_version,
-            "os.features",
-            &self.os_features,
-            "variant",
-            &self.variant,
-            "features",
-            &self.features,
-        )?;
+        let value = object!(alloc, {
+            "architecture": &self.architecture.as_str(),
+            "os": &self.os.as_str(),
+            "os.version": &self.os_version,
+            "os.features": &self.os_features,
+            "variant": &self.variant,
+            "features": &self.features,
+        })?;
         Ok(value)
     }
 }
@@ -113,22 +114,17 @@ impl ToValue for Platform {
 
 impl Copied for Platform {
     fn copy(&self, alloc: Global) -> Result<Platform, AllocError> {
-        let (architecture, os, os_version, os_features, variant, features) = copies6(
+        copied!(
             alloc,
-            &self.architecture,
-            &self.os,
-            &self.os_version,
-            &self.os_features,
-            &self.variant,
-            &self.features,
-        )?;
-        Ok(Platform {
-            architecture,
-            os,
-            os_version,
-            os_features,
-            variant,
-            features,
-        })
+            self,
+            Platform {
+                architecture,
+                os,
+                os_version,
+                os_features,
+                variant,
+                features
+            }
+        )
     }
 }

@@ -3,12 +3,9 @@ ghost use Rattle.serde_json.specs.View.{view};
 ghost use Rattle.json_tables.specs.Outcomes.{ReadsDocument};
 ghost use Rattle.oci_manifests.specs.Types.{is_manifest_type};
 
-use crate::media_types::{
-    IMAGE_MANIFEST_LIST_MEDIA_TYPE, IMAGE_MANIFEST_MEDIA_TYPE, OCI_IMAGE_INDEX_MEDIA_TYPE,
-    OCI_IMAGE_MEDIA_TYPE,
-};
-use json_tables::{ReadError, Reads, read_document, row2};
-use json_values::{Copied, Text};
+use crate::media_types;
+use json_tables::{ReadError, Reads, read_document, read_row};
+use json_values::{Copied, Text, row};
 use serde_json::Value;
 use std::alloc::{AllocError, Global};
 
@@ -37,7 +34,11 @@ impl Reads for Versioned {
 
     #[tactic(auto, unfolding(crate::specs::Versioned::versioned_of))]
     fn read_value(alloc: Global, value: &Value) -> Result<Versioned, ReadError> {
-        let (schema_version, media_type) = row2(alloc, value, "schemaVersion", "mediaType")?;
+        let row![schema_version, media_type] = read_row::<Self, _>(
+            alloc,
+            value,
+            &["schemaVersion", "mediaType"],
+        )?;
         Ok(Versioned {
             schema_version,
             media_type,
@@ -55,12 +56,12 @@ impl Copied for Versioned {
     }
 }
 
-/// Whether a media type is one of the four of image manifests and image indexes (own).
+/// Whether a media type is one of the four of image manifests and image indexes, Docker's and OCI's.
 pub fn is_manifest_media_type(text: &str) -> bool
     ensures { result ≡ is_manifest_type text.now }
 {
-    text == IMAGE_MANIFEST_MEDIA_TYPE
-        || text == IMAGE_MANIFEST_LIST_MEDIA_TYPE
-        || text == OCI_IMAGE_MEDIA_TYPE
-        || text == OCI_IMAGE_INDEX_MEDIA_TYPE
+    text == media_types::IMAGE_MANIFEST_MEDIA_TYPE
+        || text == media_types::IMAGE_MANIFEST_LIST_MEDIA_TYPE
+        || text == media_types::OCI_IMAGE_MEDIA_TYPE
+        || text == media_types::OCI_IMAGE_INDEX_MEDIA_TYPE
 }

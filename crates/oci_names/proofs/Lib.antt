@@ -1,6 +1,6 @@
-pub mod Backs
+pub mod ReadsBack
 pub mod Cuts
 pub mod Joins
-pub mod Readings
-pub mod Spelled
-pub mod Written
+pub mod ParseAnswers
+pub mod LetterCuts
+pub mod PartWords

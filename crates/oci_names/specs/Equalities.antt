@@ -1,19 +1,10 @@
--- Equality of references and of platforms' names is an equivalence.
+-- Equality of references is an equivalence.
 use Rattle.std.specs.Prelude.{ℕ, List, Option, bytes_eq}
 use Rattle.std.specs.Option.{option_eq}
 use Rattle.std.specs.Cmp.{IsEquivalence, and_equiv, on_equiv}
 use Rattle.std.specs.Cmp.Lexicographic.{nat_list_eq_equiv, options_equiv}
-use Rattle.oci_names.specs.declared.platform.Arch.{Arch}
-use Rattle.oci_names.specs.declared.platform.Os.{Os}
 use Rattle.oci_names.specs.declared.reference.Reference.{Reference}
-use Rattle.oci_names.specs.Platforms.{is_same_architecture, is_same_system}
 use Rattle.oci_names.specs.References.{is_same}
-
-pub architectures : IsEquivalence is_same_architecture
-architectures = on_equiv (λ (a : Arch). a.name) nat_list_eq_equiv
-
-pub systems : IsEquivalence is_same_system
-systems = on_equiv (λ (s : Os). s.name) nat_list_eq_equiv
 
 at_text : (f : Reference → List ℕ) → IsEquivalence (λ a b. bytes_eq (f a) (f b))
 at_text f = on_equiv f nat_list_eq_equiv
@@ -23,4 +14,8 @@ at_option f = on_equiv f (options_equiv nat_list_eq_equiv)
 
 pub references : IsEquivalence is_same
 references =
-    and_equiv (and_equiv (and_equiv (and_equiv (at_text (λ r. r.registry)) (at_option (λ r. r.mirror))) (at_text (λ r. r.repository))) (at_option (λ r. r.tag))) (at_option (λ r. r.digest))
+    and_equiv
+    (and_equiv
+    (and_equiv (and_equiv (at_text (λ r. r.registry)) (at_option (λ r. r.mirror))) (at_text (λ r. r.repository)))
+    (at_option (λ r. r.tag)))
+    (at_option (λ r. r.digest))

@@ -15,7 +15,8 @@ after c xs = if list_any (λ b. b == c) xs then Some (after_first (λ b. b == c)
 
 -- the first and the last byte are letters
 abbrev pub has_letter_ends : (ℕ → Bool) → List ℕ → Bool
-has_letter_ends letter xs = option_map_or letter (slice_get xs 0) false && option_map_or letter (slice_get xs (length xs - 1)) false
+has_letter_ends letter xs =
+    option_map_or letter (slice_get xs 0) false && option_map_or letter (slice_get xs (length xs - 1)) false
 
 -- runs of letters joined by separators: between each two letters stands nothing or a separator
 abbrev pub is_joined : (ℕ → Bool) → (List ℕ → Bool) → List ℕ → Bool
@@ -44,7 +45,8 @@ is_path_letter b = is_ascii_lowercase b || is_ascii_digit b
 
 -- a dot, one or two underscores, or any number of dashes
 abbrev pub is_path_separator : List ℕ → Bool
-is_path_separator gap = is_dashes gap || bytes_eq gap (codes ".") || bytes_eq gap (codes "_") || bytes_eq gap (codes "__")
+is_path_separator gap =
+    is_dashes gap || bytes_eq gap (codes ".") || bytes_eq gap (codes "_") || bytes_eq gap (codes "__")
 
 abbrev pub is_path_component : List ℕ → Bool
 is_path_component xs = is_joined is_path_letter is_path_separator xs

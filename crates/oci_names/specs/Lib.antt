@@ -1,7 +1,7 @@
 pub mod Equalities
 pub mod Grammar
 pub mod Parts
-pub mod Platforms
+pub mod PlatformNames
 pub mod References
 pub mod Refusals
 pub mod Seen

@@ -24,7 +24,9 @@ is_domain_part xs = list_any is_domain_mark xs || bytes_eq xs (codes "localhost"
 
 -- the domain, which is Docker Hub's where the text names none
 abbrev pub domain_in : List ℕ → List ℕ
-domain_in xs = option_map_or (λ _. if is_domain_part (before 47 xs) then before 47 xs else codes "docker.io") (after 47 xs) (codes "docker.io")
+domain_in xs =
+    option_map_or (λ _. if is_domain_part (before 47 xs) then before 47 xs else codes "docker.io")
+    (after 47 xs) (codes "docker.io")
 
 -- what follows the domain
 abbrev pub rest_in : List ℕ → List ℕ
@@ -32,11 +34,15 @@ rest_in xs = option_map_or (λ rest. if is_domain_part (before 47 xs) then rest 
 
 -- the digest follows the first `@`, and the tag the first `:` before it
 abbrev pub parts_of : List ℕ → Parts
-parts_of xs = let rest = rest_in xs in let name = before 64 rest in record { domain = domain_in xs; path = before 58 name; tag = after 58 name; digest = after 64 rest }
+parts_of xs =
+    let rest = rest_in xs in
+    let name = before 64 rest in
+    record { domain = domain_in xs; path = before 58 name; tag = after 58 name; digest = after 64 rest }
 
 -- each part is a word of the grammar
 abbrev pub is_grammatical : Parts → Bool
-is_grammatical p = is_domain p.domain && is_path p.path && option_map_or is_tag p.tag true && option_map_or is_digest p.digest true
+is_grammatical p =
+    is_domain p.domain && is_path p.path && option_map_or is_tag p.tag true && option_map_or is_digest p.digest true
 
 -- `index.docker.io` is read as `docker.io`
 abbrev pub registry_named : List ℕ → List ℕ
@@ -47,7 +53,8 @@ is_slash b = b == 47
 
 -- on `docker.io` a path without a slash stands under `library/`
 abbrev pub library_for : List ℕ → List ℕ → List ℕ
-library_for registry path = if bytes_eq registry (codes "docker.io") && not (list_any is_slash path) then codes "library/" else []
+library_for registry path =
+    if bytes_eq registry (codes "docker.io") && not (list_any is_slash path) then codes "library/" else []
 
 abbrev pub repository_named : Parts → List ℕ
 repository_named p = library_for (registry_named p.domain) p.path ++ p.path

@@ -25,7 +25,13 @@ mirror_of r = r.mirror
 
 -- the reference of parts that are not refused
 abbrev pub reference_named : Parts → Reference
-reference_named p = record { registry = registry_named p.domain; mirror = None; repository = repository_named p; tag = tag_named p; digest = p.digest }
+reference_named p = record {
+  registry = registry_named p.domain;
+  mirror = None;
+  repository = repository_named p;
+  tag = tag_named p;
+  digest = p.digest;
+}
 
 -- what a text is read as
 abbrev pub reference_of : List ℕ → Result Reference ParseError
@@ -39,7 +45,8 @@ whole_text r = r.registry ++ codes "/" ++ r.repository ++ marked (codes ":") r.t
 
 -- the registry that is asked: the mirror, and for `docker.io` the host at which it answers
 abbrev pub resolved_registry : Reference → List ℕ
-resolved_registry r = unwrap_or r.mirror (if bytes_eq r.registry (codes "docker.io") then codes "index.docker.io" else r.registry)
+resolved_registry r =
+    unwrap_or r.mirror (if bytes_eq r.registry (codes "docker.io") then codes "index.docker.io" else r.registry)
 
 -- the registry that a mirror is asked for
 abbrev pub namespace_of : Reference → Option (List ℕ)
@@ -47,7 +54,10 @@ namespace_of r = if is_some r.mirror then Some r.registry else None
 
 -- the same parts, and the same mirror
 abbrev pub is_same : Reference → Reference → Bool
-is_same a b = bytes_eq a.registry b.registry && option_eq bytes_eq a.mirror b.mirror && bytes_eq a.repository b.repository && option_eq bytes_eq a.tag b.tag && option_eq bytes_eq a.digest b.digest
+is_same a b =
+    bytes_eq a.registry b.registry && option_eq bytes_eq a.mirror b.mirror
+    && bytes_eq a.repository b.repository && option_eq bytes_eq a.tag b.tag
+    && option_eq bytes_eq a.digest b.digest
 
 -- whether this answer is the reference
 abbrev pub is_read_as : Reference → Result Reference ParseError → Bool

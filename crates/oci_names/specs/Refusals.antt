@@ -8,8 +8,8 @@ abbrev pub Refuses : {A : Type 0} → ParseError → Result A ParseError → Typ
 Refuses WantOfMemory expected = ⊤
 Refuses e expected = expected ≡ Err e
 
--- a text that is read is in the grammar, and so is one that is refused for its length or its digest; one that is refused
--- as empty or for its form is not
+-- a text that is read is in the grammar, and so is one that is refused for its length or its digest;
+-- one that is refused as empty or for its form is not
 abbrev pub OfGrammar : {A : Type 0} → Result A ParseError → Type 0 → Type 0
 OfGrammar (Ok r) inside = inside
 OfGrammar (Err NameEmpty) inside = ¬ inside

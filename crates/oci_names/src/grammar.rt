@@ -46,6 +46,7 @@ fn is_digits(port: &[u8]) -> bool
     !port.is_empty() && port.iter().all(|b| b.is_ascii_digit())
 }
 
+/// Whether the text is a host, or a host with a port.
 pub fn is_domain(domain: &str) -> bool
     ensures { result ≡ words.is_domain domain.now }
 {
@@ -80,6 +81,7 @@ fn is_path_component(component: &[u8]) -> bool
         && component.split(is_path_letter).all(is_path_separator)
 }
 
+/// Whether the text is a repository's path (OCI distribution specification, "Pulling manifests").
 pub fn is_path(path: &str) -> bool
     ensures { result ≡ words.is_path path.now }
 {
@@ -104,6 +106,7 @@ fn are_tag_bytes(bytes: &[u8]) -> bool
     bytes.iter().all(|b| is_tag_byte(*b))
 }
 
+/// Whether the text is a tag (OCI distribution specification, "Pulling manifests").
 pub fn is_tag(tag: &str) -> bool
     ensures { result ≡ words.is_tag tag.now }
 {
@@ -138,6 +141,7 @@ fn is_hexadecimal(digits: &[u8]) -> bool
     !digits.is_empty() && digits.iter().all(|b| b.is_ascii_hexdigit())
 }
 
+/// Whether the text is a digest (OCI image specification, descriptor.md, "Digests").
 pub fn is_digest(digest: &str) -> bool
     ensures { result ≡ words.is_digest digest.now }
 {

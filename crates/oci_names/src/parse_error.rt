@@ -1,21 +1,27 @@
+// Why a text is no reference.
 use std::alloc::AllocError;
 use thiserror::Error;
 
 /// Why a text is no reference (OCI distribution specification, "Pulling manifests").
 #[derive(Clone, Copy, Debug, PartialEq, Eq, Error)]
 pub enum ParseError {
-    #[error("the reference is empty")]
+    /// The text is empty.
+    #[error("the reference is empty: give [domain/]path[:tag][@digest]")]
     NameEmpty,
     /// The text is not in the grammar.
     #[error("the reference is not of the form [domain/]path[:tag][@digest]")]
     ReferenceInvalidFormat,
-    #[error("the repository has more than 255 characters")]
+    /// The repository, with `library/` where that is meant, has more than 255 characters.
+    #[error("the repository has more than 255 characters: give a shorter one")]
     NameTooLong,
-    #[error("the digest's algorithm is none of sha256, sha384 and sha512")]
+    /// The digest is of another algorithm.
+    #[error("the digest's algorithm is none of sha256, sha384 and sha512: give a digest of these")]
     DigestUnsupported,
-    #[error("the digest has not as many digits as its algorithm gives")]
+    /// The digest has more or fewer digits than its algorithm gives.
+    #[error("the digest has not as many digits as its algorithm gives: give it whole")]
     DigestInvalidLength,
-    #[error("out of memory")]
+    /// The allocator had no memory.
+    #[error("out of memory: free some and try again")]
     WantOfMemory,
 }
 

@@ -45,6 +45,7 @@ fn split_domain(text: &str) -> (&str, &str)
     }
 }
 
+/// The parts of a text, in the grammar or not.
 pub fn parts_of(text: &str) -> Parts<'_>
     ensures { seen result ≡ meaning.parts_of text.now }
 {
@@ -148,12 +149,14 @@ impl<'a> Parts<'a> {
         }
     }
 
+    /// The registry that the domain names.
     pub fn registry(&self) -> &str
         ensures { result.now ≡ meaning.registry_named (seen self.now).domain }
     {
         registry_named(self.domain)
     }
 
+    /// The path, under `library/` where that is meant.
     pub fn repository(&self, alloc: Global) -> Result<Text, AllocError>
         ensures { IfOk result (λ t. t ≡ meaning.repository_named (seen self.now)) }
     {

@@ -1,55 +1,42 @@
+// The architecture and the operating system of a platform.
 ghost use Rattle.std.specs.Prelude.{◌≡◌, ◌↔◌, IsTrue};
 
 use json_values::{Copied, Text};
 use std::alloc::{AllocError, Global};
+use std::marker::Model;
 
-/// The architecture of a platform, by the name that Go has for it (OCI image index, `platform`).
+/// The architecture of a platform, by the name that Go has for it (OCI image index, `platform`). A contract sees
+/// its text.
 #[derive(Debug, Drop)]
 pub struct Arch {
     name: Text,
 }
 
-impl Arch {
-    ghost use Rattle.oci_names.specs.Platforms.{architecture_of};
+impl Model for Arch {
+    ghost use Rattle.std.specs.Prelude.{ℕ, List};
 
+    ghost Value = { List ℕ };
+
+    ghost view = { λ a. a.name };
+}
+
+impl Arch {
+    /// 64 bits, x86.
     pub const AMD64: &'static str = "amd64";
 
+    /// 64 bits, ARM.
     pub const ARM64: &'static str = "arm64";
 
+    /// The architecture of this name, whatever it is.
     pub fn new(text: Text) -> Self
-        ensures { architecture_of result ≡ text }
+        ensures { result ≡ text }
     {
         Arch { name: text }
     }
 
+    /// Its name.
     pub fn as_str(&self) -> &str
-        ensures { result.now ≡ architecture_of self.now }
-    {
-        self.name.as_str()
-    }
-}
-
-/// The operating system of a platform, by the name that Go has for it (OCI image index, `platform`).
-#[derive(Debug, Drop)]
-pub struct Os {
-    name: Text,
-}
-
-impl Os {
-    ghost use Rattle.oci_names.specs.Platforms.{system_of};
-
-    pub const LINUX: &'static str = "linux";
-
-    pub const WINDOWS: &'static str = "windows";
-
-    pub fn new(text: Text) -> Self
-        ensures { system_of result ≡ text }
-    {
-        Os { name: text }
-    }
-
-    pub fn as_str(&self) -> &str
-        ensures { result.now ≡ system_of self.now }
+        ensures { result.now ≡ self.now }
     {
         self.name.as_str()
     }
@@ -62,6 +49,66 @@ impl Copied for Arch {
     }
 }
 
+impl PartialEq for Arch {
+    ghost use Rattle.std.specs.Str.{bytes_eq};
+    ghost use Rattle.std.specs.Cmp.{partial_equiv_from_equiv};
+    ghost use Rattle.std.specs.Cmp.Lexicographic.{nat_list_eq_equiv};
+
+    ghost eq = { bytes_eq };
+
+    ghost laws = { partial_equiv_from_equiv nat_list_eq_equiv };
+
+    fn eq(&self, other: &Arch) -> bool
+        ensures value { result ≡ bytes_eq self.now other.now }
+        ensures same { IsTrue result ↔ (self.now ≡ other.now) }
+    {
+        self.as_str() == other.as_str()
+    }
+}
+
+impl Eq for Arch {
+    ghost use Rattle.std.specs.Cmp.Lexicographic.{nat_list_eq_equiv};
+
+    ghost laws = { nat_list_eq_equiv };
+}
+
+/// The operating system of a platform, by the name that Go has for it (OCI image index, `platform`). A contract sees
+/// its text.
+#[derive(Debug, Drop)]
+pub struct Os {
+    name: Text,
+}
+
+impl Model for Os {
+    ghost use Rattle.std.specs.Prelude.{ℕ, List};
+
+    ghost Value = { List ℕ };
+
+    ghost view = { λ a. a.name };
+}
+
+impl Os {
+    /// Linux.
+    pub const LINUX: &'static str = "linux";
+
+    /// Windows.
+    pub const WINDOWS: &'static str = "windows";
+
+    /// The operating system of this name, whatever it is.
+    pub fn new(text: Text) -> Self
+        ensures { result ≡ text }
+    {
+        Os { name: text }
+    }
+
+    /// Its name.
+    pub fn as_str(&self) -> &str
+        ensures { result.now ≡ self.now }
+    {
+        self.name.as_str()
+    }
+}
+
 impl Copied for Os {
     fn copy(&self, alloc: Global) -> Result<Os, AllocError> {
         let name = self.name.copy(alloc)?;
@@ -69,48 +116,25 @@ impl Copied for Os {
     }
 }
 
-impl PartialEq for Arch {
-    ghost use Rattle.std.specs.Cmp.{partial_equiv_from_equiv};
-    ghost use Rattle.oci_names.specs.Platforms.{is_same_architecture};
-    ghost use Rattle.oci_names.specs.Equalities.{architectures};
-
-    ghost eq = { is_same_architecture };
-
-    ghost laws = { partial_equiv_from_equiv architectures };
-
-    fn eq(&self, other: &Arch) -> bool
-        ensures value { result ≡ is_same_architecture self.now other.now }
-        ensures same { IsTrue result ↔ (self.now ≡ other.now) }
-    {
-        self.name == other.name
-    }
-}
-
-impl Eq for Arch {
-    ghost use Rattle.oci_names.specs.Equalities.{architectures};
-
-    ghost laws = { architectures };
-}
-
 impl PartialEq for Os {
+    ghost use Rattle.std.specs.Str.{bytes_eq};
     ghost use Rattle.std.specs.Cmp.{partial_equiv_from_equiv};
-    ghost use Rattle.oci_names.specs.Platforms.{is_same_system};
-    ghost use Rattle.oci_names.specs.Equalities.{systems};
+    ghost use Rattle.std.specs.Cmp.Lexicographic.{nat_list_eq_equiv};
 
-    ghost eq = { is_same_system };
+    ghost eq = { bytes_eq };
 
-    ghost laws = { partial_equiv_from_equiv systems };
+    ghost laws = { partial_equiv_from_equiv nat_list_eq_equiv };
 
     fn eq(&self, other: &Os) -> bool
-        ensures value { result ≡ is_same_system self.now other.now }
+        ensures value { result ≡ bytes_eq self.now other.now }
         ensures same { IsTrue result ↔ (self.now ≡ other.now) }
     {
-        self.name == other.name
+        self.as_str() == other.as_str()
     }
 }
 
 impl Eq for Os {
-    ghost use Rattle.oci_names.specs.Equalities.{systems};
+    ghost use Rattle.std.specs.Cmp.Lexicographic.{nat_list_eq_equiv};
 
-    ghost laws = { systems };
+    ghost laws = { nat_list_eq_equiv };
 }

@@ -6,7 +6,7 @@ ghost use Rattle.oci_names.specs.Words.{InGrammar};
 
 use crate::parse_error::ParseError;
 use crate::parts::{DOCKER_HUB, parts_of};
-use json_values::{Copied, Text, copies3, copies5};
+use json_values::{Copied, Text, copied, copy_all, row};
 use std::alloc::{AllocError, Global};
 
 /// A reference to an image: `registry/repository`, with a tag, a digest or both, and perhaps a mirror
@@ -109,11 +109,9 @@ impl Reference {
         ensures tag { IfOk result (λ r. tag_of r ≡ None) }
         ensures digest { IfOk result (λ r. digest_of r ≡ Some digest) }
     {
-        let (registry, mirror, repository) = copies3(
+        let row!(registry, mirror, repository) = copy_all(
             alloc,
-            &self.registry,
-            &self.mirror,
-            &self.repository,
+            row!(&self.registry, &self.mirror, &self.repository),
         )?;
         Ok(Reference {
             registry,
@@ -160,12 +158,14 @@ impl Reference {
         self.repository.as_str()
     }
 
+    /// The tag, where there is one.
     pub fn tag(&self) -> Option<&str>
         ensures { option_copied result ≡ tag_of self.now }
     {
         self.tag.as_ref().map(|tag| tag.as_str())
     }
 
+    /// The digest, where there is one.
     pub fn digest(&self) -> Option<&str>
         ensures { option_copied result ≡ digest_of self.now }
     {
@@ -212,7 +212,8 @@ impl Reference {
     /// Whether no mirror is set and the reference's text parses to the same four parts.
     pub fn reads_back(&self, alloc: Global) -> Result<bool, AllocError>
         ensures value { IfOk result (λ b. b ≡ reads_back self.now) }
-        ensures same { IfOk result (λ b. IsTrue b ↔ (reference_of (whole_text self.now) ≡ Ok self.now)) }
+        ensures same { IfOk result (λ b.
+            IsTrue b ↔ (reference_of (whole_text self.now) ≡ Ok self.now)) }
     {
         let whole = self.whole(alloc)?;
         let is_same = self.is_read_from(alloc, whole.as_str())?;
@@ -233,21 +234,17 @@ fn push_marked(whole: &mut Text, mark: &str, part: Option<&str>) -> Result<(), A
 
 impl Copied for Reference {
     fn copy(&self, alloc: Global) -> Result<Reference, AllocError> {
-        let (registry, mirror, repository, tag, digest) = copies5(
+        copied!(
             alloc,
-            &self.registry,
-            &self.mirror,
-            &self.repository,
-            &self.tag,
-            &self.digest,
-        )?;
-        Ok(Reference {
-            registry,
-            mirror,
-            repository,
-            tag,
-            digest,
-        })
+            self,
+            Reference {
+                registry,
+                mirror,
+                repository,
+                tag,
+                digest
+            }
+        )
     }
 }
 

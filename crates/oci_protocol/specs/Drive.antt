@@ -3,7 +3,8 @@ use Rattle.std.specs.Prelude.{◌≡◌, ℕ, suc, Option, Some, None, Result, O
 use Rattle.oci_transport.specs.Link.{Answering}
 use Rattle.oci_transport.specs.declared.message.Answer.{Answer}
 use Rattle.oci_transport.specs.declared.message.AnswerHead.{AnswerHead}
-use Rattle.oci_protocol.specs.Proto.{Reading, Unread, Within, Piped, Reply, Headed, Answered, Failed, TooLong, SinkFailed, Proto, Done, Ask, Recall, Keep}
+use Rattle.oci_protocol.specs.Proto.{Reading, Unread, Within, Piped, Reply, Headed, Answered, Failed, TooLong}
+use Rattle.oci_protocol.specs.Proto.{SinkFailed, Proto, Done, Ask, Recall, Keep}
 use Rattle.oci_protocol.specs.Runs.{head_part}
 use Rattle.oci_protocol.specs.Ends.{Ends}
 
@@ -35,7 +36,8 @@ driven t (Recall next) place k = driven t (next k) place k
 driven t (Keep kept rest) place k = driven t rest place kept
 
 -- it comes to this answer, and keeps l in the place of k
-pub record Drives {K A E : Type 0} (t : Answering) (p : Proto K (Result A E)) (place after : ℕ) (k l : K) (a : A) : Type 0 where
+pub record Drives {K A E : Type 0} (t : Answering) (p : Proto K (Result A E)) (place after : ℕ) (k l : K)
+    (a : A) : Type 0 where
   pub drives : driven t p place k ≡ record { place = after; kept = l; answer = Ok a }
 
 -- where the sink fails, this is the answer

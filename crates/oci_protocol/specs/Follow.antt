@@ -26,9 +26,11 @@ turn request go next reply = next reply
 
 -- A request whose redirects are followed, at most so many. What comes next knows the last request
 -- and the reply to it.
-unfoldable pub follow : {K A : Type 0} → ℕ → Request → (AnswerHead → Reading) → (Request → Reply → Proto K A) → Proto K A
+unfoldable pub follow : {K A : Type 0} → ℕ → Request → (AnswerHead → Reading) → (Request → Reply → Proto K A)
+    → Proto K A
 follow zero request reading next = Ask request reading (next request)
-follow (suc n) request reading next = Ask request (turned request reading) (turn request (λ r. follow n r reading next) (next request))
+follow (suc n) request reading next = Ask request (turned request reading) (turn request
+    (λ r. follow n r reading next) (next request))
 
 -- how the answer to a request is read that may be followed so often
 unfoldable pub reading_at : ℕ → Request → (AnswerHead → Reading) → AnswerHead → Reading
@@ -40,7 +42,9 @@ reading_at (suc n) request reading = turned request reading
 unfoldable pub Trail : ℕ → Request → ℕ → List Exchange → ℕ → Request → ℕ → Type 0
 Trail n request m [] left last after = (n ≡ left) × (request ≡ last) × (m ≡ after)
 Trail zero request m (e ∷ c) left last after = ⊥
-Trail (suc n) request m (e ∷ c) left last after = (between : ℕ) × (head : AnswerHead) × (next : Request) × (redirected request head ≡ Some next) × Replies request read_none m e between (Headed head) × Trail n next between c left last after
+Trail (suc n) request m (e ∷ c) left last after = (between : ℕ) × (head : AnswerHead) × (next : Request)
+    × (redirected request head ≡ Some next) × Replies request read_none m e between (Headed head)
+    × Trail n next between c left last after
 
 pub record Follows (n : ℕ) (request : Request) (left : ℕ) (last : Request) (old new : Link) : Type 0 where
   pub conversation : List Exchange

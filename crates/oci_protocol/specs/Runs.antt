@@ -5,21 +5,27 @@ use Rattle.oci_transport.specs.declared.message.Request.{Request}
 use Rattle.oci_transport.specs.declared.message.Answer.{Answer}
 use Rattle.oci_transport.specs.declared.message.AnswerHead.{AnswerHead}
 use Rattle.oci_transport.specs.declared.message.Exchange.{Exchange}
-use Rattle.oci_protocol.specs.Proto.{Reading, Unread, Piped, limit_of, Reply, Headed, Answered, Failed, TooLong, SinkFailed, Proto, Done, Ask, Recall, Keep}
+use Rattle.oci_protocol.specs.Proto.{Reading, Unread, Piped, limit_of, Reply, Headed, Answered, Failed}
+use Rattle.oci_protocol.specs.Proto.{TooLong, SinkFailed, Proto, Done, Ask, Recall, Keep}
 
 abbrev pub head_part : Answer → AnswerHead
 head_part answer = record { status = answer.status; headers = answer.headers }
 
 -- this reply may come of this exchange, if the count of faults stood here after it
 abbrev pub IsReply : (AnswerHead → Reading) → Exchange → ℕ → Reply → Type 0
-IsReply reading e after (Headed head) = (body : List ℕ) × (e.answer ≡ Some (answer_of head body)) × (reading head ≡ Unread)
-IsReply reading e after (Answered answer) = (limit : ℕ) × (e.answer ≡ Some answer) × (limit_of (reading (head_part answer)) ≡ Some limit) × (length answer.body ≤ limit)
+IsReply reading e after (Headed head) = (body : List ℕ) × (e.answer ≡ Some (answer_of head body))
+    × (reading head ≡ Unread)
+IsReply reading e after (Answered answer) = (limit : ℕ) × (e.answer ≡ Some answer)
+    × (limit_of (reading (head_part answer)) ≡ Some limit) × (length answer.body ≤ limit)
 IsReply reading e after Failed = Rose e.faults after
-IsReply reading e after TooLong = (answer : Answer) × (limit : ℕ) × (e.answer ≡ Some answer) × (limit_of (reading (head_part answer)) ≡ Some limit) × (limit < length answer.body)
-IsReply reading e after SinkFailed = (answer : Answer) × (limit : ℕ) × (e.answer ≡ Some answer) × (reading (head_part answer) ≡ Piped limit)
+IsReply reading e after TooLong = (answer : Answer) × (limit : ℕ) × (e.answer ≡ Some answer)
+    × (limit_of (reading (head_part answer)) ≡ Some limit) × (limit < length answer.body)
+IsReply reading e after SinkFailed = (answer : Answer) × (limit : ℕ) × (e.answer ≡ Some answer)
+    × (reading (head_part answer) ≡ Piped limit)
 
 -- the exchange is that of the request, sent at this count, and this reply may come of it
-pub record Replies (request : Request) (reading : AnswerHead → Reading) (before : ℕ) (e : Exchange) (after : ℕ) (reply : Reply) : Type 0 where
+pub record Replies (request : Request)
+    (reading : AnswerHead → Reading) (before : ℕ) (e : Exchange) (after : ℕ) (reply : Reply) : Type 0 where
   pub request_is : e.request ≡ request
   pub faults_is : e.faults ≡ before
   pub count : before ≤ after
@@ -43,7 +49,8 @@ unfoldable pub Runs : {K A : Type 0} → Proto K A → K → ℕ → List Exchan
 Runs (Done x) k m [] n l a = (m ≡ n) × (k ≡ l) × (x ≡ a)
 Runs (Done x) k m (e ∷ c) n l a = ⊥
 Runs (Ask request reading next) k m [] n l a = ⊥
-Runs (Ask request reading next) k m (e ∷ c) n l a = (after : ℕ) × (reply : Reply) × Replies request reading m e after reply × Runs (next reply) k after c n l a
+Runs (Ask request reading next) k m (e ∷ c) n l a = (after : ℕ) × (reply : Reply)
+    × Replies request reading m e after reply × Runs (next reply) k after c n l a
 Runs (Recall next) k m c n l a = Runs (next k) k m c n l a
 Runs (Keep kept rest) k m c n l a = Runs rest kept m c n l a
 
@@ -53,7 +60,8 @@ unfoldable pub Stops : {K A : Type 0} → Proto K A → K → ℕ → List Excha
 Stops (Done x) k m [] l = k ≡ l
 Stops (Done x) k m (e ∷ c) l = ⊥
 Stops (Ask request reading next) k m [] l = k ≡ l
-Stops (Ask request reading next) k m (e ∷ c) l = ((e.request ≡ request) × (e.faults ≡ m) × (c ≡ []) × (k ≡ l)) ⊎ ((after : ℕ) × (reply : Reply) × Replies request reading m e after reply × Stops (next reply) k after c l)
+Stops (Ask request reading next) k m (e ∷ c) l = ((e.request ≡ request) × (e.faults ≡ m) × (c ≡ []) × (k ≡ l))
+    ⊎ ((after : ℕ) × (reply : Reply) × Replies request reading m e after reply × Stops (next reply) k after c l)
 Stops (Recall next) k m c l = Stops (next k) k m c l
 Stops (Keep kept rest) k m c l = ((c ≡ []) × (k ≡ l)) ⊎ Stops rest kept m c l
 
@@ -74,9 +82,11 @@ pub record Breaks {K A : Type 0} (p : Proto K A) (old new : Link) (k l : K) : Ty
 -- a result that a protocol answers, or an error of memory that cut it off
 abbrev pub Outcome : {K A E : Type 0} → (E → Bool) → Proto K (Result A E) → Link → Link → K → K → Result A E → Type 0
 Outcome of_memory p old new k l (Ok a) = Performs p old new k l (Ok a)
-Outcome of_memory p old new k l (Err e) = MatchBool (of_memory e) (Breaks p old new k l) (Performs p old new k l (Err e))
+Outcome of_memory p old new k l (Err e) = MatchBool (of_memory e) (Breaks p old new k l)
+    (Performs p old new k l (Err e))
 
 -- What a call did: it ran this protocol, and answers what the protocol answers. An error of memory
 -- may have cut it off anywhere.
-pub record Meets {K A E : Type 0} (of_memory : E → Bool) (p : Proto K (Result A E)) (old new : Link) (k l : K) (r : Result A E) : Type 0 where
+pub record Meets {K A E : Type 0}
+    (of_memory : E → Bool) (p : Proto K (Result A E)) (old new : Link) (k l : K) (r : Result A E) : Type 0 where
   pub outcome : Outcome of_memory p old new k l r

@@ -5,9 +5,12 @@ use Rattle.oci_protocol.specs.Proto.{Reply, Proto, Done, Ask, Recall, Keep}
 use Rattle.oci_protocol.specs.Runs.{Replies}
 
 -- What is kept and the exchanges so far decide what may be asked (P), kept (I) and answered (Q).
-unfoldable pub Safe : {K A : Type 0} → (K → List Exchange → Request → Type 0) → (K → List Exchange → Type 0) → (K → List Exchange → A → Type 0) → K → List Exchange → Proto K A → Type 0
+unfoldable pub Safe : {K A : Type 0} → (K → List Exchange → Request → Type 0) → (K → List Exchange → Type 0)
+    → (K → List Exchange → A → Type 0) → K → List Exchange → Proto K A → Type 0
 Safe P I Q k seen (Done a) = Q k seen a
-Safe P I Q k seen (Ask request reading next) = P k seen request × ((e : Exchange) (before after : ℕ) (reply : Reply) → Replies request reading before e after reply → Safe P I Q k (seen ++ e ∷ []) (next reply))
+Safe P I Q k seen (Ask request reading next) = P k seen request
+    × ((e : Exchange) (before after : ℕ) (reply : Reply) → Replies request reading before e after reply
+    → Safe P I Q k (seen ++ e ∷ []) (next reply))
 Safe P I Q k seen (Recall next) = Safe P I Q k seen (next k)
 Safe P I Q k seen (Keep kept rest) = I kept seen × Safe P I Q kept seen rest
 

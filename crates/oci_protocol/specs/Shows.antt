@@ -17,7 +17,8 @@ pub record ShowsKept {K A : Type 0} (Q : K → ℕ → List Exchange → ℕ →
   pub shows : (k l : K) (m n : ℕ) (c : List Exchange) (a : A) → Runs p k m c n l a → Q k m c n l a
 
 -- this is so where it answers, and that where it refuses
-abbrev pub ByAnswer : {A E : Type 0} → (ℕ → List Exchange → ℕ → A → Type 0) → (ℕ → List Exchange → ℕ → E → Type 0) → ℕ → List Exchange → ℕ → Result A E → Type 0
+abbrev pub ByAnswer : {A E : Type 0} → (ℕ → List Exchange → ℕ → A → Type 0)
+    → (ℕ → List Exchange → ℕ → E → Type 0) → ℕ → List Exchange → ℕ → Result A E → Type 0
 ByAnswer P R m c n (Ok a) = P m c n a
 ByAnswer P R m c n (Err e) = R m c n e
 
@@ -27,7 +28,8 @@ WhereOk P = ByAnswer P (λ m c n e. Unit {0})
 
 -- The exchanges are those of a request that is followed: its redirects, and the last one, to this
 -- request and with this reply.
-pub record Heard (n : ℕ) (request : Request) (reading : AnswerHead → Reading) (m : ℕ) (c : List Exchange) (after : ℕ) (last : Request) (reply : Reply) : Type 0 where
+pub record Heard (n : ℕ) (request : Request)
+    (reading : AnswerHead → Reading) (m : ℕ) (c : List Exchange) (after : ℕ) (last : Request) (reply : Reply) : Type 0 where
   pub redirects : List Exchange
   pub exchange : Exchange
   pub split : c ≡ redirects ++ exchange ∷ []

@@ -22,9 +22,12 @@ pub fn reach<T: Transport>(
     request: &Request,
 ) -> Result<Reached, LinkError>
     ensures count { (T.state transport.old).faults ≤ (T.state transport.new).faults }
-    ensures reached { IfOk result (λ r. Reaches times request.now r.head r.request (T.state transport.old) (T.state transport.new)) }
-    ensures missed { IsErrOf result LinkError.Failed → Misses times request.now (T.state transport.old) (T.state transport.new) }
-    ensures cut { IsErrOf result LinkError.WantOfMemory → Cuts times request.now (T.state transport.old) (T.state transport.new) }
+    ensures reached { IfOk result (λ r. Reaches times request.now r.head r.request
+        (T.state transport.old) (T.state transport.new)) }
+    ensures missed { IsErrOf result LinkError.Failed → Misses times request.now
+        (T.state transport.old) (T.state transport.new) }
+    ensures cut { IsErrOf result LinkError.WantOfMemory → Cuts times request.now
+        (T.state transport.old) (T.state transport.new) }
 {
     let mut left = times;
     let mut last = match request.copy(alloc) {

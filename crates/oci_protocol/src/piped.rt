@@ -4,21 +4,33 @@ ghost use Rattle.json_values.specs.Counts.{Rose};
 ghost use Rattle.oci_transport.specs.Link.{Steady};
 ghost use Rattle.oci_protocol.specs.Poured.{Pours, PoursFront};
 
-use json_values::{Sink, SinkError, put_all};
+use json_values::{Copied, Sink, SinkError, put_all};
 use oci_digests::Digesters;
 use oci_transport::{LinkError, Transport};
-use std::alloc::Global;
+use std::alloc::{AllocError, Global};
+use thiserror::Error;
 
 /// Why a body did not go into a sink whole.
-#[derive(Clone, Copy, Debug, PartialEq, Eq)]
+#[derive(Clone, Copy, Debug, PartialEq, Eq, Error)]
 pub enum PourError {
-    /// The transport failed.
+    /// The transport failed, and its count of faults rose.
+    #[error("the connection failed while a body was read: send the request again")]
     TransportFault,
     /// More bytes came than the limit.
+    #[error("the body has more bytes than its limit: read it with a greater one")]
     BodyTooLong,
-    /// The sink failed.
+    /// The sink failed, and its count of faults rose.
+    #[error("the sink failed: look at where the bytes go")]
     SinkFault,
+    /// The allocator had no memory.
+    #[error("out of memory: free some and try again")]
     WantOfMemory,
+}
+
+impl Copied for PourError {
+    fn copy(&self, _alloc: Global) -> Result<PourError, AllocError> {
+        Ok(*self)
+    }
 }
 
 /// Takes the body of the last answer, where it has no more than `limit` bytes, hashes it and puts it into the sink. After
@@ -34,10 +46,13 @@ pub fn pour<T: Transport, S: Sink>(
     ensures steady { Steady (T.state transport.old) (T.state transport.new) }
     ensures count { (T.state transport.old).faults ≤ (T.state transport.new).faults }
     ensures sink_count { (S.state sink.old).faults ≤ (S.state sink.new).faults }
-    ensures poured { OnOk result (Pours limit digesters.old digesters.new (T.state transport.old) (T.state transport.new) (S.state sink.old) (S.state sink.new)) }
+    ensures poured { OnOk result (Pours limit digesters.old digesters.new
+        (T.state transport.old) (T.state transport.new) (S.state sink.old) (S.state sink.new)) }
     ensures front { PoursFront (T.state transport.old) (S.state sink.old) (S.state sink.new) }
-    ensures long { IsErrOf result PourError.BodyTooLong → (rest : _) → (T.state transport.old).rest ≡ Some rest → limit < length rest }
-    ensures fault { IsErrOf result PourError.TransportFault → Rose (T.state transport.old).faults (T.state transport.new).faults }
+    ensures long { IsErrOf result PourError.BodyTooLong → (rest : _)
+        → (T.state transport.old).rest ≡ Some rest → limit < length rest }
+    ensures fault { IsErrOf result PourError.TransportFault
+        → Rose (T.state transport.old).faults (T.state transport.new).faults }
     ensures sink_fault { IsErrOf result PourError.SinkFault → Rose (S.state sink.old).faults (S.state sink.new).faults }
 {
     let mut taken: u64 = 0;

@@ -1,6 +1,7 @@
 -- Calls of the registry's client, in the words of the calls here.
-use Rattle.std.proofs.Common.{◌≡◌, Bool, true, false, Result, Ok, Err, refl, sym, ap, ◌∙◌}
-use Rattle.std.specs.Prelude.{MatchBool}
+use Rattle.std.proofs.Common.{◌≡◌, ℕ, Bool, true, false, List, Option, Some, None, Result, Ok, Err, refl, sym, ap, subst, ◌∙◌}
+use Rattle.std.specs.Prelude.{MatchBool, if◌then◌else◌}
+use Rattle.oci_transport.specs.declared.message.Exchange.{Exchange}
 use Rattle.oci_transport.specs.Link.{Link}
 use Rattle.oci_names.specs.declared.reference.Reference.{Reference}
 use Rattle.oci_names.specs.References.{whole_text}
@@ -10,13 +11,16 @@ use Rattle.oci_protocol.specs.Runs.{Meets, Breaks, Performs}
 use Rattle.oci_protocol.proofs.Laws.{Meets-ok, Meets-caught, Breaks-start, Breaks-first, Performs-done}
 use Rattle.engine_requests.specs.declared.settings.Settings.{Settings}
 use Rattle.engine_requests.specs.declared.error.OciDistributionError.{OciDistributionError}
+use Rattle.engine_requests.specs.declared.error.OciDistributionError.TheVariants as engine_refusal
 use Rattle.engine_requests.specs.Errors.{is_memory as engine_is_memory}
+use Rattle.oci_engine.specs.Refusals.{RefusedFor, FaultCounted as EngineCounted}
+use Rattle.sig_registry.specs.declared.wording.Called.TheVariants.{FetchManifest, Pull, PullManifest}
 use Rattle.engine_steps.specs.Rows.{Row as Engine}
 use Rattle.oci_engine.specs.declared.client.Client.{Client}
 use Rattle.sig_registry.specs.declared.error.SigstoreError.{SigstoreError}
 use Rattle.sig_registry.specs.declared.error.SigstoreError.TheVariants as sigstore
 use Rattle.sig_registry.specs.declared.wording.Called.{Called}
-use Rattle.sig_registry.specs.Errors.{is_memory, worded, Says}
+use Rattle.sig_registry.specs.Errors.{is_memory, refusal, worded, Says, registry_refusal, IsRefusedBy, FaultCounted, NoSinkFault}
 use Rattle.sig_registry.specs.Clients.{Row, Made, engine_state}
 use Rattle.sig_registry.specs.Calls.{in_words}
 
@@ -56,3 +60,45 @@ pub made : {A : Type 0} (called : Called) (image : Reference) (row : Settings �
     → d.settings ≡ c.settings → Meets engine_is_memory (row c.settings) old new c.memory d.memory r → Says t (worded called (whole_text image) r)
     → Made is_memory s (in_words called image (row s)) (engine_state c) (engine_state d) old new t
 made called image row s {c} {d} {old} {new} {r} {t} kept met says = record { made = λ same. (kept ∙ same, rw (sym same) (in_the_words called image r t met says)) }
+
+-- ---- what a refusal holds
+
+not_memory : (e : SigstoreError) (f : OciDistributionError) → is_memory e ≡ true → registry_refusal e ≡ Some f → ⊥
+not_memory sigstore.WantOfMemory f is held = absurd (cc held)
+not_memory _ f is held = absurd (cc is)
+
+held_refusal : (called : Called) (text : List ℕ) (e : OciDistributionError) → registry_refusal (refusal called text e) ≡ Some e
+held_refusal FetchManifest text e = refl
+held_refusal Pull text e = refl
+held_refusal PullManifest text e = refl
+
+by_engine : (b : Bool) (called : Called) (text : List ℕ) (e f : OciDistributionError) (x : SigstoreError) {A : Type 0} → ◌≡◌ {A = Result A SigstoreError} (if b then Err sigstore.WantOfMemory else Err (refusal called text e)) (Err x) → registry_refusal x ≡ Some f → e ≡ f
+by_engine true called text e f x says held =
+    let same : sigstore.WantOfMemory ≡ x = cc says in
+    absurd (not_memory sigstore.WantOfMemory f refl (ap registry_refusal same ∙ held))
+by_engine false called text e f x says held =
+    let same : refusal called text e ≡ x = cc says in
+    let both : Some e ≡ Some f = sym (held_refusal called text e) ∙ ap registry_refusal same ∙ held in
+    cc both
+
+-- a refusal of the registry's client that the call's holds is what the client answered
+pub worded_refusal : {A : Type 0} (called : Called) (text : List ℕ) (f : OciDistributionError) (r : Result A OciDistributionError) (s : Result A SigstoreError) → Says s (worded called text r) → IsRefusedBy f s → r ≡ Err f
+worded_refusal called text f r (Ok a) says held = absurd held
+worded_refusal {A} called text f r (Err x) says held = by_memory (is_memory x) refl says where
+  by_result : (r : Result A OciDistributionError) → worded called text r ≡ Err x → r ≡ Err f
+  by_result (Ok a) is = absurd (cc is)
+  by_result (Err e) is = ap Err (by_engine (engine_is_memory e) called text e f x is held)
+
+  by_memory : (b : Bool) → is_memory x ≡ b → MatchBool b (Unit {0}) (worded called text r ≡ Err x) → r ≡ Err f
+  by_memory true is says = absurd (not_memory x f is held)
+  by_memory false is says = by_result r says
+
+pub worded_fault : {A : Type 0} (called : Called) (text : List ℕ) {old new : Link} {r : Result A OciDistributionError} {s : Result A SigstoreError} → EngineCounted old new r → Says s (worded called text r) → FaultCounted old new s
+worded_fault called text {r = r} {s = s} fault says held = fault (worded_refusal called text engine_refusal.TransportFault r s says held)
+
+-- where the client's causes leave no fault of a sink
+pub worded_no_sink : {A : Type 0} (called : Called) (text : List ℕ) (Why : List Exchange → ℕ → OciDistributionError → Type 0) {old new : Link} {r : Result A OciDistributionError} {s : Result A SigstoreError} → ((c : List Exchange) (n : ℕ) → Why c n engine_refusal.SinkFault → ⊥) → RefusedFor Why old new r → Says s (worded called text r) → NoSinkFault s
+worded_no_sink {A} called text Why {old} {new} {r} {s} never causes says held = by_result r causes (worded_refusal called text engine_refusal.SinkFault r s says held) where
+  by_result : (r : Result A OciDistributionError) → RefusedFor Why old new r → r ≡ Err engine_refusal.SinkFault → ⊥
+  by_result (Ok a) h is = absurd (cc is)
+  by_result (Err e) h is = let same : e ≡ engine_refusal.SinkFault = cc is in never h.conversation new.faults (subst (Why h.conversation new.faults) same h.holds)

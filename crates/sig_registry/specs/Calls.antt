@@ -7,7 +7,7 @@ use Rattle.oci_manifests.specs.declared.document.OciManifest.{OciManifest}
 use Rattle.oci_protocol.specs.Proto.{Done, bind}
 use Rattle.engine_requests.specs.Contexts.{Context}
 use Rattle.engine_steps.specs.Rows.{Row as Engine}
-use Rattle.engine_pull.specs.Pulls.{fetch_manifest_digest, pull_manifest, pull_manifest_raw, pull_blob}
+use Rattle.engine_pull.specs.Pulls.{fetch_manifest_digest, pull_manifest, pull_manifest_raw, held_blob}
 use Rattle.engine_pull.specs.Images.{pull}
 use Rattle.engine_pull.specs.declared.image.ImageData.{ImageData}
 use Rattle.sig_registry.specs.declared.wording.Called.{Called}
@@ -32,4 +32,4 @@ unfoldable pub document_call : Context → Reference → RegistryAuth → List �
 document_call s image a types = in_words Pull image (pull_manifest_raw s image a types)
 
 unfoldable pub blob_call : Context → Reference → List ℕ → Row (List ℕ)
-blob_call s image digest = in_words Pull image (pull_blob s image digest)
+blob_call s image digest = in_words Pull image (held_blob s image digest)

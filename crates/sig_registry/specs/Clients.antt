@@ -27,5 +27,6 @@ abbrev pub plain_state : OciClient → Client
 plain_state c = engine_state c.client
 
 -- a client with these settings still has them, and its call is this protocol
-pub record Made {A E : Type 0} (of_memory : E → Bool) (s : Settings) (p : Proto Kept (Result A E)) (c d : Client) (old new : Link) (r : Result A E) : Type 0 where
+pub record Made {A E : Type 0} (of_memory : E → Bool) (s : Settings) (p : Proto Kept (Result A E))
+    (c d : Client) (old new : Link) (r : Result A E) : Type 0 where
   pub made : c.settings ≡ s → (d.settings ≡ s) × Meets of_memory p old new c.kept d.kept r

@@ -1,9 +1,9 @@
 -- Credentials, as the registry's client takes them and as data.
-use Rattle.std.specs.Prelude.{ℕ, List, [], ◌∷◌, codes, Option, Some}
+use Rattle.std.specs.Prelude.{ℕ, List, [], ◌∷◌, ◌++◌, codes, Option, Some, option_map}
+use Rattle.std.specs.Fmt.{debug_str}
 use Rattle.serde_json.specs.Data.{Data, string}
 use Rattle.json_values.specs.Writing.{listed}
 use Rattle.json_writing.specs.Fields.{fields}
-use Rattle.oci_auth.specs.Credentials.{redacted_auth}
 use Rattle.oci_auth.specs.declared.auth.RegistryAuth.{RegistryAuth}
 use Rattle.oci_auth.specs.declared.auth.RegistryAuth.TheVariants as registry
 use Rattle.sig_registry.specs.declared.auth.Auth.{Auth}
@@ -25,6 +25,9 @@ auth_value given.Anonymous = string (codes "Anonymous")
 auth_value (given.Basic user password) = fields ((codes "Basic", Some (listed string (user ∷ password ∷ []))) ∷ [])
 auth_value (given.Bearer token) = fields ((codes "Bearer", Some (string token)) ∷ [])
 
--- what is shown of them
+-- what is shown of them: neither the password nor the token
 abbrev pub redacted : Auth → Option (List ℕ)
-redacted auth = redacted_auth (registry_auth auth)
+redacted given.Anonymous = Some (codes "Anonymous")
+redacted (given.Basic user password) =
+    option_map (λ name. codes "Basic(" ++ name ++ codes ", \"<redacted>\")") (debug_str user)
+redacted (given.Bearer token) = Some (codes "Bearer(\"<redacted>\")")

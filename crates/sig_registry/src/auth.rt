@@ -2,7 +2,7 @@
 ghost use Rattle.std.specs.Prelude.{◌≡◌, ◌∷◌, [], IfOk};
 ghost use Rattle.sig_registry.specs.Conversions.{registry_auth, auth_from};
 
-use json_values::{Copied, List, Text, ToValue, copies2};
+use json_values::{Copied, List, Text, ToValue, copy_all, row};
 use json_writing::object1;
 use oci_auth::RegistryAuth;
 use serde_json::Value;
@@ -25,7 +25,7 @@ impl Auth {
         match self {
             Auth::Anonymous => Ok(RegistryAuth::Anonymous),
             Auth::Basic(user, password) => {
-                let (user, password) = copies2(alloc, user, password)?;
+                let row![user, password] = copy_all(alloc, row![user, password])?;
                 Ok(RegistryAuth::Basic(user, password))
             }
             Auth::Bearer(token) => {
@@ -43,7 +43,7 @@ impl Auth {
         match auth {
             RegistryAuth::Anonymous => Ok(Auth::Anonymous),
             RegistryAuth::Basic(user, password) => {
-                let (user, password) = copies2(alloc, user, password)?;
+                let row![user, password] = copy_all(alloc, row![user, password])?;
                 Ok(Auth::Basic(user, password))
             }
             RegistryAuth::Bearer(token) => {
@@ -58,7 +58,7 @@ impl Auth {
 fn pair(alloc: Global, user: &Text, password: &Text) -> Result<List<Text>, AllocError>
     ensures { IfOk result (λ pair. pair ≡ user.now ∷ password.now ∷ []) }
 {
-    let (user, password) = copies2(alloc, user, password)?;
+    let row![user, password] = copy_all(alloc, row![user, password])?;
     let mut pair = List::new(alloc);
     pair.push(user)?;
     pair.push(password)?;

@@ -3,7 +3,7 @@ ghost use Rattle.std.specs.Prelude.{◌≡◌};
 ghost use Rattle.engine_requests.specs.declared.settings.Settings.{Settings};
 ghost use Rattle.engine_requests.specs.Contexts.{within};
 ghost use Rattle.engine_requests.specs.Requests.{listed};
-ghost use Rattle.sig_registry.specs.Errors.{is_memory};
+ghost use Rattle.sig_registry.specs.Errors.{is_memory, FaultCounted, NoSinkFault};
 ghost use Rattle.sig_registry.specs.Clients.{Client, Made};
 ghost use Rattle.sig_registry.specs.Calls.{digest_call, manifest_call, image_call, document_call, blob_call};
 
@@ -30,7 +30,10 @@ pub trait ClientCapabilities {
         image: &Reference,
         auth: &RegistryAuth,
     ) -> Result<Text, SigstoreError>
-        ensures run { (s : Settings) → Made is_memory s (digest_call (within s moment) image.now auth.now) (state self.old) (state self.new) (T.state transport.old) (T.state transport.new) result };
+        ensures run { (s : Settings) → Made is_memory s (digest_call (within s moment) image.now auth.now)
+            (state self.old) (state self.new) (T.state transport.old) (T.state transport.new) result }
+        ensures fault { FaultCounted (T.state transport.old) (T.state transport.new) result }
+        ensures no_sink { NoSinkFault result };
 
     /// The image with its blobs; a refusal is `RegistryPullError`.
     fn pull<T: Transport>(
@@ -42,7 +45,11 @@ pub trait ClientCapabilities {
         auth: &RegistryAuth,
         accepted_media_types: &[Text],
     ) -> Result<ImageData, SigstoreError>
-        ensures run { (s : Settings) → Made is_memory s (image_call (within s moment) image.now auth.now accepted_media_types.now) (state self.old) (state self.new) (T.state transport.old) (T.state transport.new) result };
+        ensures run { (s : Settings)
+            → Made is_memory s (image_call (within s moment) image.now auth.now accepted_media_types.now)
+            (state self.old) (state self.new) (T.state transport.old) (T.state transport.new) result }
+        ensures fault { FaultCounted (T.state transport.old) (T.state transport.new) result }
+        ensures no_sink { NoSinkFault result };
 
     /// The image's manifest or index with its digest; a refusal is `RegistryPullManifestError`.
     fn pull_manifest<T: Transport>(
@@ -53,7 +60,10 @@ pub trait ClientCapabilities {
         image: &Reference,
         auth: &RegistryAuth,
     ) -> Result<(OciManifest, Text), SigstoreError>
-        ensures run { (s : Settings) → Made is_memory s (manifest_call (within s moment) image.now auth.now) (state self.old) (state self.new) (T.state transport.old) (T.state transport.new) result };
+        ensures run { (s : Settings) → Made is_memory s (manifest_call (within s moment) image.now auth.now)
+            (state self.old) (state self.new) (T.state transport.old) (T.state transport.new) result }
+        ensures fault { FaultCounted (T.state transport.old) (T.state transport.new) result }
+        ensures no_sink { NoSinkFault result };
 
     /// The bytes of the image's manifest or index with their digest; a refusal is `RegistryPullError`.
     fn pull_manifest_raw<T: Transport>(
@@ -65,7 +75,11 @@ pub trait ClientCapabilities {
         auth: &RegistryAuth,
         accepted_media_types: &[Text],
     ) -> Result<(Blob, Text), SigstoreError>
-        ensures run { (s : Settings) → Made is_memory s (document_call (within s moment) image.now auth.now (listed accepted_media_types.now)) (state self.old) (state self.new) (T.state transport.old) (T.state transport.new) result };
+        ensures run { (s : Settings)
+            → Made is_memory s (document_call (within s moment) image.now auth.now (listed accepted_media_types.now))
+            (state self.old) (state self.new) (T.state transport.old) (T.state transport.new) result }
+        ensures fault { FaultCounted (T.state transport.old) (T.state transport.new) result }
+        ensures no_sink { NoSinkFault result };
 
     /// The bytes of a blob of the image's repository; a refusal is `RegistryPullError`.
     fn pull_blob<T: Transport>(
@@ -76,5 +90,8 @@ pub trait ClientCapabilities {
         image: &Reference,
         layer: &OciDescriptor,
     ) -> Result<Blob, SigstoreError>
-        ensures run { (s : Settings) → Made is_memory s (blob_call (within s moment) image.now layer.now.digest) (state self.old) (state self.new) (T.state transport.old) (T.state transport.new) result };
+        ensures run { (s : Settings) → Made is_memory s (blob_call (within s moment) image.now layer.now.digest)
+            (state self.old) (state self.new) (T.state transport.old) (T.state transport.new) result }
+        ensures fault { FaultCounted (T.state transport.old) (T.state transport.new) result }
+        ensures no_sink { NoSinkFault result };
 }

@@ -5,26 +5,36 @@ ghost use Rattle.sig_registry.specs.Errors.{is_memory};
 use json_values::Text;
 use oci_engine::OciDistributionError;
 use std::alloc::{AllocError, AllocFailed};
+use thiserror::Error;
 
 /// Why a call was refused. `image` is the whole text of the reference that was asked for.
-#[derive(Debug, Drop)]
+#[derive(Debug, Drop, Error)]
 pub enum SigstoreError {
     /// A reference that is none, or that does not read back.
+    #[error("the reference does not read: write it as [domain/]path[:tag][@digest]")]
     OciReferenceNotValidError {
         reference: Text,
     },
+    /// The digest of an image was not answered.
+    #[error("the image's digest was not answered: look at what the registry's client says")]
     RegistryFetchManifestError {
         image: Text,
         error: OciDistributionError,
     },
+    /// An image, a document or a blob was not pulled.
+    #[error("the image was not pulled: look at what the registry's client says")]
     RegistryPullError {
         image: Text,
         error: OciDistributionError,
     },
+    /// A manifest was not pulled.
+    #[error("the manifest was not pulled: look at what the registry's client says")]
     RegistryPullManifestError {
         image: Text,
         error: OciDistributionError,
     },
+    /// The allocator had no memory.
+    #[error("out of memory: free some and try again")]
     WantOfMemory,
 }
 

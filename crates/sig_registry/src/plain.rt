@@ -3,7 +3,7 @@ ghost use Rattle.std.specs.Prelude.{◌≡◌};
 ghost use Rattle.engine_requests.specs.declared.settings.Settings.{Settings};
 ghost use Rattle.engine_requests.specs.Contexts.{within};
 ghost use Rattle.engine_requests.specs.Requests.{listed};
-ghost use Rattle.sig_registry.specs.Errors.{is_memory};
+ghost use Rattle.sig_registry.specs.Errors.{is_memory, FaultCounted, NoSinkFault};
 ghost use Rattle.sig_registry.specs.Clients.{Made, plain_state};
 ghost use Rattle.sig_registry.specs.Calls.{digest_call, manifest_call, image_call, document_call, blob_call};
 

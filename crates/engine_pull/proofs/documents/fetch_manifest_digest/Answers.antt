@@ -15,12 +15,12 @@ returns-in_err-request g c = and_then _ (stores_as _ _ _ _ _ c.in_ok-store.ensur
 
 pub returns-in_err-named : goal.returns-in_err-named
 unfolding fetch_manifest_digest
-returns-in_err-named g c = and_then _ (stores_as _ _ _ _ _ c.in_ok-store.ensures.ok c.resolve_registry.ensures) (and_then _ (said _ c.in_ok-url.ensures) (and_then _ c.in_ok-request.ensures (refused _ (c.in_err-named.ensures _) c.from_residual-in_err-named.ensures.1)))
+returns-in_err-named g c = and_then _ (stores_as _ _ _ _ _ c.in_ok-store.ensures.ok c.resolve_registry.ensures) (and_then _ (said _ c.in_ok-url.ensures) (and_then _ c.in_ok-request.ensures (refused _ (c.in_err-named.ensures.run _) c.from_residual-in_err-named.ensures.1)))
 
 pub returns-in_err-digest : goal.returns-in_err-digest
 unfolding fetch_manifest_digest
-returns-in_err-digest g c = and_then _ (stores_as _ _ _ _ _ c.in_ok-store.ensures.ok c.resolve_registry.ensures) (and_then _ (said _ c.in_ok-url.ensures) (and_then _ c.in_ok-request.ensures (and_then _ (c.in_ok-named.ensures _) (passed_on c.in_err-digest.ensures c.from_residual-in_err-digest.ensures.1))))
+returns-in_err-digest g c = and_then _ (stores_as _ _ _ _ _ c.in_ok-store.ensures.ok c.resolve_registry.ensures) (and_then _ (said _ c.in_ok-url.ensures) (and_then _ c.in_ok-request.ensures (and_then _ (c.in_ok-named.ensures.run _) (passed_on c.in_err-digest.ensures c.from_residual-in_err-digest.ensures.1))))
 
 pub returns : goal.returns
 unfolding fetch_manifest_digest
-returns g c = and_then _ (stores_as _ _ _ _ _ c.in_ok-store.ensures.ok c.resolve_registry.ensures) (and_then _ (said _ c.in_ok-url.ensures) (and_then _ c.in_ok-request.ensures (and_then _ (c.in_ok-named.ensures _) c.in_ok-digest.ensures)))
+returns g c = and_then _ (stores_as _ _ _ _ _ c.in_ok-store.ensures.ok c.resolve_registry.ensures) (and_then _ (said _ c.in_ok-url.ensures) (and_then _ c.in_ok-request.ensures (and_then _ (c.in_ok-named.ensures.run _) c.in_ok-digest.ensures)))

@@ -1,8 +1,9 @@
 use Rattle.std.proofs.Common.{drop}
-use Rattle.engine_requests.specs.Contexts.{within}
-use Rattle.engine_pull.specs.Images.{pull_layers, Leads}
+use Rattle.engine_requests.specs.Contexts.{context_of}
+use Rattle.engine_pull.specs.Images.{pull_layers}
+use Rattle.engine_pull.proofs.Layers.{Leads}
 use Rattle.engine_pull.proofs.image.pull_layers.Given as goal
 
 -- what was asked so far leads to the descriptors that are left
 abbrev pub invariant-loop-descriptor : goal.invariant-loop-descriptor
-invariant-loop-descriptor g l = Leads (pull_layers (within l.settings l.moment) l.image l.descriptors l.fn.layers) (pull_layers (within l.settings l.moment) l.image (drop l.descriptor-index l.descriptors) l.layers) (g.T.Transport.state l.fn.transport) (g.T.Transport.state l.transport) l.fn.memory l.memory
+invariant-loop-descriptor g l = Leads (pull_layers (context_of l.call) l.call.image.now l.descriptors l.fn.layers) (pull_layers (context_of l.call) l.call.image.now (drop l.descriptor-index l.descriptors) l.layers) (g.T.Transport.state l.fn.transport) (g.T.Transport.state l.transport) l.fn.memory l.memory

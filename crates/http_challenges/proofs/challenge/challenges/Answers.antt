@@ -1,6 +1,6 @@
 use Rattle.std.proofs.Common.{sym, subst, ◌∙◌}
 use Rattle.http_challenges.specs.Words.{AreChallenges}
-use Rattle.http_challenges.proofs.Listing.{are_challenges, same_challenges}
+use Rattle.http_challenges.proofs.HeaderChallenges.{are_challenges, same_challenges}
 use Rattle.http_challenges.proofs.challenge.challenges.Goals as goal
 
 pub returns-clause-grammar : goal.returns-clause-grammar

@@ -4,13 +4,13 @@ use Rattle.engine_requests.specs.Contexts.{within}
 use Rattle.oci_engine.proofs.client.Client.pull.Goals as goal
 
 pub returns-clause-causes : goal.returns-clause-causes
-returns-clause-causes g c = image_reason (within c.args.self.now.settings c.args.moment) c.args.image.now c.args.auth.now c.args.accepted_media_types.now c.pull.ensures.run c.pull.ensures.no_sink
+returns-clause-causes g c = image_reason (within c.args.self.now.settings c.args.moment) c.args.image.now c.args.auth.now c.args.accepted_media_types.now c.pull.ensures
 
 pub returns-clause-fault : goal.returns-clause-fault
-returns-clause-fault g c = image_fault (within c.args.self.now.settings c.args.moment) c.args.image.now c.args.auth.now c.args.accepted_media_types.now c.pull.ensures.run
+returns-clause-fault g c = image_fault (within c.args.self.now.settings c.args.moment) c.args.image.now c.args.auth.now c.args.accepted_media_types.now c.pull.ensures
 
 pub returns-clause-no_url : goal.returns-clause-no_url
-returns-clause-no_url g c = λ none. met_only _ (image_url (within c.args.self.now.settings c.args.moment) c.args.image.now c.args.auth.now c.args.accepted_media_types.now none) c.pull.ensures.run
+returns-clause-no_url g c = λ none. met_only _ (image_url (within c.args.self.now.settings c.args.moment) c.args.image.now c.args.auth.now c.args.accepted_media_types.now none) c.pull.ensures
 
 pub returns-clause-bad_header : goal.returns-clause-bad_header
-returns-clause-bad_header g c = λ bad. met_early (image_bad (within c.args.self.now.settings c.args.moment) c.args.image.now c.args.auth.now c.args.accepted_media_types.now bad) c.pull.ensures.run
+returns-clause-bad_header g c = λ bad. met_early (image_bad (within c.args.self.now.settings c.args.moment) c.args.image.now c.args.auth.now c.args.accepted_media_types.now bad) c.pull.ensures

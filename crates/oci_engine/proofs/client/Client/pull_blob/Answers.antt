@@ -1,3 +1,4 @@
+use Rattle.engine_steps.specs.Blobs.{IntoSink}
 use Rattle.oci_engine.proofs.Results.{blob_took}
 use Rattle.oci_engine.proofs.Reasons.{spilled_reason, spilled_fault}
 use Rattle.oci_engine.proofs.Exact.{blob_url, blob_bad, spilled_only, spilled_early}
@@ -17,7 +18,7 @@ pub returns-clause-sink : goal.returns-clause-sink
 returns-clause-sink g c = c.pull_blob.ensures.fault
 
 pub returns-clause-no_url : goal.returns-clause-no_url
-returns-clause-no_url g c = λ none. spilled_only _ (blob_url (within c.args.self.now.settings c.args.moment) c.args.image.now c.args.digest.now none) c.pull_blob.ensures
+returns-clause-no_url g c = λ none. spilled_only _ (blob_url IntoSink (within c.args.self.now.settings c.args.moment) c.args.image.now c.args.digest.now none) c.pull_blob.ensures
 
 pub returns-clause-bad_header : goal.returns-clause-bad_header
-returns-clause-bad_header g c = λ bad. spilled_early (blob_bad (within c.args.self.now.settings c.args.moment) c.args.image.now c.args.digest.now bad) c.pull_blob.ensures
+returns-clause-bad_header g c = λ bad. spilled_early (blob_bad IntoSink (within c.args.self.now.settings c.args.moment) c.args.image.now c.args.digest.now bad) c.pull_blob.ensures

@@ -7,4 +7,4 @@ pub returns-clause-again : goal.returns-clause-again
 returns-clause-again c =
     let x = c.args.self.now in
     let each = c.in_ok-value.ensures.each in
-    descriptor_again x each.2 (list_option text_of x.urls each.3) (option_member (map_of text_of) x.annotations each.4) (option_member text_of x.artifact_type each.5)
+    descriptor_again x each.1.1.0 (list_option text_of x.urls each.1.1.1.0) (option_member (map_of text_of) x.annotations each.1.1.1.1.0) (option_member text_of x.artifact_type each.1.1.1.1.1.0)

@@ -5,4 +5,4 @@ use Rattle.oci_manifests.proofs.envelope.OciEnvelopeToValue.to_value.Goals as go
 
 pub returns-clause-reads_back : goal.returns-clause-reads_back
 unfolding envelope_written
-returns-clause-reads_back c none = document_again envelope_of _ _ _ _ (envelope_again c.args.self.now c.in_ok-value.ensures.each) none c.in_ok-value.ensures.exact
+returns-clause-reads_back c none = document_again envelope_of _ _ _ _ (envelope_again c.args.self.now c.in_ok-value.ensures.each.0) none c.in_ok-value.ensures.exact

@@ -12,5 +12,5 @@ returns-clause-reads_back c =
     let x = c.args.self.now in
     let each = c.in_ok-value.ensures.each in
     document_again index_of _ _ x _
-    (index_again x each.0 (option_member text_of x.media_type each.1) (list_member entry_of x.manifests each.2) (option_member text_of x.artifact_type each.3) (option_member (map_of text_of) x.annotations each.4))
+    (index_again x each.0 (option_member text_of x.media_type each.1.0) (list_member entry_of x.manifests each.1.1.0) (option_member text_of x.artifact_type each.1.1.1.0) (option_member (map_of text_of) x.annotations each.1.1.1.1.0))
     refl c.in_ok-value.ensures.exact

@@ -8,4 +8,4 @@ pub returns-clause-again : goal.returns-clause-again
 returns-clause-again c =
     let x = c.args.self.now in
     let each = c.in_ok-value.ensures.each in
-    entry_again x each.2 (option_member platform_of x.platform each.3) (option_member (map_of text_of) x.annotations each.4) (option_member text_of x.artifact_type each.5)
+    entry_again x each.1.1.0 (option_member platform_of x.platform each.1.1.1.0) (option_member (map_of text_of) x.annotations each.1.1.1.1.0) (option_member text_of x.artifact_type each.1.1.1.1.1.0)

@@ -12,5 +12,5 @@ returns-clause-reads_back c =
     let x = c.args.self.now in
     let each = c.in_ok-value.ensures.each in
     document_again manifest_of _ _ x _
-    (manifest_again x each.0 (option_member text_of x.media_type each.1) each.2 (list_member descriptor_of x.layers each.3) (option_member descriptor_of x.subject each.4) (option_member text_of x.artifact_type each.5) (option_member (map_of text_of) x.annotations each.6))
+    (manifest_again x each.0 (option_member text_of x.media_type each.1.0) each.1.1.0 (list_member descriptor_of x.layers each.1.1.1.0) (option_member descriptor_of x.subject each.1.1.1.1.0) (option_member text_of x.artifact_type each.1.1.1.1.1.0) (option_member (map_of text_of) x.annotations each.1.1.1.1.1.1.0))
     refl c.in_ok-value.ensures.exact

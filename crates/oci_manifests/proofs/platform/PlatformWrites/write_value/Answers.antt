@@ -7,4 +7,4 @@ pub returns-clause-again : goal.returns-clause-again
 returns-clause-again c =
     let x = c.args.self.now in
     let each = c.in_ok-value.ensures.each in
-    platform_again x (option_member text_of x.os_version each.2) (list_option text_of x.os_features each.3) (option_member text_of x.variant each.4) (list_option text_of x.features each.5)
+    platform_again x (option_member text_of x.os_version each.1.1.0) (list_option text_of x.os_features each.1.1.1.0) (option_member text_of x.variant each.1.1.1.1.0) (list_option text_of x.features each.1.1.1.1.1.0)

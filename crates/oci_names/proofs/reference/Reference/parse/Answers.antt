@@ -1,4 +1,4 @@
-use Rattle.oci_names.proofs.Readings.{of_grammar}
+use Rattle.oci_names.proofs.ParseAnswers.{of_grammar}
 use Rattle.oci_names.proofs.reference.Reference.parse.Goals as goal
 
 pub returns-clause-grammar : goal.returns-clause-grammar

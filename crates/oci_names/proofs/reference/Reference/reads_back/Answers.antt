@@ -1,6 +1,6 @@
 use Rattle.std.proofs.Common.{◌≡◌, rules}
 use Rattle.oci_names.specs.References.{reads_back}
-use Rattle.oci_names.proofs.Backs.{reads_back-tells}
+use Rattle.oci_names.proofs.ReadsBack.{reads_back-tells}
 use Rattle.oci_names.proofs.reference.Reference.reads_back.Goals as goal
 
 pub returns-clause-same : goal.returns-clause-same

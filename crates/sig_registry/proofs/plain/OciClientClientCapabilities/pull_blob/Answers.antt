@@ -1,11 +1,17 @@
+use Rattle.engine_steps.specs.Blobs.{IntoMemory}
+use Rattle.oci_engine.specs.Refusals.{BlobRefused}
 use Rattle.std.proofs.Common.{sym}
-use Rattle.engine_pull.specs.Pulls.{pull_blob}
+use Rattle.engine_pull.specs.Pulls.{held_blob}
 use Rattle.engine_requests.specs.Contexts.{within}
 use Rattle.sig_registry.specs.Calls.{blob_call}
 use Rattle.sig_registry.specs.declared.wording.Called.TheVariants.{Pull}
-use Rattle.sig_registry.proofs.InWords.{made}
+use Rattle.sig_registry.proofs.InWords.{made, worded_fault, worded_no_sink}
 use Rattle.sig_registry.proofs.plain.OciClientClientCapabilities.pull_blob.Goals as goal
 
 pub returns : goal.returns
 unfolding blob_call
-returns g c = record { run = λ s. rw (sym c.as_str.ensures) (made Pull c.args.image.now (λ t. pull_blob (within t c.args.moment) c.args.image.now c.as_str.result.now) s c.pulled_blob-outcome.ensures.settings c.pulled_blob-outcome.ensures.run c.worded.ensures) }
+returns g c = record {
+  run = λ s. rw (sym c.as_str.ensures) (made Pull c.args.image.now (λ t. held_blob (within t c.args.moment) c.args.image.now c.as_str.result.now) s c.pulled_blob-outcome.ensures.settings c.pulled_blob-outcome.ensures.run c.worded.ensures);
+  fault = worded_fault Pull _ c.pulled_blob-outcome.ensures.fault c.worded.ensures;
+  no_sink = worded_no_sink Pull _ (BlobRefused IntoMemory c.args.self.now.client c.args.moment c.args.image.now c.as_str.result.now) (λ d n h. h) c.pulled_blob-outcome.ensures.causes c.worded.ensures;
+}

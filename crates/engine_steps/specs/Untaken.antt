@@ -1,0 +1,20 @@
+-- Answers whose body is not taken.
+use Rattle.std.specs.Prelude.{◌≡◌, List, [], ◌∷◌, ◌++◌, ℕ, Some}
+use Rattle.oci_transport.specs.Link.{Link, answer_of}
+use Rattle.oci_transport.specs.declared.message.AnswerHead.{AnswerHead}
+use Rattle.oci_transport.specs.declared.message.Exchange.{Exchange}
+use Rattle.engine_steps.specs.declared.asking.Named.{Named}
+use Rattle.engine_steps.specs.declared.asking.Named.TheVariants.{ByHeader, Unnamed}
+
+-- where exchanges are told, the last one was answered with this head, and its whole body is left
+pub record Untaken (head : AnswerHead) (old new : Link) : Type 0 where
+  pub body : List ℕ
+  pub answered : (before : List Exchange) → old.told ≡ Some before
+      → (c : List Exchange) × (last : Exchange) × (new.told ≡ Some (c ++ last ∷ []))
+      × (last.answer ≡ Some (answer_of head body))
+  pub rest : (before : List Exchange) → old.told ≡ Some before → new.rest ≡ Some body
+
+-- nothing is taken of an answer whose header names no digest
+abbrev pub UntakenUnnamed : Named → Link → Link → Type 0
+UntakenUnnamed (ByHeader digest got) old new = Unit {0}
+UntakenUnnamed Unnamed old new = (head : AnswerHead) × Untaken head old new

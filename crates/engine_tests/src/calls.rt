@@ -1,0 +1,184 @@
+// Each call of the engine's client.
+use crate::recorded::{CONFIG_DIGEST, LAYER_DIGEST, LAYER_TYPE, MANIFEST, MANIFEST_DIGEST, script};
+use json_values::{List, MemorySink, PlainSink, Text};
+use oci_auth::{RegistryAuth, RegistryOperation};
+use oci_engine::{Client, ClientConfig};
+use oci_manifests::OciManifest;
+use oci_names::Reference;
+use oci_transport::Script;
+use std::alloc::{AllocError, Global};
+
+// A client, and the image that it asks for.
+fn begun(alloc: Global) -> Option<(Client, Reference)> {
+    let config = ClientConfig::default(alloc).ok()?;
+    let image = Reference::parse(alloc, "localhost:5000/app:v1").ok()?;
+    Some((Client::new(alloc, config), image))
+}
+
+fn digest(alloc: Global, script: &mut Script) -> Option<Text> {
+    let (mut client, image) = begun(alloc)?;
+    client
+        .fetch_manifest_digest(alloc, script, 100, &image, &RegistryAuth::Anonymous)
+        .ok()
+}
+
+fn is_digest(alloc: Global) -> bool {
+    let Ok(mut script) = script(alloc, &[("", ""), (MANIFEST_DIGEST, "")]) else {
+        return false;
+    };
+    match digest(alloc, &mut script) {
+        Some(text) => text.as_str() == MANIFEST_DIGEST,
+        None => false,
+    }
+}
+
+#[test]
+fn the_digest_is_the_one_that_the_header_names(rt: HostRuntime) {
+    assert!(rt; is_digest(rt.alloc()));
+}
+
+fn raw_digest(alloc: Global, script: &mut Script) -> Option<Text> {
+    let (mut client, image) = begun(alloc)?;
+    let found = client
+        .pull_manifest_raw(alloc, script, 100, &image, &RegistryAuth::Anonymous, &[])
+        .ok()?;
+    let (_bytes, digest) = found;
+    Some(digest)
+}
+
+fn is_raw(alloc: Global, named: &str) -> bool {
+    let Ok(mut script) = script(alloc, &[("", ""), (named, MANIFEST)]) else {
+        return false;
+    };
+    match raw_digest(alloc, &mut script) {
+        Some(text) => text.as_str() == MANIFEST_DIGEST,
+        None => false,
+    }
+}
+
+fn layers_listed(alloc: Global, script: &mut Script) -> Option<usize> {
+    let (mut client, image) = begun(alloc)?;
+    let found = client
+        .pull_manifest(alloc, script, 100, &image, &RegistryAuth::Anonymous)
+        .ok()?;
+    let (document, _digest) = found;
+    match document {
+        OciManifest::Image(manifest) => Some(manifest.layers.as_slice().len()),
+        OciManifest::ImageIndex(_) => None,
+    }
+}
+
+fn is_document(alloc: Global) -> bool {
+    match script(alloc, &[("", ""), (MANIFEST_DIGEST, MANIFEST)]) {
+        Ok(mut script) => layers_listed(alloc, &mut script) == Some(1),
+        Err(_) => false,
+    }
+}
+
+#[test]
+fn a_manifest_comes_with_its_digest(rt: HostRuntime) {
+    assert!(rt; is_raw(rt.alloc(), MANIFEST_DIGEST) && is_raw(rt.alloc(), ""));
+    assert!(rt; !is_raw(rt.alloc(), LAYER_DIGEST));
+    assert!(rt; is_document(rt.alloc()));
+}
+
+fn accepted(alloc: Global) -> Result<List<Text>, AllocError> {
+    let mut accepted = List::new(alloc);
+    accepted.push(Text::new(alloc, LAYER_TYPE)?)?;
+    Ok(accepted)
+}
+
+// How many layers a pulled image has.
+fn layers_pulled(alloc: Global, script: &mut Script) -> Option<usize> {
+    let (mut client, image) = begun(alloc)?;
+    let accepted = accepted(alloc).ok()?;
+    let auth = RegistryAuth::Anonymous;
+    let found = client
+        .pull(alloc, script, 100, &image, &auth, accepted.as_slice())
+        .ok()?;
+    Some(found.layers.as_slice().len())
+}
+
+fn is_image(alloc: Global) -> bool {
+    let given = [
+        ("", ""),
+        (MANIFEST_DIGEST, MANIFEST),
+        ("", ""),
+        (CONFIG_DIGEST, "{}"),
+        ("", ""),
+        (LAYER_DIGEST, "hello world"),
+    ];
+    match script(alloc, &given) {
+        Ok(mut script) => layers_pulled(alloc, &mut script) == Some(1),
+        Err(_) => false,
+    }
+}
+
+#[test]
+fn an_image_comes_with_its_configuration_and_layers(rt: HostRuntime) {
+    assert!(rt; is_image(rt.alloc()));
+}
+
+fn is_poured(alloc: Global, script: &mut Script) -> Option<bool> {
+    let (mut client, image) = begun(alloc)?;
+    let mut sink = PlainSink::new(alloc);
+    client
+        .pull_blob(alloc, script, 100, &image, LAYER_DIGEST, &mut sink)
+        .ok()?;
+    Some(sink.into_blob().as_slice() == b"hello world".as_slice())
+}
+
+// A client that keeps no credentials asks for no token.
+fn is_blob(alloc: Global, body: &str) -> bool {
+    match script(alloc, &[(LAYER_DIGEST, body)]) {
+        Ok(mut script) => is_poured(alloc, &mut script) == Some(true),
+        Err(_) => false,
+    }
+}
+
+// The name of the refusal of a blob that goes into a sink that fails at once.
+fn unpoured(alloc: Global, script: &mut Script) -> Option<&'static str> {
+    let (mut client, image) = begun(alloc)?;
+    let mut failing = List::new(alloc);
+    failing.push(0u64).ok()?;
+    let mut sink = MemorySink::new(alloc, failing);
+    let refusal = client
+        .pull_blob(alloc, script, 100, &image, LAYER_DIGEST, &mut sink)
+        .err()?;
+    Some(refusal.name())
+}
+
+fn sink_fails(alloc: Global) -> bool {
+    match script(alloc, &[(LAYER_DIGEST, "hello world")]) {
+        Ok(mut script) => unpoured(alloc, &mut script) == Some("SinkFault"),
+        Err(_) => false,
+    }
+}
+
+#[test]
+fn a_blob_goes_to_its_sink(rt: HostRuntime) {
+    assert!(rt; is_blob(rt.alloc(), "hello world") && !is_blob(rt.alloc(), "hello there"));
+    assert!(rt; sink_fails(rt.alloc()));
+}
+
+// Whether the registry asks for no token.
+fn is_open(alloc: Global, script: &mut Script) -> Option<bool> {
+    let (mut client, image) = begun(alloc)?;
+    let auth = RegistryAuth::Anonymous;
+    let token = client
+        .auth(alloc, script, 100, &image, &auth, RegistryOperation::Pull)
+        .ok()?;
+    Some(token.is_none())
+}
+
+fn no_token(alloc: Global) -> bool {
+    match script(alloc, &[("", "")]) {
+        Ok(mut script) => is_open(alloc, &mut script) == Some(true),
+        Err(_) => false,
+    }
+}
+
+#[test]
+fn a_registry_without_a_challenge_asks_for_no_token(rt: HostRuntime) {
+    assert!(rt; no_token(rt.alloc()));
+}

@@ -1,0 +1,9 @@
+//! Tests of the calls that users make of the engine's client, and of the references that the search takes.
+#![tactic(auto)]
+
+#[cfg(test)]
+mod calls;
+#[cfg(test)]
+mod recorded;
+#[cfg(test)]
+mod references;

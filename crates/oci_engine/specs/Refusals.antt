@@ -1,0 +1,75 @@
+-- Why each call of a client was refused.
+use Rattle.std.specs.Prelude.{◌≡◌, ℕ, List, Option, Some, None, Result, Err, IfErr}
+use Rattle.json_values.specs.Counts.{Rose}
+use Rattle.oci_transport.specs.Link.{Link}
+use Rattle.oci_transport.specs.Urls.{request_url}
+use Rattle.oci_transport.specs.declared.message.Exchange.{Exchange}
+use Rattle.oci_names.specs.declared.reference.Reference.{Reference}
+use Rattle.oci_auth.specs.declared.auth.RegistryAuth.{RegistryAuth}
+use Rattle.oci_protocol.specs.Runs.{Told}
+use Rattle.engine_requests.specs.Contexts.{Context, within}
+use Rattle.engine_requests.specs.Requests.{manifest_types}
+use Rattle.engine_requests.specs.declared.error.OciDistributionError.{OciDistributionError}
+use Rattle.engine_requests.specs.declared.error.OciDistributionError.TheVariants as refusal
+use Rattle.engine_steps.specs.Blobs.{Destination}
+use Rattle.oci_engine.specs.declared.client.Client.{Client}
+use Rattle.oci_engine.specs.Held.{Entry, pulling}
+use Rattle.oci_engine.specs.Causes.{Cause, AnswerCause, DocumentCause, BadHeader, OwnDigest, ManifestUrl}
+use Rattle.oci_engine.specs.Causes.{BlobUrl, BlobCause, ImageCause, IsRefusedAs}
+
+-- what was told between two states of a transport has the cause of the refusal, if the call was refused
+abbrev pub RefusedFor : {A : Type 0} → (List Exchange → ℕ → OciDistributionError → Type 0) → Link → Link
+    → Result A OciDistributionError → Type 0
+RefusedFor Why old new r = IfErr r (λ e. Told (λ c. Why c new.faults e) old new)
+
+-- a fault of the transport is answered only where its count of faults rose
+abbrev pub FaultCounted : {A : Type 0} → Link → Link → Result A OciDistributionError → Type 0
+FaultCounted old new r = r ≡ Err refusal.TransportFault → Rose old.faults new.faults
+
+-- a text that is no URL is refused as that, unless memory was wanting
+abbrev pub UrlRefused : {A : Type 0} → List ℕ → Result A OciDistributionError → Type 0
+UrlRefused text r = request_url text ≡ None → IsRefusedAs (refusal.UrlParseError text) r
+
+-- a client's call at a moment, for this image
+abbrev pub at_moment : Client → ℕ → Context
+at_moment client moment = within client.settings moment
+
+-- a value that the call would show cannot stand in a header; credentials may be handed in
+abbrev pub BadHeaderOf : Client → ℕ → Reference → Option RegistryAuth → List ℕ → List Exchange → Type 0
+BadHeaderOf client moment image a types =
+    BadHeader (pulling client.memory (at_moment client moment) image a) client.settings types
+
+-- of the image's digest
+abbrev pub DigestRefused : Client → ℕ → Reference → RegistryAuth → List Exchange → ℕ
+    → OciDistributionError → Type 0
+DigestRefused client moment image a c now e =
+    Cause (ManifestUrl client.settings image) (AnswerCause (OwnDigest image))
+    (BadHeaderOf client moment image (Some a) manifest_types) client.settings c now e
+
+-- of the bytes of its manifest or index, where these types are asked for
+abbrev pub DocumentRefused : Client → ℕ → Reference → RegistryAuth → List ℕ → List Exchange → ℕ
+    → OciDistributionError → Type 0
+DocumentRefused client moment image a types c now e =
+    Cause (ManifestUrl client.settings image) (AnswerCause (OwnDigest image))
+    (BadHeaderOf client moment image (Some a) types) client.settings c now e
+
+-- of its manifest or index
+abbrev pub ManifestRefused : Client → ℕ → Reference → RegistryAuth → List Exchange → ℕ
+    → OciDistributionError → Type 0
+ManifestRefused client moment image a c now e =
+    Cause (ManifestUrl client.settings image) (DocumentCause (OwnDigest image))
+    (BadHeaderOf client moment image (Some a) manifest_types) client.settings c now e
+
+-- of the whole image
+abbrev pub PullRefused : Client → ℕ → Reference → RegistryAuth → List (List ℕ) → List Exchange → ℕ
+    → OciDistributionError → Type 0
+PullRefused client moment image a accepted c now e =
+    ImageCause (BadHeaderOf client moment image (Some a) manifest_types)
+    client.settings image accepted c now e
+
+-- of a blob of its repository, by where the blob goes
+abbrev pub BlobRefused : Destination → Client → ℕ → Reference → List ℕ → List Exchange → ℕ
+    → OciDistributionError → Type 0
+BlobRefused to client moment image digest c now e =
+    BlobCause (BlobUrl client.settings image digest) to
+    (BadHeaderOf client moment image None manifest_types) client.settings digest c now e

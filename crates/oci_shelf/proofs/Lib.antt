@@ -1,5 +1,0 @@
-pub mod Ends
-pub mod Fronts
-pub mod Sent
-pub mod Shown
-pub mod Rows

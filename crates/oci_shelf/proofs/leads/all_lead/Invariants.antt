@@ -1,7 +1,0 @@
-use Rattle.std.proofs.Common.{◌≡◌, drop}
-use Rattle.std.specs.List.{list_all}
-use Rattle.oci_shelf.specs.Leads.{leads}
-use Rattle.oci_shelf.proofs.leads.all_lead.Given as goal
-
-abbrev pub invariant-loop-entry : goal.invariant-loop-entry
-invariant-loop-entry l = list_all (leads l.redirects) l.entries ≡ list_all (leads l.redirects) (drop l.entry-index l.entries)

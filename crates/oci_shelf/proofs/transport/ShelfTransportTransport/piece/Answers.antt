@@ -1,8 +1,0 @@
-use Rattle.oci_shelf.specs.State.{answering}
-use Rattle.oci_shelf.proofs.Shown.{gives}
-use Rattle.oci_shelf.proofs.transport.ShelfTransportTransport.piece.Goals as goal
-
-pub returns-clause-taken : goal.returns-clause-taken
-returns-clause-taken c =
-    let old = c.args.self.now.served in
-    gives (answering old.shelf) (answering c.next.new.self.shelf) 0 old c.next.new.self c.in_ok-piece.piece c.in_ok-piece.ensures.ok

@@ -1,0 +1,7 @@
+//! Tests of the search for signatures, of the verified pull and of the check of its chain.
+#![tactic(auto)]
+
+#[cfg(test)]
+mod pulls;
+#[cfg(test)]
+mod recorded;

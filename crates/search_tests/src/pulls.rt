@@ -1,0 +1,195 @@
+// The search for signatures, and the verified pull.
+use crate::recorded::{CONFIG_DIGEST, LAYER_DIGEST, LAYER_TYPE, MANIFEST, MANIFEST_DIGEST, script};
+use cosign_client::{Client, PullRefusal, VerifiedImage, check_links};
+use cosign_layers::{
+    AnnotationVerifier, Constraint, NoCertificates, PullPolicy, SignedRow, TableVerifier,
+};
+use json_values::{Annotations, Blob, List, Text};
+use oci_engine::ClientConfig;
+use oci_transport::Script;
+use sig_registry::{Auth, OciClient, OciReference};
+use std::alloc::{AllocError, Global};
+
+const IMAGE: &str = "localhost:5000/app:v1";
+
+/// The image by another digest than its own.
+const OTHER: &str =
+    "localhost:5000/app@sha256:bec3f566a399bddd277a387434dcaf295311323236c6b1e2b5dd93ccd6795098";
+
+const PAYLOAD: &str =
+    r#"{"critical":{"identity":{"docker-reference":"localhost:5000/app"},"image":{"docker-manifest-digest":"sha256:517b86da29754bfa57e312c35d4cf22caa38dbce39ecd24684830c1f9777a635"},"type":"cosign container image signature"},"optional":null}"#;
+
+const PAYLOAD_DIGEST: &str =
+    "sha256:bec3f566a399bddd277a387434dcaf295311323236c6b1e2b5dd93ccd6795098";
+
+const SIGNATURES: &str =
+    r#"{"schemaVersion":2,"mediaType":"application/vnd.oci.image.manifest.v1+json","config":{"mediaType":"application/vnd.oci.image.config.v1+json","digest":"sha256:44136fa355b3678a1146ad16f7e8649e94fb4fc21fe77e8310c060f61caaff8a","size":2},"layers":[{"mediaType":"application/vnd.dev.cosign.simplesigning.v1+json","digest":"sha256:bec3f566a399bddd277a387434dcaf295311323236c6b1e2b5dd93ccd6795098","size":234,"annotations":{"dev.cosignproject.cosign/signature":"c2lnMQ=="}}]}"#;
+
+const SIGNATURES_DIGEST: &str =
+    "sha256:352d647271ccfc459018f388cb2644fbd32245e9370879879ec72ddc20ee8327";
+
+/// Each answer, after that to the request for a token: those of the search, and those of the image.
+const ANSWERS: [(&str, &str); 16] = [
+    ("", ""),
+    (MANIFEST_DIGEST, ""),
+    ("", ""),
+    (SIGNATURES_DIGEST, SIGNATURES),
+    ("", ""),
+    (SIGNATURES_DIGEST, SIGNATURES),
+    ("", ""),
+    (CONFIG_DIGEST, "{}"),
+    ("", ""),
+    (PAYLOAD_DIGEST, PAYLOAD),
+    ("", ""),
+    (MANIFEST_DIGEST, MANIFEST),
+    ("", ""),
+    (CONFIG_DIGEST, "{}"),
+    ("", ""),
+    (LAYER_DIGEST, "hello world"),
+];
+
+// What a pull is made of.
+#[derive(Drop)]
+struct Asked {
+    client: Client,
+    image: OciReference,
+    accepted: List<Text>,
+    policy: PullPolicy,
+    verifier: TableVerifier,
+}
+
+// One key, and one constraint that each layer satisfies.
+fn policy(alloc: Global) -> Result<PullPolicy, AllocError> {
+    let mut keys = List::new(alloc);
+    keys.push(Blob::new(alloc, b"k1")?)?;
+    let mut constraints = List::new(alloc);
+    let annotations = Annotations::new(alloc);
+    constraints.push(Constraint::Annotations(AnnotationVerifier { annotations }))?;
+    Ok(PullPolicy { keys, constraints })
+}
+
+// A verifier for which the key `k1` signs the payload by `sig1`.
+fn verifier(alloc: Global) -> Result<TableVerifier, AllocError> {
+    let key = Blob::new(alloc, b"k1")?;
+    let message = Text::new(alloc, PAYLOAD_DIGEST)?;
+    let signature = Blob::new(alloc, b"sig1")?;
+    let mut rows = List::new(alloc);
+    rows.push(SignedRow {
+        key,
+        message,
+        signature,
+    })?;
+    Ok(TableVerifier { rows })
+}
+
+fn accepted(alloc: Global) -> Result<List<Text>, AllocError> {
+    let mut accepted = List::new(alloc);
+    accepted.push(Text::new(alloc, LAYER_TYPE)?)?;
+    Ok(accepted)
+}
+
+fn client(alloc: Global) -> Result<Client, AllocError> {
+    let config = ClientConfig::default(alloc)?;
+    let engine = oci_engine::Client::new(alloc, config);
+    Ok(Client {
+        registry_client: OciClient::new(engine),
+    })
+}
+
+fn terms(alloc: Global) -> Option<Asked> {
+    let image = OciReference::parse(alloc, IMAGE).ok()?;
+    let client = client(alloc).ok()?;
+    let accepted = accepted(alloc).ok()?;
+    let policy = policy(alloc).ok()?;
+    let verifier = verifier(alloc).ok()?;
+    Some(Asked {
+        client,
+        image,
+        accepted,
+        policy,
+        verifier,
+    })
+}
+
+fn pull(
+    alloc: Global,
+    script: &mut Script,
+    asked: &mut Asked,
+) -> Result<VerifiedImage, PullRefusal> {
+    asked.client.verified_pull(
+        alloc,
+        script,
+        100,
+        &asked.image,
+        &Auth::Anonymous,
+        asked.accepted.as_slice(),
+        &asked.policy,
+        &asked.verifier,
+        &NoCertificates,
+    )
+}
+
+// Whether the pulled image's parts are linked for these two references.
+fn is_linked(
+    found: &Result<VerifiedImage, PullRefusal>,
+    asked: &Asked,
+    other: &OciReference,
+) -> (bool, bool) {
+    match found {
+        Ok(image) => (
+            check_links(asked.image.reference(), asked.accepted.as_slice(), image),
+            check_links(other.reference(), asked.accepted.as_slice(), image),
+        ),
+        Err(_) => (false, false),
+    }
+}
+
+fn links(alloc: Global) -> Option<(bool, bool)> {
+    let mut script = script(alloc, &ANSWERS).ok()?;
+    let other = OciReference::parse(alloc, OTHER).ok()?;
+    let mut asked = terms(alloc)?;
+    let found = pull(alloc, &mut script, &mut asked);
+    Some(is_linked(&found, &asked, &other))
+}
+
+#[test]
+fn an_image_comes_where_its_layer_stands_and_its_links_check(rt: HostRuntime) {
+    assert!(rt; links(rt.alloc()) == Some((true, false)));
+}
+
+// How many layers were collected, and how many sources were skipped.
+fn searched(alloc: Global, script: &mut Script) -> Option<(usize, usize)> {
+    let mut asked = terms(alloc)?;
+    let found = asked
+        .client
+        .trusted_signature_layers(
+            alloc,
+            script,
+            100,
+            &Auth::Anonymous,
+            &asked.image,
+            &asked.verifier,
+            &NoCertificates,
+        )
+        .ok()?;
+    Some((
+        found.collected.as_slice().len(),
+        found.skipped.as_slice().len(),
+    ))
+}
+
+fn search(alloc: Global, count: usize) -> Option<(usize, usize)> {
+    let given = ANSWERS.get(..count)?;
+    let mut script = script(alloc, given).ok()?;
+    searched(alloc, &mut script)
+}
+
+#[test]
+fn a_search_collects_the_layers_under_the_tag(rt: HostRuntime) {
+    assert!(rt; search(rt.alloc(), 10) == Some((1, 0)));
+}
+
+#[test]
+fn a_source_that_fails_is_skipped(rt: HostRuntime) {
+    assert!(rt; search(rt.alloc(), 2) == Some((0, 1)));
+}
