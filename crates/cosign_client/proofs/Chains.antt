@@ -40,7 +40,7 @@ use Rattle.cosign_layers.proofs.Supports.{stands_for}
 use Rattle.cosign_chain.specs.Chain.{Chain}
 use Rattle.cosign_chain.specs.Links.{Links as HasLinks}
 use Rattle.cosign_chain.specs.declared.image.VerifiedImage.{VerifiedImage}
-use Rattle.cosign_chain.proofs.Links.{chain_links}
+use Rattle.cosign_chain.proofs.LinkTests.{chain_links}
 use Rattle.cosign_client.specs.Image.{image_row}
 use Rattle.cosign_client.specs.Part.{skipping, layer_part, named_layer, read_layer, descriptor_part, descriptors_part}
 use Rattle.cosign_client.specs.References.{tag_reference, digest_reference, reading_back}

@@ -1,4 +1,4 @@
-use Rattle.cosign_chain.proofs.Links.{linked}
+use Rattle.cosign_chain.proofs.LinkTests.{linked}
 use Rattle.cosign_chain.proofs.links.check_links.Goals as goal
 
 pub returns : goal.returns
