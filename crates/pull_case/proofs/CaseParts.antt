@@ -93,3 +93,12 @@ case_parses d =
 pub case_timed : (d : Data) → IfSome (case_of d) (λ case. 0 < length case.moments)
 case_timed d =
     follows _ _ (case_of d) (members_of d) (λ case h. has_moments (get (codes "moments") d) case.moments h.1)
+
+-- the same of the case that JSON says
+pub json_parses : (o : Option Data) → IfSome (o >>= case_of) (λ case. IsOk (reference_of case.reference))
+json_parses None = tt
+json_parses (Some d) = case_parses d
+
+pub json_timed : (o : Option Data) → IfSome (o >>= case_of) (λ case. 0 < length case.moments)
+json_timed None = tt
+json_timed (Some d) = case_timed d
