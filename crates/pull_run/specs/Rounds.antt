@@ -12,18 +12,20 @@ use Rattle.oci_auth.specs.declared.auth.RegistryAuth.{RegistryAuth}
 use Rattle.engine_requests.specs.Contexts.{within}
 use Rattle.engine_requests.specs.declared.settings.Settings.{Settings}
 use Rattle.sig_registry.specs.Clients.{Kept}
-use Rattle.cosign_layers.specs.Standing.{Meaning}
-use Rattle.cosign_client.specs.Refusal.{is_memory}
+use Rattle.cosign_layers.specs.Accepts.{has_no_item}
+use Rattle.cosign_layers.specs.Standing.{Meaning, stands}
+use Rattle.cosign_client.specs.Refusals.{is_memory}
 use Rattle.cosign_client.specs.Verified.{Whole, verified}
-use Rattle.cosign_chain.specs.declared.image.VerifiedImage.{VerifiedImage}
-use Rattle.cosign_client.specs.declared.refusal.PullRefusal.{PullRefusal}
+use Rattle.cosign_client.specs.declared.verified.VerifiedImage.{VerifiedImage}
+use Rattle.cosign_client.specs.declared.verified.PullRefusal.{PullRefusal}
 use Rattle.pull_run.specs.declared.report.Report.{Report}
 use Rattle.pull_run.specs.Pulls.{Talk, moment_of, joined, reports, all_answered, InTurn}
 
 -- the pull of an image at a moment, by these settings, credentials and this policy
 abbrev pub row_by : {V : Type 0} {H : V → Type 0}
     → Meaning V H → Settings → Reference → RegistryAuth → List (List ℕ) → ℕ → Whole VerifiedImage
-row_by meaning s image a accepted moment = verified meaning (within s moment) image a accepted
+row_by meaning s image a accepted moment =
+    verified (has_no_item meaning.policy.constraints) (stands meaning) (within s moment) image a accepted
 
 -- whether memory was wanting
 abbrev pub is_wanting : Result VerifiedImage PullRefusal → Bool

@@ -1,13 +1,12 @@
 // The pulls of a case.
-ghost use Rattle.std.specs.Prelude.{◌≡◌, ◌++◌, ◌||◌, false, not, None, Ok, IsOk, IfOk, IfSome, OnOk};
+ghost use Rattle.std.specs.Prelude.{◌≡◌, ◌++◌, ◌||◌, false, not, Ok, IsOk, IfOk, IfSome, OnOk};
 ghost use Rattle.oci_transport.specs.Script.{state_of};
 ghost use Rattle.oci_names.specs.References.{reference_of};
 ghost use Rattle.sig_registry.specs.Conversions.{registry_auth};
 ghost use Rattle.sig_registry.specs.Direct.{reference_in};
-ghost use Rattle.cosign_layers.specs.Verifier.{valid_in};
+ghost use Rattle.cosign_layers.specs.Rows.{valid_in};
 ghost use Rattle.cosign_layers.specs.Standing.{meaning};
 ghost use Rattle.cosign_client.specs.State.{client_state};
-ghost use Rattle.cosign_client.specs.Terms.{without_logs};
 ghost use Rattle.pull_case.specs.Case.{case_in};
 ghost use Rattle.pull_report.specs.Report.{report as lines_of};
 ghost use Rattle.pull_run.specs.Pulls.{is_answered, settings_by, fresh, ReportsCase};
@@ -77,8 +76,7 @@ fn pull_at(
     report: &mut Report,
 ) -> Result<(), AllocError>
     ensures round { OnOk result (Round (row_by
-        (meaning terms.now.policy (λ b. accepts (b.vtable, b.value))
-            (without_logs (valid_in terms.now.verifier) (λ evidence. None)))
+        (meaning terms.now.policy (valid_in terms.now.verifier) (λ b. accepts (b.vtable, b.value)))
         (client_state client.old).settings
         (reference_in terms.now.image) (registry_auth terms.now.auth) terms.now.accepted)
         moment (state_of script.old) (state_of script.new)
@@ -111,8 +109,7 @@ fn pull_each(
     moments: &[u64],
 ) -> Result<Report, AllocError>
     ensures { IfOk result (Played (row_by
-        (meaning terms.now.policy (λ b. accepts (b.vtable, b.value))
-            (without_logs (valid_in terms.now.verifier) (λ evidence. None)))
+        (meaning terms.now.policy (valid_in terms.now.verifier) (λ b. accepts (b.vtable, b.value)))
         (client_state client.old).settings
         (reference_in terms.now.image) (registry_auth terms.now.auth) terms.now.accepted)
         answers moments.now (client_state client.old).kept (client_state client.new).kept) }
