@@ -19,7 +19,7 @@ use Rattle.engine_requests.specs.declared.error.OciDistributionError.{OciDistrib
 use Rattle.engine_requests.specs.Errors.{is_memory as engine_is_memory}
 use Rattle.engine_requests.specs.Requests.{manifest_types}
 use Rattle.engine_steps.specs.Rows.{Row as Engine}
-use Rattle.engine_pull.specs.Pulls.{fetch_manifest_digest, pull_manifest_raw, pull_blob}
+use Rattle.engine_pull.specs.Pulls.{fetch_manifest_digest, pull_manifest_raw, held_blob}
 use Rattle.engine_pull.specs.Images.{layers_accepted, layer_of}
 use Rattle.sig_registry.specs.declared.error.SigstoreError.{SigstoreError}
 use Rattle.sig_registry.specs.declared.error.SigstoreError.TheVariants as sigstore
@@ -106,7 +106,7 @@ done_own Q r h = h
 
 blob_own : (s : Context) (image : Reference) (digest : List ℕ) → Ends (OnRefusal (IsOwn Pull)) (blob_call s image digest)
 unfolding blob_call
-blob_own s image digest = words_own Pull image (pull_blob s image digest)
+blob_own s image digest = words_own Pull image (held_blob s image digest)
 
 document_own : (s : Context) (image : Reference) (a : RegistryAuth) (types : List ℕ) → Ends (OnRefusal (IsOwn Pull)) (document_call s image a types)
 unfolding document_call

@@ -1,4 +1,4 @@
--- What is skipped holds no want of memory, and no more faults than the transport had.
+-- What is skipped holds no want of memory and no fault of a sink, and no more faults than the transport had.
 use Rattle.std.proofs.Common.{◌≡◌, ◌≤◌, ◌+◌, ◌-◌, ◌^◌, min, ℕ, Bool, true, false, cond, List, [], ◌∷◌, ◌++◌, Option, Some, None, Result, Ok, Err, IfOk, IfErr, refl, sym, ap, ◌∙◌, subst, arith, zero-add}
 use Rattle.std.specs.Prelude.{if◌then◌else◌, find, MatchBool, count_by, unwrap_or}
 use Rattle.std.specs.FinMap as map_of
@@ -29,7 +29,7 @@ use Rattle.engine_steps.specs.Rows.{Row as Engine}
 use Rattle.engine_pull.specs.Pulls.{pull_manifest}
 use Rattle.engine_pull.specs.Images.{pull}
 use Rattle.engine_pull.specs.declared.image.ImageData.{ImageData}
-use Rattle.oci_engine.specs.Causes.{DocumentCause, OwnDigest}
+use Rattle.oci_engine.specs.Causes.{DocumentCause, ManifestUrl, OwnDigest}
 use Rattle.oci_engine.proofs.Early.{Loose}
 use Rattle.oci_engine.proofs.ImageRefused.{RowCause, manifest_causes, image_causes}
 use Rattle.oci_engine.proofs.Reasons.{manifest_fault, image_fault}
@@ -55,7 +55,7 @@ use Rattle.cosign_client.specs.Part.{skipping, layer_part, named_layer, read_lay
 use Rattle.cosign_client.specs.References.{tag_reference, digest_reference, reading_back}
 use Rattle.cosign_client.specs.Refusal.{is_memory as of_refusal, refused_as}
 use Rattle.cosign_client.specs.Search.{payload_type, document_part, tag_layers, or_skipped, tag_by, tag_source, trusted_layers, searched}
-use Rattle.cosign_client.specs.Skips.{in_engine, in_refusal, holds_memory, HoldsNoMemory, is_engine_fault, is_refused_fault, is_fault, CountsFaults, OnSkipped}
+use Rattle.cosign_client.specs.Skips.{in_engine, in_refusal, holds_memory_or_sink, HoldsNoMemoryNorSink, is_engine_fault, is_refused_fault, is_fault, CountsFaults, OnSkipped}
 use Rattle.cosign_client.specs.Verified.{constrained, is_unconstrained, readable, readable_by, as_whole, part_of, stands_by, standing_by, standing, verified_image, after_search, verified}
 use Rattle.cosign_client.specs.declared.found.Part.{Part}
 use Rattle.cosign_client.specs.declared.found.SkipCause.TheVariants.{NotAReference, FoundIndex, Refused}
@@ -71,23 +71,25 @@ use Rattle.cosign_client.proofs.Counts.{Counts, Counts-any, Counts-done, Counts-
 
 -- ---- refusals of the engine
 
--- a refusal other than want of memory holds none, and a fault only where the count rose
-record Sincere (m n : ℕ) (e : OciDistributionError) : Type 0 where
-  falls : m ≤ n
-  no_memory : engine_is_memory e ≡ false → in_engine e ≡ false
-  fault : is_engine_fault e ≡ true → Rose m n
+-- a refusal other than want of memory holds none and no fault of a sink, and it is a fault only where the count rose
+pub record Sincere (m n : ℕ) (e : OciDistributionError) : Type 0 where
+  pub falls : m ≤ n
+  pub no_memory : engine_is_memory e ≡ false → in_engine e ≡ false
+  pub fault : is_engine_fault e ≡ true → Rose m n
 
-abbrev EngineCounts : {A : Type 0} → ℕ → ℕ → Result A OciDistributionError → Type 0
+abbrev pub EngineCounts : {A : Type 0} → ℕ → ℕ → Result A OciDistributionError → Type 0
 EngineCounts m n (Ok a) = m ≤ n
 EngineCounts m n (Err e) = Sincere m n e
 
-manifest_memory : (s : Settings) (image : Reference) (c : List Exchange) (n : ℕ) (e : OciDistributionError) → Loose (DocumentCause (OwnDigest image)) s manifest_types c n e → engine_is_memory e ≡ false → in_engine e ≡ false
+manifest_memory : (s : Settings) (image : Reference) (c : List Exchange) (n : ℕ) (e : OciDistributionError) → Loose (ManifestUrl s image) (DocumentCause (OwnDigest image)) s manifest_types c n e → engine_is_memory e ≡ false → in_engine e ≡ false
 manifest_memory s image c n engine_refusal.WantOfMemory h other = absurd (cc other)
+manifest_memory s image c n engine_refusal.SinkFault h other = absurd h.holds
 manifest_memory s image c n (engine_refusal.DigestError digest_refusal.WantOfMemory) h other = absurd h.holds
 manifest_memory s image c n _ h other = refl
 
 image_memory : (s : Settings) (image : Reference) (accepted : List (List ℕ)) (c : List Exchange) (n : ℕ) (e : OciDistributionError) → RowCause s image accepted c n e → engine_is_memory e ≡ false → in_engine e ≡ false
 image_memory s image accepted c n engine_refusal.WantOfMemory h other = absurd (cc other)
+image_memory s image accepted c n engine_refusal.SinkFault h other = absurd h
 image_memory s image accepted c n (engine_refusal.DigestError digest_refusal.WantOfMemory) h other = absurd h.holds
 image_memory s image accepted c n _ h other = refl
 
@@ -96,7 +98,7 @@ only_fault engine_refusal.TransportFault is = refl
 only_fault _ is = absurd (cc is)
 
 -- a refusal that is a fault, over a run
-fault_of : {A : Type 0} (p : Engine A) (k l : Kept) (m n : ℕ) (c : List Exchange) (e : OciDistributionError) → Runs p k m c n l (Err e)
+pub fault_of : {A : Type 0} (p : Engine A) (k l : Kept) (m n : ℕ) (c : List Exchange) (e : OciDistributionError) → Runs p k m c n l (Err e)
     → ((old new : Link) → Meets engine_is_memory p old new k l (Err engine_refusal.TransportFault) → Rose old.faults new.faults) → is_engine_fault e ≡ true → Rose m n
 fault_of {A} p k l m n c e run rose is = rose (silent m) (silent n) (Runs-meets engine_is_memory p k l m n c engine_refusal.TransportFault refl (subst (λ x. Runs p k m c n l (let r : Result A OciDistributionError = Err x in r)) (only_fault e is) run))
 
@@ -122,12 +124,12 @@ image_counts s image a accepted = record { counts = λ k l m n c r run. by_resul
 
 -- ---- refusals in words
 
-record SincereWords (m n : ℕ) (e : SigstoreError) : Type 0 where
-  falls : m ≤ n
-  no_memory : is_memory e ≡ false → in_refusal e ≡ false
-  fault : is_refused_fault e ≡ true → Rose m n
+pub record SincereWords (m n : ℕ) (e : SigstoreError) : Type 0 where
+  pub falls : m ≤ n
+  pub no_memory : is_memory e ≡ false → in_refusal e ≡ false
+  pub fault : is_refused_fault e ≡ true → Rose m n
 
-abbrev CallCounts : {A : Type 0} → ℕ → ℕ → Result A SigstoreError → Type 0
+abbrev pub CallCounts : {A : Type 0} → ℕ → ℕ → Result A SigstoreError → Type 0
 CallCounts m n (Ok a) = m ≤ n
 CallCounts m n (Err e) = SincereWords m n e
 
@@ -141,23 +143,23 @@ called_fault FetchManifest text e = refl
 called_fault Pull text e = refl
 called_fault PullManifest text e = refl
 
-worded_counts : {A : Type 0} (called : Called) (text : List ℕ) (m n : ℕ) (r : Result A OciDistributionError) → EngineCounts m n r → CallCounts m n (worded called text r)
+pub worded_counts : {A : Type 0} (called : Called) (text : List ℕ) (m n : ℕ) (r : Result A OciDistributionError) → EngineCounts m n r → CallCounts m n (worded called text r)
 worded_counts called text m n (Ok a) h = h
 worded_counts {A} called text m n (Err e) h = by_memory (engine_is_memory e) refl where
   by_memory : (b : Bool) → engine_is_memory e ≡ b → CallCounts {A = A} m n (if b then Err sigstore.WantOfMemory else Err (call_refusal called text e))
   by_memory true is = record { falls = h.falls; no_memory = λ other. absurd (cc other); fault = λ is. absurd (cc is) }
   by_memory false is = record { falls = h.falls; no_memory = λ other. in_called called text e ∙ h.no_memory is; fault = λ fault. h.fault (sym (called_fault called text e) ∙ fault) }
 
-words_count : {A : Type 0} (called : Called) (image : Reference) (p : Engine A) → Counts EngineCounts p → Counts CallCounts (in_words called image p)
+pub words_count : {A : Type 0} (called : Called) (image : Reference) (p : Engine A) → Counts EngineCounts p → Counts CallCounts (in_words called image p)
 unfolding in_words
 words_count called image p h = Counts-bind EngineCounts CallCounts p (λ r. Done (worded called (whole_text image) r)) h
     (λ m n r at. Counts-done (λ start o b. start ≡ n → CallCounts m o b) (worded called (whole_text image) r) (λ o same. rw same (worded_counts called (whole_text image) m n r at)))
 
-manifest_call_counts : (s : Context) (image : Reference) (a : RegistryAuth) → Counts CallCounts (manifest_call s image a)
+pub manifest_call_counts : (s : Context) (image : Reference) (a : RegistryAuth) → Counts CallCounts (manifest_call s image a)
 unfolding manifest_call
 manifest_call_counts s image a = words_count PullManifest image (pull_manifest s image a) (manifest_counts s image a)
 
-image_call_counts : (s : Context) (image : Reference) (a : RegistryAuth) (accepted : List (List ℕ)) → Counts CallCounts (image_call s image a accepted)
+pub image_call_counts : (s : Context) (image : Reference) (a : RegistryAuth) (accepted : List (List ℕ)) → Counts CallCounts (image_call s image a accepted)
 unfolding image_call
 image_call_counts s image a accepted = words_count Pull image (pull s image a accepted) (image_counts s image a accepted)
 
@@ -165,7 +167,7 @@ image_call_counts s image a accepted = words_count Pull image (pull s image a ac
 
 -- from this count to that one
 record Counted (m n : ℕ) (skipped : List Skipped) : Type 0 where
-  no_memory : HoldsNoMemory skipped
+  no_memory : HoldsNoMemoryNorSink skipped
   faults : CountsFaults m n skipped
 
 none_skipped : (m n : ℕ) → m ≤ n → Counted m n []
@@ -178,8 +180,8 @@ count_one : (x : Skipped) (xs : List Skipped) → count_by is_fault (xs ++ x ∷
 count_one x xs = sum_by-append (λ x. cond (is_fault x) 1 0) xs (x ∷ []) ∙ ap (λ n. count_by is_fault xs + n) (zero-add (cond (is_fault x) 1 0))
 
 -- one more cause, which is a fault only where the count rose
-one_more : (m n o : ℕ) (xs : List Skipped) (x : Skipped) → n ≤ o → Counted m n xs → holds_memory x ≡ false → (is_fault x ≡ true → Rose n o) → Counted m o (xs ++ x ∷ [])
-one_more m n o xs x le h memory fault = record { no_memory = All-push (λ cause. holds_memory cause ≡ false) xs x h.no_memory memory; faults = by_fault (is_fault x) refl } where
+one_more : (m n o : ℕ) (xs : List Skipped) (x : Skipped) → n ≤ o → Counted m n xs → holds_memory_or_sink x ≡ false → (is_fault x ≡ true → Rose n o) → Counted m o (xs ++ x ∷ [])
+one_more m n o xs x le h memory fault = record { no_memory = All-push (λ cause. holds_memory_or_sink cause ≡ false) xs x h.no_memory memory; faults = by_fault (is_fault x) refl } where
   by_fault : (b : Bool) → is_fault x ≡ b → CountsFaults m o (xs ++ x ∷ [])
   by_fault true is = let one : count_by is_fault (xs ++ x ∷ []) ≡ count_by is_fault xs + 1 = count_one x xs ∙ ap (λ b. count_by is_fault xs + cond b 1 0) is in let rose : Rose n o = fault is in rw one (omega (arith, h.faults, rose))
   by_fault false is = let one : count_by is_fault (xs ++ x ∷ []) ≡ count_by is_fault xs + 0 = count_one x xs ∙ ap (λ b. count_by is_fault xs + cond b 1 0) is in rw one (omega (arith, h.faults, le))
@@ -189,21 +191,21 @@ earlier : (m n o : ℕ) (skipped : List Skipped) → m ≤ n → Counted n o ski
 earlier m n o skipped le h = record { no_memory = h.no_memory; faults = omega (arith, le, h.faults) }
 
 -- one cause
-one_cause : (m n : ℕ) (x : Skipped) → m ≤ n → holds_memory x ≡ false → (is_fault x ≡ true → Rose m n) → Counted m n (x ∷ [])
+one_cause : (m n : ℕ) (x : Skipped) → m ≤ n → holds_memory_or_sink x ≡ false → (is_fault x ≡ true → Rose m n) → Counted m n (x ∷ [])
 one_cause m n x le memory fault = one_more m m n [] x le (none_skipped m m (omega arith)) memory fault
 
 -- causes that need no fault
 abbrev Quiet : List Skipped → Type 0
 Quiet skipped = (m n : ℕ) → m ≤ n → Counted m n skipped
 
-quiet_one : (x : Skipped) → holds_memory x ≡ false → is_fault x ≡ false → Quiet (x ∷ [])
+quiet_one : (x : Skipped) → holds_memory_or_sink x ≡ false → is_fault x ≡ false → Quiet (x ∷ [])
 quiet_one x memory fault m n le = one_cause m n x le memory (λ is. absurd (cc (sym fault ∙ is)))
 
 quiet_none : Quiet []
 quiet_none m n le = none_skipped m n le
 
-both_memory : (x : Skipped) (xs : List Skipped) → holds_memory x ≡ false → HoldsNoMemory xs → HoldsNoMemory (x ∷ xs)
-both_memory x xs memory rest = All-cons (λ cause. holds_memory cause ≡ false) x xs memory rest
+both_memory : (x : Skipped) (xs : List Skipped) → holds_memory_or_sink x ≡ false → HoldsNoMemoryNorSink xs → HoldsNoMemoryNorSink (x ∷ xs)
+both_memory x xs memory rest = All-cons (λ cause. holds_memory_or_sink cause ≡ false) x xs memory rest
 
 one_before : (x : Skipped) (xs : List Skipped) → is_fault x ≡ false → count_by is_fault (x ∷ xs) ≡ count_by is_fault xs
 one_before x xs fault =
@@ -212,7 +214,7 @@ one_before x xs fault =
     ∙ zero-add (count_by is_fault xs)
 
 -- a quiet cause before others
-quiet_cons : (x : Skipped) (xs : List Skipped) → holds_memory x ≡ false → is_fault x ≡ false → Quiet xs → Quiet (x ∷ xs)
+quiet_cons : (x : Skipped) (xs : List Skipped) → holds_memory_or_sink x ≡ false → is_fault x ≡ false → Quiet xs → Quiet (x ∷ xs)
 quiet_cons x xs memory fault h m n le = record {
   no_memory = both_memory x xs memory (h m n le).no_memory;
   faults = subst (λ k. min (m + k) (2 ^ 64 - 1) ≤ n) (sym (one_before x xs fault)) (h m n le).faults;
@@ -244,7 +246,7 @@ abbrev TagCounts : ℕ → ℕ → Result Part SigstoreError → Type 0
 TagCounts m n (Ok part) = Counted m n part.skipped
 TagCounts m n (Err e) = SincereWords m n e
 
-wider : (m n o : ℕ) (e : SigstoreError) → m ≤ n → SincereWords n o e → SincereWords m o e
+pub wider : (m n o : ℕ) (e : SigstoreError) → m ≤ n → SincereWords n o e → SincereWords m o e
 wider m n o e le h = record { falls = omega (arith, le, h.falls); no_memory = h.no_memory; fault = λ is. let rose : Rose n o = h.fault is in omega (arith, le, rose) }
 
 image_then : (m n o : ℕ) (trust : Trust) (d : List ℕ) (document : OciManifest) (r : Result ImageData SigstoreError) → m ≤ n → CallCounts n o r → Counts {K = Kept} (λ t p b. t ≡ o → TagCounts m p b) (unless_refused (λ image. Done (Ok (document_part trust d document image))) r)
@@ -390,7 +392,7 @@ search_counted : (trust : Trust) (s : Context) (image : Reference) (a : Registry
 search_counted trust s image a (Ok found) met = Meets-counts SearchCounts (search_counts trust s image a) met
 search_counted trust s image a (Err e) met = tt
 
-pub search_no_memory : (trust : Trust) (s : Context) (image : Reference) (a : RegistryAuth) {old new : Link} {k l : Kept} (r : Result TrustedLayers SigstoreError) → Meets is_memory (searched trust s image a) old new k l r → IfOk r (λ found. HoldsNoMemory found.skipped)
+pub search_no_memory : (trust : Trust) (s : Context) (image : Reference) (a : RegistryAuth) {old new : Link} {k l : Kept} (r : Result TrustedLayers SigstoreError) → Meets is_memory (searched trust s image a) old new k l r → IfOk r (λ found. HoldsNoMemoryNorSink found.skipped)
 search_no_memory trust s image a (Ok found) met = (search_counted trust s image a (Ok found) met).no_memory
 search_no_memory trust s image a (Err e) met = tt
 
@@ -418,7 +420,7 @@ module _ {V : Type 0} {H : V → Type 0} (meaning : Meaning V H) (s : Context) (
   pull_counted : {old new : Link} {k l : Kept} (e : PullRefusal) → Meets of_refusal (verified meaning s image a accepted) old new k l (Err e) → OnSkipped (Counted old.faults new.faults) e
   pull_counted {old} {new} e met = unless_memory (Counted old.faults new.faults) e (Meets-counts OfRefusal (pull_counts meaning s image a accepted) met)
 
-  pub pull_no_memory : {old new : Link} {k l : Kept} (r : Result VerifiedImage PullRefusal) → Meets of_refusal (verified meaning s image a accepted) old new k l r → IfErr r (λ e. OnSkipped HoldsNoMemory e)
+  pub pull_no_memory : {old new : Link} {k l : Kept} (r : Result VerifiedImage PullRefusal) → Meets of_refusal (verified meaning s image a accepted) old new k l r → IfErr r (λ e. OnSkipped HoldsNoMemoryNorSink e)
   pull_no_memory (Ok v) met = tt
   pull_no_memory (Err e) met = on_skipped e (λ xs h. h.no_memory) (pull_counted e met)
 

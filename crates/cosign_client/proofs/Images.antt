@@ -26,8 +26,9 @@ use Rattle.engine_requests.specs.Errors.{is_memory as engine_is_memory, ◌>>=�
 use Rattle.engine_requests.specs.Answers.{or_digest_error}
 use Rattle.engine_requests.specs.Requests.{manifest_types}
 use Rattle.engine_requests.specs.Documents.{document_read}
+use Rattle.engine_steps.specs.Blobs.{IntoMemory}
 use Rattle.engine_steps.specs.Rows.{Row as Engine}
-use Rattle.engine_pull.specs.Pulls.{fetch_manifest_digest, pull_manifest_raw, pull_blob}
+use Rattle.engine_pull.specs.Pulls.{fetch_manifest_digest, pull_manifest_raw, held_blob}
 use Rattle.engine_pull.specs.Images.{image_manifest, is_accepted, all_accepted, layers_accepted, layer_of, config_of}
 use Rattle.oci_engine.specs.Answered.{Answered, Body, Document, LastBody}
 use Rattle.oci_engine.proofs.Documents.{body_before, body_after, raw_shows}
@@ -83,7 +84,7 @@ IsBlob digest c bytes = Body c bytes × Names digest bytes × LastBody c bytes
 
 blob_call_shows : (s : Context) (image : Reference) (digest : List ℕ) → Shows (Seen (IsBlob digest)) (blob_call s image digest)
 unfolding blob_call
-blob_call_shows s image digest = words_show (IsBlob digest) Pull image (pull_blob s image digest) (blob_shows s image digest)
+blob_call_shows s image digest = words_show (IsBlob digest) Pull image (held_blob s image digest) (blob_shows IntoMemory s image digest)
 
 -- a step, and what it leads to, after what was seen before
 pub next_seen : {A B E : Type 0} (P : List Exchange → A → Type 0) (Q : List Exchange → B → Type 0) (p : Proto Kept (Result A E)) (f : A → Proto Kept (Result B E)) → Shows (Seen P) p → ((c : List Exchange) (a : A) → P c a → Shows (Seen (λ d b. Q (c ++ d) b)) (f a)) → Shows (Seen Q) (p >>= f)

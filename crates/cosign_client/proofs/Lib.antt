@@ -9,3 +9,4 @@ pub mod First
 pub mod Images
 pub mod Leads
 pub mod Reading
+pub mod Refusals

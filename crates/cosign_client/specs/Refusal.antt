@@ -1,5 +1,9 @@
 -- Why a pull was refused.
-use Rattle.std.specs.Prelude.{◌≡◌, Bool, true, false, MatchBool, Result, Ok, Err}
+use Rattle.std.specs.Prelude.{◌≡◌, Bool, true, false, MatchBool, Option, Some, None, Result, Ok, Err}
+use Rattle.json_values.specs.Counts.{Rose}
+use Rattle.oci_transport.specs.Link.{Link}
+use Rattle.engine_requests.specs.declared.error.OciDistributionError.{OciDistributionError}
+use Rattle.engine_requests.specs.declared.error.OciDistributionError.TheVariants.{TransportFault, SinkFault}
 use Rattle.sig_registry.specs.declared.error.SigstoreError.{SigstoreError}
 use Rattle.sig_registry.specs.declared.error.SigstoreError.TheVariants as sigstore
 use Rattle.cosign_client.specs.declared.refusal.PullRefusal.{PullRefusal}
@@ -22,3 +26,22 @@ refused_as sigstore.WantOfMemory = refusal.WantOfMemory
 abbrev pub Says : {A : Type 0} → Result A PullRefusal → Result A PullRefusal → Type 0
 Says (Ok a) said = said ≡ Ok a
 Says (Err e) said = MatchBool (is_memory e) (Unit {0}) (said ≡ Err e)
+
+-- what the registry's client answered, where the refusal holds that
+abbrev pub client_refusal : PullRefusal → Option OciDistributionError
+client_refusal (refusal.RegistryFetchManifestError image error) = Some error
+client_refusal (refusal.RegistryPullError image error) = Some error
+client_refusal _ = None
+
+-- the pull was refused, and that is what the registry's client answered
+abbrev pub IsRefusedBy : OciDistributionError → {A : Type 0} → Result A PullRefusal → Type 0
+IsRefusedBy e (Ok a) = ⊥
+IsRefusedBy e (Err refused) = client_refusal refused ≡ Some e
+
+-- a fault of the transport is answered only where its count of faults rose
+abbrev pub FaultCounted : {A : Type 0} → Link → Link → Result A PullRefusal → Type 0
+FaultCounted old new r = IsRefusedBy TransportFault r → Rose old.faults new.faults
+
+-- no sink takes part, so none can fail
+abbrev pub NoSinkFault : {A : Type 0} → Result A PullRefusal → Type 0
+NoSinkFault r = IsRefusedBy SinkFault r → ⊥

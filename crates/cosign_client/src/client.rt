@@ -9,12 +9,12 @@ ghost use Rattle.cosign_chain.specs.Links.{Links};
 ghost use Rattle.cosign_layers.specs.Standing.{meaning};
 ghost use Rattle.sig_registry.specs.Conversions.{registry_auth};
 ghost use Rattle.sig_registry.specs.Direct.{reference_in};
-ghost use Rattle.sig_registry.specs.Errors.{is_memory as of_memory};
+ghost use Rattle.sig_registry.specs.Errors.{is_memory as of_memory, FaultCounted as SearchFaultCounted, NoSinkFault as NoSinkInSearch};
 ghost use Rattle.cosign_client.specs.Causes.{PullCause, SearchCause};
 ghost use Rattle.cosign_client.specs.DigestStep.{BeginsWithDigest, IsRefusedAs, unchanged};
-ghost use Rattle.cosign_client.specs.Refusal.{is_memory, refused_as};
+ghost use Rattle.cosign_client.specs.Refusal.{is_memory, refused_as, FaultCounted, NoSinkFault};
 ghost use Rattle.cosign_client.specs.Search.{searched};
-ghost use Rattle.cosign_client.specs.Skips.{CountsFaults, HoldsNoMemory, OnSkipped};
+ghost use Rattle.cosign_client.specs.Skips.{CountsFaults, HoldsNoMemoryNorSink, OnSkipped};
 ghost use Rattle.cosign_client.specs.Sound.{Backed};
 ghost use Rattle.cosign_client.specs.Terms.{without_logs};
 ghost use Rattle.cosign_client.specs.Verified.{is_unconstrained, verified};
@@ -70,7 +70,9 @@ impl Client {
             (λ c. SearchCause (within (client_state self.old).settings moment)
                 (reference_in source_image.now) (registry_auth auth.now) c e)
             (T.state transport.old) (T.state transport.new)) }
-        ensures no_memory { IfOk result (λ found. HoldsNoMemory found.skipped) }
+        ensures fault { SearchFaultCounted (T.state transport.old) (T.state transport.new) result }
+        ensures no_sink { NoSinkInSearch result }
+        ensures no_memory { IfOk result (λ found. HoldsNoMemoryNorSink found.skipped) }
         ensures faults { IfOk result (λ found. CountsFaults
             (T.state transport.old).faults (T.state transport.new).faults found.skipped) }
     {
@@ -139,7 +141,9 @@ impl Client {
             (λ c. Backed (client_state self.old).settings (reference_in image.now) c v)
             (T.state transport.old) (T.state transport.new)) }
         ensures links { IfOk result (λ v. Links (reference_in image.now) accepted_media_types.now v) }
-        ensures no_memory { IfErr result (λ e. OnSkipped HoldsNoMemory e) }
+        ensures fault { FaultCounted (T.state transport.old) (T.state transport.new) result }
+        ensures no_sink { NoSinkFault result }
+        ensures no_memory { IfErr result (λ e. OnSkipped HoldsNoMemoryNorSink e) }
         ensures faults { IfErr result (λ e. OnSkipped
             (CountsFaults (T.state transport.old).faults (T.state transport.new).faults) e) }
     {

@@ -9,6 +9,7 @@ use Rattle.cosign_client.proofs.Causes.{pull_cause}
 use Rattle.cosign_client.proofs.Chains.{chain_of, links_of, backed_of}
 use Rattle.cosign_client.proofs.DigestStep.{unread_refused, pull_decided}
 use Rattle.cosign_client.proofs.Faults.{pull_no_memory, pull_faults}
+use Rattle.cosign_client.proofs.Refusals.{pull_fault, pull_no_sink}
 use Rattle.cosign_client.proofs.client.Client.verified_pull.Goals as goal
 
 pub returns-clause-run : goal.returns-clause-run
@@ -43,3 +44,9 @@ returns-clause-no_memory g c = pull_no_memory (meaning c.args.policy.now (λ b. 
 
 pub returns-clause-faults : goal.returns-clause-faults
 returns-clause-faults g c = pull_faults (meaning c.args.policy.now (λ b. (goal.VerificationConstraint-dyn g (b.vtable, b.value)).accepts b.value) (without_logs (g.V.SignatureVerifier.valid c.args.verifier.now) (g.O.Offline.vouched c.args.judge.now))) _ _ (registry_auth c.args.auth.now) c.args.accepted_media_types.now c.pull_verified.result (returns-clause-run g c)
+
+pub returns-clause-fault : goal.returns-clause-fault
+returns-clause-fault g c = pull_fault (meaning c.args.policy.now (λ b. (goal.VerificationConstraint-dyn g (b.vtable, b.value)).accepts b.value) (without_logs (g.V.SignatureVerifier.valid c.args.verifier.now) (g.O.Offline.vouched c.args.judge.now))) _ _ (registry_auth c.args.auth.now) c.args.accepted_media_types.now c.pull_verified.result (returns-clause-run g c)
+
+pub returns-clause-no_sink : goal.returns-clause-no_sink
+returns-clause-no_sink g c = pull_no_sink (meaning c.args.policy.now (λ b. (goal.VerificationConstraint-dyn g (b.vtable, b.value)).accepts b.value) (without_logs (g.V.SignatureVerifier.valid c.args.verifier.now) (g.O.Offline.vouched c.args.judge.now))) _ _ (registry_auth c.args.auth.now) c.args.accepted_media_types.now c.pull_verified.result (returns-clause-run g c)
