@@ -148,4 +148,5 @@ TextsAreCanonical = (e : LogEntryBundle) → InLog e → Canonical (log_object e
 
 -- the time and the index of each entry that is read are in the log's range
 abbrev pub EntriesAreInLog : Type 0
-EntriesAreInLog = (d : Data) (e : LogEntryBundle) → (payload_entry_of d ≡ Some e) ⊎ (bundle_entry_of d ≡ Some e) → InLog e
+EntriesAreInLog =
+    (d : Data) (e : LogEntryBundle) → (payload_entry_of d ≡ Some e) ⊎ (bundle_entry_of d ≡ Some e) → InLog e

@@ -34,7 +34,8 @@ pub(crate) fn read_layer<V: SignatureVerifier, O: Offline>(
     source_digest: &str,
     trusted: &Trusted<'_, V, O>,
 ) -> Result<SignatureLayer, LayerRejection>
-    ensures { Says result (layer_read (trust_of V.valid O.vouched trusted.now) source_digest.now (input_from pulled.now)) }
+    ensures { Says result (layer_read (trust_of V.valid O.vouched trusted.now) source_digest.now
+        (input_from pulled.now)) }
 {
     let shown = check_content(alloc, pulled, source_digest)?;
     let spelled = check_signature(alloc, &shown.signature)?;
