@@ -1,13 +1,15 @@
 #!/usr/bin/env python3
-"""Writes the recorded cases below this folder, each NAME with its args, stdin, stdout and status.
+"""Writes the recorded cases below this folder: TABLE/NAME with its stdin and stdout, its args where the word is another one
+than `pull`, and its status where that is not 0.
 
 They follow from the rules of the README and of docs/ARCHITECTURE.md alone: digests are computed here, and nothing is
-taken from what the program writes. `make rows` runs the program over them.
+taken from what the program writes. `tests/rows/run` runs the program over them.
 """
 import base64
 import hashlib
 import json
 import os
+import shutil
 
 HERE = os.path.dirname(os.path.abspath(__file__))
 REGISTRY = "localhost:5000"
@@ -15,16 +17,18 @@ BASE = f"http://{REGISTRY}/v2/"
 LAYER = "application/vnd.oci.image.layer.v1.tar"
 CONFIG = "application/vnd.oci.image.config.v1+json"
 MANIFEST = "application/vnd.oci.image.manifest.v1+json"
+INDEX = "application/vnd.oci.image.index.v1+json"
 PAYLOAD = "application/vnd.dev.cosign.simplesigning.v1+json"
 SIGNATURE = "dev.cosignproject.cosign/signature"
 
 
-def digest(text):
-    return "sha256:" + hashlib.sha256(text.encode()).hexdigest()
+def digest(content, algorithm="sha256"):
+    content = content.encode() if isinstance(content, str) else content
+    return f"{algorithm}:" + hashlib.new(algorithm, content).hexdigest()
 
 
 def compact(value):
-    return json.dumps(value, separators=(",", ":"))
+    return json.dumps(value, separators=(",", ":"), ensure_ascii=False)
 
 
 def descriptor(kind, content, annotations=None):
@@ -59,21 +63,30 @@ def signed(content, signature="sig1"):
     return descriptor(PAYLOAD, content, {SIGNATURE: base64.b64encode(signature.encode()).decode()})
 
 
-def answer(body=None, name=None, status=200):
+def answer(body=None, name=None, status=200, **others):
+    """An answer with this body and this digest header."""
     found = {"status": status}
+    headers = others.pop("headers", [])
     if name is not None:
-        found["headers"] = [["docker-content-digest", name]]
+        headers = [["docker-content-digest", name]] + headers
+    if headers:
+        found["headers"] = headers
     if body:
-        found["pieces"] = [body]
+        found["pieces"] = body if isinstance(body, list) else [body]
+    found.update(others)
     return found
+
+
+TOKEN = answer()
+NAMED = answer(None, digest(IMAGE))
 
 
 def served(content):
     """The answer to the token step's request, and the answer that gives this content."""
-    return [answer(), answer(content, digest(content))]
+    return [TOKEN, answer(content, digest(content))]
 
 
-def case(answers, payloads, constraints=None, **others):
+def case(answers, payloads=(), constraints=None, **others):
     found = {
         "reference": f"{REGISTRY}/app:v1",
         "protocol": "http",
@@ -85,7 +98,7 @@ def case(answers, payloads, constraints=None, **others):
         "answers": answers,
     }
     found.update(others)
-    return compact(found)
+    return compact({name: value for name, value in found.items() if value is not None})
 
 
 def requests(*paths):
@@ -99,7 +112,7 @@ def requests(*paths):
 
 def search(signatures, layers):
     """The answers and the requests of the search: the digest, the signatures' manifest twice, and its blobs."""
-    answers = [answer(), answer(None, digest(IMAGE))] + served(signatures) * 2 + served("{}")
+    answers = [TOKEN, NAMED] + served(signatures) * 2 + served("{}")
     paths = [("HEAD", "manifests/v1"), f"manifests/{TAG}", f"manifests/{TAG}", "blobs/" + digest("{}")]
     for layer in layers:
         answers += served(layer)
@@ -107,83 +120,340 @@ def search(signatures, layers):
     return answers, requests(*paths)
 
 
-def write(name, args, stdin, lines, status):
+def write(name, stdin, lines, status=0, args=("pull",)):
     folder = os.path.join(HERE, name)
-    os.makedirs(folder, exist_ok=True)
-    parts = {"args": "".join(f"{a}\n" for a in args), "stdin": stdin, "stdout": "".join(f"{l}\n" for l in lines), "status": f"{status}\n"}
+    os.makedirs(folder)
+    parts = {"stdin": stdin, "stdout": "".join(f"{l}\n" for l in lines)}
+    if list(args) != ["pull"]:
+        parts["args"] = "".join(f"{a}\n" for a in args)
+    if status != 0:
+        parts["status"] = f"{status}\n"
     for part, text in parts.items():
-        with open(os.path.join(folder, part), "w") as f:
+        with open(os.path.join(folder, part), "w", encoding="utf-8") as f:
             f.write(text)
 
 
-def base_case():
+def image_lines(signature):
+    return ["ok " + digest(IMAGE), "manifest " + digest(IMAGE), "config " + digest("{}"), "layer " + digest(CONTENT), "signature " + digest(signature)]
+
+
+def base_run():
+    """The answers and the requests of a pull of the image, and its signature."""
     signature = payload()
     answers, asked = search(manifest("{}", [signed(signature)]), [signature])
     answers += served(IMAGE) + served("{}") + served(CONTENT)
     asked += requests("manifests/" + digest(IMAGE), "blobs/" + digest("{}"), "blobs/" + digest(CONTENT))
-    lines = ["moment 100"] + asked + [
-        "ok " + digest(IMAGE),
-        "manifest " + digest(IMAGE),
-        "config " + digest("{}"),
-        "layer " + digest(CONTENT),
-        "signature " + digest(signature),
-    ]
-    return case(answers, [signature]), lines
+    return answers, asked, signature
 
 
-def pulls_the_base_case():
-    stdin, lines = base_case()
-    write("pulls_the_base_case", ["pull"], stdin, lines, 0)
+def base_case():
+    answers, asked, signature = base_run()
+    return case(answers, [signature]), ["moment 100"] + asked + image_lines(signature)
 
 
-def a_policy_without_constraint():
-    lines = ["moment 100", "refused EmptyPolicy"]
-    write("a_policy_without_constraint", ["pull"], case([], [payload()], constraints=[]), lines, 1)
+# ---- whole pulls
 
 
-def a_signature_layer_of_another_type():
-    signature, other = payload(), "x"
-    signatures = manifest("{}", [signed(signature), descriptor("application/octet-stream", other)])
-    answers, asked = search(signatures, [])
-    tag = compact(f"{REGISTRY}/app:{TAG}")
-    lines = ["moment 100"] + asked + [
-        "refused Unsatisfied " + compact(digest(IMAGE)),
-        f'skipped Source Tag Refused RegistryPullError {tag} IncompatibleLayerMediaTypeError "application/octet-stream"',
-    ]
-    write("a_signature_layer_of_another_type", ["pull"], case(answers, [signature]), lines, 1)
+def pulls():
+    answers, asked, signature = base_run()
+    write("pulls/base_case", *base_case())
+    # One client serves both moments, and asks all again, since no credentials are stored.
+    lines = ["moment 100"] + asked + image_lines(signature) + ["moment 200"] + asked + image_lines(signature)
+    write("pulls/two_moments", case(answers * 2, [signature], moments=[100, 200]), lines)
+    split = [dict(a, pieces=[{"base64": base64.b64encode(c.encode()).decode()} for c in a["pieces"][0]]) if "pieces" in a else a for a in answers]
+    write("pulls/bodies_in_pieces_of_one_character", case(split, [signature]), ["moment 100"] + asked + image_lines(signature))
+    unnamed = [{"status": a["status"], "pieces": a["pieces"]} if "pieces" in a else a for a in answers]
+    write("pulls/digests_named_by_no_header", case(unnamed, [signature]), ["moment 100"] + asked + image_lines(signature))
+    longest = max(len(a["pieces"][0].encode()) for a in answers if "pieces" in a)
+    write("pulls/a_limit_that_all_bodies_keep", case(answers, [signature], limit=longest), ["moment 100"] + asked + image_lines(signature))
+    # Redirects are followed, and the request that follows has no token step of its own.
+    other, here = "http://cdn.example/l", f"{BASE}app/blobs/l"
+    moved = answers[:-1] + [answer(None, None, 307, headers=[["location", other]]), answers[-1]]
+    write("pulls/a_redirect_to_another_host", case(moved, [signature]), ["moment 100"] + asked + [f"GET {other}"] + image_lines(signature))
+    moved = answers[:-1] + [answer(None, None, 302, headers=[["location", "l"]]), answers[-1]]
+    write("pulls/a_redirect_to_a_relative_text", case(moved, [signature]), ["moment 100"] + asked + [f"GET {here}"] + image_lines(signature))
+    again = [answer(None, None, 307, headers=[["location", other]])] * 11
+    tag = compact(f"{REGISTRY}/app@{digest(IMAGE)}")
+    lines = ["moment 100"] + asked + [f"GET {other}"] * 10 + [f"refused RegistryPullError {tag} ServerError 307 {compact(other)} 0"]
+    write("pulls/eleven_redirects", case(answers[:-1] + again, [signature]), lines, 1)
 
 
-def each_layer_satisfies_one_constraint():
-    signatures = [payload({"a": "1"}), payload({"b": "2"})]
-    answers, asked = search(manifest("{}", [signed(s) for s in signatures]), signatures)
-    lines = ["moment 100"] + asked + ["refused Unsatisfied " + compact(digest(IMAGE))]
-    lines += ["collected " + digest(s) for s in signatures]
+def policies():
+    signature = payload()
+    write("policies/no_constraint", case([], [signature], constraints=[]), ["moment 100", "refused EmptyPolicy"], 1)
+    unsatisfied = "refused Unsatisfied " + compact(digest(IMAGE))
+    # One signature layer satisfies the first constraint, and another one the second.
+    layers = [payload({"a": "1"}), payload({"b": "2"})]
+    answers, asked = search(manifest("{}", [signed(s) for s in layers]), layers)
     constraints = [{"annotations": {"a": "1"}}, {"annotations": {"b": "2"}}]
-    write("each_layer_satisfies_one_constraint", ["pull"], case(answers, signatures, constraints), lines, 1)
+    collected = ["collected " + digest(s) for s in layers]
+    write("policies/each_layer_satisfies_one_constraint", case(answers, layers, constraints), ["moment 100"] + asked + [unsatisfied] + collected, 1)
+    answers, asked = search(manifest("{}", [signed(signature)]), [signature])
+    lines = ["moment 100"] + asked + [unsatisfied, "collected " + digest(signature)]
+    write("policies/a_key_of_no_policy", case(answers, [signature], keys=["k2"]), lines, 1)
+    write("policies/a_signature_that_is_not_valid", case(answers, []), lines, 1)
+    other = payload(image="other")
+    answers, asked = search(manifest("{}", [signed(other)]), [other])
+    lines = ["moment 100"] + asked + [unsatisfied, f"skipped Layer Tag {compact(digest(other))} OtherDigest"]
+    write("policies/a_signature_of_another_image", case(answers, [other]), lines, 1)
+    bare = descriptor(PAYLOAD, signature)
+    answers, asked = search(manifest("{}", [bare]), [signature])
+    lines = ["moment 100"] + asked + [unsatisfied, f"skipped Layer Tag {compact(digest(signature))} NoSignature"]
+    write("policies/a_payload_without_signature", case(answers, [signature]), lines, 1)
 
 
-def no_words():
-    write("no_words", [], "", [], 2)
+# ---- the digest
 
 
-def input_that_is_no_case():
-    write("input_that_is_no_case", ["pull"], "x", [], 3)
+def digests():
+    url = compact(f"{BASE}app/manifests/v1")
+    name = "sha256:ab"
+    refused = [
+        ("a_send_that_fails", "fail", "TransportFault"),
+        ("status_401", answer(None, name, 401), f"UnauthorizedError {url}"),
+        ("status_404", answer(None, name, 404), f"ServerError 404 {url} 0"),
+        ("status_404_with_errors", answer('{"errors":[{"code":"NAME_UNKNOWN"},{"code":"DENIED"}]}', name, 404), f"RegistryError 2 {url}"),
+        ("status_204", answer(None, name, 204), f"SpecViolationError Status 200 204 {url}"),
+        ("status_500", answer("no", name, 500), f"ServerError 500 {url} 2"),
+        ("a_digest_past_ascii", answer(None, "é"), "DigestError InvalidHeader 2"),
+        ("a_body_that_fails", answer("x", name, fault=0), "TransportFault"),
+    ]
+    for title, head, text in refused:
+        lines = ["moment 100"] + requests(("HEAD", "manifests/v1")) + [f'refused RegistryFetchManifestError "{REGISTRY}/app:v1" {text}']
+        write(f"digests/{title}", case([TOKEN, head], accepted=[]), lines, 1)
+    # The digest that is answered is no digest: by a tag the image by it does not read back.
+    answers = [TOKEN, answer(None, "sha256")]
+    lines = ["moment 100"] + requests(("HEAD", "manifests/v1")) + [f'refused OciReferenceNotValidError "{REGISTRY}/app@sha256"']
+    write("digests/no_digest_for_a_tag", case(answers), lines, 1)
+    by_digest = f"{REGISTRY}/app@{digest(IMAGE)}"
+    lines = ["moment 100"] + requests(("HEAD", "manifests/" + digest(IMAGE)))
+    lines += [f"refused RegistryFetchManifestError {compact(by_digest)} DigestError MissingAlgorithm"]
+    write("digests/no_digest_for_a_digest", case(answers, reference=by_digest), lines, 1)
+    answers = [TOKEN, answer(None, digest("x"))]
+    lines = lines[:-1] + [f"refused RegistryFetchManifestError {compact(by_digest)} DigestError VerificationError {compact(digest(IMAGE))} {compact(digest('x'))}"]
+    write("digests/another_digest_of_one_algorithm", case(answers, reference=by_digest), lines, 1)
+    # A digest of another algorithm is compared when the image is pulled.
+    wanted = "sha512:" + "0" * 128
+    answers, asked, signature = base_run()
+    asked[1] = f"HEAD {BASE}app/manifests/{wanted}"
+    lines = ["moment 100"] + asked[:12]
+    lines += [f"refused RegistryPullError {compact(by_digest)} DigestError VerificationError {compact(wanted)} {compact(digest(IMAGE, 'sha512'))}"]
+    write("digests/another_digest_of_another_algorithm", case(answers[:12], [signature], reference=f"{REGISTRY}/app@{wanted}"), lines, 1)
+
+
+# ---- the signatures' manifest and its image
+
+
+def signatures():
+    url = compact(f"{BASE}app/manifests/{TAG}")
+    tag = compact(f"{REGISTRY}/app:{TAG}")
+    unsatisfied = "refused Unsatisfied " + compact(digest(IMAGE))
+    front = ["moment 100"] + requests(("HEAD", "manifests/v1"), f"manifests/{TAG}") + [unsatisfied]
+    both = f"DigestError VerificationError {compact(digest('{}'))} {compact(digest('x'))}"
+    ambiguous = compact({"schemaVersion": 2, "config": descriptor(CONFIG, "{}"), "layers": [], "manifests": []})
+    refused = [
+        ("a_send_that_fails", "fail", "TransportFault"),
+        ("status_401", answer(status=401), f"UnauthorizedError {url}"),
+        ("status_404", answer(status=404), f"ServerError 404 {url} 0"),
+        ("status_404_with_errors", answer('{"errors":[{"code":"MANIFEST_UNKNOWN"}]}', status=404), f"RegistryError 1 {url}"),
+        ("status_404_with_an_error_without_code", answer('{"errors":[{"code":1}]}', status=404), f"ServerError 404 {url} 23"),
+        ("status_502_with_bytes", answer([{"base64": "//5vaw=="}], status=502), f"ServerError 502 {url} 4"),
+        ("status_204", answer(status=204), f"SpecViolationError Status 200 204 {url}"),
+        ("status_303_without_location", answer(status=303), f"ServerError 303 {url} 0"),
+        ("a_header_without_colon", answer("x", "nocolon"), "DigestError MissingAlgorithm"),
+        ("a_header_of_md5", answer("x", "md5:d41d8cd98f00b204e9800998ecf8427e"), 'DigestError UnsupportedAlgorithm "md5"'),
+        ("a_header_of_other_bytes", answer("x", digest("{}")), both),
+        ("a_header_past_ascii", answer("x", "é"), "DigestError InvalidHeader 2"),
+        ("a_body_that_is_no_json", answer("x"), "VersionedParsingError 1"),
+        ("a_body_with_a_float", answer('{"schemaVersion":2.0}'), "VersionedParsingError 21"),
+        ("schema_version_1", answer('{"schemaVersion":1}'), "UnsupportedSchemaVersionError 1"),
+        ("schema_version_minus_2", answer('{"schemaVersion":-2}'), "UnsupportedSchemaVersionError -2"),
+        ("another_media_type", answer('{"schemaVersion":2,"mediaType":"text/plain"}'), 'UnsupportedMediaTypeError "text/plain"'),
+        ("no_manifest", answer('{"schemaVersion":2}'), "ManifestParsingError 19"),
+        ("a_manifest_that_is_an_index_too", answer(ambiguous), f"AmbiguousManifest {len(ambiguous)}"),
+        ("a_body_that_fails_behind_a_piece", answer(["x", "y"], fault=1), "TransportFault"),
+    ]
+    for title, reply, text in refused:
+        lines = front + [f"skipped Source Tag Refused RegistryPullManifestError {tag} {text}"]
+        write(f"signatures/{title}", case([TOKEN, NAMED, TOKEN, reply], accepted=[]), lines, 1)
+    # A body of so many bytes as the limit is read, and one of more is not.
+    for title, body, text in [("a_body_within_the_limit", ["x", "2", "3", "4", "5"], "VersionedParsingError 5"), ("a_body_past_the_limit", ["x", "2", "3", "4", "5", "6"], "BodyTooLong")]:
+        lines = front + [f"skipped Source Tag Refused RegistryPullManifestError {tag} {text}"]
+        write(f"signatures/{title}", case([TOKEN, NAMED, TOKEN, answer(body)], limit=5), lines, 1)
+    front = front[:-1] + requests(f"manifests/{TAG}")
+    none = answer(manifest("{}", []))
+    images = [
+        ("no_layers", none, answer("{}"), True, "PullNoLayersError"),
+        ("a_configuration_of_other_bytes", none, answer("x"), True, both),
+        ("an_index", answer('{"schemaVersion":2,"manifests":[]}'), TOKEN, False, "ImageIndexParsingNoPlatformResolverError"),
+        ("a_layer_of_another_type", answer(manifest("{}", [signed(payload()), descriptor("application/octet-stream", "x")])), answer("{}"), True, 'IncompatibleLayerMediaTypeError "application/octet-stream"'),
+    ]
+    for title, document, config, asked, text in images:
+        lines = front + (requests("blobs/" + digest("{}")) if asked else []) + [unsatisfied, f"skipped Source Tag Refused RegistryPullError {tag} {text}"]
+        write(f"signatures/{title}", case([TOKEN, NAMED] + [TOKEN, document] * 2 + [TOKEN, config], [payload()]), lines, 1)
+
+
+# ---- tokens
+
+
+REALM = "http://auth.example/token"
+SCOPE = "?scope=repository%3Aapp%3Apull"
+
+
+def challenged(text, status=401):
+    return answer(None, None, status, headers=[["www-authenticate", text]])
+
+
+def tokens():
+    refusal = f'refused RegistryFetchManifestError "{REGISTRY}/app:v1" UnauthorizedError "{BASE}app/manifests/v1"'
+    refused = answer(None, "sha256:ab", 401)
+    asked = f"HEAD {BASE}app/manifests/v1"
+    bearer, given = challenged(f'Bearer realm="{REALM}"'), answer('{"token":"t1"}')
+    basic = {"auth": {"basic": ["user", "secret"]}, "accepted": []}
+
+    def one(title, answers, lines, **others):
+        write(f"tokens/{title}", case(answers + [refused], **dict(basic, **others)), ["moment 100"] + lines + [asked, refusal], 1)
+
+    one("a_realm_with_credentials", [bearer, given], [f"GET {BASE}", f"GET {REALM}{SCOPE}"])
+    one("a_realm_without_credentials", [bearer, given], [f"GET {BASE}", f"GET {REALM}{SCOPE}"], auth="anonymous")
+    one("a_token_of_the_users", [], [], auth={"bearer": "t0"})
+    one("no_challenge", [TOKEN], [f"GET {BASE}"])
+    one("a_challenge_with_status_200", [challenged(f'Bearer realm="{REALM}"', 200), given], [f"GET {BASE}", f"GET {REALM}{SCOPE}"])
+    one("a_service", [challenged(f'Bearer realm="{REALM}",service="r.example"'), given], [f"GET {BASE}", f"GET {REALM}{SCOPE}&service=r.example"])
+    one("a_realm_behind_another_scheme", [challenged(f'Basic realm="x", Bearer realm="{REALM}"'), given], [f"GET {BASE}", f"GET {REALM}{SCOPE}"])
+    one("a_realm_with_a_backslash_before_a_character", [challenged(r'Bearer realm="http://auth.example\/token"'), given], [f"GET {BASE}", f"GET {REALM}{SCOPE}"])
+    one("a_scheme_without_realm", [challenged('Basic realm="x"')], [f"GET {BASE}"])
+    one("a_challenge_that_stops_to_read", [challenged(f'Bearer realm="{REALM}')], [f"GET {BASE}"])
+    # A step that is refused gives no token, and the request goes out without one.
+    one("a_first_request_that_fails", ["fail"], [f"GET {BASE}"])
+    one("a_realm_that_fails", [bearer, "fail"], [f"GET {BASE}", f"GET {REALM}{SCOPE}"])
+    one("a_realm_with_status_403", [bearer, answer("no", status=403)], [f"GET {BASE}", f"GET {REALM}{SCOPE}"])
+    one("a_realm_whose_body_is_no_token", [bearer, answer('{"token":1}')], [f"GET {BASE}", f"GET {REALM}{SCOPE}"])
+    one("a_realm_of_another_scheme", [challenged('Bearer realm="ftp://auth.example/"')], [f"GET {BASE}"])
+    # A token that does not say when it ends is used for sixty seconds, and not longer.
+    lines = ["moment 100", f"GET {BASE}", f"GET {REALM}{SCOPE}", asked, refusal, "moment 160", asked, refusal]
+    lines += ["moment 161", f"GET {BASE}", f"GET {REALM}{SCOPE}", asked, refusal]
+    answers = [bearer, given, refused, refused, bearer, given, refused]
+    write("tokens/a_kept_token_until_it_expires", case(answers, moments=[100, 160, 161], **basic), lines, 1)
+
+
+# ---- references
+
+
+def references():
+    hub = "https://index.docker.io/v2/"
+    fetched = [
+        ("a_name_alone", "busybox", f"{hub}library/busybox/manifests/latest", "docker.io/library/busybox:latest"),
+        ("a_name_of_a_user", "some/app:1", f"{hub}some/app/manifests/1", "docker.io/some/app:1"),
+        ("a_registry_with_a_port", "r.example:8443/a/b", "https://r.example:8443/v2/a/b/manifests/latest", "r.example:8443/a/b:latest"),
+        ("a_tag_and_a_digest", f"r.example/a:1@{digest('x')}", f"https://r.example/v2/a/manifests/{digest('x')}", f"r.example/a:1@{digest('x')}"),
+    ]
+    for title, text, url, whole in fetched:
+        base = url[: url.index("/v2/") + 4]
+        lines = ["moment 100", f"GET {base}", f"HEAD {url}", f"refused RegistryFetchManifestError {compact(whole)} TransportFault"]
+        write(f"references/{title}", case([TOKEN, "fail"], reference=text, protocol=None), lines, 1)
+    none = [
+        ("nothing", ""),
+        ("a_path_behind_a_tag", "a:t/b"),
+        ("more_than_255_characters", "r.io/" + "a" * 256),
+        ("a_digest_of_md5", "app@md5:ab"),
+        ("a_digest_with_too_few_digits", "app@sha256:ab"),
+        ("upper_case", "App"),
+        ("an_empty_port", "r.io:/app"),
+    ]
+    for title, text in none:
+        write(f"references/{title}", case([], reference=text), [], 3)
+
+
+# ---- faults
+
+
+def faults():
+    """A fault at each request of a pull, and at each piece of an answer. One of the token step is passed over."""
+    answers, asked, signature = base_run()
+    tag, by_digest = compact(f"{REGISTRY}/app:{TAG}"), compact(f"{REGISTRY}/app@{digest(IMAGE)}")
+    unsatisfied = "refused Unsatisfied " + compact(digest(IMAGE))
+    ends = {2: [f'refused RegistryFetchManifestError "{REGISTRY}/app:v1" TransportFault']}
+    ends[4] = [unsatisfied, f"skipped Source Tag Refused RegistryPullManifestError {tag} TransportFault"]
+    for line in (6, 8, 10):
+        ends[line] = [unsatisfied, f"skipped Source Tag Refused RegistryPullError {tag} TransportFault"]
+    for line in (12, 14, 16):
+        ends[line] = [f"refused RegistryPullError {by_digest} TransportFault"]
+    for line in range(1, len(asked) + 1):
+        changes = [("fails", "fail"), ("breaks_at_once", dict(answers[line - 1], fault=0))]
+        if "pieces" in answers[line - 1]:
+            changes.append(("breaks_at_its_end", dict(answers[line - 1], fault=1)))
+        for title, change in changes:
+            lines = ["moment 100"] + (asked[:line] + ends[line] if line in ends else asked + image_lines(signature))
+            write(f"faults/answer_{line:02}_{title}", case(answers[: line - 1] + [change] + answers[line:], [signature]), lines, 1 if line in ends else 0)
+    # A fault behind the last piece and the end never comes.
+    late = [dict(a, fault=len(a.get("pieces", [])) + 1) for a in answers]
+    write("faults/behind_the_end", case(late, [signature]), ["moment 100"] + asked + image_lines(signature))
+
+
+# ---- input
+
+
+def inputs():
+    write("input/no_words", "", [], 2, args=[])
+    write("input/another_word", "", [], 2, args=["push"])
+    write("input/a_word_too_many", base_case()[0], [], 2, args=["pull", "pull"])
+    write("input/no_json", "x", [], 3)
+    write("input/nothing", "", [], 3)
+    others = [
+        ("a_member_that_is_not_known", {"at": 1}),
+        ("a_float", {"moments": [100, 1.5]}),
+        ("no_reference", {"reference": None}),
+        ("no_moment", {"moments": []}),
+        ("a_moment_below_zero", {"moments": [-1]}),
+        ("a_moment_past_64_bits", {"moments": [1 << 64]}),
+        ("a_protocol_that_is_not_known", {"protocol": "ftp"}),
+        ("credentials_without_password", {"auth": {"basic": ["user"]}}),
+        ("credentials_of_two_kinds", {"auth": {"basic": ["user", "secret"], "bearer": "t"}}),
+        ("a_limit_below_zero", {"limit": -1}),
+        ("a_limit_in_words", {"limit": "5"}),
+        ("a_key_that_is_no_base64", {"keys": [{"base64": "a"}]}),
+        ("a_constraint_with_another_member", {"constraints": [{"annotations": {}, "at": 1}]}),
+        ("a_signature_without_key", {"signatures": [{"message": "m", "signature": "s"}]}),
+        ("a_status_of_two_digits", {"answers": [{"status": 99}]}),
+        ("a_status_of_four_digits", {"answers": [{"status": 1000}]}),
+        ("an_empty_piece", {"answers": [{"status": 200, "pieces": [""]}]}),
+        ("a_header_with_a_line_feed", {"answers": [{"status": 200, "headers": [["a", "b\nc"]]}]}),
+        ("a_header_with_a_space_in_its_name", {"answers": [{"status": 200, "headers": [["a b", "c"]]}]}),
+        ("an_answer_in_other_words", {"answers": ["fails"]}),
+    ]
+    for title, members in others:
+        write(f"input/{title}", case(members.pop("answers", []), **members), [], 3)
+    null = json.loads(case([]))
+    write("input/a_limit_of_null", compact(dict(null, limit=None)), [], 3)
 
 
 def canonical_texts():
-    write("canonical_text", ["canon"], '{"c":120,"b":false,"a":"Hello!"}', ['{"a":"Hello!","b":false,"c":120}'], 0)
-    # U+1F600 begins with the unit 0xD83D, which is before U+FB33, though its bytes are after.
-    write("names_in_the_order_of_their_units", ["canon"], r'{"\ufb33":1,"\ud83d\ude00":2}', ['{"\U0001f600":2,"\ufb33":1}'], 0)
-    write("a_whole_number_past_the_range", ["canon"], "9007199254740992", ["refused IntegerOutOfRange"], 1)
-    write("a_float", ["canon"], "1.5", ["refused Float"], 1)
-    write("input_that_is_no_json", ["canon"], '{"a":1', [], 3)
+    def canon(title, text, lines, status=0):
+        write(f"canon/{title}", text, lines, status, args=["canon"])
 
+    canon("members_in_order", '{"c":120,"b":false,"a":"Hello!"}', ['{"a":"Hello!","b":false,"c":120}'])
+    # U+1F600 begins with the unit 0xD83D, which is before U+FB33, though its bytes are after.
+    canon("names_in_the_order_of_their_units", r'{"\ufb33":1,"\ud83d\ude00":2}', ['{"\U0001f600":2,"\ufb33":1}'])
+    canon("a_whole_number_past_the_range", "9007199254740992", ["refused IntegerOutOfRange"], 1)
+    canon("the_greatest_whole_number", "9007199254740991", ["9007199254740991"])
+    canon("a_float", "1.5", ["refused Float"], 1)
+    canon("input_that_is_no_json", '{"a":1', [], 3)
+
+
+TABLES = {
+    "pulls": pulls,
+    "policies": policies,
+    "digests": digests,
+    "signatures": signatures,
+    "tokens": tokens,
+    "references": references,
+    "faults": faults,
+    "input": inputs,
+    "canon": canonical_texts,
+}
 
 if __name__ == "__main__":
-    pulls_the_base_case()
-    a_policy_without_constraint()
-    a_signature_layer_of_another_type()
-    each_layer_satisfies_one_constraint()
-    no_words()
-    input_that_is_no_case()
-    canonical_texts()
+    for table, make in TABLES.items():
+        shutil.rmtree(os.path.join(HERE, table), ignore_errors=True)
+        make()

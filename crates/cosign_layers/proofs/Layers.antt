@@ -62,7 +62,7 @@ module _ (trust : Trust) (d : List ℕ) where
         is_named = subst (λ o. IsSomeAnd o (λ t. IsTrue (is_about d t))) (sym about.has.content) about.about;
       })
 
-  with_signing : SignatureLayer → Option SimpleSigning → SignatureLayer
+  abbrev with_signing : SignatureLayer → Option SimpleSigning → SignatureLayer
   with_signing layer signing = record {
     kind = layer.kind;
     content = layer.content;
@@ -78,20 +78,14 @@ module _ (trust : Trust) (d : List ℕ) where
   made_of layer l n =
       let about : is_about d l.shows ≡ true = subst (λ o. IsSomeAnd o (λ t. IsTrue (is_about d t))) l.content n in (
         l.shows,
+        record { has = record { named = l.named; content = l.content }; about = about },
         (
-          record { has = record { named = l.named; content = l.content }; about = about },
+          (layer.signature, l.bytes),
+          l.signature,
           (
-            (layer.signature, l.bytes),
-            (
-              l.signature,
-              (
-                layer.bundle,
-                (
-                  l.entry,
-                  (layer.certificate_signature, (l.certificate, ap (with_signing layer) (sym l.signing))),
-                ),
-              ),
-            ),
+            layer.bundle,
+            l.entry,
+            (layer.certificate_signature, l.certificate, ap (with_signing layer) (sym l.signing)),
           ),
         ),
       )
@@ -104,25 +98,19 @@ module _ (trust : Trust) (d : List ℕ) where
     | inl k ↦ inl k
     | inr k ↦ inr (
       k.0,
-      (
-        k.1,
-        elim k.2 [
-          | inl l ↦ inl l
-          | inr l ↦ inr (
-            l.0.0,
-            (
-              l.0.1,
-              (
-                l.1,
-                elim l.2 [
-                  | inl m ↦ inl m
-                  | inr m ↦ inr (m.0, (m.1, elim m.2 [ inl n ↦ n | inr n ↦ absurd n.2 ]))
-                ],
-              ),
-            ),
-          )
-        ],
-      ),
+      k.1,
+      elim k.2 [
+        | inl l ↦ inl l
+        | inr l ↦ inr (
+          l.0.0,
+          l.0.1,
+          l.1,
+          elim l.2 [
+            | inl m ↦ inl m
+            | inr m ↦ inr (m.0, m.1, elim m.2 [ inl n ↦ n | inr n ↦ absurd n.2 ])
+          ],
+        )
+      ],
     )
   ]
 
@@ -131,22 +119,18 @@ module _ (trust : Trust) (d : List ℕ) where
     | inl k ↦ inl k
     | inr k ↦ inr (
       k.0,
-      (
-        k.1,
-        elim k.2 [
-          | inl l ↦ inl l
-          | inr l ↦ inr (
-            (l.0, l.1),
-            (
-              l.2,
-              elim l.3 [
-                | inl m ↦ inl m
-                | inr m ↦ inr (m.0, (m.1, inl m.2))
-              ],
-            ),
-          )
-        ],
-      ),
+      k.1,
+      elim k.2 [
+        | inl l ↦ inl l
+        | inr l ↦ inr (
+          (l.0, l.1),
+          l.2,
+          elim l.3 [
+            | inl m ↦ inl m
+            | inr m ↦ inr (m.0, m.1, inl m.2)
+          ],
+        )
+      ],
     )
   ]
 

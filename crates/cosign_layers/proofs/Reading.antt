@@ -1,5 +1,5 @@
 -- A layer that is read is what its bytes say, and a rejection is of the first check that fails.
-use Rattle.std.proofs.Common.{◌≡◌, ◌⊎◌, inl, inr, ℕ, Bool, true, false, IsTrue, List, Option, Some, None, ok_or, IsSomeAnd, Result, Ok, Err, refl, sym, ap, ◌∙◌, subst}
+use Rattle.std.proofs.Common.{◌≡◌, ◌⊎◌, inl, inr, ℕ, Bool, true, false, IsTrue, List, Option, Some, None, ok_or, IsSomeAnd, if◌then◌else◌, Result, Ok, Err, refl, sym, ap, ◌∙◌, subst}
 use Rattle.std.specs.FinMap.{get}
 use Rattle.base64.specs.Engines.{standard}
 use Rattle.base64.specs.GeneralPurpose.{decoded_of}
@@ -70,10 +70,10 @@ abbrev ContentFails : List ℕ → Input → LayerRejection → Type 0
 ContentFails d input x = ((by_digest input ≡ false) × (DigestMismatch ≡ x)) ⊎ ((u : Unit {0}) × (by_digest input ≡ true) × (((found input ≡ None) × (Unreadable Content ≡ x)) ⊎ ((s : Shown) × (found input ≡ Some s) × (((is_about d s ≡ false) × (OtherDigest ≡ x)) ⊎ ((v : Unit {0}) × (is_about d s ≡ true) × ⊥)))))
 
 content_passes : (d : List ℕ) (input : Input) (s : Shown) → ContentPasses d input s → IsAbout d input s
-content_passes d input s h = subst (IsAbout d input) h.2.2.2.2 (record { has = record { named = digest_names input h.1; content = h.2.1 }; about = h.2.2.2.1 })
+content_passes d input s h = subst (IsAbout d input) h.2.2.2 (record { has = record { named = digest_names input h.1; content = h.2.1 }; about = h.2.2.1 })
 
 content_passed : (d : List ℕ) (input : Input) (s : Shown) → IsAbout d input s → ContentPasses d input s
-content_passed d input s h = (tt, (is_named input h.has.named, (s, (h.has.content, (tt, (h.about, refl))))))
+content_passed d input s h = (tt, is_named input h.has.named, (s, h.has.content, (tt, h.about, refl)))
 
 content_fails : (d : List ℕ) (input : Input) (x : LayerRejection) → ContentFails d input x → ContentRejected d input x
 content_fails d input x h = elim h [
@@ -81,7 +81,7 @@ content_fails d input x h = elim h [
   | inr k ↦ elim k.2 [
     | inl l ↦ subst (ContentRejected d input) l.1 (digest_names input k.1, l.0)
     | inr l ↦ elim l.2 [
-      | inl m ↦ subst (ContentRejected d input) m.1 (l.0, (record { named = digest_names input k.1; content = l.1 }, m.0))
+      | inl m ↦ subst (ContentRejected d input) m.1 (l.0, record { named = digest_names input k.1; content = l.1 }, m.0)
       | inr m ↦ absurd m.2
     ]
   ]
@@ -89,8 +89,8 @@ content_fails d input x h = elim h [
 
 content_failed : (d : List ℕ) (input : Input) (x : LayerRejection) → ContentRejected d input x → ContentFails d input x
 content_failed d input DigestMismatch h = inl (untrue (by_digest input) (λ e. h (digest_names input e)), refl)
-content_failed d input (Unreadable Content) h = inr (tt, (is_named input h.0, inl (h.1, refl)))
-content_failed d input OtherDigest h = inr (tt, (is_named input h.1.named, inr (h.0, (h.1.content, inl (h.2, refl)))))
+content_failed d input (Unreadable Content) h = inr (tt, is_named input h.0, inl (h.1, refl))
+content_failed d input OtherDigest h = inr (tt, is_named input h.1.named, inr (h.0, h.1.content, inl (h.2, refl)))
 content_failed d input (Unreadable Signature) h = absurd h
 content_failed d input (Unreadable LogEntry) h = absurd h
 content_failed d input (Unreadable Certificate) h = absurd h
@@ -119,23 +119,23 @@ abbrev SignatureFails : Option (List ℕ) → LayerRejection → Type 0
 SignatureFails o x = ((o ≡ None) × (NoSignature ≡ x)) ⊎ ((signature : List ℕ) × (o ≡ Some signature) × (((decoded_of standard signature ≡ None) × (Unreadable Signature ≡ x)) ⊎ ((bytes : List ℕ) × (decoded_of standard signature ≡ Some bytes) × ⊥)))
 
 signature_passes : (o : Option (List ℕ)) (spelled : Spelled) → SignaturePasses o spelled → IsSignature o spelled.0 spelled.1
-signature_passes o spelled h = subst (λ (s : Spelled). IsSignature o s.0 s.1) h.2.2.2 (record { there = h.1; spells = h.2.1 })
+signature_passes o spelled h = subst (λ (s : Spelled). IsSignature o s.0 s.1) h.2.2 (record { there = h.1; spells = h.2.1 })
 
 signature_passed : (o : Option (List ℕ)) (spelled : Spelled) → IsSignature o spelled.0 spelled.1 → SignaturePasses o spelled
-signature_passed o spelled h = (spelled.0, (h.there, (spelled.1, (h.spells, refl))))
+signature_passed o spelled h = (spelled.0, h.there, (spelled.1, h.spells, refl))
 
 signature_fails : (o : Option (List ℕ)) (x : LayerRejection) → SignatureFails o x → SignatureRejected o x
 signature_fails o x h = elim h [
   | inl k ↦ subst (SignatureRejected o) k.1 k.0
   | inr k ↦ elim k.2 [
-    | inl l ↦ subst (SignatureRejected o) l.1 (k.0, (k.1, l.0))
+    | inl l ↦ subst (SignatureRejected o) l.1 (k.0, k.1, l.0)
     | inr l ↦ absurd l.2
   ]
 ]
 
 signature_failed : (o : Option (List ℕ)) (x : LayerRejection) → SignatureRejected o x → SignatureFails o x
 signature_failed o NoSignature h = inl (h, refl)
-signature_failed o (Unreadable Signature) h = inr (h.0, (h.1, inl (h.2, refl)))
+signature_failed o (Unreadable Signature) h = inr (h.0, h.1, inl (h.2, refl))
 signature_failed o DigestMismatch h = absurd h
 signature_failed o (Unreadable Content) h = absurd h
 signature_failed o (Unreadable LogEntry) h = absurd h
@@ -189,11 +189,11 @@ module _ (trust : Trust) (input : Input) (bytes : List ℕ) where
   entry_rejected found x h = elim h [
     | inl k ↦ subst (EntryRejected trust input bytes found) k.1 k.0
     | inr k ↦ elim k.2 [
-      | inl l ↦ subst (EntryRejected trust input bytes found) l.1 (k.0, (k.1, (l.0, refl)))
+      | inl l ↦ subst (EntryRejected trust input bytes found) l.1 (k.0, k.1, l.0, refl)
       | inr l ↦ elim l.2 [
-        | inl m ↦ subst (EntryRejected trust input bytes found) m.1 (k.0, (k.1, (l.0, (l.1, m.0))))
+        | inl m ↦ subst (EntryRejected trust input bytes found) m.1 (k.0, k.1, (l.0, l.1, m.0))
         | inr m ↦ elim m.2 [
-          | inl n ↦ subst (EntryRejected trust input bytes found) n.1 (k.0, (k.1, (log_signed k.0 l.0 l.1 m.1, (n.0, refl))))
+          | inl n ↦ subst (EntryRejected trust input bytes found) n.1 (k.0, k.1, log_signed k.0 l.0 l.1 m.1, n.0, refl)
           | inr n ↦ absurd n.2
         ]
       ]
@@ -202,9 +202,9 @@ module _ (trust : Trust) (input : Input) (bytes : List ℕ) where
 
   entry_causes : (found : Found LogEntryBundle) (x : LayerRejection) → EntryRejected trust input bytes found x → EntryCauses found x
   entry_causes found (Unreadable LogEntry) h = inl (h, refl)
-  entry_causes found (UnknownLogKey k) h = inr (h.0, (h.1, inl (h.2, ap UnknownLogKey (sym h.3))))
-  entry_causes found BadLogSignature h = inr (h.0, (h.1, inr (h.2, (h.3, inl (h.4, refl)))))
-  entry_causes found (OtherLogEntry b) h = inr (h.0, (h.1, inr (h.2.key, (h.2.known, inr (tt, (h.2.signed, inl (h.3, ap OtherLogEntry (sym h.4))))))))
+  entry_causes found (UnknownLogKey k) h = inr (h.0, h.1, inl (h.2, ap UnknownLogKey (sym h.3)))
+  entry_causes found BadLogSignature h = inr (h.0, h.1, inr (h.2.0, h.2.1, inl (h.2.2, refl)))
+  entry_causes found (OtherLogEntry b) h = inr (h.0, h.1, inr (h.2.key, h.2.known, inr (tt, h.2.signed, inl (h.3, ap OtherLogEntry (sym h.4)))))
   entry_causes found DigestMismatch h = absurd h
   entry_causes found (Unreadable Content) h = absurd h
   entry_causes found (Unreadable Signature) h = absurd h
@@ -228,6 +228,10 @@ module _ (trust : Trust) (input : Input) (bytes : List ℕ) where
   abbrev nothing : Answer
   nothing = Ok None
 
+  unknown_passes : (found : Found LogEntryBundle) → knows_no_log trust ≡ true → (o : Option LogEntryBundle) → Is found o → nothing ≡ Ok o
+  unknown_passes found none None h = refl
+  unknown_passes found none (Some e) h = false_true (knows_no_log trust) h.0 none
+
   unknown : (found : Found LogEntryBundle) → knows_no_log trust ≡ true → Decides nothing (Is found) (λ x. Knows × EntryCauses found x)
   unknown found none = record {
     passes = λ o h. unknown_passes found none o h;
@@ -235,10 +239,6 @@ module _ (trust : Trust) (input : Input) (bytes : List ℕ) where
     rejects = λ x h. false_true (knows_no_log trust) h.0 none;
     rejected = λ x e. ok_err None x e;
   }
-
-  unknown_passes : (found : Found LogEntryBundle) → knows_no_log trust ≡ true → (o : Option LogEntryBundle) → Is found o → nothing ≡ Ok o
-  unknown_passes found none None h = refl
-  unknown_passes found none (Some e) h = false_true (knows_no_log trust) h.0 none
 
   absent_passes : (o : Option LogEntryBundle) → Is founds.Absent o → nothing ≡ Ok o
   absent_passes None h = refl
@@ -265,10 +265,10 @@ module _ (trust : Trust) (input : Input) (bytes : List ℕ) where
   }
 
   read_is : (e : LogEntryBundle) → Knows → (o : Option LogEntryBundle) → EntryPasses e o → Is (founds.Read e) o
-  read_is e knows o h = subst (Is (founds.Read e)) h.2.2.2.2 (knows, (refl, record { signed = log_signed e h.0 h.1 h.2.1; names = h.2.2.2.1 }))
+  read_is e knows o h = subst (Is (founds.Read e)) h.2.2.2 (knows, refl, record { signed = log_signed e h.0 h.1 h.2.1; names = h.2.2.1 })
 
   passes_read : (e f : LogEntryBundle) → e ≡ f → IsLogged trust input.kind input.content bytes f → EntryPasses e (Some f)
-  passes_read e f same h = subst (λ g. EntryPasses g (Some f)) (sym same) (h.signed.key, (h.signed.known, (tt, (h.signed.signed, (tt, (h.names, refl))))))
+  passes_read e f same h = subst (λ g. EntryPasses g (Some f)) (sym same) (h.signed.key, h.signed.known, (tt, h.signed.signed, (tt, h.names, refl)))
 
   read_passes : (e : LogEntryBundle) → Knows → (o : Option LogEntryBundle) → Is (founds.Read e) o → EntryPasses e o
   read_passes e knows None h = elim h [ inl none ↦ false_true (knows_no_log trust) knows none | inr k ↦ read_absent e (sym k) ]
@@ -280,7 +280,7 @@ module _ (trust : Trust) (input : Input) (bytes : List ℕ) where
   read_entry : (e : LogEntryBundle) → Knows → Decides (entry_verified trust input.kind input.content bytes e) (Is (founds.Read e)) (λ x. Knows × EntryCauses (founds.Read e) x)
   read_entry e knows =
       reworded _ (EntryPasses e) (Is (founds.Read e)) (EntryFails e) (λ x. Knows × EntryCauses (founds.Read e) x)
-      (read_is e knows) (read_passes e knows) (λ x h. (knows, inr (e, (refl, h)))) (λ x h. read_fails e x h.1) (verified e)
+      (read_is e knows) (read_passes e knows) (λ x h. (knows, inr (e, refl, h))) (λ x h. read_fails e x h.1) (verified e)
 
   found_entry : (found : Found LogEntryBundle) → Knows → Decides (entry_found trust input.kind input.content bytes found) (Is found) (λ x. Knows × EntryCauses found x)
   found_entry founds.Absent knows = absent
@@ -321,9 +321,9 @@ module _ (trust : Trust) (entry : Option LogEntryBundle) where
   certificate_rejected found x h = elim h [
     | inl k ↦ subst (CertificateRejected trust entry found) k.1 k.0
     | inr k ↦ elim k.2 [
-      | inl l ↦ subst (CertificateRejected trust entry found) l.1 (k.0, (k.1, l.0))
+      | inl l ↦ subst (CertificateRejected trust entry found) l.1 (k.0, k.1, l.0)
       | inr l ↦ elim l.2 [
-        | inl m ↦ subst (CertificateRejected trust entry found) m.1 (k.0, (l.0, (k.1, (l.1, m.0))))
+        | inl m ↦ subst (CertificateRejected trust entry found) m.1 (k.0, l.0, k.1, l.1, m.0)
         | inr m ↦ absurd m.2
       ]
     ]
@@ -331,8 +331,8 @@ module _ (trust : Trust) (entry : Option LogEntryBundle) where
 
   certificate_causes : (found : Found (List ℕ)) (x : LayerRejection) → CertificateRejected trust entry found x → CertificateCauses found x
   certificate_causes found (Unreadable Certificate) h = inl (h, refl)
-  certificate_causes found NoLogEntry h = inr (h.0, (h.1, inl (h.2, refl)))
-  certificate_causes found NotVouched h = inr (h.0, (h.2, inr (h.1, (h.3, inl (h.4, refl)))))
+  certificate_causes found NoLogEntry h = inr (h.0, h.1, inl (h.2, refl))
+  certificate_causes found NotVouched h = inr (h.0, h.2, inr (h.1, h.3, inl (h.4, refl)))
   certificate_causes found DigestMismatch h = absurd h
   certificate_causes found (Unreadable Content) h = absurd h
   certificate_causes found (Unreadable Signature) h = absurd h
@@ -379,10 +379,10 @@ module _ (trust : Trust) (entry : Option LogEntryBundle) where
   }
 
   certifies : (c : List ℕ) (o : Option CertificateSignature) → CertificatePasses c o → Certifies (founds.Read c) o
-  certifies c o h = subst (Certifies (founds.Read c)) h.2.2.2 (h.0, (refl, (h.1, h.2.1)))
+  certifies c o h = subst (Certifies (founds.Read c)) h.2.2 (h.0, refl, h.1, h.2.1)
 
   certified_by : (c : List ℕ) (s : CertificateSignature) → c ≡ s.certificate → (e : LogEntryBundle) → entry ≡ Some e → vouched s.certificate e ≡ Some s.vouched → CertificatePasses c (Some s)
-  certified_by c s same e is v = subst (λ b. CertificatePasses b (Some s)) (sym same) (e, (is, (s.vouched, (v, refl))))
+  certified_by c s same e is v = subst (λ b. CertificatePasses b (Some s)) (sym same) (e, is, (s.vouched, v, refl))
 
   certified : (c : List ℕ) (o : Option CertificateSignature) → Certifies (founds.Read c) o → CertificatePasses c o
   certified c None h = read_absent c (sym h)
@@ -394,7 +394,7 @@ module _ (trust : Trust) (entry : Option LogEntryBundle) where
   read_certificate : (c : List ℕ) → Decides (certificate_vouched trust.vouched entry c) (Certifies (founds.Read c)) (CertificateCauses (founds.Read c))
   read_certificate c =
       reworded _ (CertificatePasses c) (Certifies (founds.Read c)) (CertificateFails c) (CertificateCauses (founds.Read c))
-      (certifies c) (certified c) (λ x h. inr (c, (refl, h))) (λ x h. certificate_fails c x h) (judged c)
+      (certifies c) (certified c) (λ x h. inr (c, refl, h)) (λ x h. certificate_fails c x h) (judged c)
 
   found_certificate : (found : Found (List ℕ)) → Decides (certificate_checked trust.vouched entry found) (Certifies found) (CertificateCauses found)
   found_certificate founds.Absent = no_certificate

@@ -40,11 +40,13 @@ module _ {V : Type 0} {H : V → Type 0} (valid : Valid) (policy : PullPolicy V 
       ∙ signs_under _ _ layer.certificate_signature _ _ s.under
 
   pub supports : IsTrue (stands valid policy own layer) → Supports valid policy own layer
+  unfolding stands
   supports e =
       let two = both (is_signed valid policy layer) (is_accepted policy own layer) e in
       record { signed = is_signed_exact two.0; accepted = AllPass-from_list_all _ policy.constraints two.1 }
 
   pub stands_by : Supports valid policy own layer → IsTrue (stands valid policy own layer)
+  unfolding stands
   stands_by s =
       ap (λ b. b && is_accepted policy own layer) (signed_is s.signed)
       ∙ list_all-from_AllPass _ policy.constraints s.accepted

@@ -5,7 +5,7 @@ use Rattle.json_tables.specs.Bytes.{base64_of}
 use Rattle.json_tables.specs.Reading.{◌>>=◌, text_at, text_of, required, optional, list_of, map_of, an_object}
 use Rattle.json_values.specs.JsonText.{plain_json_of}
 use Rattle.oci_digests.specs.Parts.{parts_of}
-use Rattle.serde_json.specs.Data.{Data, null, no_items, item, array, object}
+use Rattle.serde_json.specs.Data.{Data, null, Items, no_items, item, array}
 use Rattle.serde_json.specs.Find.{get, as_array}
 use Rattle.cosign_layers.specs.LogEntry.{bundle_entry_of}
 use Rattle.cosign_layers.specs.Payload.{equal_to}
@@ -23,10 +23,19 @@ subject_of d = required (map_of text_of) (codes "digest") d >>= λ digest. Some 
 abbrev pub subjects_of : List ℕ → Option (List Subject)
 subjects_of payload = plain_json_of payload >>= required (list_of subject_of) (codes "subject")
 
+-- the value, where it is an object
+abbrev pub object_only : Data → Option Data
+object_only d = an_object d >>= λ known. Some d
+
+-- the one item, where it is an object
+abbrev pub only_object : Items → Option Data
+only_object no_items = None
+only_object (item d no_items) = object_only d
+only_object (item d (item e ds)) = None
+
 -- the one object of a list
 abbrev pub one_object : Data → Option Data
-one_object (array (item (object ms) no_items)) = Some (object ms)
-one_object d = None
+one_object d = as_array d >>= only_object
 
 -- the one object of the envelope's signatures
 abbrev pub signature_object : Data → Option Data

@@ -31,7 +31,12 @@ pub record Input : Type 0 where
   pub annotations : Notes
 
 abbrev pub input : LayerKind → List ℕ → List ℕ → Notes → Input
-input kind content oci_digest annotations = record { kind = kind; content = content; oci_digest = oci_digest; annotations = annotations }
+input kind content oci_digest annotations = record {
+  kind = kind;
+  content = content;
+  oci_digest = oci_digest;
+  annotations = annotations;
+}
 
 -- the same, as it is lent
 abbrev pub input_from : Pulled → Input
@@ -66,20 +71,23 @@ signature_checked found = do
   Ok (signature, bytes)
 
 -- a log with a known key signed the entry, which names this signature of the content
-abbrev pub entry_verified : Trust → LayerKind → List ℕ → List ℕ → LogEntryBundle → Result (Option LogEntryBundle) LayerRejection
+abbrev pub entry_verified : Trust → LayerKind → List ℕ → List ℕ → LogEntryBundle
+    → Result (Option LogEntryBundle) LayerRejection
 entry_verified trust kind content bytes e = do
   key ← ok_or (get trust.log_keys e.log_id) (rejections.UnknownLogKey e.log_id)
   signed ← unless rejections.BadLogSignature (trust.valid key (log_text e) e.signed_entry_timestamp)
   named ← unless (rejections.OtherLogEntry e.body) (is_logged kind content bytes e.body)
   Ok (Some e)
 
-abbrev pub entry_found : Trust → LayerKind → List ℕ → List ℕ → Found LogEntryBundle → Result (Option LogEntryBundle) LayerRejection
+abbrev pub entry_found : Trust → LayerKind → List ℕ → List ℕ → Found LogEntryBundle
+    → Result (Option LogEntryBundle) LayerRejection
 entry_found trust kind content bytes founds.Absent = Ok None
 entry_found trust kind content bytes founds.Unreadable = Err (rejections.Unreadable LogEntry)
 entry_found trust kind content bytes (founds.Read e) = entry_verified trust kind content bytes e
 
 -- the log entry, where a log is known
-abbrev pub entry_checked : Trust → LayerKind → List ℕ → List ℕ → Found LogEntryBundle → Result (Option LogEntryBundle) LayerRejection
+abbrev pub entry_checked : Trust → LayerKind → List ℕ → List ℕ → Found LogEntryBundle
+    → Result (Option LogEntryBundle) LayerRejection
 entry_checked trust kind content bytes found =
     if knows_no_log trust then Ok None else entry_found trust kind content bytes found
 
@@ -87,13 +95,15 @@ abbrev pub certificate_signature : List ℕ → Vouched → CertificateSignature
 certificate_signature certificate vouched = record { certificate = certificate; vouched = vouched }
 
 -- the certificate is vouched for at the time of the log entry
-abbrev pub certificate_vouched : Vouching → Option LogEntryBundle → List ℕ → Result (Option CertificateSignature) LayerRejection
+abbrev pub certificate_vouched : Vouching → Option LogEntryBundle → List ℕ
+    → Result (Option CertificateSignature) LayerRejection
 certificate_vouched vouching entry certificate = do
   e ← ok_or entry rejections.NoLogEntry
   vouched ← ok_or (vouching (evidence certificate e)) rejections.NotVouched
   Ok (Some (certificate_signature certificate vouched))
 
-abbrev pub certificate_checked : Vouching → Option LogEntryBundle → Found (List ℕ) → Result (Option CertificateSignature) LayerRejection
+abbrev pub certificate_checked : Vouching → Option LogEntryBundle → Found (List ℕ)
+    → Result (Option CertificateSignature) LayerRejection
 certificate_checked vouching entry founds.Absent = Ok None
 certificate_checked vouching entry founds.Unreadable = Err (rejections.Unreadable Certificate)
 certificate_checked vouching entry (founds.Read certificate) = certificate_vouched vouching entry certificate

@@ -50,7 +50,8 @@ has_url asked None = false
 has_url asked (Some c) = is_text asked.url c.vouched.url && is_text asked.issuer c.vouched.issuer
 
 -- a constraint accepts what the value that it holds accepts; `own` says what a box accepts
-abbrev pub accepts : {V : Type 0} {H : V → Type 0} → (DynBox V Global H → SignatureLayer → Bool) → Constraint V H → SignatureLayer → Bool
+abbrev pub accepts : {V : Type 0} {H : V → Type 0} → (DynBox V Global H → SignatureLayer → Bool) → Constraint V H
+    → SignatureLayer → Bool
 accepts own (Annotations a) layer = has_annotations a.annotations layer.simple_signing
 accepts own (Email asked) layer = has_email asked layer.certificate_signature
 accepts own (Url asked) layer = has_url asked layer.certificate_signature

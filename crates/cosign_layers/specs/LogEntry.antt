@@ -1,5 +1,5 @@
 -- Entries of a transparency log: how they are read, what the log signs of them, and which signature they log.
-use Rattle.std.specs.Prelude.{◌≡◌, ℕ, ℤ, pos, List, [], ◌∷◌, Bool, ◌&&◌, IsTrue, nat_le, length, Option, Some, None, is_some, Result, Ok, Err, codes, if◌then◌else◌}
+use Rattle.std.specs.Prelude.{◌≡◌, ◌⊎◌, ℕ, ℤ, pos, List, [], ◌∷◌, Bool, ◌&&◌, IsTrue, nat_le, length, Option, Some, None, is_some, Result, Ok, Err, codes, if◌then◌else◌}
 use Rattle.std.specs.Fmt.{signed_decimal}
 use Rattle.std.specs.FinMap.{FinMap, get as key_of}
 use Rattle.std.specs.List.{list_all}
@@ -145,3 +145,8 @@ pub record InLog (e : LogEntryBundle) : Type 0 where
 -- the text that a log signs is canonical
 abbrev pub TextsAreCanonical : Type 0
 TextsAreCanonical = (e : LogEntryBundle) → InLog e → Canonical (log_object e) (log_text e)
+
+-- the time and the index of each entry that is read are in the log's range
+abbrev pub EntriesAreInLog : Type 0
+EntriesAreInLog =
+    (d : Data) (e : LogEntryBundle) → (payload_entry_of d ≡ Some e) ⊎ (bundle_entry_of d ≡ Some e) → InLog e

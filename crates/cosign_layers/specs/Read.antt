@@ -84,7 +84,9 @@ AfterSignature trust input shows bytes x =
 abbrev pub AfterContent : Trust → Input → Shown → LayerRejection → Type 0
 AfterContent trust input shows x =
     SignatureRejected shows.signature x
-    ⊎ ((signature bytes : List ℕ) × IsSignature shows.signature signature bytes × AfterSignature trust input shows bytes x)
+    ⊎ ((signature bytes : List ℕ)
+    × IsSignature shows.signature signature bytes
+    × AfterSignature trust input shows bytes x)
 
 -- the first check that fails is the one of this rejection
 abbrev pub Rejected : Trust → List ℕ → Input → LayerRejection → Type 0
@@ -97,7 +99,12 @@ RejectedUnlessMemory trust d input x = MatchBool (is_memory x) (Unit {0}) (Rejec
 
 -- the input of a layer
 abbrev pub input_of : SignatureLayer → Input
-input_of layer = record { kind = layer.kind; content = layer.content; oci_digest = layer.oci_digest; annotations = layer.annotations }
+input_of layer = record {
+  kind = layer.kind;
+  content = layer.content;
+  oci_digest = layer.oci_digest;
+  annotations = layer.annotations;
+}
 
 -- the layer is what this input says, and is about this image
 pub record Gives (trust : Trust) (d : List ℕ) (input : Input) (layer : SignatureLayer) : Type 0 where
@@ -107,7 +114,9 @@ pub record Gives (trust : Trust) (d : List ℕ) (input : Input) (layer : Signatu
 
 -- the input gives one layer for the image, or fails one check first, and never both
 pub record HasOneOutcome (trust : Trust) (d : List ℕ) (input : Input) : Type 0 where
-  pub one_of : ((layer : SignatureLayer) × Gives trust d input layer) ⊎ ((x : LayerRejection) × Rejected trust d input x)
-  pub not_both : (layer : SignatureLayer) (x : LayerRejection) → Gives trust d input layer → Rejected trust d input x → ⊥
+  pub one_of :
+      ((layer : SignatureLayer) × Gives trust d input layer) ⊎ ((x : LayerRejection) × Rejected trust d input x)
+  pub not_both :
+      (layer : SignatureLayer) (x : LayerRejection) → Gives trust d input layer → Rejected trust d input x → ⊥
   pub one_layer : (a b : SignatureLayer) → Gives trust d input a → Gives trust d input b → a ≡ b
   pub one_rejection : (x y : LayerRejection) → Rejected trust d input x → Rejected trust d input y → x ≡ y

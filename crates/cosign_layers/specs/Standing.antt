@@ -20,7 +20,8 @@ pub record Meaning (V : Type 0) (H : V → Type 0) : Type 0 where
   pub own : DynBox V Global H → SignatureLayer → Bool
   pub trust : Trust
 
-abbrev pub meaning : {V : Type 0} {H : V → Type 0} → PullPolicy V H → (DynBox V Global H → SignatureLayer → Bool) → Trust → Meaning V H
+abbrev pub meaning : {V : Type 0} {H : V → Type 0} → PullPolicy V H → (DynBox V Global H → SignatureLayer → Bool)
+    → Trust → Meaning V H
 meaning policy own trust = record { policy = policy; own = own; trust = trust }
 
 -- whether these bytes sign the text under the certificate's key, or without a certificate under one of the keys
@@ -40,14 +41,16 @@ text_of layer = signed_text layer.kind layer.content
 -- whether the layer's signature spells bytes that sign its text under the certificate's key, or one of these
 abbrev pub is_signed_by : Valid → List (List ℕ) → SignatureLayer → Bool
 is_signed_by valid keys layer =
-    option_map_or (signs valid keys layer.certificate_signature (text_of layer)) (decoded_of standard layer.signature) false
+    option_map_or (signs valid keys layer.certificate_signature (text_of layer))
+    (decoded_of standard layer.signature) false
 
 -- the same under one of the policy's keys
 abbrev pub is_signed : {V : Type 0} {H : V → Type 0} → Valid → PullPolicy V H → SignatureLayer → Bool
 is_signed valid policy layer = is_signed_by valid policy.keys layer
 
 -- the layer's signature spells bytes that sign its text, under the certificate's key or under one of the policy's
-pub record Signed {V : Type 0} {H : V → Type 0} (valid : Valid) (policy : PullPolicy V H) (layer : SignatureLayer) : Type 0 where
+pub record Signed {V : Type 0} {H : V → Type 0} (valid : Valid) (policy : PullPolicy V H) (layer : SignatureLayer)
+    : Type 0 where
   pub bytes : List ℕ
   pub spells : decoded_of standard layer.signature ≡ Some bytes
   pub under : SignedUnder valid policy.keys layer.certificate_signature (text_of layer) bytes
@@ -61,17 +64,19 @@ abbrev pub is_accepted : {V : Type 0} {H : V → Type 0} → PullPolicy V H → 
 is_accepted policy own layer = list_all (λ c. accepts own c layer) policy.constraints
 
 -- whether the layer is signed and accepted
-abbrev pub stands : {V : Type 0} {H : V → Type 0} → Valid → PullPolicy V H → Owns V H → SignatureLayer → Bool
+unfoldable pub stands : {V : Type 0} {H : V → Type 0} → Valid → PullPolicy V H → Owns V H → SignatureLayer → Bool
 stands valid policy own layer = is_signed valid policy layer && is_accepted policy own layer
 
 -- the layer is signed, and each constraint accepts it
-pub record Supports {V : Type 0} {H : V → Type 0} (valid : Valid) (policy : PullPolicy V H) (own : Owns V H) (layer : SignatureLayer) : Type 0 where
+pub record Supports {V : Type 0} {H : V → Type 0} (valid : Valid) (policy : PullPolicy V H) (own : Owns V H)
+    (layer : SignatureLayer) : Type 0 where
   pub signed : Signed valid policy layer
   pub accepted : All (λ c. IsTrue (accepts own c layer)) policy.constraints
 
 -- the layer stands for the image: it is what its bytes say, is about the image, is signed, and is accepted by each
 -- constraint of a policy that has one
-pub record StandsFor {V : Type 0} {H : V → Type 0} (meaning : Meaning V H) (d : List ℕ) (layer : SignatureLayer) : Type 0 where
+pub record StandsFor {V : Type 0} {H : V → Type 0} (meaning : Meaning V H) (d : List ℕ)
+    (layer : SignatureLayer) : Type 0 where
   pub layer_of : LayerOf meaning.trust layer
   pub is_named : Named layer d
   pub constrained : 0 < length meaning.policy.constraints

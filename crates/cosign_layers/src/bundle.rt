@@ -1,7 +1,7 @@
 //! The content of a bundle layer (sigstore bundle v0.3, in this project's profile).
 ghost use Rattle.std.specs.Prelude.{◌≡◌, Option, IfOk, option_map, is_some};
-ghost use Rattle.serde_json.specs.View.{view};
-ghost use Rattle.cosign_layers.specs.Bundle.{bundle_of, certificate_at, certificate_in, entry_at, entry_in, first_item, material_of, one_object, promised_entry, signature_at, signature_object, subjects_of};
+ghost use Rattle.serde_json.specs.View.{view, items_view};
+ghost use Rattle.cosign_layers.specs.Bundle.{bundle_of, certificate_at, certificate_in, entry_at, entry_in, first_item, material_of, object_only, one_object, only_object, promised_entry, signature_at, signature_object, subjects_of};
 
 use crate::log_entry::{LogEntryBundle, bundle_entry};
 use crate::shown::{Found, Subject};
@@ -95,13 +95,25 @@ fn signature_object<'a>(value: &'a Value) -> Option<&'a Value>
 fn one_object<'a>(value: &'a Value) -> Option<&'a Value>
     ensures { option_map (λ v. view v.now) result ≡ one_object (view value.now) }
 {
-    let [only] = value.as_array()?.as_slice() else {
+    only_object(value.as_array()?.as_slice())
+}
+
+fn only_object<'a>(items: &'a [Value]) -> Option<&'a Value>
+    ensures { option_map (λ v. view v.now) result ≡ only_object (items_view items.now) }
+{
+    let Some((only, others)) = items.split_first() else {
         return None;
     };
-    if !only.is_object() {
-        return None;
+    match others.split_first() {
+        Some(_) => None,
+        None => object_only(only),
     }
-    Some(only)
+}
+
+fn object_only<'a>(value: &'a Value) -> Option<&'a Value>
+    ensures { option_map (λ v. view v.now) result ≡ object_only (view value.now) }
+{
+    if value.is_object() { Some(value) } else { None }
 }
 
 // What verifies the envelope, where it has its form.

@@ -34,11 +34,18 @@ pub(crate) fn read_layer<V: SignatureVerifier, O: Offline>(
     source_digest: &str,
     trusted: &Trusted<'_, V, O>,
 ) -> Result<SignatureLayer, LayerRejection>
-    ensures { Says result (layer_read (trust_of V.valid O.vouched trusted.now) source_digest.now (input_from pulled.now)) }
+    ensures { Says result (layer_read (trust_of V.valid O.vouched trusted.now) source_digest.now
+        (input_from pulled.now)) }
 {
     let shown = check_content(alloc, pulled, source_digest)?;
     let spelled = check_signature(alloc, &shown.signature)?;
-    let entry = check_entry(alloc, pulled, spelled.1.as_slice(), trusted, &shown.log_entry)?;
+    let entry = check_entry(
+        alloc,
+        pulled,
+        spelled.1.as_slice(),
+        trusted,
+        &shown.log_entry,
+    )?;
     let certificate = check_certificate(alloc, trusted.judge, &entry, &shown.certificate)?;
     let layer = layer_with(alloc, pulled, shown, spelled, entry, certificate)?;
     Ok(layer)
@@ -116,10 +123,7 @@ fn check_content(
 }
 
 // The signature and the bytes that it spells.
-fn check_signature(
-    alloc: Global,
-    signature: &Option<Text>,
-) -> Result<(Text, Blob), LayerRejection>
+fn check_signature(alloc: Global, signature: &Option<Text>) -> Result<(Text, Blob), LayerRejection>
     ensures { Says result (signature_checked signature.now) }
 {
     let Some(signature) = signature else {

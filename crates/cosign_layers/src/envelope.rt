@@ -10,8 +10,8 @@ use json_tables::read_plain_json;
 use json_values::{Blob, Copied};
 use std::alloc::{AllocError, Global};
 
-/// The text that a layer's signature signs: the content of a payload, and of a bundle the pre-authentication encoding of
-/// its envelope (DSSE v1). Of content that is no bundle it is empty.
+/// The text that a layer's signature signs: the content of a payload, and of a bundle the pre-authentication encoding
+/// of its envelope (DSSE v1). Of content that is no bundle it is empty.
 pub fn signed_text(alloc: Global, layer: &SignatureLayer) -> Result<Blob, AllocError>
     ensures text { IfOk result (λ text. text ≡ signed_text layer.now.kind layer.now.content) }
 {

@@ -1,12 +1,13 @@
 //! Entries of a transparency log.
 ghost use Rattle.std.specs.Prelude.{◌≡◌, IfOk, is_some, map};
+ghost use Rattle.std.specs.Fmt.{signed_decimal};
+ghost use Rattle.std.specs.List.{list_all};
 ghost use Rattle.hex.specs.Hex.{encode_lower};
 ghost use Rattle.serde_json.specs.View.{view};
 ghost use Rattle.cosign_layers.specs.LogEntry.{annotated_entry, bundle_entry_of, decimal_of, in_log_read, is_decimal, is_digit, log_text, logged, logs, payload_entry_of, text_is, whole_of, whole_or_text_of};
 ghost use Rattle.json_tables.specs.Bytes.{base64_of};
 ghost use Rattle.json_tables.specs.Reading.{required};
 
-use itoa::Buffer;
 use json_tables::{decode_base64, read_plain_json, text_at};
 use json_values::{Blob, Copied, Text, copied, read_json, write_quoted};
 use serde_json::Value;
@@ -124,11 +125,11 @@ pub(crate) fn log_text(alloc: Global, entry: &LogEntryBundle) -> Result<Text, Al
     let mut text = Text::new(alloc, "{\"body\":")?;
     text.push_str(write_quoted(alloc, entry.body.as_str())?.as_str())?;
     text.push_str(",\"integratedTime\":")?;
-    text.push_str(Buffer::new().format(entry.integrated_time))?;
+    text.push_str(decimal_text(alloc, &entry.integrated_time)?.as_str())?;
     text.push_str(",\"logID\":")?;
     text.push_str(write_quoted(alloc, entry.log_id.as_str())?.as_str())?;
     text.push_str(",\"logIndex\":")?;
-    text.push_str(Buffer::new().format(entry.log_index))?;
+    text.push_str(decimal_text(alloc, &entry.log_index)?.as_str())?;
     text.push_str("}")?;
     Ok(text)
 }
@@ -260,16 +261,35 @@ fn in_log(read: Result<u64, ParseIntError>) -> Option<i64>
     }
 }
 
+#[tactic(auto, using(crate::proofs::Decimals::decimal_length, crate::proofs::Decimals::not_length))]
 fn is_decimal(text: &[u8]) -> bool
     ensures { result ≡ is_decimal text.now }
 {
-    1 <= text.len() && text.len() <= 16 && text.iter().all(|byte| is_digit(*byte))
+    if text.is_empty() || 16 < text.len() {
+        return false;
+    }
+    let digits = all_digits(text);
+    digits
+}
+
+fn all_digits(text: &[u8]) -> bool
+    ensures { result ≡ list_all is_digit text.now }
+{
+    text.iter().all(|byte| is_digit(*byte))
 }
 
 fn is_digit(byte: u8) -> bool
     ensures { result ≡ is_digit byte }
 {
     48 <= byte && byte <= 57
+}
+
+fn decimal_text(alloc: Global, number: &i64) -> Result<Text, AllocError>
+    ensures { IfOk result (λ text. text ≡ signed_decimal number.now) }
+{
+    let number = *number;
+    let digits = format!(in alloc; "{number}")?;
+    Text::new(alloc, digits.as_str())
 }
 
 fn hex_text(alloc: Global, bytes: &[u8]) -> Result<Text, AllocError>

@@ -72,21 +72,21 @@ pub fn read_payload_layer<V: SignatureVerifier, O: Offline>(
     read_layer(alloc, &pulled, source_digest, &trusted)
 }
 
-/// Reads a bundle layer (sigstore bundle v0.3, in this project's profile) as `read_payload_layer` reads a payload layer.
-/// What differs in the checks:
+/// Reads a bundle layer (sigstore bundle v0.3, in this project's profile) as `read_payload_layer` reads a payload
+/// layer. What differs in the checks:
 ///
 /// 2. `Unreadable(Content)`: the content is not a JSON object without floats whose `mediaType` is that of the bundle,
 ///    whose `dsseEnvelope` has a `payload` in base64, a text `payloadType` and a list `signatures` of one object, and
-///    whose `verificationMaterial` is an object, in which `certificate` is an object and `tlogEntries` a list where they
-///    are there and not null; or the payload is not a JSON object without floats whose `subject` is a list of objects
-///    with a `digest` map of texts.
+///    whose `verificationMaterial` is an object, in which `certificate` is an object and `tlogEntries` a list where
+///    they are there and not null; or the payload is not a JSON object without floats whose `subject` is a list of
+///    objects with a `digest` map of texts.
 /// 3. `OtherDigest`: no subject has the digits of `source_digest` by its algorithm.
 /// 4. The signature is the text `sig` of the one object of `signatures`.
 /// 5. The log entry is the first of `tlogEntries`, where it has `inclusionPromise.signedEntryTimestamp`; its log id is
 ///    the lower-case hexadecimal of the bytes of `logId.keyId`, its body is `canonicalizedBody`, and its time and index
 ///    may be decimal texts of 1 to 16 digits. It need not name the signature.
-/// 6. The certificate is what `rawBytes` spells. `Unreadable(Certificate)` comes first: it is no text of padded standard
-///    base64.
+/// 6. The certificate is what `rawBytes` spells. `Unreadable(Certificate)` comes first: it is no text of padded
+///    standard base64.
 pub fn read_bundle_layer<V: SignatureVerifier, O: Offline>(
     alloc: Global,
     content: &Blob,

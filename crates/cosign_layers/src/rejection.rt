@@ -2,8 +2,8 @@
 ghost use Rattle.std.specs.Prelude.{◌≡◌};
 ghost use Rattle.cosign_layers.specs.Rejection.{is_memory};
 
-use json_values::Text;
-use std::alloc::AllocError;
+use json_values::{Copied, Text};
+use std::alloc::{AllocError, Global};
 use thiserror::Error;
 
 /// A part of a signature layer.
@@ -67,5 +67,29 @@ impl From<AllocError> for LayerRejection {
 
     fn from(_error: AllocError) -> LayerRejection {
         LayerRejection::WantOfMemory
+    }
+}
+
+impl Copied for LayerPart {
+    fn copy(&self, _alloc: Global) -> Result<LayerPart, AllocError> {
+        Ok(*self)
+    }
+}
+
+impl Copied for LayerRejection {
+    fn copy(&self, alloc: Global) -> Result<LayerRejection, AllocError> {
+        Ok(match self {
+            LayerRejection::DigestMismatch => LayerRejection::DigestMismatch,
+            LayerRejection::Unreadable(part) => LayerRejection::Unreadable(*part),
+            LayerRejection::OtherDigest => LayerRejection::OtherDigest,
+            LayerRejection::NoSignature => LayerRejection::NoSignature,
+            LayerRejection::UnknownLogKey(id) => LayerRejection::UnknownLogKey(id.copy(alloc)?),
+            LayerRejection::BadLogSignature => LayerRejection::BadLogSignature,
+            LayerRejection::OtherLogEntry(body) => LayerRejection::OtherLogEntry(body.copy(alloc)?),
+            LayerRejection::NoLogEntry => LayerRejection::NoLogEntry,
+            LayerRejection::NotVouched => LayerRejection::NotVouched,
+            LayerRejection::LayerNotPulled => LayerRejection::LayerNotPulled,
+            LayerRejection::WantOfMemory => LayerRejection::WantOfMemory,
+        })
     }
 }

@@ -1,8 +1,11 @@
 //! What a layer's content and annotations show, before any signature is looked at.
-ghost use Rattle.std.specs.Prelude.{◌≡◌, IfOk, option_copied, option_map};
+ghost use Rattle.std.specs.Prelude.{◌≡◌, IfOk, codes, option_map};
+ghost use Rattle.std.specs.FinMap.{get};
+ghost use Rattle.std.specs.List.{list_any};
 ghost use Rattle.serde_json.specs.View.{view};
-ghost use Rattle.cosign_layers.specs.Bundle.{has_digest};
-ghost use Rattle.cosign_layers.specs.Shown.{is_about, noted_certificate, noted_entry, shown, shown_by_bundle, shown_in_bundle};
+ghost use Rattle.cosign_layers.specs.Bundle.{has_digest, read_or_not};
+ghost use Rattle.cosign_layers.specs.LogEntry.{annotated_entry};
+ghost use Rattle.cosign_layers.specs.Shown.{is_about, noted_certificate, noted_entry, payload_shown, shown, shown_by_bundle, shown_in_bundle};
 
 use crate::bundle::{Bundle, certificate_at, entry_at, read_bundle, signature_at};
 use crate::layer::{LayerKind, SimpleSigning};
@@ -62,6 +65,7 @@ pub(crate) fn show(
     }
 }
 
+#[tactic(auto, using(crate::proofs::Shows::payload_is, crate::proofs::Shows::no_payload))]
 fn show_payload(
     alloc: Global,
     content: &[u8],
@@ -72,24 +76,73 @@ fn show_payload(
     let Some(signing) = read_payload(alloc, content)? else {
         return Ok(None);
     };
-    let log_entry = noted_entry(alloc, annotations.get("dev.sigstore.cosign/bundle"))?;
-    let certificate = noted_certificate(alloc, annotations.get("dev.sigstore.cosign/certificate"))?;
-    let signature = copied(alloc, annotations.get("dev.cosignproject.cosign/signature"))?;
-    Ok(Some(Shown {
+    let shown = payload_shown(alloc, signing, annotations)?;
+    Ok(Some(shown))
+}
+
+fn payload_shown(
+    alloc: Global,
+    signing: SimpleSigning,
+    annotations: &Annotations,
+) -> Result<Shown, AllocError>
+    ensures { IfOk result (λ found. found ≡ payload_shown annotations.now signing) }
+{
+    let log_entry = noted_entry(alloc, annotations)?;
+    let certificate = noted_certificate(alloc, annotations)?;
+    let signature = noted_signature(alloc, annotations)?;
+    Ok(Shown {
         signing: Some(signing),
         subjects: List::new(alloc),
         signature,
         log_entry,
         certificate,
-    }))
+    })
 }
 
-fn copied(alloc: Global, text: Option<&Text>) -> Result<Option<Text>, AllocError>
-    ensures { IfOk result (λ found. found ≡ option_copied text.entry) }
+// The signature in the annotations of a payload.
+fn noted_signature(alloc: Global, annotations: &Annotations) -> Result<Option<Text>, AllocError>
+    ensures { IfOk result (λ found. found ≡ get annotations.now (codes "dev.cosignproject.cosign/signature")) }
 {
-    match text {
+    match annotations.get("dev.cosignproject.cosign/signature") {
         None => Ok(None),
         Some(text) => Ok(Some(text.copy(alloc)?)),
+    }
+}
+
+// The log entry in the annotations of a payload.
+fn noted_entry(
+    alloc: Global,
+    annotations: &Annotations,
+) -> Result<Found<LogEntryBundle>, AllocError>
+    ensures { IfOk result (λ found. found ≡ noted_entry
+        (get annotations.now (codes "dev.sigstore.cosign/bundle"))) }
+{
+    match annotations.get("dev.sigstore.cosign/bundle") {
+        None => Ok(Found::Absent),
+        Some(text) => {
+            let found = read_entry(alloc, text.as_str())?;
+            Ok(found)
+        }
+    }
+}
+
+fn read_entry(alloc: Global, text: &str) -> Result<Found<LogEntryBundle>, AllocError>
+    ensures { IfOk result (λ found. found ≡ read_or_not (annotated_entry text.now)) }
+{
+    match annotated_entry(alloc, text)? {
+        None => Ok(Found::Unreadable),
+        Some(entry) => Ok(Found::Read(entry)),
+    }
+}
+
+// The certificate in the annotations of a payload.
+fn noted_certificate(alloc: Global, annotations: &Annotations) -> Result<Found<Blob>, AllocError>
+    ensures { IfOk result (λ found. found ≡ noted_certificate
+        (get annotations.now (codes "dev.sigstore.cosign/certificate"))) }
+{
+    match annotations.get("dev.sigstore.cosign/certificate") {
+        None => Ok(Found::Absent),
+        Some(text) => Ok(Found::Read(Blob::new(alloc, text.as_str().as_bytes())?)),
     }
 }
 
@@ -99,29 +152,6 @@ fn copied_text(alloc: Global, text: Option<&str>) -> Result<Option<Text>, AllocE
     match text {
         None => Ok(None),
         Some(text) => Ok(Some(Text::new(alloc, text)?)),
-    }
-}
-
-// The log entry in the annotations of a payload.
-fn noted_entry(alloc: Global, text: Option<&Text>) -> Result<Found<LogEntryBundle>, AllocError>
-    ensures { IfOk result (λ found. found ≡ noted_entry (option_copied text.entry)) }
-{
-    let Some(text) = text else {
-        return Ok(Found::Absent);
-    };
-    match annotated_entry(alloc, text.as_str())? {
-        None => Ok(Found::Unreadable),
-        Some(entry) => Ok(Found::Read(entry)),
-    }
-}
-
-// The certificate in the annotations of a payload.
-fn noted_certificate(alloc: Global, text: Option<&Text>) -> Result<Found<Blob>, AllocError>
-    ensures { IfOk result (λ found. found ≡ noted_certificate (option_copied text.entry)) }
-{
-    match text {
-        None => Ok(Found::Absent),
-        Some(text) => Ok(Found::Read(Blob::new(alloc, text.as_str().as_bytes())?)),
     }
 }
 
@@ -164,12 +194,14 @@ pub(crate) fn is_about(shown: &Shown, source_digest: &str) -> bool
 {
     match &shown.signing {
         Some(signing) => signing.docker_manifest_digest.as_str() == source_digest,
-        None => shown
-            .subjects
-            .as_slice()
-            .iter()
-            .any(|subject| has_digest(subject, source_digest)),
+        None => some_has(shown.subjects.as_slice(), source_digest),
     }
+}
+
+fn some_has(subjects: &[Subject], digest: &str) -> bool
+    ensures { result ≡ list_any (has_digest digest.now) subjects.now }
+{
+    subjects.iter().any(|subject| has_digest(subject, digest))
 }
 
 fn has_digest(subject: &Subject, digest: &str) -> bool

@@ -53,6 +53,7 @@ pub fn first_standing<V: SignatureVerifier>(
     Ok(None)
 }
 
+#[tactic(auto, unfolding(crate::specs::Standing::stands))]
 fn is_signed_and_accepted<V: SignatureVerifier>(
     alloc: Global,
     verifier: &V,

@@ -62,71 +62,10 @@ fn is_refused(alloc: Global, text: &str, want: ParseError) -> bool {
 }
 
 #[test]
-fn texts_out_of_form_are_refused(rt: HostRuntime) {
-    for text in [
-        "a:t/b",
-        "Uppercase:tag",
-        "-app",
-        "a___b",
-        "a//b",
-        "app:",
-        "app@sha256:",
-        "r.io:/app",
-        "[::1]:5000/app",
-        ":justtag",
-        "app@sha256:ab@sha256:ab",
-        "app@sha++256:ab",
-    ] {
-        let refused = is_refused(rt.alloc(), text, ParseError::ReferenceInvalidFormat);
-        assert!(rt; refused, "at {text}");
-    }
-}
-
-#[test]
 fn texts_are_refused_for_these_causes(rt: HostRuntime) {
     assert!(rt; is_refused(rt.alloc(), "", ParseError::NameEmpty));
     assert!(rt; is_refused(rt.alloc(), "app@SHA256:ab", ParseError::DigestUnsupported));
     assert!(rt; is_refused(rt.alloc(), "app@sha256:ab", ParseError::DigestInvalidLength));
-}
-
-// The text with the letter so many times behind it.
-fn lengthened(alloc: Global, front: &str, letter: &str, count: usize) -> Result<Text, AllocError> {
-    let mut long = Text::new(alloc, front)?;
-    for _ in 0..count {
-        long.push_str(letter)?;
-    }
-    Ok(long)
-}
-
-fn ends_at(
-    alloc: Global,
-    front: &str,
-    count: usize,
-    refusal: ParseError,
-) -> Result<bool, AllocError> {
-    let longest = lengthened(alloc, front, "f", count)?;
-    let longer = lengthened(alloc, front, "f", count + 1)?;
-    let read = Reference::parse(alloc, longest.as_str()).is_ok();
-    Ok(read && is_refused(alloc, longer.as_str(), refusal))
-}
-
-#[test]
-fn lengths_end_at_255_and_128_characters(rt: HostRuntime) {
-    assert!(rt; holds(ends_at(rt.alloc(), "r.io/", 255, ParseError::NameTooLong)));
-    assert!(rt; holds(ends_at(rt.alloc(), "", 247, ParseError::NameTooLong)));
-    assert!(rt; holds(ends_at(rt.alloc(), "app:", 128, ParseError::ReferenceInvalidFormat)));
-}
-
-#[test]
-fn digests_have_the_digits_of_their_algorithm(rt: HostRuntime) {
-    for (front, count) in [
-        ("app@sha256:", 64),
-        ("a:t@sha384:", 96),
-        ("r.io/app@sha512:", 128),
-    ] {
-        let ends = holds(ends_at(rt.alloc(), front, count, ParseError::DigestInvalidLength));
-        assert!(rt; ends, "at {front}");
-    }
 }
 
 fn mirror_is_asked(alloc: Global, reference: Reference) -> Result<bool, AllocError> {

@@ -1,5 +1,5 @@
 -- What comes before a blob's request is no fault of the sink.
-use Rattle.std.proofs.Common.{◌≡◌, ℕ, Bool, true, false, List, [], Option, Some, None, Result, Ok, Err, refl, sym, subst, ◌∙◌}
+use Rattle.std.proofs.Common.{◌≡◌, ℕ, Bool, true, false, List, [], Option, Some, None, Result, Ok, Err, codes, refl, sym, subst, ◌∙◌}
 use Rattle.std.specs.Prelude.{MatchBool, if◌then◌else◌, nat_lt, ◌&&◌}
 use Rattle.std.specs.Result.{IsErrAnd}
 use Rattle.std.proofs.lemmas.Result.{err_from_is_err_and}
@@ -59,14 +59,14 @@ header_calm headers name value = by_test (is_header_value value && nat_lt (held 
 
 accept_calm : (types : Option (List ℕ)) (headers : Fields) → Calm (with_accept types headers)
 accept_calm None headers = tt
-accept_calm (Some types) headers = header_calm headers _ types
+accept_calm (Some types) headers = header_calm headers (codes "accept") types
 
 token_calm : (token : Option RegistryTokenType) (headers : Fields) → Calm (with_token token headers)
 token_calm None headers = tt
-token_calm (Some token) headers = header_calm headers _ (authorization_of token)
+token_calm (Some token) headers = header_calm headers (codes "authorization") (authorization_of token)
 
 headers_calm : (s : Settings) (types : Option (List ℕ)) (token : Option RegistryTokenType) → Calm (headers_of s types token)
-headers_calm s types token = into_calm (with_header map.empty _ s.user_agent into with_accept types) (with_token token) (into_calm (with_header map.empty _ s.user_agent) (with_accept types) (header_calm map.empty _ s.user_agent) (accept_calm types)) (token_calm token)
+headers_calm s types token = into_calm (with_header map.empty (codes "user-agent") s.user_agent into with_accept types) (with_token token) (into_calm (with_header map.empty (codes "user-agent") s.user_agent) (with_accept types) (header_calm map.empty (codes "user-agent") s.user_agent) (accept_calm types)) (token_calm token)
 
 pub request_calm : (s : Settings) (method : Method) (url : Parts) (types : Option (List ℕ)) (token : Option RegistryTokenType) → Calm (request_of s method url types token)
 unfolding request_of

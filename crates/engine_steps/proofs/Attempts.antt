@@ -32,9 +32,9 @@ use Rattle.engine_requests.specs.declared.blobs.Expected.{Expected}
 use Rattle.engine_requests.specs.declared.blobs.Plan.{Plan}
 use Rattle.engine_requests.specs.declared.blobs.Plan.TheVariants as plan
 use Rattle.engine_requests.specs.Errors.{is_memory, Says, SaysError, ◌>>◌}
-use Rattle.engine_requests.specs.Answers.{digest_header, refused_answer, is_success, is_client_error, by_envelope, envelope_in}
+use Rattle.engine_requests.specs.Answers.{refused_answer, is_success, is_client_error, by_envelope, envelope_in}
 use Rattle.oci_digests.specs.Checks.{header_digest as digest_in, and_then as digest_and_then}
-use Rattle.oci_transport.specs.Headers.{first_of}
+use Rattle.oci_transport.specs.Headers.{first_of, digest_header}
 use Rattle.engine_requests.specs.Blobs.{digest_expected, given_expected, pouring, plan_by, planned, plan_of, compared, given_compared, both_compared, given_algorithm}
 use Rattle.engine_steps.specs.Rows.{Row}
 use Rattle.engine_steps.specs.Blobs.{Destination, IntoSink, IntoMemory, reading_into, reading_by, blob_reading, unread_by, read_by, blob_reply, attempt, IsFrontOfLast, IsFront, Spills}

@@ -3,7 +3,7 @@ use Rattle.std.proofs.Common.{◌≡◌, ℕ, Bool, true, false, List, [], ◌�
 use Rattle.std.specs.Prelude.{if◌then◌else◌}
 use Rattle.std.proofs.lemmas.Slice.Eq.{bytes_eq-Decides}
 use Rattle.url.specs.Parts.{serialize}
-use Rattle.oci_transport.specs.Headers.{first_of}
+use Rattle.oci_transport.specs.Headers.{digest_header, first_of}
 use Rattle.oci_transport.specs.declared.message.Request.{Request}
 use Rattle.oci_transport.specs.declared.message.Answer.{Answer}
 use Rattle.oci_transport.specs.declared.message.AnswerHead.{AnswerHead}
@@ -62,7 +62,7 @@ expected_text digest own is =
 own_text : (digest : List ℕ) (head : AnswerHead) (given : Option Expected) (own : Expected) → plan_of digest head ≡ plan.Pour given own → digest ≡ own.text
 unfolding plan_of
 own_text digest head given own is =
-    let first = then_ok (digest_in (first_of _ head.headers)) (plan_by (is_success head.status) digest) (plan.Pour given own) (planned_is (plan_in digest head) given own is) in
+    let first = then_ok (digest_in (first_of digest_header head.headers)) (plan_by (is_success head.status) digest) (plan.Pour given own) (planned_is (plan_in digest head) given own is) in
     let second = then_ok (given_expected first.0) (λ g. and_then (digest_expected digest) (λ x. Ok (pouring (is_success head.status) g x))) (plan.Pour given own) first.2 in
     let third = then_ok (digest_expected digest) (λ x. Ok (pouring (is_success head.status) second.0 x)) (plan.Pour given own) second.2 in
     let same = pour_own (is_success head.status) second.0 given third.0 own (cc (third.2)) in

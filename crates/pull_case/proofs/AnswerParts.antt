@@ -7,8 +7,8 @@ use Rattle.json_tables.specs.Reading.{list_of, required, at_name, only}
 use Rattle.json_tables.specs.Bytes.{bytes_of}
 use Rattle.oci_transport.specs.Headers.{Fields}
 use Rattle.oci_transport.specs.Pieces.{NoneEmpty}
-use Rattle.pull_case.specs.Answer.{answering, status_of, headers_of, fault_of}
-use Rattle.pull_case.specs.Members.{unless_absent}
+use Rattle.pull_case.specs.Answer.{answering, status_of, headers_of}
+use Rattle.pull_case.specs.Members.{unless_absent, number_of}
 use Rattle.pull_case.proofs.Full.{none_empty-given, none_empty-not}
 
 pub answer_of_parts : (d : Data) (known : ⊤) (status : ℕ) (headers : Fields) (pieces : List (List ℕ)) (fails_before : Option ℕ) (full : NoneEmpty pieces)
@@ -16,7 +16,7 @@ pub answer_of_parts : (d : Data) (known : ⊤) (status : ℕ) (headers : Fields)
     → required status_of (codes "status") d ≡ Some status
     → at_name (unless_absent empty headers_of) (codes "headers") d ≡ Some headers
     → at_name (unless_absent [] (list_of bytes_of)) (codes "pieces") d ≡ Some pieces
-    → at_name (unless_absent None fault_of) (codes "fault") d ≡ Some fails_before
+    → at_name (unless_absent None number_of) (codes "fault") d ≡ Some fails_before
     → answering d ≡ Some (record { fails = false; status = status; headers = headers; pieces = pieces; fails_before = fails_before; none_empty = full })
 unfolding answering
 answer_of_parts d known status headers pieces fails_before full is_known is_status are_headers are_pieces is_fault =
@@ -28,7 +28,7 @@ pub no_answer_of_parts : (d : Data) (known : ⊤) (status : ℕ) (headers : Fiel
     → required status_of (codes "status") d ≡ Some status
     → at_name (unless_absent empty headers_of) (codes "headers") d ≡ Some headers
     → at_name (unless_absent [] (list_of bytes_of)) (codes "pieces") d ≡ Some pieces
-    → at_name (unless_absent None fault_of) (codes "fault") d ≡ Some fails_before
+    → at_name (unless_absent None number_of) (codes "fault") d ≡ Some fails_before
     → answering d ≡ None
 unfolding answering
 no_answer_of_parts d known status headers pieces fails_before lacking is_known is_status are_headers are_pieces is_fault =

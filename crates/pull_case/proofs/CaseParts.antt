@@ -13,7 +13,7 @@ use Rattle.engine_requests.specs.declared.settings.ClientProtocol.TheVariants.{H
 use Rattle.oci_transport.specs.declared.recorded.Recorded.{Recorded}
 use Rattle.oci_names.specs.References.{reference_of}
 use Rattle.pull_case.specs.declared.case.Case.{Case}
-use Rattle.pull_case.specs.Members.{passing, unless_absent}
+use Rattle.pull_case.specs.Members.{passing, unless_absent, number_of}
 use Rattle.pull_case.specs.Case.{case_of, reference_text_of, protocol_of, moments_of, members}
 use Rattle.pull_case.specs.Answer.{answer_of}
 use Rattle.pull_case.specs.Auth.{auth_of}
@@ -46,7 +46,7 @@ has_moments (Some d) moments e =
     let h = passed (λ ms. nat_lt 0 (length ms)) (list_of u64_of d) moments e in grind (arith, nat_tests)
 
 -- the members of a case are what was read for them
-named : (of_known : Option ⊤) (of_reference : Option (List ℕ)) (of_protocol : Option ClientProtocol) (of_auth : Option RegistryAuth) (of_accepted : Option (List (List ℕ))) (of_moments : Option (List ℕ)) (of_keys : Option (List (List ℕ))) (of_constraints : Option (List AnnotationVerifier)) (of_signatures : Option (List SignedRow)) (of_answers : Option (List Recorded))
+named : (of_known : Option ⊤) (of_reference : Option (List ℕ)) (of_protocol : Option ClientProtocol) (of_auth : Option RegistryAuth) (of_accepted : Option (List (List ℕ))) (of_moments : Option (List ℕ)) (of_limit : Option (Option ℕ)) (of_keys : Option (List (List ℕ))) (of_constraints : Option (List AnnotationVerifier)) (of_signatures : Option (List SignedRow)) (of_answers : Option (List Recorded))
     → IfSome {T = Case} (do
       known ← of_known
       reference ← of_reference
@@ -54,29 +54,31 @@ named : (of_known : Option ⊤) (of_reference : Option (List ℕ)) (of_protocol 
       auth ← of_auth
       accepted ← of_accepted
       moments ← of_moments
+      limit ← of_limit
       keys ← of_keys
       constraints ← of_constraints
       signatures ← of_signatures
       answers ← of_answers
-      Some (record { reference = reference; protocol = protocol; auth = auth; accepted = accepted; moments = moments; keys = keys; constraints = constraints; signatures = signatures; answers = answers }))
+      Some (record { reference = reference; protocol = protocol; auth = auth; accepted = accepted; moments = moments; limit = limit; keys = keys; constraints = constraints; signatures = signatures; answers = answers }))
     (λ case. (of_reference ≡ Some case.reference) × (of_moments ≡ Some case.moments))
-named None of_reference of_protocol of_auth of_accepted of_moments of_keys of_constraints of_signatures of_answers = tt
-named (Some known) None of_protocol of_auth of_accepted of_moments of_keys of_constraints of_signatures of_answers = tt
-named (Some known) (Some reference) None of_auth of_accepted of_moments of_keys of_constraints of_signatures of_answers = tt
-named (Some known) (Some reference) (Some protocol) None of_accepted of_moments of_keys of_constraints of_signatures of_answers = tt
-named (Some known) (Some reference) (Some protocol) (Some auth) None of_moments of_keys of_constraints of_signatures of_answers = tt
-named (Some known) (Some reference) (Some protocol) (Some auth) (Some accepted) None of_keys of_constraints of_signatures of_answers = tt
-named (Some known) (Some reference) (Some protocol) (Some auth) (Some accepted) (Some moments) None of_constraints of_signatures of_answers = tt
-named (Some known) (Some reference) (Some protocol) (Some auth) (Some accepted) (Some moments) (Some keys) None of_signatures of_answers = tt
-named (Some known) (Some reference) (Some protocol) (Some auth) (Some accepted) (Some moments) (Some keys) (Some constraints) None of_answers = tt
-named (Some known) (Some reference) (Some protocol) (Some auth) (Some accepted) (Some moments) (Some keys) (Some constraints) (Some signatures) None = tt
-named (Some known) (Some reference) (Some protocol) (Some auth) (Some accepted) (Some moments) (Some keys) (Some constraints) (Some signatures) (Some answers) = (refl, refl)
+named None of_reference of_protocol of_auth of_accepted of_moments of_limit of_keys of_constraints of_signatures of_answers = tt
+named (Some known) None of_protocol of_auth of_accepted of_moments of_limit of_keys of_constraints of_signatures of_answers = tt
+named (Some known) (Some reference) None of_auth of_accepted of_moments of_limit of_keys of_constraints of_signatures of_answers = tt
+named (Some known) (Some reference) (Some protocol) None of_accepted of_moments of_limit of_keys of_constraints of_signatures of_answers = tt
+named (Some known) (Some reference) (Some protocol) (Some auth) None of_moments of_limit of_keys of_constraints of_signatures of_answers = tt
+named (Some known) (Some reference) (Some protocol) (Some auth) (Some accepted) None of_limit of_keys of_constraints of_signatures of_answers = tt
+named (Some known) (Some reference) (Some protocol) (Some auth) (Some accepted) (Some moments) None of_keys of_constraints of_signatures of_answers = tt
+named (Some known) (Some reference) (Some protocol) (Some auth) (Some accepted) (Some moments) (Some limit) None of_constraints of_signatures of_answers = tt
+named (Some known) (Some reference) (Some protocol) (Some auth) (Some accepted) (Some moments) (Some limit) (Some keys) None of_signatures of_answers = tt
+named (Some known) (Some reference) (Some protocol) (Some auth) (Some accepted) (Some moments) (Some limit) (Some keys) (Some constraints) None of_answers = tt
+named (Some known) (Some reference) (Some protocol) (Some auth) (Some accepted) (Some moments) (Some limit) (Some keys) (Some constraints) (Some signatures) None = tt
+named (Some known) (Some reference) (Some protocol) (Some auth) (Some accepted) (Some moments) (Some limit) (Some keys) (Some constraints) (Some signatures) (Some answers) = (refl, refl)
 
 members_of : (d : Data) → IfSome (case_of d) (λ case. (required reference_text_of (codes "reference") d ≡ Some case.reference) × (required moments_of (codes "moments") d ≡ Some case.moments))
 unfolding case_of
 members_of d =
     named (only members d) (required reference_text_of (codes "reference") d) (at_name (unless_absent Https protocol_of) (codes "protocol") d) (at_name (unless_absent Anonymous auth_of) (codes "auth") d)
-    (required (list_of text_of) (codes "accepted") d) (required moments_of (codes "moments") d) (required (list_of bytes_of) (codes "keys") d)
+    (required (list_of text_of) (codes "accepted") d) (required moments_of (codes "moments") d) (at_name (unless_absent None number_of) (codes "limit") d) (required (list_of bytes_of) (codes "keys") d)
     (required (list_of constraint_of) (codes "constraints") d) (required (list_of signature_of) (codes "signatures") d) (required (list_of answer_of) (codes "answers") d)
 
 -- what follows from what holds of a value that is there

@@ -7,14 +7,14 @@ use Rattle.std.proofs.lemmas.List.Elements.{All-nil, All-cons}
 use Rattle.http_header.specs.FieldName.{is_field_name}
 use Rattle.http_header.specs.Token.{lowercase}
 use Rattle.serde_json.specs.Data.{Data, string}
-use Rattle.json_tables.specs.Reading.{◌>>=◌, text_of, u16_of, u64_of, list_of, pair_of, required, at_name, only}
+use Rattle.json_tables.specs.Reading.{◌>>=◌, text_of, u16_of, list_of, pair_of, required, at_name, only}
 use Rattle.json_tables.specs.Bytes.{bytes_of}
 use Rattle.json_tables.specs.Outcomes.{Refuses}
 use Rattle.json_tables.specs.declared.error.ReadError.{ReadError}
 use Rattle.oci_transport.specs.Headers.{Fields, added, held, is_header_value}
 use Rattle.oci_transport.specs.Pieces.{NoneEmpty}
 use Rattle.oci_transport.specs.declared.recorded.Recorded.{Recorded}
-use Rattle.pull_case.specs.Members.{unless_absent, passing}
+use Rattle.pull_case.specs.Members.{unless_absent, number_of, passing}
 
 -- from 100 to 999
 abbrev pub status_of : Data → Option ℕ
@@ -47,22 +47,18 @@ none_empty [] = Some (All-nil (λ piece. 0 < length piece))
 none_empty ([] ∷ pieces) = None
 none_empty ((b ∷ bs) ∷ pieces) = option_map (All-cons (λ piece. 0 < length piece) (b ∷ bs) pieces (zero-lt-suc (length bs))) (none_empty pieces)
 
--- how many pieces are given before a call fails, once
-abbrev pub fault_of : Data → Option (Option ℕ)
-fault_of d = option_map Some (u64_of d)
-
 -- a send that fails, whose other parts say nothing
 abbrev pub failing : Recorded
 failing = record { fails = true; status = 0; headers = empty; pieces = []; fails_before = None; none_empty = All-nil (λ piece. 0 < length piece) }
 
--- an answer with its status, its headers, its body in pieces, and a fault in it
+-- an answer with its status, its headers, its body in pieces, and before how many of them a call fails, once
 unfoldable pub answering : Data → Option Recorded
 answering d = do
   known ← only (codes "status" ∷ codes "headers" ∷ codes "pieces" ∷ codes "fault" ∷ []) d
   status ← required status_of (codes "status") d
   headers ← at_name (unless_absent empty headers_of) (codes "headers") d
   pieces ← at_name (unless_absent [] (list_of bytes_of)) (codes "pieces") d
-  fails_before ← at_name (unless_absent None fault_of) (codes "fault") d
+  fails_before ← at_name (unless_absent None number_of) (codes "fault") d
   full ← none_empty pieces
   Some (record { fails = false; status = status; headers = headers; pieces = pieces; fails_before = fails_before; none_empty = full })
 

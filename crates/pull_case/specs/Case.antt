@@ -12,7 +12,7 @@ use Rattle.engine_requests.specs.declared.settings.ClientProtocol.TheVariants.{H
 use Rattle.pull_case.specs.Answer.{answer_of}
 use Rattle.pull_case.specs.Auth.{auth_of}
 use Rattle.pull_case.specs.Entries.{constraint_of, signature_of}
-use Rattle.pull_case.specs.Members.{unless_absent, passing}
+use Rattle.pull_case.specs.Members.{unless_absent, number_of, passing}
 use Rattle.pull_case.specs.declared.case.Case.{Case}
 
 -- a text that reads as a reference
@@ -34,10 +34,21 @@ moments_of d = list_of u64_of d >>= passing (λ moments. nat_lt 0 (length moment
 
 -- the members of a case
 abbrev pub members : List (List ℕ)
-members = codes "reference" ∷ codes "protocol" ∷ codes "auth" ∷ codes "accepted" ∷ codes "moments" ∷ codes "keys" ∷ codes "constraints" ∷ codes "signatures" ∷ codes "answers" ∷ []
+members =
+    codes "reference"
+    ∷ codes "protocol"
+    ∷ codes "auth"
+    ∷ codes "accepted"
+    ∷ codes "moments"
+    ∷ codes "limit"
+    ∷ codes "keys"
+    ∷ codes "constraints"
+    ∷ codes "signatures"
+    ∷ codes "answers"
+    ∷ []
 
--- an object with no members but these; the protocol may be absent, which is `https`, and the
--- credentials, which are anonymous
+-- An object with no members but these. The protocol may be absent, which is `https`, the credentials, which are
+-- anonymous, and the limit of a body, which is the client's own.
 unfoldable pub case_of : Data → Option Case
 case_of d = do
   known ← only members d
@@ -46,11 +57,23 @@ case_of d = do
   auth ← at_name (unless_absent Anonymous auth_of) (codes "auth") d
   accepted ← required (list_of text_of) (codes "accepted") d
   moments ← required moments_of (codes "moments") d
+  limit ← at_name (unless_absent None number_of) (codes "limit") d
   keys ← required (list_of bytes_of) (codes "keys") d
   constraints ← required (list_of constraint_of) (codes "constraints") d
   signatures ← required (list_of signature_of) (codes "signatures") d
   answers ← required (list_of answer_of) (codes "answers") d
-  Some (record { reference = reference; protocol = protocol; auth = auth; accepted = accepted; moments = moments; keys = keys; constraints = constraints; signatures = signatures; answers = answers })
+  Some (record {
+    reference = reference;
+    protocol = protocol;
+    auth = auth;
+    accepted = accepted;
+    moments = moments;
+    limit = limit;
+    keys = keys;
+    constraints = constraints;
+    signatures = signatures;
+    answers = answers;
+  })
 
 -- the case that a JSON text without floats says
 abbrev pub case_in : List ℕ → Option Case

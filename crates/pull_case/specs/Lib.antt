@@ -4,3 +4,4 @@ pub mod Case
 pub mod Entries
 pub mod Members
 pub mod Policy
+pub mod Rows

@@ -1,6 +1,7 @@
 -- Members with a rule of their own.
-use Rattle.std.specs.Prelude.{Bool, if◌then◌else◌, Option, Some, None}
+use Rattle.std.specs.Prelude.{ℕ, option_map, Bool, if◌then◌else◌, Option, Some, None}
 use Rattle.serde_json.specs.Data.{Data}
+use Rattle.json_tables.specs.Reading.{u64_of}
 
 -- x where nothing was found, else what f reads, null too
 abbrev pub unless_absent : {X : Type 0} → X → (Data → Option X) → Option Data → Option X
@@ -10,3 +11,7 @@ unless_absent x f (Some d) = f d
 -- what passes the test
 abbrev pub passing : {X : Type 0} → (X → Bool) → X → Option X
 passing test x = if test x then Some x else None
+
+-- a whole number, for a member that may be absent
+abbrev pub number_of : Data → Option (Option ℕ)
+number_of d = option_map Some (u64_of d)

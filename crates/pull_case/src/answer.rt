@@ -5,8 +5,8 @@ ghost use Rattle.json_tables.specs.Outcomes.{Gives};
 ghost use Rattle.json_tables.specs.Bytes.{bytes_of};
 ghost use Rattle.json_tables.specs.Reading.{at_name, list_of, required};
 ghost use Rattle.oci_transport.specs.Pieces.{NoneEmpty};
-ghost use Rattle.pull_case.specs.Answer.{status_of, fault_of, failing, answering};
-ghost use Rattle.pull_case.specs.Members.{unless_absent};
+ghost use Rattle.pull_case.specs.Answer.{status_of, failing, answering};
+ghost use Rattle.pull_case.specs.Members.{unless_absent, number_of};
 
 use crate::entries::Entry;
 use crate::headers::read_headers;
@@ -88,7 +88,7 @@ fn read_pieces(alloc: Global, value: &Value) -> Result<List<Blob>, ReadError>
 
 // Before how many pieces a call fails; never where the member is absent.
 fn read_fault(alloc: Global, value: &Value) -> Result<Option<u64>, ReadError>
-    ensures { Gives result (at_name (unless_absent None fault_of) (codes "fault") (view value.now)) }
+    ensures { Gives result (at_name (unless_absent None number_of) (codes "fault") (view value.now)) }
 {
     match value.get("fault") {
         Some(fault) => Ok(Some(Reads::read_value(alloc, fault)?)),

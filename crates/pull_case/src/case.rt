@@ -2,12 +2,12 @@ ghost use Rattle.std.specs.Prelude.{◌≡◌, ◌<◌, IfOk, IfSome, IsOk, leng
 ghost use Rattle.oci_names.specs.References.{reference_of};
 ghost use Rattle.pull_case.specs.Case.{case_in};
 
-use crate::credentials::Credentials;
-use crate::entries::Entries;
-use crate::members::{Moments, Protocol, ReferenceText};
+use crate::entries::{Entries, OrUsual};
+use crate::members::{Moments, ReferenceText};
+use crate::rows::read_row;
 use cosign_layers::{AnnotationVerifier, SignedRow};
 use engine_requests::ClientProtocol;
-use json_tables::{ReadError, Reads, holds_float, only, read_or_none, row9};
+use json_tables::{ReadError, Reads, holds_float, only, read_or_none};
 use json_values::{Blob, List, Text, read_json};
 use oci_auth::RegistryAuth;
 use oci_transport::Recorded;
@@ -28,6 +28,8 @@ pub struct Case {
     pub accepted: List<Text>,
     /// A list of at least one number, in seconds since 1970, at each of which the image is pulled.
     pub moments: List<u64>,
+    /// How many bytes a body may have that is held; the client's own limit where the member is absent.
+    pub limit: Option<u64>,
     /// A list of bytes, the keys of the policy.
     pub keys: List<Blob>,
     /// A list of `{"annotations": {name: text}}`, the constraints of the policy.
@@ -47,23 +49,33 @@ const NAMES: &[&str] = &[
     "auth",
     "accepted",
     "moments",
+    "limit",
     "keys",
     "constraints",
     "signatures",
     "answers",
 ];
 
-type Members = (
-    ReferenceText,
-    Protocol,
-    Credentials,
-    List<Text>,
-    Moments,
-    List<Blob>,
-    Entries<AnnotationVerifier>,
-    Entries<SignedRow>,
-    Entries<Recorded>,
-);
+// The members from each one on, as they stand in `NAMES`.
+type Answers = (Entries<Recorded>, ());
+
+type Signatures = (Entries<SignedRow>, Answers);
+
+type Constraints = (Entries<AnnotationVerifier>, Signatures);
+
+type Keys = (List<Blob>, Constraints);
+
+type Limit = (OrUsual<Option<u64>>, Keys);
+
+type Times = (Moments, Limit);
+
+type Accepted = (List<Text>, Times);
+
+type Auth = (OrUsual<RegistryAuth>, Accepted);
+
+type Protocol = (OrUsual<ClientProtocol>, Auth);
+
+type Members = (ReferenceText, Protocol);
 
 impl Reads for Case {
     ghost use Rattle.pull_case.specs.Case.{case_of};
@@ -73,35 +85,25 @@ impl Reads for Case {
     #[tactic(auto, unfolding(crate::specs::Case::case_of))]
     fn read_value(alloc: Global, value: &Value) -> Result<Case, ReadError> {
         only(value, NAMES)?;
-        let (
+        let row![
             reference,
             protocol,
             auth,
             accepted,
             moments,
+            limit,
             keys,
             constraints,
             signatures,
-            answers,
-        ): Members = row9(
-            alloc,
-            value,
-            "reference",
-            "protocol",
-            "auth",
-            "accepted",
-            "moments",
-            "keys",
-            "constraints",
-            "signatures",
-            "answers",
-        )?;
+            answers
+        ]: Members = read_row::<Case, _>(alloc, value, NAMES)?;
         Ok(Case {
             reference: reference.text,
-            protocol: protocol.client,
-            auth: auth.shown,
+            protocol: protocol.value,
+            auth: auth.value,
             accepted,
             moments: moments.list,
+            limit: limit.value,
             keys,
             constraints: constraints.list,
             signatures: signatures.list,

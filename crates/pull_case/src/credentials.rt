@@ -4,51 +4,32 @@ ghost use Rattle.serde_json.specs.View.{view};
 ghost use Rattle.json_tables.specs.Outcomes.{Gives};
 ghost use Rattle.oci_auth.specs.declared.auth.RegistryAuth.TheVariants.{Anonymous};
 ghost use Rattle.pull_case.specs.Auth.{basic_of, bearer_of, auth_of};
-ghost use Rattle.pull_case.specs.Members.{unless_absent};
 
-use json_tables::{Member, ReadError, only, required};
+use crate::entries::{Entry, Usual};
+use json_tables::{ReadError, only, required};
 use json_values::Text;
 use oci_auth::RegistryAuth;
 use serde_json::Value;
 use std::alloc::Global;
-use std::marker::Model;
 
-/// What a case shows the registry. A contract sees what is shown.
-#[derive(Drop)]
-pub struct Credentials {
-    pub shown: RegistryAuth,
-}
+impl Entry for RegistryAuth {
+    ghost entry = { auth_of };
 
-impl Model for Credentials {
-    ghost use Rattle.oci_auth.specs.declared.auth.RegistryAuth.{RegistryAuth};
-
-    ghost Value = { RegistryAuth };
-
-    ghost view = { λ credentials. credentials.shown };
-}
-
-impl Member for Credentials {
-    ghost found = { unless_absent Anonymous auth_of };
-
-    fn read_member(alloc: Global, member: Option<&Value>) -> Result<Credentials, ReadError> {
-        let Some(value) = member else {
-            return Ok(Credentials {
-                shown: RegistryAuth::Anonymous,
-            });
-        };
-        let shown = read_auth(alloc, value)?;
-        Ok(Credentials { shown })
+    #[tactic(auto, unfolding(crate::specs::Auth::auth_of))]
+    fn read_entry(alloc: Global, value: &Value) -> Result<RegistryAuth, ReadError> {
+        match value {
+            Value::String(text) if text.as_str() == "anonymous" => Ok(RegistryAuth::Anonymous),
+            Value::String(_) => Err(ReadError::Shape),
+            _ => read_object(alloc, value),
+        }
     }
 }
 
-#[tactic(auto, unfolding(crate::specs::Auth::auth_of))]
-fn read_auth(alloc: Global, value: &Value) -> Result<RegistryAuth, ReadError>
-    ensures { Gives result (auth_of (view value.now)) }
-{
-    match value {
-        Value::String(text) if text.as_str() == "anonymous" => Ok(RegistryAuth::Anonymous),
-        Value::String(_) => Err(ReadError::Shape),
-        _ => read_object(alloc, value),
+impl Usual for RegistryAuth {
+    ghost usual = { Anonymous };
+
+    fn usual() -> RegistryAuth {
+        RegistryAuth::Anonymous
     }
 }
 

@@ -1,9 +1,10 @@
-// Lists whose entries are values of other crates.
+// Members whose values are of other crates' types, and lists of such.
 ghost use Rattle.serde_json.specs.Data.{Data};
 ghost use Rattle.serde_json.specs.View.{view, items_view};
-ghost use Rattle.std.specs.Prelude.{Option};
+ghost use Rattle.std.specs.Prelude.{◌≡◌, Option};
 ghost use Rattle.json_tables.specs.Outcomes.{Gives};
 ghost use Rattle.json_tables.specs.Reading.{items_by, list_of, present};
+ghost use Rattle.pull_case.specs.Members.{unless_absent};
 
 use cosign_layers::{AnnotationVerifier, SignedRow};
 use json_tables::{Member, ReadError, only, required, row3};
@@ -12,7 +13,7 @@ use serde_json::Value;
 use std::alloc::Global;
 use std::marker::Model;
 
-/// What an entry of a list is read as.
+/// What an entry of a list, or a member, is read as.
 pub trait Entry: Sized {
     /// What a value reads as.
     ghost entry: { Data → Option Self };
@@ -56,6 +57,38 @@ fn read_entries<T: Entry + Drop>(alloc: Global, items: &[Value]) -> Result<List<
         list.push(T::read_entry(alloc, item)?)?;
     }
     Ok(list)
+}
+
+/// What an absent member stands for.
+pub trait Usual: Entry {
+    ghost usual: { Self };
+
+    fn usual() -> Self
+        ensures { result ≡ usual };
+}
+
+/// A member that may be absent, but not null. A contract sees its value.
+#[derive(Drop)]
+pub struct OrUsual<T> {
+    pub value: T,
+}
+
+impl<T> Model for OrUsual<T> {
+    ghost Value = { T };
+
+    ghost view = { λ member. member.value };
+}
+
+impl<T: Usual + Drop> Member for OrUsual<T> {
+    ghost found = { unless_absent T.usual T.entry };
+
+    fn read_member(alloc: Global, member: Option<&Value>) -> Result<OrUsual<T>, ReadError> {
+        let Some(value) = member else {
+            return Ok(OrUsual { value: T::usual() });
+        };
+        let value = T::read_entry(alloc, value)?;
+        Ok(OrUsual { value })
+    }
 }
 
 impl Entry for AnnotationVerifier {

@@ -4,10 +4,11 @@ ghost use Rattle.json_tables.specs.Reading.{present};
 ghost use Rattle.oci_names.specs.References.{reference_of};
 ghost use Rattle.engine_requests.specs.declared.settings.ClientProtocol.TheVariants.{Https};
 ghost use Rattle.pull_case.specs.Case.{reference_text_of, protocol_named, protocol_of, moments_of};
-ghost use Rattle.pull_case.specs.Members.{unless_absent};
+ghost use Rattle.pull_case.specs.Members.{number_of};
 
+use crate::entries::{Entry, Usual};
 use engine_requests::ClientProtocol;
-use json_tables::{Member, ReadError, present};
+use json_tables::{Member, ReadError, Reads, present};
 use json_values::{List, Text};
 use oci_names::{ParseError, Reference};
 use serde_json::Value;
@@ -57,37 +58,23 @@ fn is_reference(alloc: Global, text: &str) -> Result<bool, AllocError>
     }
 }
 
-/// The protocol of a case. A contract sees the protocol of the client.
-#[derive(Drop)]
-pub struct Protocol {
-    pub client: ClientProtocol,
-}
-
-impl Model for Protocol {
-    ghost use Rattle.engine_requests.specs.declared.settings.ClientProtocol.{ClientProtocol};
-
-    ghost Value = { ClientProtocol };
-
-    ghost view = { λ protocol. protocol.client };
-}
-
-impl Member for Protocol {
-    ghost found = { unless_absent Https protocol_of };
+impl Entry for ClientProtocol {
+    ghost entry = { protocol_of };
 
     #[tactic(auto, unfolding(crate::specs::Case::protocol_of))]
-    fn read_member(_alloc: Global, member: Option<&Value>) -> Result<Protocol, ReadError> {
-        let Some(value) = member else {
-            return Ok(Protocol {
-                client: ClientProtocol::Https,
-            });
-        };
+    fn read_entry(_alloc: Global, value: &Value) -> Result<ClientProtocol, ReadError> {
         let Some(text) = value.as_str() else {
             return Err(ReadError::Shape);
         };
-        let Some(client) = protocol_named(text) else {
-            return Err(ReadError::Shape);
-        };
-        Ok(Protocol { client })
+        protocol_named(text).ok_or(ReadError::Shape)
+    }
+}
+
+impl Usual for ClientProtocol {
+    ghost usual = { Https };
+
+    fn usual() -> ClientProtocol {
+        ClientProtocol::Https
     }
 }
 
@@ -98,6 +85,26 @@ fn protocol_named(text: &str) -> Option<ClientProtocol>
         "http" => Some(ClientProtocol::Http),
         "https" => Some(ClientProtocol::Https),
         _ => None,
+    }
+}
+
+// A number, where there is one.
+impl Entry for Option<u64> {
+    ghost entry = { number_of };
+
+    fn read_entry(alloc: Global, value: &Value) -> Result<Option<u64>, ReadError> {
+        let number = Reads::read_value(alloc, value)?;
+        Ok(Some(number))
+    }
+}
+
+impl Usual for Option<u64> {
+    ghost use Rattle.std.specs.Prelude.{None};
+
+    ghost usual = { None };
+
+    fn usual() -> Option<u64> {
+        None
     }
 }
 

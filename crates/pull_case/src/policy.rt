@@ -1,3 +1,4 @@
+// The policy of a case.
 ghost use Rattle.std.specs.Prelude.{◌≡◌, IfOk};
 ghost use Rattle.pull_case.specs.Policy.{annotation_constraints};
 
@@ -6,20 +7,17 @@ use json_values::{Blob, Copied, List};
 use std::alloc::{AllocError, Global};
 
 /// The policy of these keys and these constraints, in order.
-pub fn policy(
+pub fn case_policy(
     alloc: Global,
     keys: List<Blob>,
-    constraints: &[AnnotationVerifier],
+    verifiers: &[AnnotationVerifier],
 ) -> Result<PullPolicy, AllocError>
     ensures keys { IfOk result (λ policy. policy.keys ≡ keys) }
-    ensures constraints { IfOk result (λ policy. policy.constraints ≡ annotation_constraints constraints.now) }
+    ensures constraints { IfOk result (λ policy. policy.constraints ≡ annotation_constraints verifiers.now) }
 {
-    let mut copies = List::new(alloc);
-    for constraint in constraints {
-        copies.push(Constraint::Annotations(constraint.copy(alloc)?))?;
+    let mut constraints = List::new(alloc);
+    for verifier in verifiers {
+        constraints.push(Constraint::Annotations(verifier.copy(alloc)?))?;
     }
-    Ok(PullPolicy {
-        keys,
-        constraints: copies,
-    })
+    Ok(PullPolicy { keys, constraints })
 }

@@ -1,23 +1,14 @@
-//! Pulls the image of a recorded case only where a trusted signature stands for it, and writes a report. Writes
-//! canonical texts of JSON.
+//! The program: `run` of `pull_run` over standard input and output.
 #![tactic(auto)]
 
-mod canon;
-mod input;
-mod pulls;
-mod report;
-mod serving;
-mod status;
-mod words;
-
 use json_values::{List, Text};
-use pull_edge::{StdSink, StdSource};
-use serving::run;
-use status::Status;
 use std::alloc::Global;
 use std::env::{self, Env};
 use std::io;
 use std::process::ExitCode;
+
+pub use pull_edge::{Failed, MemorySource, PlainSource, Source, StdSink, StdSource};
+pub use pull_run::{Report, Status, Word, run};
 
 // The words behind the program's name.
 fn arguments<R: Env + Alloc>(rt: &R, alloc: Global) -> io::Result<List<Text>> {
@@ -32,7 +23,7 @@ fn arguments<R: Env + Alloc>(rt: &R, alloc: Global) -> io::Result<List<Text>> {
 fn advice(status: u8) -> &'static str {
     match status {
         2 => "usage: pull_program pull < CASE, or pull_program canon < JSON",
-        3 => "the input is not a case (see README.md for its members), or not JSON",
+        3 => "the input is not a case (see crates/pull_case/README.md for its members), or not JSON",
         4 => "the input could not be read",
         5 => "the output could not be written",
         6 => "out of memory",

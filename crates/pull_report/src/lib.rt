@@ -1,4 +1,4 @@
-//! What the program prints of a pull: its report.
+//! What is printed of a pull: its report, and each refusal in one line.
 #![tactic(auto)]
 
 mod lines;
@@ -9,4 +9,6 @@ mod report;
 mod search;
 mod values;
 
-pub use report::write_report;
+pub use lines::{Line, print_line, text_line, write_lines};
+pub use printed::Printed;
+pub use report::{write_refusal, write_report};

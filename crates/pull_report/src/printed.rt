@@ -71,7 +71,8 @@ pub fn print3<A: Printed, B: Printed, C: Printed>(
     b: &B,
     c: &C,
 ) -> Result<(), AllocError>
-    ensures { OnOk result (out.new ≡ out.old ++ spaced (name.now ∷ A.print a.now ∷ B.print b.now ∷ C.print c.now ∷ [])) }
+    ensures { OnOk result (out.new
+        ≡ out.old ++ spaced (name.now ∷ A.print a.now ∷ B.print b.now ∷ C.print c.now ∷ [])) }
 {
     print2(alloc, out, name, a, b)?;
     kept(alloc, out, c)?;

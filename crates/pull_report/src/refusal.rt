@@ -11,18 +11,18 @@ impl Printed for PullRefusal {
 
     fn write_print(&self, alloc: Global, out: &mut Blob) -> Result<(), AllocError> {
         match self {
-            PullRefusal::EmptyPolicy => word(out, "EmptyPolicy"),
-            PullRefusal::OciReferenceNotValidError { reference } => {
+            Self::EmptyPolicy => word(out, "EmptyPolicy"),
+            Self::OciReferenceNotValidError { reference } => {
                 print1(alloc, out, "OciReferenceNotValidError", reference)
             }
-            PullRefusal::RegistryFetchManifestError { image, error } => {
+            Self::RegistryFetchManifestError { image, error } => {
                 print2(alloc, out, "RegistryFetchManifestError", image, error)
             }
-            PullRefusal::RegistryPullError { image, error } => {
+            Self::RegistryPullError { image, error } => {
                 print2(alloc, out, "RegistryPullError", image, error)
             }
-            PullRefusal::Unsatisfied { digest, .. } => print1(alloc, out, "Unsatisfied", digest),
-            PullRefusal::WantOfMemory => word(out, "WantOfMemory"),
+            Self::Unsatisfied { digest, .. } => print1(alloc, out, "Unsatisfied", digest),
+            Self::WantOfMemory => word(out, "WantOfMemory"),
         }
     }
 }

@@ -13,15 +13,13 @@ impl Printed for DigestError {
 
     fn write_print(&self, alloc: Global, out: &mut Blob) -> Result<(), AllocError> {
         match self {
-            DigestError::InvalidHeader(header) => print1(alloc, out, "InvalidHeader", header),
-            DigestError::UnsupportedAlgorithm(name) => {
-                print1(alloc, out, "UnsupportedAlgorithm", name)
-            }
-            DigestError::MissingAlgorithm => word(out, "MissingAlgorithm"),
-            DigestError::VerificationError { expected, actual } => {
+            Self::InvalidHeader(header) => print1(alloc, out, "InvalidHeader", header),
+            Self::UnsupportedAlgorithm(name) => { print1(alloc, out, "UnsupportedAlgorithm", name) }
+            Self::MissingAlgorithm => word(out, "MissingAlgorithm"),
+            Self::VerificationError { expected, actual } => {
                 print2(alloc, out, "VerificationError", expected, actual)
             }
-            DigestError::WantOfMemory => word(out, "WantOfMemory"),
+            Self::WantOfMemory => word(out, "WantOfMemory"),
         }
     }
 }
@@ -33,7 +31,7 @@ impl Printed for GenericCause {
 
     fn write_print(&self, _alloc: Global, out: &mut Blob) -> Result<(), AllocError> {
         match self {
-            GenericCause::HeaderText => word(out, "HeaderText"),
+            Self::HeaderText => word(out, "HeaderText"),
         }
     }
 }
@@ -45,9 +43,7 @@ impl Printed for SpecViolation {
 
     fn write_print(&self, alloc: Global, out: &mut Blob) -> Result<(), AllocError> {
         match self {
-            SpecViolation::Status { expected, got, url } => {
-                print3(alloc, out, "Status", expected, got, url)
-            }
+            Self::Status { expected, got, url } => print3(alloc, out, "Status", expected, got, url),
         }
     }
 }
@@ -59,53 +55,47 @@ impl Printed for OciDistributionError {
 
     fn write_print(&self, alloc: Global, out: &mut Blob) -> Result<(), AllocError> {
         match self {
-            OciDistributionError::AmbiguousManifest(document) => {
-                print1(alloc, out, "AmbiguousManifest", document)
-            }
-            OciDistributionError::AuthenticationFailure(body) => {
-                print1(alloc, out, "AuthenticationFailure", body)
-            }
-            OciDistributionError::BodyTooLong => word(out, "BodyTooLong"),
-            OciDistributionError::DigestError(error) => print1(alloc, out, "DigestError", error),
-            OciDistributionError::GenericError(cause) => print1(alloc, out, "GenericError", cause),
-            OciDistributionError::ImageIndexParsingNoPlatformResolverError => {
+            Self::AmbiguousManifest(document) => print1(alloc, out, "AmbiguousManifest", document),
+            Self::AuthenticationFailure(body) => print1(alloc, out, "AuthenticationFailure", body),
+            Self::BodyTooLong => word(out, "BodyTooLong"),
+            Self::DigestError(error) => print1(alloc, out, "DigestError", error),
+            Self::GenericError(cause) => print1(alloc, out, "GenericError", cause),
+            Self::ImageIndexParsingNoPlatformResolverError => {
                 word(out, "ImageIndexParsingNoPlatformResolverError")
             }
-            OciDistributionError::IncompatibleLayerMediaTypeError(media_type) => {
+            Self::IncompatibleLayerMediaTypeError(media_type) => {
                 print1(alloc, out, "IncompatibleLayerMediaTypeError", media_type)
             }
-            OciDistributionError::ManifestParsingError(document) => {
+            Self::ManifestParsingError(document) => {
                 print1(alloc, out, "ManifestParsingError", document)
             }
-            OciDistributionError::PullNoLayersError => word(out, "PullNoLayersError"),
-            OciDistributionError::RegistryError { envelope, url } => {
+            Self::PullNoLayersError => word(out, "PullNoLayersError"),
+            Self::RegistryError { envelope, url } => {
                 print2(alloc, out, "RegistryError", envelope, url)
             }
-            OciDistributionError::RegistryTokenDecodeError(body) => {
+            Self::RegistryTokenDecodeError(body) => {
                 print1(alloc, out, "RegistryTokenDecodeError", body)
             }
-            OciDistributionError::ServerError { code, url, message } => {
+            Self::ServerError { code, url, message } => {
                 print3(alloc, out, "ServerError", code, url, message)
             }
-            OciDistributionError::SinkFault => word(out, "SinkFault"),
-            OciDistributionError::SpecViolationError(violation) => {
+            Self::SinkFault => word(out, "SinkFault"),
+            Self::SpecViolationError(violation) => {
                 print1(alloc, out, "SpecViolationError", violation)
             }
-            OciDistributionError::TransportFault => word(out, "TransportFault"),
-            OciDistributionError::UnauthorizedError { url } => {
-                print1(alloc, out, "UnauthorizedError", url)
-            }
-            OciDistributionError::UnsupportedMediaTypeError(media_type) => {
+            Self::TransportFault => word(out, "TransportFault"),
+            Self::UnauthorizedError { url } => { print1(alloc, out, "UnauthorizedError", url) }
+            Self::UnsupportedMediaTypeError(media_type) => {
                 print1(alloc, out, "UnsupportedMediaTypeError", media_type)
             }
-            OciDistributionError::UnsupportedSchemaVersionError(version) => {
+            Self::UnsupportedSchemaVersionError(version) => {
                 print1(alloc, out, "UnsupportedSchemaVersionError", version)
             }
-            OciDistributionError::UrlParseError(text) => print1(alloc, out, "UrlParseError", text),
-            OciDistributionError::VersionedParsingError(document) => {
+            Self::UrlParseError(text) => print1(alloc, out, "UrlParseError", text),
+            Self::VersionedParsingError(document) => {
                 print1(alloc, out, "VersionedParsingError", document)
             }
-            OciDistributionError::WantOfMemory => word(out, "WantOfMemory"),
+            Self::WantOfMemory => word(out, "WantOfMemory"),
         }
     }
 }
@@ -117,19 +107,19 @@ impl Printed for SigstoreError {
 
     fn write_print(&self, alloc: Global, out: &mut Blob) -> Result<(), AllocError> {
         match self {
-            SigstoreError::OciReferenceNotValidError { reference } => {
+            Self::OciReferenceNotValidError { reference } => {
                 print1(alloc, out, "OciReferenceNotValidError", reference)
             }
-            SigstoreError::RegistryFetchManifestError { image, error } => {
+            Self::RegistryFetchManifestError { image, error } => {
                 print2(alloc, out, "RegistryFetchManifestError", image, error)
             }
-            SigstoreError::RegistryPullError { image, error } => {
+            Self::RegistryPullError { image, error } => {
                 print2(alloc, out, "RegistryPullError", image, error)
             }
-            SigstoreError::RegistryPullManifestError { image, error } => {
+            Self::RegistryPullManifestError { image, error } => {
                 print2(alloc, out, "RegistryPullManifestError", image, error)
             }
-            SigstoreError::WantOfMemory => word(out, "WantOfMemory"),
+            Self::WantOfMemory => word(out, "WantOfMemory"),
         }
     }
 }

@@ -36,6 +36,8 @@ fn write_search(alloc: Global, out: &mut Blob, refusal: &PullRefusal) -> Result<
     Ok(())
 }
 
+/// Adds the lines of a refusal at the end of `out`: its print behind `refused`, and of a search without a layer that
+/// stands what was collected and what was skipped.
 pub fn write_refusal(alloc: Global, out: &mut Blob, refusal: &PullRefusal) -> Result<(), AllocError>
     ensures { OnOk result (out.new ≡ out.old ++ refusal_lines refusal.now) }
 {

@@ -12,10 +12,10 @@ impl Printed for LayerPart {
 
     fn write_print(&self, _alloc: Global, out: &mut Blob) -> Result<(), AllocError> {
         match self {
-            LayerPart::Content => word(out, "Content"),
-            LayerPart::Signature => word(out, "Signature"),
-            LayerPart::LogEntry => word(out, "LogEntry"),
-            LayerPart::Certificate => word(out, "Certificate"),
+            Self::Content => word(out, "Content"),
+            Self::Signature => word(out, "Signature"),
+            Self::LogEntry => word(out, "LogEntry"),
+            Self::Certificate => word(out, "Certificate"),
         }
     }
 }
@@ -27,16 +27,16 @@ impl Printed for LayerRejection {
 
     fn write_print(&self, alloc: Global, out: &mut Blob) -> Result<(), AllocError> {
         match self {
-            LayerRejection::DigestMismatch => word(out, "DigestMismatch"),
-            LayerRejection::Unreadable(part) => print1(alloc, out, "Unreadable", part),
-            LayerRejection::OtherDigest => word(out, "OtherDigest"),
-            LayerRejection::NoSignature => word(out, "NoSignature"),
-            LayerRejection::UnknownLogKey(log) => print1(alloc, out, "UnknownLogKey", log),
-            LayerRejection::BadLogSignature => word(out, "BadLogSignature"),
-            LayerRejection::NoLogEntry => word(out, "NoLogEntry"),
-            LayerRejection::NotVouched => word(out, "NotVouched"),
-            LayerRejection::LayerNotPulled => word(out, "LayerNotPulled"),
-            LayerRejection::WantOfMemory => word(out, "WantOfMemory"),
+            Self::DigestMismatch => word(out, "DigestMismatch"),
+            Self::Unreadable(part) => print1(alloc, out, "Unreadable", part),
+            Self::OtherDigest => word(out, "OtherDigest"),
+            Self::NoSignature => word(out, "NoSignature"),
+            Self::UnknownLogKey(log) => print1(alloc, out, "UnknownLogKey", log),
+            Self::BadLogSignature => word(out, "BadLogSignature"),
+            Self::NoLogEntry => word(out, "NoLogEntry"),
+            Self::NotVouched => word(out, "NotVouched"),
+            Self::LayerNotPulled => word(out, "LayerNotPulled"),
+            Self::WantOfMemory => word(out, "WantOfMemory"),
         }
     }
 }
@@ -48,8 +48,8 @@ impl Printed for SourceKind {
 
     fn write_print(&self, _alloc: Global, out: &mut Blob) -> Result<(), AllocError> {
         match self {
-            SourceKind::Tag => word(out, "Tag"),
-            SourceKind::Referrers => word(out, "Referrers"),
+            Self::Tag => word(out, "Tag"),
+            Self::Referrers => word(out, "Referrers"),
         }
     }
 }
@@ -61,9 +61,9 @@ impl Printed for SkipCause {
 
     fn write_print(&self, alloc: Global, out: &mut Blob) -> Result<(), AllocError> {
         match self {
-            SkipCause::NotAReference(text) => print1(alloc, out, "NotAReference", text),
-            SkipCause::FoundIndex => word(out, "FoundIndex"),
-            SkipCause::Refused(error) => print1(alloc, out, "Refused", error),
+            Self::NotAReference(text) => print1(alloc, out, "NotAReference", text),
+            Self::FoundIndex => word(out, "FoundIndex"),
+            Self::Refused(error) => print1(alloc, out, "Refused", error),
         }
     }
 }
@@ -75,9 +75,9 @@ impl Printed for Skipped {
 
     fn write_print(&self, alloc: Global, out: &mut Blob) -> Result<(), AllocError> {
         match self {
-            Skipped::Source(source, cause) => print2(alloc, out, "Source", source, cause),
-            Skipped::Referrer(referrer, cause) => print2(alloc, out, "Referrer", referrer, cause),
-            Skipped::Layer(source, layer, rejection) => {
+            Self::Source(source, cause) => print2(alloc, out, "Source", source, cause),
+            Self::Referrer(referrer, cause) => print2(alloc, out, "Referrer", referrer, cause),
+            Self::Layer(source, layer, rejection) => {
                 print3(alloc, out, "Layer", source, layer, rejection)
             }
         }

@@ -13,14 +13,14 @@ use Rattle.engine_requests.specs.declared.settings.Settings.{Settings}
 use Rattle.engine_requests.specs.declared.error.OciDistributionError.{OciDistributionError}
 use Rattle.engine_requests.specs.declared.error.OciDistributionError.TheVariants as engine_refusal
 use Rattle.engine_requests.specs.Errors.{is_memory as engine_is_memory}
-use Rattle.oci_engine.specs.Refusals.{RefusedFor, FaultCounted as EngineCounted}
+use Rattle.oci_engine.specs.Refusals.{RefusedFor}
 use Rattle.sig_registry.specs.declared.wording.Called.TheVariants.{FetchManifest, Pull, PullManifest}
 use Rattle.engine_steps.specs.Rows.{Row as Engine}
 use Rattle.oci_engine.specs.declared.client.Client.{Client}
 use Rattle.sig_registry.specs.declared.error.SigstoreError.{SigstoreError}
 use Rattle.sig_registry.specs.declared.error.SigstoreError.TheVariants as sigstore
 use Rattle.sig_registry.specs.declared.wording.Called.{Called}
-use Rattle.sig_registry.specs.Errors.{is_memory, refusal, worded, Says, registry_refusal, IsRefusedBy, FaultCounted, NoSinkFault}
+use Rattle.sig_registry.specs.Errors.{is_memory, refusal, worded, Says, registry_refusal, IsRefusedBy, NoSinkFault}
 use Rattle.sig_registry.specs.Clients.{Row, Made, engine_state}
 use Rattle.sig_registry.specs.Calls.{in_words}
 
@@ -93,12 +93,12 @@ worded_refusal {A} called text f r (Err x) says held = by_memory (is_memory x) r
   by_memory true is says = absurd (not_memory x f is held)
   by_memory false is says = by_result r says
 
-pub worded_fault : {A : Type 0} (called : Called) (text : List ℕ) {old new : Link} {r : Result A OciDistributionError} {s : Result A SigstoreError} → EngineCounted old new r → Says s (worded called text r) → FaultCounted old new s
-worded_fault called text {r = r} {s = s} fault says held = fault (worded_refusal called text engine_refusal.TransportFault r s says held)
+pub worded_fault : {A : Type 0} (called : Called) (text : List ℕ) (r : Result A OciDistributionError) (s : Result A SigstoreError) (P : Type 0) → (r ≡ Err engine_refusal.TransportFault → P) → Says s (worded called text r) → IsRefusedBy engine_refusal.TransportFault s → P
+worded_fault called text r s P fault says held = fault (worded_refusal called text engine_refusal.TransportFault r s says held)
 
 -- where the client's causes leave no fault of a sink
-pub worded_no_sink : {A : Type 0} (called : Called) (text : List ℕ) (Why : List Exchange → ℕ → OciDistributionError → Type 0) {old new : Link} {r : Result A OciDistributionError} {s : Result A SigstoreError} → ((c : List Exchange) (n : ℕ) → Why c n engine_refusal.SinkFault → ⊥) → RefusedFor Why old new r → Says s (worded called text r) → NoSinkFault s
-worded_no_sink {A} called text Why {old} {new} {r} {s} never causes says held = by_result r causes (worded_refusal called text engine_refusal.SinkFault r s says held) where
+pub worded_no_sink : {A : Type 0} (called : Called) (text : List ℕ) (Why : List Exchange → ℕ → OciDistributionError → Type 0) (old new : Link) (r : Result A OciDistributionError) (s : Result A SigstoreError) → ((c : List Exchange) (n : ℕ) → Why c n engine_refusal.SinkFault → ⊥) → RefusedFor Why old new r → Says s (worded called text r) → NoSinkFault s
+worded_no_sink {A} called text Why old new r s never causes says held = by_result r causes (worded_refusal called text engine_refusal.SinkFault r s says held) where
   by_result : (r : Result A OciDistributionError) → RefusedFor Why old new r → r ≡ Err engine_refusal.SinkFault → ⊥
   by_result (Ok a) h is = absurd (cc is)
   by_result (Err e) h is = let same : e ≡ engine_refusal.SinkFault = cc is in never h.conversation new.faults (subst (Why h.conversation new.faults) same h.holds)

@@ -1,15 +1,11 @@
-//! Tests of transports, registries in memory, challenges and tokens.
+//! Tests of transports and registries in memory.
 #![tactic(auto)]
 
-#[cfg(test)]
-mod challenges;
 #[cfg(test)]
 mod headers;
 #[cfg(test)]
 mod scripts;
 #[cfg(test)]
 mod shelves;
-#[cfg(test)]
-mod tokens;
 #[cfg(test)]
 mod urls;

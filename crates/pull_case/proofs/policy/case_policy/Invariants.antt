@@ -1,6 +1,6 @@
 use Rattle.std.proofs.Common.{◌≡◌, take}
 use Rattle.pull_case.specs.Policy.{annotation_constraints}
-use Rattle.pull_case.proofs.pull_policy.policy.Given as goal
+use Rattle.pull_case.proofs.policy.case_policy.Given as goal
 
-abbrev pub invariant-loop-constraint : goal.invariant-loop-constraint
-invariant-loop-constraint g l = l.copies ≡ annotation_constraints (take l.constraint-index l.constraints)
+abbrev pub invariant-loop-verifier : goal.invariant-loop-verifier
+invariant-loop-verifier g l = l.constraints ≡ annotation_constraints (take l.verifier-index l.verifiers)

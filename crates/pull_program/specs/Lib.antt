@@ -1,6 +1,0 @@
-pub mod Inputs
-pub mod Pulls
-pub mod Rounds
-pub mod Serving
-pub mod Texts
-pub mod Words

@@ -1,0 +1,5 @@
+pub mod Cases
+pub mod Inputs
+pub mod Parts
+pub mod Rounding
+pub mod Statuses

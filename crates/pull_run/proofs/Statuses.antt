@@ -1,0 +1,125 @@
+-- With which status an input ends, by what the statuses say.
+use Rattle.std.specs.Io.KnownBytes.{Consumes}
+use Rattle.std.proofs.Common.{◌≡◌, ◌≤◌, ◌<◌, ◌+◌, ◌-◌, inl, inr, ℕ, List, [], Option, Some, None, Ok, Err, length, refl, sym, ap, ◌∙◌, arith}
+use Rattle.std.specs.Prelude.{◌↔◌}
+use Rattle.json_values.specs.Tray.{Tray}
+use Rattle.pull_edge.specs.Source.{Spring}
+use Rattle.pull_edge.specs.Reading.{TakesWithin, TakesMore}
+use Rattle.pull_edge.proofs.Springs.{Consumes-none}
+use Rattle.pull_run.specs.declared.report.Report.{Report}
+use Rattle.pull_run.specs.declared.status.Status.{Status}
+use Rattle.pull_run.specs.declared.status.Status.TheVariants as status
+use Rattle.pull_run.specs.declared.word.Word.{Word}
+use Rattle.pull_run.specs.Input.{input_limit, IsInput, IsRead, ReadsInput}
+use Rattle.pull_run.specs.Output.{Puts}
+use Rattle.pull_run.specs.Program.{Makes, SaysTask, SaysWord, Says, EndsWith, EndsUnread, EndsLong, EndsPast}
+use Rattle.pull_run.specs.Status.{code_of}
+use Rattle.pull_run.specs.Task.{Task, task_by, task_of}
+use Rattle.pull_run.specs.Word.{word_of}
+use Rattle.pull_run.proofs.Inputs.{within_limit, read_within, input_is, taken_is}
+
+-- nothing was written, since there was no input
+pub no_input : {X : Type 0} (reads : List ℕ → Option X) (Gives : X → Report → Type 0) (s : Status) (old new : Spring) (before : Tray) → ReadsInput reads (Err s) old new → SaysTask (task_by reads Gives) s old new before before
+no_input reads Gives status.Done old new before h = absurd h
+no_input reads Gives status.Refused old new before h = absurd h
+no_input reads Gives status.Usage old new before h = absurd h
+no_input reads Gives status.UnreadableInput old new before h = (h, refl)
+no_input reads Gives status.SourceFault old new before h = (h, refl)
+no_input reads Gives status.SinkFault old new before h = absurd h
+no_input reads Gives status.WantOfMemory old new before h = (h.0, inl refl)
+no_input reads Gives status.TooLong old new before h = (h, refl)
+
+-- what was made went out as the status says
+pub put : {X : Type 0} (reads : List ℕ → Option X) (Gives : X → Report → Type 0) (x : X) (made : Report) (s : Status) (old new : Spring) (before after : Tray)
+    → IsRead reads x old new → Gives x made → Puts s made before after → SaysTask (task_by reads Gives) s old new before after
+put reads Gives x made status.Done old new before after is gives h = record { made = made; makes = record { input = x; is_read = is; gives = gives }; refused_is = h.0; out = h.1 }
+put reads Gives x made status.Refused old new before after is gives h = record { made = made; makes = record { input = x; is_read = is; gives = gives }; refused_is = h.0; out = h.1 }
+put reads Gives x made status.Usage old new before after is gives h = absurd h
+put reads Gives x made status.UnreadableInput old new before after is gives h = absurd h
+put reads Gives x made status.SourceFault old new before after is gives h = absurd h
+put reads Gives x made status.SinkFault old new before after is gives h = (record { made = made; makes = record { input = x; is_read = is; gives = gives }; out = h.0 }, h.1)
+put reads Gives x made status.WantOfMemory old new before after is gives h = (read_within reads x old new is, inr (record { made = made; makes = record { input = x; is_read = is; gives = gives }; out = h }))
+put reads Gives x made status.TooLong old new before after is gives h = absurd h
+
+-- memory was wanting before the writing began
+pub none_made : {X : Type 0} (reads : List ℕ → Option X) (Gives : X → Report → Type 0) (x : X) (old new : Spring) (before : Tray) → IsRead reads x old new → SaysTask (task_by reads Gives) status.WantOfMemory old new before before
+none_made reads Gives x old new before is = (read_within reads x old new is, inl refl)
+
+none_read : (task : Task) (x : task.Input) (told : List ℕ) (old new : Spring) → old.left ≡ Some told → task.reads told ≡ None → IsRead task.reads x old new → ⊥
+none_read task x told old new is none h = cc (sym none ∙ ap task.reads (sym (input_is h.0 told old new is h.1)) ∙ h.2)
+
+long_input : (bytes told : List ℕ) (old new : Spring) → old.left ≡ Some told → input_limit < length told → IsInput bytes old new → ⊥
+long_input bytes told old new is long h = omega (arith, h.1, long, ap length (input_is bytes told old new is h))
+
+past_all : (told : List ℕ) (old new : Spring) → old.left ≡ Some told → length told ≤ input_limit → TakesMore input_limit old new → ⊥
+past_all told old new is short h = by_left old.left new.left is h.1 where
+  by_left : (left right : Option (List ℕ)) → left ≡ Some told → Consumes left right h.0 → ⊥
+  by_left left None left_is taken = absurd (rw left_is at taken)
+  by_left left (Some rest) left_is taken = omega (arith, short, h.2, taken_is left (Some rest) h.0 told rest left_is refl taken)
+
+unread_ends : (task : Task) (s : Status) (told : List ℕ) (old new : Spring) (before after : Tray) → old.left ≡ Some told → length told ≤ input_limit → task.reads told ≡ None → SaysTask task s old new before after → EndsWith 3 (code_of s) old new
+unread_ends task status.Done told old new before after is short none h = absurd (none_read task h.makes.input told old new is none h.makes.is_read)
+unread_ends task status.Refused told old new before after is short none h = absurd (none_read task h.makes.input told old new is none h.makes.is_read)
+unread_ends task status.Usage told old new before after is short none h = absurd h
+unread_ends task status.UnreadableInput told old new before after is short none h = inl refl
+unread_ends task status.SourceFault told old new before after is short none h = inr (inr (refl, h.0.1))
+unread_ends task status.SinkFault told old new before after is short none h = absurd (none_read task h.0.makes.input told old new is none h.0.makes.is_read)
+unread_ends task status.WantOfMemory told old new before after is short none h = inr (inl refl)
+unread_ends task status.TooLong told old new before after is short none h = absurd (past_all told old new is short h.0.0)
+
+long_ends : (task : Task) (s : Status) (told : List ℕ) (old new : Spring) (before after : Tray) → old.left ≡ Some told → input_limit < length told → SaysTask task s old new before after → EndsWith 7 (code_of s) old new
+long_ends task status.Done told old new before after is long h = let r = h.makes.is_read in absurd (long_input r.0 told old new is long r.1)
+long_ends task status.Refused told old new before after is long h = let r = h.makes.is_read in absurd (long_input r.0 told old new is long r.1)
+long_ends task status.Usage told old new before after is long h = absurd h
+long_ends task status.UnreadableInput told old new before after is long h = absurd (long_input h.0.0 told old new is long h.0.1)
+long_ends task status.SourceFault told old new before after is long h = inr (inr (refl, h.0.1))
+long_ends task status.SinkFault told old new before after is long h = let r = h.0.makes.is_read in absurd (long_input r.0 told old new is long r.1)
+long_ends task status.WantOfMemory told old new before after is long h = inr (inl refl)
+long_ends task status.TooLong told old new before after is long h = inl refl
+
+-- what was taken, where the status is another one than 7
+within_past : (code : ℕ) (old new : Spring) → (code ≡ 7 → ⊥) → TakesWithin input_limit old new → EndsPast code old new
+within_past code old new other h told rest left right = ((λ is. absurd (other is)), (λ long. absurd (omega (arith, long, h.2, taken_is old.left new.left h.0 told rest left right h.1))))
+
+more_past : (code : ℕ) (old new : Spring) → code ≡ 7 → TakesMore input_limit old new → EndsPast code old new
+more_past code old new seven h told rest left right = ((λ is. omega (arith, h.2, taken_is old.left new.left h.0 told rest left right h.1)), (λ long. seven))
+
+task_past : (task : Task) (s : Status) (old new : Spring) (before after : Tray) → SaysTask task s old new before after → EndsPast (code_of s) old new
+task_past task status.Done old new before after h = within_past 0 old new (λ e. cc e) (read_within task.reads h.makes.input old new h.makes.is_read)
+task_past task status.Refused old new before after h = within_past 1 old new (λ e. cc e) (read_within task.reads h.makes.input old new h.makes.is_read)
+task_past task status.Usage old new before after h = absurd h
+task_past task status.UnreadableInput old new before after h = within_past 3 old new (λ e. cc e) (within_limit h.0.0 old new h.0.1)
+task_past task status.SourceFault old new before after h = within_past 4 old new (λ e. cc e) h.0.0
+task_past task status.SinkFault old new before after h = within_past 5 old new (λ e. cc e) (read_within task.reads h.0.makes.input old new h.0.makes.is_read)
+task_past task status.WantOfMemory old new before after h = within_past 6 old new (λ e. cc e) h.0
+task_past task status.TooLong old new before after h = more_past 7 old new refl h.0.0
+
+not_usage : (task : Task) (s : Status) (old new : Spring) (before after : Tray) → SaysTask task s old new before after → code_of s ≡ 2 → ⊥
+not_usage task status.Done old new before after h is = cc
+not_usage task status.Refused old new before after h is = cc
+not_usage task status.Usage old new before after h is = h
+not_usage task status.UnreadableInput old new before after h is = cc
+not_usage task status.SourceFault old new before after h is = cc
+not_usage task status.SinkFault old new before after h is = cc
+not_usage task status.WantOfMemory old new before after h is = cc
+not_usage task status.TooLong old new before after h is = cc
+
+pub says_unread : (words : List (List ℕ)) (code : ℕ) (old new : Spring) (before after : Tray) → Says words code old new before after → EndsUnread words code old new
+says_unread words code old new before after says word told word_is left short none =
+    let h : SaysTask (task_of word) says.0 old new before after = rw word_is at says.2 in rw says.1 (unread_ends (task_of word) says.0 told old new before after left short none h)
+
+pub says_long : (words : List (List ℕ)) (code : ℕ) (old new : Spring) (before after : Tray) → Says words code old new before after → EndsLong words code old new
+says_long words code old new before after says word told word_is left long =
+    let h : SaysTask (task_of word) says.0 old new before after = rw word_is at says.2 in rw says.1 (long_ends (task_of word) says.0 told old new before after left long h)
+
+pub says_past : (words : List (List ℕ)) (code : ℕ) (old new : Spring) (before after : Tray) → Says words code old new before after → EndsPast code old new
+says_past words code old new before after says = rw says.1 (by_word (word_of words) says.0 says.2) where
+  by_word : (word : Option Word) (s : Status) → SaysWord word s old new before after → EndsPast (code_of s) old new
+  by_word (Some word) s h = task_past (task_of word) s old new before after h
+  by_word None s h = within_past (code_of s) old new (λ e. cc (sym (ap code_of h.0) ∙ e)) (rw h.1 ([], Consumes-none old.left, omega arith))
+
+pub says_usage : (words : List (List ℕ)) (code : ℕ) (old new : Spring) (before after : Tray) → Says words code old new before after → word_of words ≡ None ↔ code ≡ 2
+says_usage words code old new before after says = by_word (word_of words) says.0 says.1 says.2 where
+  by_word : (word : Option Word) (s : Status) → code ≡ code_of s → SaysWord word s old new before after → word ≡ None ↔ code ≡ 2
+  by_word None s is h = ((λ none. is ∙ ap code_of h.0), (λ two. refl))
+  by_word (Some word) s is h = ((λ none. absurd (cc none)), (λ two. absurd (not_usage (task_of word) s old new before after h (sym is ∙ two))))

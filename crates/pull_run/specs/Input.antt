@@ -1,0 +1,37 @@
+-- The input, and how it was read.
+use Rattle.std.specs.Prelude.{◌≡◌, ℕ, List, Option, Some, None, Result, Ok, Err}
+use Rattle.pull_edge.specs.Source.{Spring}
+use Rattle.pull_edge.specs.Reading.{Reads}
+use Rattle.pull_edge.specs.declared.reading.ReadRefusal.{ReadRefusal}
+use Rattle.pull_edge.specs.declared.reading.ReadRefusal.TheVariants as read
+use Rattle.pull_run.specs.declared.status.Status.{Status}
+use Rattle.pull_run.specs.declared.status.Status.TheVariants as status
+
+-- how many bytes the input may have
+abbrev pub input_limit : ℕ
+input_limit = 67108864
+
+-- these bytes are the whole input, which was read to its end and is short enough
+abbrev pub IsInput : List ℕ → Spring → Spring → Type 0
+IsInput bytes old new = Reads input_limit (Ok bytes) old new
+
+-- it was not read to its end
+abbrev pub IsCut : ReadRefusal → Spring → Spring → Type 0
+IsCut refusal old new = Reads input_limit (Err refusal) old new
+
+-- it was read to its end, and reads as nothing
+abbrev pub IsOther : {X : Type 0} → (List ℕ → Option X) → Spring → Spring → Type 0
+IsOther reads old new = (bytes : List ℕ) × IsInput bytes old new × (reads bytes ≡ None)
+
+-- it was read to its end, and reads as this
+abbrev pub IsRead : {X : Type 0} → (List ℕ → Option X) → X → Spring → Spring → Type 0
+IsRead reads x old new = (bytes : List ℕ) × IsInput bytes old new × (reads bytes ≡ Some x)
+
+-- what it reads as, or why that was not found; memory may be wanting before all is read, or behind that
+abbrev pub ReadsInput : {X : Type 0} → (List ℕ → Option X) → Result X Status → Spring → Spring → Type 0
+ReadsInput reads (Ok x) old new = IsRead reads x old new
+ReadsInput reads (Err status.UnreadableInput) old new = IsOther reads old new
+ReadsInput reads (Err status.SourceFault) old new = IsCut read.SourceFault old new
+ReadsInput reads (Err status.TooLong) old new = IsCut read.TooLong old new
+ReadsInput reads (Err status.WantOfMemory) old new = IsCut read.WantOfMemory old new
+ReadsInput reads (Err other) old new = ⊥

@@ -1,0 +1,9 @@
+pub mod Canon
+pub mod Input
+pub mod Output
+pub mod Program
+pub mod Pulls
+pub mod Rounds
+pub mod Status
+pub mod Task
+pub mod Word

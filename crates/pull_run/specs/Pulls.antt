@@ -1,0 +1,127 @@
+-- The pulls of a case: one at each of its moments, by one client, over the case's recorded answers.
+use Rattle.std.specs.Prelude.{◌≡◌, ℕ, Bool, true, false, not, IsTrue, ◌&&◌, List, [], ◌∷◌, map, flat_map, Option, Some, None, Result, Ok, Err, codes}
+use Rattle.oci_transport.specs.Link.{AnsweredBy}
+use Rattle.oci_transport.specs.Calm.{calm}
+use Rattle.oci_transport.specs.Playback.{answering}
+use Rattle.oci_transport.specs.declared.message.Exchange.{Exchange}
+use Rattle.oci_names.specs.declared.reference.Reference.{Reference}
+use Rattle.oci_names.specs.References.{reference_of}
+use Rattle.oci_auth.specs.Memory.{fresh as nothing_kept}
+use Rattle.oci_protocol.specs.Runs.{Runs}
+use Rattle.engine_requests.specs.Contexts.{within}
+use Rattle.engine_requests.specs.declared.settings.ClientProtocol.{ClientProtocol}
+use Rattle.engine_requests.specs.declared.settings.Settings.{Settings}
+use Rattle.sig_registry.specs.Clients.{Kept}
+use Rattle.cosign_layers.specs.Accepts.{has_no_item}
+use Rattle.cosign_layers.specs.Standing.{Meaning, meaning, stands}
+use Rattle.cosign_layers.specs.Rows.{valid_in}
+use Rattle.cosign_layers.specs.declared.policy.PullPolicy.{PullPolicy}
+use Rattle.cosign_client.specs.Sound.{Sound}
+use Rattle.cosign_client.specs.Verified.{Whole, verified}
+use Rattle.cosign_client.specs.declared.verified.VerifiedImage.{VerifiedImage}
+use Rattle.cosign_client.specs.declared.verified.PullRefusal.{PullRefusal}
+use Rattle.pull_case.specs.Policy.{annotation_constraints}
+use Rattle.pull_case.specs.declared.case.Case.{Case}
+use Rattle.pull_report.specs.Report.{report}
+use Rattle.pull_run.specs.declared.report.Report.{Report}
+
+-- one pull: its moment, its conversation and its result
+pub record Talk : Type 0 where
+  pub moment : ℕ
+  pub conversation : List Exchange
+  pub result : Result VerifiedImage PullRefusal
+
+abbrev pub moment_of : Talk → ℕ
+moment_of talk = talk.moment
+
+abbrev pub conversation_of : Talk → List Exchange
+conversation_of talk = talk.conversation
+
+-- all exchanges, one pull's after another's
+abbrev pub joined : List Talk → List Exchange
+joined talks = flat_map conversation_of talks
+
+abbrev pub report_of : Talk → List ℕ
+report_of talk = report talk.moment talk.conversation talk.result
+
+-- what is written of the pulls
+abbrev pub reports : List Talk → List ℕ
+reports talks = flat_map report_of talks
+
+abbrev pub is_answered : Result VerifiedImage PullRefusal → Bool
+is_answered (Ok image) = true
+is_answered (Err refusal) = false
+
+-- whether no pull was refused
+abbrev pub all_answered : List Talk → Bool
+all_answered [] = true
+all_answered (talk ∷ talks) = is_answered talk.result && all_answered talks
+
+-- pulls in turn: each is a whole run of its row, and goes on from what the one before it kept
+abbrev pub InTurn : (ℕ → Whole VerifiedImage) → Kept → ℕ → List Talk → Kept → ℕ → Type 0
+InTurn row k m [] l n = (k ≡ l) × (m ≡ n)
+InTurn row k m (talk ∷ talks) l n =
+    (kept : Kept) × (count : ℕ)
+    × Runs (row talk.moment) k m talk.conversation count kept talk.result
+    × InTurn row kept count talks l n
+
+-- the policy of a case, and what it takes as valid; no box of a caller stands in it
+abbrev pub policy_of : Case → PullPolicy ⊥ (λ v. ⊥)
+policy_of case = record { keys = case.keys; constraints = annotation_constraints case.constraints }
+
+abbrev pub meaning_of : Case → Meaning ⊥ (λ v. ⊥)
+meaning_of case =
+    meaning (policy_of case) (valid_in (record { rows = case.signatures })) (λ box layer. false)
+
+-- the limit of a body that is held, or the usual one
+abbrev pub limit_by : Option ℕ → ℕ
+limit_by None = 4294967295
+limit_by (Some limit) = limit
+
+-- the settings of a client by its protocol and its limit, else the usual ones
+abbrev pub settings_by : ClientProtocol → Option ℕ → Settings
+settings_by protocol limit =
+    record { protocol = protocol; user_agent = codes "oci-client/0.18.0"; max_body_bytes = limit_by limit }
+
+abbrev pub settings_of : Case → Settings
+settings_of case = settings_by case.protocol case.limit
+
+-- a client that keeps nothing yet
+abbrev pub fresh : Kept
+fresh = nothing_kept 60
+
+-- the pull of a case's image at a moment
+abbrev pub row_of : Case → Reference → ℕ → Whole VerifiedImage
+row_of case image moment =
+    verified (has_no_item (policy_of case).constraints) (stands (meaning_of case))
+    (within (settings_of case) moment) image case.auth case.accepted
+
+-- each image that was answered has a chain that holds, and comes of its conversation
+abbrev pub SoundResult : Case → Reference → List Exchange → Result VerifiedImage PullRefusal → Type 0
+SoundResult case image c (Ok v) = Sound (settings_of case) (meaning_of case) image case.accepted c v
+SoundResult case image c (Err refusal) = Unit {0}
+
+abbrev pub EachSound : Case → Reference → List Talk → Type 0
+EachSound case image [] = Unit {0}
+EachSound case image (talk ∷ talks) =
+    SoundResult case image talk.conversation talk.result × EachSound case image talks
+
+-- The pulls of a case by a client that was fresh before the first. Each exchange was answered by the
+-- recorded answer at its place, and a transport's fault stands only where one is recorded.
+pub record Pulled (case : Case) (talks : List Talk) : Type 0 where
+  pub image : Reference
+  pub reads : reference_of case.reference ≡ Ok image
+  pub moments : map moment_of talks ≡ case.moments
+  pub kept : Kept
+  pub faults : ℕ
+  pub in_turn : InTurn (row_of case image) fresh 0 talks kept faults
+  pub answered : AnsweredBy (answering case.answers) 0 (joined talks)
+  pub calm_is : IsTrue (calm (answering case.answers).fails 0 (joined talks) faults)
+  pub sound : EachSound case image talks
+
+-- what was made of a case is the report of its pulls
+pub record ReportsCase (case : Case) (made : Report) : Type 0 where
+  pub talks : List Talk
+  pub pulled : Pulled case talks
+  pub written : made.bytes ≡ reports talks
+  pub refused : made.refused ≡ not (all_answered talks)

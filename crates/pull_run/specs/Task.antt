@@ -1,0 +1,23 @@
+-- What each word reads, and what it gives.
+use Rattle.std.specs.Prelude.{ℕ, List, Option}
+use Rattle.json_values.specs.JsonText.{json_of}
+use Rattle.pull_case.specs.Case.{case_in}
+use Rattle.pull_run.specs.Canon.{PrintsValue}
+use Rattle.pull_run.specs.Pulls.{ReportsCase}
+use Rattle.pull_run.specs.declared.report.Report.{Report}
+use Rattle.pull_run.specs.declared.word.Word.{Word}
+use Rattle.pull_run.specs.declared.word.Word.TheVariants.{Pull, Canon}
+
+-- what the input has to read as, and what is made of that
+pub record Task : Type 1 where
+  pub Input : Type 0
+  pub reads : List ℕ → Option Input
+  pub Gives : Input → Report → Type 0
+
+abbrev pub task_by : {X : Type 0} → (List ℕ → Option X) → (X → Report → Type 0) → Task
+task_by {X} reads Gives = record { Input = X; reads = reads; Gives = Gives }
+
+-- a word's line: what it reads, and what it gives
+abbrev pub task_of : Word → Task
+task_of Pull = task_by case_in ReportsCase
+task_of Canon = task_by json_of PrintsValue

@@ -1,0 +1,11 @@
+-- The words that the program takes.
+use Rattle.std.specs.Prelude.{ℕ, List, [], ◌∷◌, Option, Some, None, if◌then◌else◌, codes, bytes_eq}
+use Rattle.pull_run.specs.declared.word.Word.{Word}
+use Rattle.pull_run.specs.declared.word.Word.TheVariants.{Pull, Canon}
+
+-- the one word `pull` or `canon`
+abbrev pub word_of : List (List ℕ) → Option Word
+word_of (word ∷ []) =
+    if bytes_eq word (codes "pull") then Some Pull
+    else (if bytes_eq word (codes "canon") then Some Canon else None)
+word_of words = None

@@ -1,0 +1,23 @@
+// What the input reads as.
+ghost use Rattle.std.specs.Prelude.{IfOk};
+ghost use Rattle.pull_run.specs.Input.{ReadsInput};
+
+use crate::status::Status;
+use crate::task::Task;
+use pull_edge::{Source, read_all};
+use std::alloc::Global;
+
+/// How many bytes the input may have.
+const INPUT_LIMIT: u64 = 67108864;
+
+/// Reads the input to its end, and what it says.
+pub fn read_input<T: Task + Drop, S: Source>(alloc: Global, source: &mut S) -> Result<T, Status>
+    ensures reads { ReadsInput T.reads result (S.state source.old) (S.state source.new) }
+    ensures valid { IfOk result T.Valid }
+{
+    let bytes = read_all(alloc, source, INPUT_LIMIT)?;
+    let Some(input) = T::read(alloc, bytes.as_slice())? else {
+        return Err(Status::UnreadableInput);
+    };
+    Ok(input)
+}

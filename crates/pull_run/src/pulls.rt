@@ -1,0 +1,199 @@
+// The pulls of a case.
+ghost use Rattle.std.specs.Prelude.{◌≡◌, ◌++◌, ◌||◌, false, not, Ok, IsOk, IfOk, IfSome, OnOk};
+ghost use Rattle.oci_transport.specs.Script.{state_of};
+ghost use Rattle.oci_names.specs.References.{reference_of};
+ghost use Rattle.sig_registry.specs.Conversions.{registry_auth};
+ghost use Rattle.sig_registry.specs.Direct.{reference_in};
+ghost use Rattle.cosign_layers.specs.Rows.{valid_in};
+ghost use Rattle.cosign_layers.specs.Standing.{meaning};
+ghost use Rattle.cosign_client.specs.State.{client_state};
+ghost use Rattle.pull_case.specs.Case.{case_in};
+ghost use Rattle.pull_report.specs.Report.{report as lines_of};
+ghost use Rattle.pull_run.specs.Pulls.{is_answered, settings_by, fresh, ReportsCase};
+ghost use Rattle.pull_run.specs.Rounds.{row_by, is_wanting, Round, IsCalm, Played};
+
+use crate::report::Report;
+use crate::task::Task;
+use cosign_client::{Client, PullRefusal, VerifiedImage};
+use cosign_layers::{NoCertificates, PullPolicy, TableVerifier};
+use json_values::{Blob, List, Text};
+use oci_engine::{ClientConfig, ClientProtocol};
+use oci_transport::{Exchange, Recorded, Script};
+use pull_case::{Case, case_policy, read_case};
+use pull_report::write_report;
+use sig_registry::{Auth, OciClient, OciReference, SigstoreError};
+use std::alloc::{AllocError, Global};
+
+// Whether memory was wanting.
+fn is_wanting(outcome: &Result<VerifiedImage, PullRefusal>) -> bool
+    ensures { result ≡ is_wanting outcome.now }
+{
+    match outcome {
+        Ok(_) => false,
+        Err(refusal) => refusal.is_memory(),
+    }
+}
+
+// Adds the report of a pull, unless memory cut the pull off.
+fn add_report(
+    alloc: Global,
+    report: &mut Report,
+    moment: u64,
+    conversation: &[Exchange],
+    outcome: &Result<VerifiedImage, PullRefusal>,
+) -> Result<(), AllocError>
+    ensures bytes { OnOk result
+        (report.new.bytes ≡ report.old.bytes ++ lines_of moment conversation.now outcome.now) }
+    ensures refused { OnOk result
+        (report.new.refused ≡ (report.old.refused || not (is_answered outcome.now))) }
+    ensures whole { OnOk result (is_wanting outcome.now ≡ false) }
+{
+    if is_wanting(outcome) {
+        return Err(AllocError);
+    }
+    write_report(alloc, &mut report.bytes, moment, conversation, outcome)?;
+    report.refused = report.refused || outcome.is_err();
+    Ok(())
+}
+
+// What each pull of a case asks for, and what it holds an answer to.
+#[derive(Drop)]
+struct Terms {
+    image: OciReference,
+    auth: Auth,
+    accepted: List<Text>,
+    policy: PullPolicy,
+    verifier: TableVerifier,
+}
+
+// One pull, whose report goes behind those that are there.
+fn pull_at(
+    alloc: Global,
+    client: &mut Client,
+    script: &mut Script,
+    terms: &Terms,
+    moment: u64,
+    report: &mut Report,
+) -> Result<(), AllocError>
+    ensures round { OnOk result (Round (row_by
+        (meaning terms.now.policy (valid_in terms.now.verifier) (λ b. accepts (b.vtable, b.value)))
+        (client_state client.old).settings
+        (reference_in terms.now.image) (registry_auth terms.now.auth) terms.now.accepted)
+        moment (state_of script.old) (state_of script.new)
+        (client_state client.old).kept (client_state client.new).kept report.old report.new) }
+    ensures settings { (client_state client.new).settings ≡ (client_state client.old).settings }
+    ensures calm { OnOk result (IsCalm script.new) }
+{
+    let before = script.conversation().as_slice().len();
+    let outcome = client.verified_pull(
+        alloc,
+        script,
+        moment,
+        &terms.image,
+        &terms.auth,
+        terms.accepted.as_slice(),
+        &terms.policy,
+        &terms.verifier,
+        &NoCertificates,
+    );
+    let conversation = script.conversation().as_slice();
+    add_report(alloc, report, moment, &conversation[before..], &outcome)
+}
+
+// One pull at each moment, in turn, over these recorded answers.
+fn pull_each(
+    alloc: Global,
+    client: &mut Client,
+    answers: List<Recorded>,
+    terms: &Terms,
+    moments: &[u64],
+) -> Result<Report, AllocError>
+    ensures { IfOk result (Played (row_by
+        (meaning terms.now.policy (valid_in terms.now.verifier) (λ b. accepts (b.vtable, b.value)))
+        (client_state client.old).settings
+        (reference_in terms.now.image) (registry_auth terms.now.auth) terms.now.accepted)
+        answers moments.now (client_state client.old).kept (client_state client.new).kept) }
+{
+    let mut script = Script::new(alloc, answers);
+    let mut report = Report {
+        bytes: Blob::empty(alloc),
+        refused: false,
+    };
+    for moment in moments {
+        pull_at(alloc, client, &mut script, terms, *moment, &mut report)?;
+    }
+    Ok(report)
+}
+
+// A client that keeps nothing yet.
+fn fresh_client(
+    alloc: Global,
+    protocol: ClientProtocol,
+    limit: Option<u64>,
+) -> Result<Client, AllocError>
+    ensures { IfOk result (λ client.
+        client_state client ≡ record { settings = settings_by protocol limit; kept = fresh }) }
+{
+    let mut config = ClientConfig::default(alloc)?;
+    config.protocol = protocol;
+    config.max_body_bytes = limit.unwrap_or(config.max_body_bytes);
+    Ok(Client {
+        registry_client: OciClient::new(oci_engine::Client::new(alloc, config)),
+    })
+}
+
+// The reference in a text that reads back as one.
+fn image_in(alloc: Global, text: &str) -> Result<OciReference, AllocError>
+    requires { IsOk (reference_of text.now) }
+    ensures { IfOk result (λ image. reference_of text.now ≡ Ok (reference_in image)) }
+{
+    match OciReference::parse(alloc, text) {
+        Ok(image) => Ok(image),
+        Err(SigstoreError::WantOfMemory) => Err(AllocError),
+        Err(_) => unreachable!(),
+    }
+}
+
+impl Task for Case {
+    ghost reads = { case_in };
+
+    ghost Valid = { λ case. IsOk (reference_of case.reference) };
+
+    ghost Gives = { ReportsCase };
+
+    fn read(alloc: Global, bytes: &[u8]) -> Result<Option<Case>, AllocError>
+        ensures exact { IfOk result (λ found. found ≡ case_in bytes.now) }
+        ensures valid { IfOk result (λ found.
+            IfSome found (λ case. IsOk (reference_of case.reference))) }
+    {
+        read_case(alloc, bytes)
+    }
+
+    fn make(self, alloc: Global) -> Result<Report, AllocError> {
+        pull_case(alloc, self)
+    }
+}
+
+/// Makes the pulls of a case over its recorded answers, and writes their report.
+pub fn pull_case(alloc: Global, case: Case) -> Result<Report, AllocError>
+    requires { IsOk (reference_of case.reference) }
+    ensures { IfOk result (ReportsCase case) }
+{
+    let terms = Terms {
+        image: image_in(alloc, case.reference.as_str())?,
+        auth: Auth::from_registry(alloc, &case.auth)?,
+        accepted: case.accepted,
+        policy: case_policy(alloc, case.keys, case.constraints.as_slice())?,
+        verifier: TableVerifier {
+            rows: case.signatures,
+        },
+    };
+    let mut client = fresh_client(alloc, case.protocol, case.limit)?;
+    pull_each(
+        alloc,
+        &mut client,
+        case.answers,
+        &terms,
+        case.moments.as_slice(),
+    )
+}

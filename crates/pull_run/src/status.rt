@@ -1,0 +1,69 @@
+// The statuses that the program ends with.
+ghost use Rattle.std.specs.Prelude.{◌≡◌};
+ghost use Rattle.pull_run.specs.Status.{code_of};
+
+use pull_edge::ReadRefusal;
+use std::alloc::AllocError;
+
+/// How the program ended.
+#[derive(Clone, Copy, Debug, PartialEq, Eq)]
+pub enum Status {
+    /// Each pull answered an image, or the value has a text, and the output went out.
+    Done,
+    /// Some pull was refused, or the value has no text, and the output, which says so, went out.
+    Refused,
+    /// The words are no form that the program takes. Nothing was read or written.
+    Usage,
+    /// The input is no case, or no JSON. Nothing was written.
+    UnreadableInput,
+    /// The source failed. Nothing was written.
+    SourceFault,
+    /// The sink failed. Not all of the output went out.
+    SinkFault,
+    /// Memory was wanting. Not all of the output went out, or nothing.
+    WantOfMemory,
+    /// More than 67108864 bytes of the input were taken. Nothing was written.
+    TooLong,
+}
+
+impl Status {
+    /// The number with which the process ends.
+    pub fn code(self) -> u8
+        ensures { result ≡ code_of self }
+    {
+        match self {
+            Status::Done => 0,
+            Status::Refused => 1,
+            Status::Usage => 2,
+            Status::UnreadableInput => 3,
+            Status::SourceFault => 4,
+            Status::SinkFault => 5,
+            Status::WantOfMemory => 6,
+            Status::TooLong => 7,
+        }
+    }
+}
+
+impl From<ReadRefusal> for Status {
+    ghost use Rattle.pull_run.specs.Status.{status_of};
+
+    ghost from_gives = { λ refusal status. status ≡ status_of refusal };
+
+    fn from(refusal: ReadRefusal) -> Status {
+        match refusal {
+            ReadRefusal::TooLong => Status::TooLong,
+            ReadRefusal::SourceFault => Status::SourceFault,
+            ReadRefusal::WantOfMemory => Status::WantOfMemory,
+        }
+    }
+}
+
+impl From<AllocError> for Status {
+    ghost use Rattle.pull_run.specs.declared.status.Status.TheVariants.{WantOfMemory};
+
+    ghost from_gives = { λ _ status. status ≡ WantOfMemory };
+
+    fn from(_error: AllocError) -> Status {
+        Status::WantOfMemory
+    }
+}

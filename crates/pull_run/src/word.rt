@@ -1,0 +1,25 @@
+// The words that the program takes.
+ghost use Rattle.std.specs.Prelude.{◌≡◌};
+ghost use Rattle.pull_run.specs.Word.{word_of};
+
+use json_values::Text;
+
+/// What the program is asked to do.
+#[derive(Clone, Copy, Debug, PartialEq, Eq)]
+pub enum Word {
+    /// Pulls the image of the case in the input, and writes a report.
+    Pull,
+    /// Writes the canonical text of the JSON in the input.
+    Canon,
+}
+
+/// What these words ask for, if they are a form that the program takes.
+pub fn word_of(words: &[Text]) -> Option<Word>
+    ensures { result ≡ word_of words.now }
+{
+    match words {
+        [word] if word.as_str() == "pull" => Some(Word::Pull),
+        [word] if word.as_str() == "canon" => Some(Word::Canon),
+        _ => None,
+    }
+}

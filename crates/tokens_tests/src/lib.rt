@@ -1,0 +1,7 @@
+//! Tests of challenges, credentials and tokens.
+#![tactic(auto)]
+
+#[cfg(test)]
+mod challenges;
+#[cfg(test)]
+mod tokens;
