@@ -56,7 +56,7 @@ impl Printed for OciDistributionError {
     fn write_print(&self, alloc: Global, out: &mut Blob) -> Result<(), AllocError> {
         match self {
             Self::AmbiguousManifest(document) => print1(alloc, out, "AmbiguousManifest", document),
-            Self::AuthenticationFailure(body) => print1(alloc, out, "AuthenticationFailure", body),
+            Self::AuthenticationFailure(body) => print1(alloc, out, "AuthenticationFailure", body.bytes()),
             Self::BodyTooLong => word(out, "BodyTooLong"),
             Self::DigestError(error) => print1(alloc, out, "DigestError", error),
             Self::GenericError(cause) => print1(alloc, out, "GenericError", cause),
@@ -74,7 +74,7 @@ impl Printed for OciDistributionError {
                 print2(alloc, out, "RegistryError", envelope, url)
             }
             Self::RegistryTokenDecodeError(body) => {
-                print1(alloc, out, "RegistryTokenDecodeError", body)
+                print1(alloc, out, "RegistryTokenDecodeError", body.bytes())
             }
             Self::ServerError { code, url, message } => {
                 print3(alloc, out, "ServerError", code, url, message)
