@@ -6,13 +6,13 @@ use Rattle.engine_requests.specs.declared.error.OciDistributionError.{OciDistrib
 use Rattle.engine_requests.specs.declared.error.OciDistributionError.TheVariants as engine_refusal
 use Rattle.sig_registry.specs.declared.error.SigstoreError.{SigstoreError}
 use Rattle.sig_registry.specs.declared.error.SigstoreError.TheVariants as sigstore
-use Rattle.cosign_layers.specs.Rejection.{is_memory as is_layer_memory}
+use Rattle.cosign_layers.specs.Rejections.{is_memory as is_layer_memory}
 use Rattle.cosign_client.specs.declared.found.Skipped.{Skipped}
 use Rattle.cosign_client.specs.declared.found.Skipped.TheVariants.{Source, Referrer, Layer}
 use Rattle.cosign_client.specs.declared.found.SkipCause.{SkipCause}
 use Rattle.cosign_client.specs.declared.found.SkipCause.TheVariants.{NotAReference, FoundIndex, Refused}
-use Rattle.cosign_client.specs.declared.refusal.PullRefusal.{PullRefusal}
-use Rattle.cosign_client.specs.declared.refusal.PullRefusal.TheVariants as refusal
+use Rattle.cosign_client.specs.declared.verified.PullRefusal.{PullRefusal}
+use Rattle.cosign_client.specs.declared.verified.PullRefusal.TheVariants as refusal
 
 -- ---- want of memory, wherever it stands in a refusal
 

@@ -3,15 +3,13 @@
 
 mod client;
 mod found;
-mod part;
+mod links;
 mod pull;
-mod references;
-mod refusal;
 mod search;
-mod terms;
+mod standing;
 mod verified;
 
 pub use client::Client;
-pub use cosign_chain::{VerifiedImage, check_links};
 pub use found::{SkipCause, Skipped, SourceKind, TrustedLayers};
-pub use refusal::PullRefusal;
+pub use links::check_links;
+pub use verified::{PullRefusal, VerifiedImage};

@@ -1,9 +1,4 @@
-pub mod Decimals
 pub mod Layers
 pub mod Loops
 pub mod Outcomes
-pub mod Reading
-pub mod Shows
-pub mod Steps
 pub mod Supports
-pub mod Texts

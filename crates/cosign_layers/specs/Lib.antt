@@ -1,14 +1,7 @@
-pub mod Bundle
+pub mod Accepts
 pub mod Checks
-pub mod Constraint
-pub mod Judge
 pub mod Layer
-pub mod LogEntry
 pub mod Payload
-pub mod Read
-pub mod Rejection
-pub mod Shown
-pub mod Envelope
+pub mod Rejections
+pub mod Rows
 pub mod Standing
-pub mod Trust
-pub mod Verifier

@@ -1,5 +1,9 @@
-//! Certificates, and what is vouched of them.
-use json_values::{Blob, Copied, Text, copied};
+//! Certificates, and who vouches for them.
+ghost use Rattle.std.specs.Prelude.{◌≡◌, IfOk, Option};
+ghost use Rattle.cosign_layers.specs.declared.certificate.Evidence.{Evidence};
+ghost use Rattle.cosign_layers.specs.declared.certificate.Vouched.{Vouched};
+
+use json_values::{Blob, Copied, Text, copies2, copies4};
 use std::alloc::{AllocError, Global};
 
 /// What a certificate stands for.
@@ -26,31 +30,54 @@ pub struct Evidence {
     pub integrated_time: i64,
 }
 
+/// Judges certificates, with nothing asked of a network.
+pub trait Offline {
+    /// What it vouches of this evidence.
+    ghost vouched: { Self → Evidence → Option Vouched };
+
+    fn judge(&self, alloc: Global, evidence: &Evidence) -> Result<Option<Vouched>, AllocError>
+        ensures { IfOk result (λ found. found ≡ vouched self.now evidence.now) };
+}
+
+/// Vouches for no certificate.
+#[derive(Clone, Copy, Debug, Default, PartialEq, Eq)]
+pub struct NoCertificates;
+
+impl Offline for NoCertificates {
+    ghost use Rattle.std.specs.Prelude.{None};
+
+    ghost vouched = { λ judge evidence. None };
+
+    fn judge(&self, _alloc: Global, _evidence: &Evidence) -> Result<Option<Vouched>, AllocError> {
+        Ok(None)
+    }
+}
+
 impl Copied for Vouched {
     fn copy(&self, alloc: Global) -> Result<Vouched, AllocError> {
-        copied!(
+        let (key, email, url, issuer) = copies4(
             alloc,
-            self,
-            Vouched {
-                key,
-                email,
-                url,
-                issuer
-            }
-        )
+            &self.key,
+            &self.email,
+            &self.url,
+            &self.issuer,
+        )?;
+        Ok(Vouched {
+            key,
+            email,
+            url,
+            issuer,
+        })
     }
 }
 
 impl Copied for CertificateSignature {
     fn copy(&self, alloc: Global) -> Result<CertificateSignature, AllocError> {
-        copied!(
-            alloc,
-            self,
-            CertificateSignature {
-                certificate,
-                vouched
-            }
-        )
+        let (certificate, vouched) = copies2(alloc, &self.certificate, &self.vouched)?;
+        Ok(CertificateSignature {
+            certificate,
+            vouched,
+        })
     }
 }
 

@@ -1,6 +1,6 @@
 //! Why a signature layer is refused.
 ghost use Rattle.std.specs.Prelude.{◌≡◌};
-ghost use Rattle.cosign_layers.specs.Rejection.{is_memory};
+ghost use Rattle.cosign_layers.specs.Rejections.{is_memory};
 
 use json_values::Text;
 use std::alloc::AllocError;
@@ -32,16 +32,11 @@ pub enum LayerRejection {
     /// No key is known for the log of this id.
     #[error("the log's key is unknown")]
     UnknownLogKey(Text),
-    /// The log's signature is not valid for the entry's canonical text.
     #[error("the log's signature is not valid")]
     BadLogSignature,
-    /// The entry with this body logs another signature.
-    #[error("the log entry is of another signature")]
-    OtherLogEntry(Text),
     /// There is a certificate, and no log entry that says when it was used.
     #[error("the certificate has no log entry")]
     NoLogEntry,
-    /// The judge vouches for no such certificate at the time of the log entry.
     #[error("nobody vouches for the certificate")]
     NotVouched,
     /// The layer is described and was not among those that came.

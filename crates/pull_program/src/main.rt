@@ -2,13 +2,12 @@
 #![tactic(auto)]
 
 use json_values::{List, Text};
+pub use pull_edge::{Failed, MemorySource, PlainSource, Source, StdSink, StdSource};
+pub use pull_run::{Report, Status, Word, run};
 use std::alloc::Global;
 use std::env::{self, Env};
 use std::io;
 use std::process::ExitCode;
-
-pub use pull_edge::{Failed, MemorySource, PlainSource, Source, StdSink, StdSource};
-pub use pull_run::{Report, Status, Word, run};
 
 // The words behind the program's name.
 fn arguments<R: Env + Alloc>(rt: &R, alloc: Global) -> io::Result<List<Text>> {
@@ -23,7 +22,8 @@ fn arguments<R: Env + Alloc>(rt: &R, alloc: Global) -> io::Result<List<Text>> {
 fn advice(status: u8) -> &'static str {
     match status {
         2 => "usage: pull_program pull < CASE, or pull_program canon < JSON",
-        3 => "the input is not a case (see crates/pull_case/README.md for its members), or not JSON",
+        3 =>
+            "the input is not a case (see crates/pull_case/README.md for its members), or not JSON",
         4 => "the input could not be read",
         5 => "the output could not be written",
         6 => "out of memory",

@@ -1,8 +1,6 @@
-//! Tests of signature layers, of the search for signatures, of the verified pull and of the check of its chain.
+//! Tests of the search for signatures, of the verified pull and of the check of its chain.
 #![tactic(auto)]
 
-#[cfg(test)]
-mod layers;
 #[cfg(test)]
 mod pulls;
 #[cfg(test)]

@@ -1,0 +1,36 @@
+-- What the written constraints accept.
+use Rattle.std.specs.Prelude.{ℕ, List, [], ◌∷◌, Bool, true, false, bytes_eq, Option, Some, None, option_and_then}
+use Rattle.std.specs.FinMap.{FinMap, entries}
+use Rattle.std.specs.List.{list_all}
+use Rattle.std.specs.declared.alloc.Global.{Global}
+use Rattle.std.specs.declared.dyn_box.DynBox.{DynBox}
+use Rattle.json_values.specs.Places.{by_bytes}
+use Rattle.serde_json.specs.Data.{Data}
+use Rattle.serde_json.specs.Find.{get, as_str}
+use Rattle.cosign_layers.specs.declared.constraint.Constraint.{Constraint}
+use Rattle.cosign_layers.specs.declared.constraint.Constraint.TheVariants.{Annotations, Own}
+use Rattle.cosign_layers.specs.declared.layer.SignatureLayer.{SignatureLayer}
+use Rattle.cosign_layers.specs.declared.layer.SimpleSigning.{SimpleSigning}
+
+-- there is a text, and it is this one
+abbrev pub is_text : List ℕ → Option (List ℕ) → Bool
+is_text text None = false
+is_text text (Some found) = bytes_eq found text
+
+-- the data has a member of this name with this text
+abbrev pub has_text_member : Data → List ℕ × List ℕ → Bool
+has_text_member d pair = is_text pair.1 (option_and_then as_str (get pair.0 d))
+
+abbrev pub has_no_item : {A : Type 0} → List A → Bool
+has_no_item [] = true
+has_no_item (x ∷ xs) = false
+
+-- each pair stands as a text member in the optional part; without a payload there is no pair
+abbrev pub has_annotations : FinMap by_bytes (List ℕ) → Option SimpleSigning → Bool
+has_annotations pairs None = has_no_item (entries pairs)
+has_annotations pairs (Some signing) = list_all (has_text_member signing.optional) (entries pairs)
+
+-- a constraint accepts what the value that it holds accepts; `own` says what a box accepts
+abbrev pub accepts : {V : Type 0} {H : V → Type 0} → (DynBox V Global H → SignatureLayer → Bool) → Constraint V H → SignatureLayer → Bool
+accepts own (Annotations a) layer = has_annotations a.annotations layer.simple_signing
+accepts own (Own b) layer = own b layer

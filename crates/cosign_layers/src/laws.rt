@@ -1,8 +1,0 @@
-//! Laws of log entries, as contracts of functions that do nothing.
-ghost use Rattle.cosign_layers.specs.LogEntry.{TextsAreCanonical};
-
-/// The text that a log signs of an entry is the canonical text (RFC 8785) of the object of its body, its time, its log's
-/// id and its index.
-pub fn log_texts_are_canonical()
-    ensures canonical { TextsAreCanonical }
-{}
