@@ -1,6 +1,7 @@
 -- References of parts, and the first layer that stands.
 use Rattle.std.proofs.Common.{◌≡◌, ◌≤◌, ℕ, suc, Bool, true, false, cond, nat_lt, length, List, [], ◌∷◌, map, Option, Some, None, refl, sym, ap, ◌∙◌}
-use Rattle.std.specs.Prelude.{find, position}
+use Rattle.std.specs.Prelude.{◌+◌, find, position}
+use mathlib.Core.Bool.{not}
 use Rattle.std.specs.List.{position_or_len, slice_get}
 use Rattle.std.proofs.lemmas.List.Folds.{find_at}
 use Rattle.std.proofs.lemmas.Bool.{ltb-false}
@@ -40,7 +41,7 @@ none_at {X} p xs is = find_at p xs ∙ slice_get_past xs (position_or_len p xs) 
 -- what the place of the first among the results of a function is
 place_of_results : {X Y : Type 0} (p : Y → Bool) (f : X → Y) (xs : List X) → position_or_len p (map f xs) ≡ position_or_len (λ x. p (f x)) xs
 place_of_results p f [] = refl
-place_of_results p f (x ∷ xs) = ap (λ n. cond (p (f x)) 0 (suc n)) (place_of_results p f xs)
+place_of_results p f (x ∷ xs) = ap (λ n. cond (not (p (f x))) (1 + n) 0) (place_of_results p f xs)
 
 as_many : {X Y : Type 0} (f : X → Y) (xs : List X) → length (map f xs) ≡ length xs
 as_many f [] = refl

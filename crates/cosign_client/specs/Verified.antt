@@ -77,12 +77,17 @@ verified_image standing pulled = record {
   signature = standing.signature;
 }
 
+-- the image of a digest for which a layer stands
+abbrev pub after_standing : Context → Reference → RegistryAuth → List (List ℕ) → Standing → Whole VerifiedImage
+after_standing s image a accepted stood = do
+  pulled ← part_of (image_row s image (digest_reference image stood.digest) a accepted)
+  Done (Ok (verified_image stood pulled))
+
 -- a layer that stands, and only then the image
 unfoldable pub after_search : {V : Type 0} {H : V → Type 0} → Meaning V H → Context → Reference → RegistryAuth → List (List ℕ) → TrustedLayers → Whole VerifiedImage
 after_search meaning s image a accepted found = do
   stood ← Done (standing meaning found)
-  pulled ← part_of (image_row s image (digest_reference image stood.digest) a accepted)
-  Done (Ok (verified_image stood pulled))
+  after_standing s image a accepted stood
 
 -- the whole pull
 unfoldable pub verified : {V : Type 0} {H : V → Type 0} → Meaning V H → Context → Reference → RegistryAuth → List (List ℕ) → Whole VerifiedImage

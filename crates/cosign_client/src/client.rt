@@ -97,17 +97,17 @@ impl Client {
     /// The answer is a chain that checks by itself: it starts at the digest that was answered for the image, which names
     /// the manifest, whose digests name the configuration and the layers, and one signature layer stands for the digest
     /// under the policy. See `PullRefusal` for when the call is refused.
-    pub fn verified_pull<T: Transport, V: SignatureVerifier, O: Offline>(
+    pub fn verified_pull<'a, T: Transport, V: SignatureVerifier, O: Offline>(
         &mut self,
         alloc: Global,
         transport: &mut T,
         moment: u64,
         image: &OciReference,
         auth: &Auth,
-        accepted_media_types: &[Text],
-        policy: &PullPolicy,
-        verifier: &V,
-        judge: &O,
+        accepted_media_types: &'a [Text],
+        policy: &'a PullPolicy,
+        verifier: &'a V,
+        judge: &'a O,
     ) -> Result<VerifiedImage, PullRefusal>
         ensures run { Meets is_memory
             (verified (meaning policy.now (λ b. accepts (b.vtable, b.value))

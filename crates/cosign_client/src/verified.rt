@@ -8,7 +8,7 @@ ghost use Rattle.sig_registry.specs.Conversions.{registry_auth};
 ghost use Rattle.cosign_layers.specs.Standing.{stands};
 ghost use Rattle.cosign_client.specs.Refusal.{is_memory, Says};
 ghost use Rattle.cosign_client.specs.Terms.{meaning_of};
-ghost use Rattle.cosign_client.specs.Verified.{after_search, constrained, is_unconstrained, readable, standing_by, verified, verified_image};
+ghost use Rattle.cosign_client.specs.Verified.{after_search, after_standing, constrained, is_unconstrained, readable, standing_by, verified, verified_image};
 
 use crate::found::TrustedLayers;
 use crate::pull::{Pulled, pull_image};
@@ -18,7 +18,7 @@ use crate::search::search;
 use crate::terms::{Asked, Terms};
 use cosign_chain::VerifiedImage;
 use cosign_layers::{Offline, PullPolicy, SignatureLayer, SignatureVerifier, first_standing};
-use json_values::{Copied, Text};
+use json_values::{Blob, Copied, Text};
 use oci_names::Reference;
 use oci_transport::Transport;
 use sig_registry::{Auth, ClientCapabilities};
@@ -73,34 +73,60 @@ fn standing_by(
     }
 }
 
-// The image of the digest, with the signature layer that stands for it.
+// The image of the digest, with the signature layer that stands for it, of copies that were made before.
 fn verified_image(
+    standing: Standing,
+    pulled: Pulled,
+    manifest_digest: Text,
+    manifest_bytes: Blob,
+) -> VerifiedImage
+    requires digest { manifest_digest ≡ standing.digest }
+    requires bytes { manifest_bytes ≡ pulled.first }
+    ensures { result ≡ verified_image standing pulled }
+{
+    VerifiedImage {
+        digest: standing.digest,
+        first: pulled.first,
+        manifest_bytes,
+        manifest: pulled.manifest,
+        manifest_digest,
+        list_digest: None,
+        config: pulled.config,
+        layers: pulled.layers,
+        signature: standing.signature,
+    }
+}
+
+fn copied_image(
     alloc: Global,
     standing: Standing,
     pulled: Pulled,
 ) -> Result<VerifiedImage, AllocError>
     ensures { IfOk result (λ image. image ≡ verified_image standing pulled) }
 {
-    let Standing { digest, signature } = standing;
-    let Pulled {
-        first,
-        manifest,
-        config,
-        layers,
-    } = pulled;
-    let manifest_digest = digest.copy(alloc)?;
-    let manifest_bytes = first.copy(alloc)?;
-    Ok(VerifiedImage {
-        digest,
-        first,
-        manifest_bytes,
-        manifest,
-        manifest_digest,
-        list_digest: None,
-        config,
-        layers,
-        signature,
-    })
+    let manifest_digest = standing.digest.copy(alloc)?;
+    let manifest_bytes = pulled.first.copy(alloc)?;
+    let image = verified_image(standing, pulled, manifest_digest, manifest_bytes);
+    Ok(image)
+}
+
+// The image of a digest for which a layer stands.
+fn pull_stood<C: ClientCapabilities, T: Transport>(
+    alloc: Global,
+    client: &mut C,
+    transport: &mut T,
+    asked: &Asked<'_>,
+    accepted: &[Text],
+    standing: Standing,
+) -> Result<VerifiedImage, PullRefusal>
+    ensures { (s : Settings) → Made is_memory s
+        (after_standing (within s asked.now.moment) asked.now.image.now asked.now.auth.now accepted.now standing)
+        (C.state client.old) (C.state client.new) (T.state transport.old) (T.state transport.new) result }
+{
+    let source = digest_reference(alloc, asked.image, standing.digest.as_str())?;
+    let pulled = pull_image(alloc, client, transport, asked, &source, accepted)?;
+    let image = copied_image(alloc, standing, pulled)?;
+    Ok(image)
 }
 
 // The image for which a layer stands.
@@ -120,10 +146,7 @@ fn pull_standing<C: ClientCapabilities, T: Transport, V: SignatureVerifier, O: O
     let verifier = terms.trusted.verifier;
     let first = first_signature(alloc, verifier, terms.policy, found.collected.as_slice())?;
     let standing = standing_by(found, first)?;
-    let source = digest_reference(alloc, asked.image, standing.digest.as_str())?;
-    let pulled = pull_image(alloc, client, transport, asked, &source, terms.accepted)?;
-    let image = verified_image(alloc, standing, pulled)?;
-    Ok(image)
+    pull_stood(alloc, client, transport, asked, terms.accepted, standing)
 }
 
 // A policy without a constraint is refused.
