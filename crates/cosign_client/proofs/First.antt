@@ -1,10 +1,10 @@
 -- References of parts, and the first layer that stands.
-use Rattle.std.proofs.Common.{◌≡◌, ◌≤◌, ℕ, suc, Bool, true, false, cond, nat_lt, length, List, [], ◌∷◌, map, Option, Some, None, refl, sym, ap, ◌∙◌}
-use Rattle.std.specs.Prelude.{◌+◌, find, position}
-use mathlib.Core.Bool.{not}
+use Rattle.std.proofs.Common.{◌≡◌, ◌≤◌, ◌<◌, ◌+◌, arith, get_or, not, ℕ, suc, Bool, true, false, cond, nat_lt, length, List, [], ◌∷◌, map, Option, Some, None, refl, sym, ap, ◌∙◌}
+use Rattle.std.specs.Prelude.{find, position}
 use Rattle.std.specs.List.{position_or_len, slice_get}
 use Rattle.std.proofs.lemmas.List.Folds.{find_at}
-use Rattle.std.proofs.lemmas.Bool.{ltb-false}
+use Rattle.std.proofs.lemmas.Bool.{ltb-false, lt-ltb, le-ltb}
+use Rattle.std.proofs.lemmas.List.Sums.{position_or_len_is}
 use Rattle.std.proofs.lemmas.Option.{slice_get_past}
 use Rattle.oci_names.specs.declared.reference.Reference.{Reference}
 use Rattle.oci_digests.specs.Names.{names}
@@ -54,5 +54,19 @@ position_of_results p f xs = ap (λ n. cond (nat_lt n (length (map f xs))) (Some
 pub named_there : (digest : List ℕ) (digests : List LayerDigests) (layers : List ImageLayer) (place : ℕ) → digests ≡ map layer_digests layers → position (is_among digest) digests ≡ Some place → named_layer digest layers ≡ slice_get layers place
 named_there digest digests layers place are is = first_at (λ layer. names digest layer.content) layers place (sym (position_of_results (is_among digest) layer_digests layers) ∙ ap (position (is_among digest)) (sym are) ∙ is)
 
-pub named_nowhere : (digest : List ℕ) (digests : List LayerDigests) (layers : List ImageLayer) → digests ≡ map layer_digests layers → position (is_among digest) digests ≡ None → named_layer digest layers ≡ None
-named_nowhere digest digests layers are is = none_at (λ layer. names digest layer.content) layers (sym (position_of_results (is_among digest) layer_digests layers) ∙ ap (position (is_among digest)) (sym are) ∙ is)
+pub named_nowhere : (digest : List ℕ) (digests : List LayerDigests) (layers : List ImageLayer) → digests ≡ map layer_digests layers → position (is_among digest) digests ≡ None → None ≡ named_layer digest layers
+named_nowhere digest digests layers are is = sym (none_at (λ layer. names digest layer.content) layers (sym (position_of_results (is_among digest) layer_digests layers) ∙ ap (position (is_among digest)) (sym are) ∙ is))
+
+-- what a loop that looks for a place knows of it
+module _ {X : Type 0} (p : X → Bool) where
+  pub first_place : (xs : List X) (i : ℕ) (d : X) → i < length xs → ((k : ℕ) (d : X) → k < i → p (get_or xs k d) ≡ false) → p (get_or xs i d) ≡ true → position p xs ≡ Some i
+  first_place xs i d inside before here =
+      let at : position_or_len p xs ≡ i = position_or_len_is p xs i d (omega arith) (λ k l. before k d l) (λ _. here) in
+      ap (λ n. cond (nat_lt n (length xs)) (Some n) None) at ∙ ap (λ b. cond b (Some i) None) (lt-ltb i (length xs) inside)
+
+  pub no_place : (xs : List X) → ((k : ℕ) (d : X) → k < length xs → p (get_or xs k d) ≡ false) → position p xs ≡ None
+  no_place [] before = refl
+  no_place (x ∷ xs) before =
+      let all = x ∷ xs in
+      let at : position_or_len p all ≡ length all = position_or_len_is p all (length all) x (omega arith) (λ k l. before k x l) (λ l. absurd (omega arith)) in
+      ap (λ n. cond (nat_lt n (length all)) (Some n) None) at ∙ ap (λ b. cond b (Some (length all)) None) (le-ltb (length all) (length all) (omega arith))

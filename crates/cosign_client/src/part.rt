@@ -1,5 +1,6 @@
 //! What a source of signatures gives.
 ghost use Rattle.std.specs.Prelude.{◌≡◌, IfOk, map, option_copied};
+ghost use Rattle.std.specs.List.{position};
 ghost use Rattle.cosign_layers.specs.Checks.{input, layer_read};
 ghost use Rattle.cosign_layers.specs.Trust.{trust_of};
 ghost use Rattle.cosign_layers.specs.declared.layer.LayerKind.TheVariants as kinds;
@@ -37,6 +38,7 @@ pub(crate) fn skipping(alloc: Global, cause: Skipped) -> Result<Part, AllocError
 }
 
 /// What each descriptor under the signature tag gives for the image of this digest, in their order.
+#[tactic(auto, using(crate::proofs::Descriptors::descriptors_next, crate::proofs::Descriptors::descriptors_end))]
 pub(crate) fn descriptors_part<V: SignatureVerifier, O: Offline>(
     alloc: Global,
     trusted: &Trusted<'_, V, O>,
@@ -60,6 +62,7 @@ pub(crate) fn descriptors_part<V: SignatureVerifier, O: Offline>(
 }
 
 // The digest texts of each layer.
+#[tactic(auto, using(crate::proofs::Descriptors::digests_next, crate::proofs::Descriptors::digests_end))]
 fn all_digests(alloc: Global, layers: &[ImageLayer]) -> Result<List<LayerDigests>, AllocError>
     ensures { IfOk result (λ all. all ≡ map layer_digests layers.now) }
 {
@@ -94,13 +97,26 @@ fn named_layer<'a>(
     requires { digests.now ≡ map layer_digests layers.now }
     ensures { option_copied result ≡ named_layer digest.now layers.now }
 {
-    let Some(place) = digests.iter().position(|own| is_among(own, digest)) else {
+    let Some(place) = place_among(digest, digests) else {
         return None;
     };
     let Some(layer) = layers.get(place) else {
         return None;
     };
     Some(layer)
+}
+
+// The place of the first texts that have the digest.
+#[tactic(auto, using(crate::proofs::First::first_place, crate::proofs::First::no_place))]
+fn place_among(digest: &str, digests: &[LayerDigests]) -> Option<usize>
+    ensures { result ≡ position (is_among digest.now) digests.now }
+{
+    for (place, own) in digests.iter().enumerate() {
+        if is_among(own, digest) {
+            return Some(place);
+        }
+    }
+    None
 }
 
 fn is_among(own: &LayerDigests, digest: &str) -> bool
