@@ -322,8 +322,8 @@ module _ {V : Type 0} {H : V → Type 0} (meaning : Meaning V H) (s : Context) (
   unfolding verified
   pull_causes = Shows-step ByPull (constrained (is_unconstrained meaning.policy)) _
       (λ u some. Shows-step ByPull (readable image) _
-        (λ v back. Shows-bind (λ m c n r. AfterSearch c r) ByPull (part_of (searched meaning.trust s image a)) _ search_shown (λ m n c r h. search_then m c r h))
-        (λ e is m. unreadable_cause (reads_back image) e refl is))
+      (λ v back. Shows-bind (λ m c n r. AfterSearch c r) ByPull (part_of (searched meaning.trust s image a)) _ search_shown (λ m n c r h. search_then m c r h))
+      (λ e is m. unreadable_cause (reads_back image) e refl is))
       (λ e is m. empty_cause (is_unconstrained meaning.policy) e refl is)
 
   free_refusal : (c : List Exchange) (e : PullRefusal) → is_memory e ≡ true → Cause c e

@@ -141,8 +141,8 @@ module _ {V : Type 0} {H : V → Type 0} (meaning : Meaning V H) (s : Context) (
   unfolding verified
   pull_begins some back = Shows-step (λ m c n r. BeginsWithDigest refused_as s image a c r) (constrained (is_unconstrained meaning.policy)) _
       (λ u is. Shows-step (λ m c n r. BeginsWithDigest refused_as s image a c r) (readable image) _
-        (λ v is. Shows-bind (λ m c n r. PartBegins c r) (λ m c n r. BeginsWithDigest refused_as s image a c r) (part_of (searched meaning.trust s image a)) _ search_part_begins (λ m n c r h. search_then c r h))
-        (λ e is m. unreadable_not image (reads_back image) e back is))
+      (λ v is. Shows-bind (λ m c n r. PartBegins c r) (λ m c n r. BeginsWithDigest refused_as s image a c r) (part_of (searched meaning.trust s image a)) _ search_part_begins (λ m n c r h. search_then c r h))
+      (λ e is m. unreadable_not image (reads_back image) e back is))
       (λ e is m. constrained_not (is_unconstrained meaning.policy) e some is)
 
   pub pull_decided : {old new : Link} {k l : Kept} (r : Result VerifiedImage PullRefusal) → is_unconstrained meaning.policy ≡ false → reads_back image ≡ true

@@ -57,18 +57,18 @@ impl Client {
     ) -> Result<TrustedLayers, SigstoreError>
         ensures run { Meets of_memory
             (searched (without_logs (V.valid verifier.now) (O.vouched judge.now))
-                (within (client_state self.old).settings moment) (reference_in source_image.now)
-                (registry_auth auth.now))
+            (within (client_state self.old).settings moment) (reference_in source_image.now)
+            (registry_auth auth.now))
             (T.state transport.old) (T.state transport.new)
             (client_state self.old).kept (client_state self.new).kept result }
         ensures settings { (client_state self.new).settings ≡ (client_state self.old).settings }
         ensures digest { UnlessMemory of_memory (λ r. Told
             (λ c. BeginsWithDigest unchanged (within (client_state self.old).settings moment)
-                (reference_in source_image.now) (registry_auth auth.now) c r)
+            (reference_in source_image.now) (registry_auth auth.now) c r)
             (T.state transport.old) (T.state transport.new)) result }
         ensures causes { IfErr result (λ e. Told
             (λ c. SearchCause (within (client_state self.old).settings moment)
-                (reference_in source_image.now) (registry_auth auth.now) c e)
+            (reference_in source_image.now) (registry_auth auth.now) c e)
             (T.state transport.old) (T.state transport.new)) }
         ensures fault { SearchFaultCounted (T.state transport.old) (T.state transport.new) result }
         ensures no_sink { NoSinkInSearch result }
@@ -88,7 +88,13 @@ impl Client {
             verifier,
             judge,
         };
-        search(alloc, &mut self.registry_client, transport, &asked, &trusted)
+        search(
+            alloc,
+            &mut self.registry_client,
+            transport,
+            &asked,
+            &trusted,
+        )
     }
 
     /// Pulls an image only where a trusted signature stands for it. `moment` is in seconds since 1970. No log is known, so
@@ -111,9 +117,9 @@ impl Client {
     ) -> Result<VerifiedImage, PullRefusal>
         ensures run { Meets is_memory
             (verified (meaning policy.now (λ b. accepts (b.vtable, b.value))
-                    (without_logs (V.valid verifier.now) (O.vouched judge.now)))
-                (within (client_state self.old).settings moment) (reference_in image.now)
-                (registry_auth auth.now) accepted_media_types.now)
+            (without_logs (V.valid verifier.now) (O.vouched judge.now)))
+            (within (client_state self.old).settings moment) (reference_in image.now)
+            (registry_auth auth.now) accepted_media_types.now)
             (T.state transport.old) (T.state transport.new)
             (client_state self.old).kept (client_state self.new).kept result }
         ensures settings { (client_state self.new).settings ≡ (client_state self.old).settings }
@@ -124,18 +130,18 @@ impl Client {
             × (T.state transport.new ≡ T.state transport.old) }
         ensures digest { is_unconstrained policy.now ≡ false → reads_back (reference_in image.now) ≡ true →
             UnlessMemory is_memory (λ r. Told
-                (λ c. BeginsWithDigest refused_as (within (client_state self.old).settings moment)
-                    (reference_in image.now) (registry_auth auth.now) c r)
-                (T.state transport.old) (T.state transport.new)) result }
+            (λ c. BeginsWithDigest refused_as (within (client_state self.old).settings moment)
+            (reference_in image.now) (registry_auth auth.now) c r)
+            (T.state transport.old) (T.state transport.new)) result }
         ensures chain { IfOk result (λ v. Chain
             (meaning policy.now (λ b. accepts (b.vtable, b.value))
-                (without_logs (V.valid verifier.now) (O.vouched judge.now)))
+            (without_logs (V.valid verifier.now) (O.vouched judge.now)))
             (reference_in image.now) accepted_media_types.now v) }
         ensures causes { IfErr result (λ e. Told
             (λ c. PullCause (meaning policy.now (λ b. accepts (b.vtable, b.value))
-                    (without_logs (V.valid verifier.now) (O.vouched judge.now)))
-                (within (client_state self.old).settings moment) (reference_in image.now)
-                (registry_auth auth.now) accepted_media_types.now c e)
+            (without_logs (V.valid verifier.now) (O.vouched judge.now)))
+            (within (client_state self.old).settings moment) (reference_in image.now)
+            (registry_auth auth.now) accepted_media_types.now c e)
             (T.state transport.old) (T.state transport.new)) }
         ensures backed { IfOk result (λ v. Told
             (λ c. Backed (client_state self.old).settings (reference_in image.now) c v)

@@ -122,9 +122,7 @@ fn place_among(digest: &str, digests: &[LayerDigests]) -> Option<usize>
 fn is_among(own: &LayerDigests, digest: &str) -> bool
     ensures { result ≡ is_among digest.now own.now }
 {
-    digest == own.sha256.as_str()
-        || digest == own.sha384.as_str()
-        || digest == own.sha512.as_str()
+    digest == own.sha256.as_str() || digest == own.sha384.as_str() || digest == own.sha512.as_str()
 }
 
 // A descriptor's layer, or why there is none, behind what is there.
@@ -138,7 +136,7 @@ fn add_descriptor<V: SignatureVerifier, O: Offline>(
 ) -> Result<Part, AllocError>
     ensures { IfOk result (λ more. more ≡ appended part (layer_part Tag descriptor.now.digest
         (read_layer (trust_of V.valid O.vouched trusted.now) digest.now descriptor.now
-            (option_copied named.entry)))) }
+        (option_copied named.entry)))) }
 {
     match read_layer(alloc, trusted, digest, descriptor, named) {
         Ok(layer) => {

@@ -52,10 +52,7 @@ fn first_signature<V: SignatureVerifier>(
 }
 
 // The digest with its layer, where one stands.
-fn standing_by(
-    found: TrustedLayers,
-    first: Option<SignatureLayer>,
-) -> Result<Standing, PullRefusal>
+fn standing_by(found: TrustedLayers, first: Option<SignatureLayer>) -> Result<Standing, PullRefusal>
     ensures { result ≡ standing_by found first }
 {
     let TrustedLayers {
@@ -140,7 +137,7 @@ fn pull_standing<C: ClientCapabilities, T: Transport, V: SignatureVerifier, O: O
 ) -> Result<VerifiedImage, PullRefusal>
     ensures { (s : Settings) → Made is_memory s
         (after_search (meaning_of V.valid O.vouched (λ b. accepts (b.vtable, b.value)) terms.now)
-            (within s asked.now.moment) asked.now.image.now asked.now.auth.now terms.now.accepted.now found)
+        (within s asked.now.moment) asked.now.image.now asked.now.auth.now terms.now.accepted.now found)
         (C.state client.old) (C.state client.new) (T.state transport.old) (T.state transport.new) result }
 {
     let verifier = terms.trusted.verifier;
@@ -184,7 +181,7 @@ pub(crate) fn pull_verified<C: ClientCapabilities, T: Transport, V: SignatureVer
 ) -> Result<VerifiedImage, PullRefusal>
     ensures run { (s : Settings) → Made is_memory s
         (verified (meaning_of V.valid O.vouched (λ b. accepts (b.vtable, b.value)) terms.now)
-            (within s moment) image.now (registry_auth auth.now) terms.now.accepted.now)
+        (within s moment) image.now (registry_auth auth.now) terms.now.accepted.now)
         (C.state client.old) (C.state client.new) (T.state transport.old) (T.state transport.new) result }
     ensures unconstrained { IsTrue (is_unconstrained terms.now.policy.now) →
         (result ≡ Err PullRefusal.EmptyPolicy) × (T.state transport.new ≡ T.state transport.old) }
