@@ -30,6 +30,7 @@ def large_case(size):
     make = rows()
     make.CONTENT = "0123456789abcdef" * (size // 16)
     make.IMAGE, make.TAG = make.image_of(make.CONTENT)
+    make.NAMED = make.answer(None, make.digest(make.IMAGE))
     return make.base_case()
 
 
