@@ -13,8 +13,7 @@ pub use json_events::{
 };
 pub use json_values::{
     Annotations, Blob, Copied, Json, List, MemorySink, PlainSink, Sink, SinkError, Text, TextMap,
-    TextSet, ToValue, copies2, copies3, copies4, copies5, copies6, copies7, put_all, read_json,
-    write_quoted,
+    TextSet, ToValue, put_all, read_json, write_quoted,
 };
 pub use laws::texts_tell_values;
 pub use serializer::JcsSerializer;

@@ -17,7 +17,8 @@ abbrev pub Gives : {X : Type 0} → Result X ReadError → Option X → Type 0
 Gives (Ok x) read = read ≡ Some x
 Gives (Err e) read = Refuses e read
 
--- `Float` exactly where a float stands in the value, else `Shape` exactly where f does not read it, unless memory runs out
+-- `Float` exactly where a float stands in the value, else `Shape` exactly where f does not read it, unless memory
+-- runs out
 abbrev pub RefusesDocument : {X : Type 0} → ReadError → (Data → Option X) → Data → Type 0
 RefusesDocument Float f d = has_float d ≡ true
 RefusesDocument Shape f d = (has_float d ≡ false) × (f d ≡ None)

@@ -4,7 +4,6 @@
 mod blob;
 mod copied;
 mod copies;
-mod copies_by_count;
 mod decimal;
 mod json_value;
 mod list;
@@ -22,7 +21,6 @@ mod to_value;
 pub use blob::Blob;
 pub use copied::Copied;
 pub use copies::{CopyRow, copy_all};
-pub use copies_by_count::{copies2, copies3, copies4, copies5, copies6, copies7};
 pub use decimal::write_decimal;
 pub use json_value::Json;
 pub use list::List;

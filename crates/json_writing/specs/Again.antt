@@ -11,6 +11,7 @@ pub record ReadsAgain {X : Type 0} (read : Data → Option X) (d : Data) (x : X)
   pub plain : floats ≡ false → has_float d ≡ false
 
 -- the same of a member
-pub record MemberReadsAgain {X : Type 0} (read : Option Data → Option X) (o : Option Data) (x : X) (floats : Bool) : Type 0 where
+pub record MemberReadsAgain {X : Type 0} (read : Option Data → Option X) (o : Option Data) (x : X) (floats : Bool)
+    : Type 0 where
   pub reads : read o ≡ Some x
   pub plain : floats ≡ false → field_has_float o ≡ false
