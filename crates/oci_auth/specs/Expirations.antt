@@ -33,7 +33,8 @@ abbrev pub claimed_expiration : List ℕ → Option (Option ℕ)
 claimed_expiration payload =
     decoded_of url_safe_no_pad payload >>= plain_json_of >>= named_expiration
 
--- a token of no three parts has the default life; one of three parts expires as its payload names it, after a day at most
+-- a token of no three parts has the default life; one of three parts expires as its payload names it, after a day
+-- at most
 abbrev pub expiration_by : Option (List ℕ) → ℕ → ℕ → Option ℕ
 expiration_by None default moment = Some (later moment default)
 expiration_by (Some payload) default moment =

@@ -58,8 +58,8 @@ impl TokenCache {
         self.tokens.alloc()
     }
 
-    /// Keeps a token that was got at this moment, in seconds since 1970, in the place of the one that is kept for the same
-    /// registry, repository and operation. Where its expiration is none nothing changes.
+    /// Keeps a token that was got at this moment, in seconds since 1970, in the place of the one that is kept for the
+    /// same registry, repository and operation. Where its expiration is none nothing changes.
     pub fn insert(
         &mut self,
         reference: &Reference,

@@ -11,8 +11,8 @@ use std::alloc::{AllocError, Global};
 use std::cmp::Ordering;
 use std::fmt;
 
-/// What is shown to a registry in the place of credentials: a realm's token, or the credentials themselves, a user name
-/// and a password.
+/// What is shown to a registry in the place of credentials: a realm's token, or the credentials themselves, a user
+/// name and a password.
 #[derive(Drop)]
 pub enum RegistryTokenType {
     Bearer(RegistryToken),
@@ -45,8 +45,8 @@ impl RegistryOperation {
 impl RegistryTokenType {
     ghost use Rattle.oci_auth.specs.Credentials.{authorization_of};
 
-    /// The value of the header `authorization`: `Bearer` and the token (RFC 6750, 2.1), or `Basic` and base64 of the user
-    /// name, a colon and the password (RFC 7617, 2).
+    /// The value of the header `authorization`: `Bearer` and the token (RFC 6750, 2.1), or `Basic` and base64 of the
+    /// user name, a colon and the password (RFC 7617, 2).
     pub fn authorization(&self, alloc: Global) -> Result<Text, AllocError>
         ensures { IfOk result (λ value. value ≡ authorization_of self.now) }
     {

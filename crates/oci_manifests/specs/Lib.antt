@@ -5,8 +5,10 @@ pub mod Descriptor
 pub mod Document
 pub mod Envelope
 pub mod ErrorCode
+pub mod Headers
 pub mod Index
 pub mod IndexEntry
+pub mod LayerTypes
 pub mod Manifest
 pub mod MediaTypes
 pub mod Platform

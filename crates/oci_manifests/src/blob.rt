@@ -4,7 +4,7 @@ ghost use Rattle.oci_digests.specs.Names.{digest_text};
 ghost use Rattle.oci_digests.specs.declared.digester.Algorithm.TheVariants.{Sha256};
 ghost use Rattle.oci_manifests.specs.Blob.{typed_layer, typed_config};
 
-use crate::media_types;
+use crate::{layer_types, media_types};
 use json_values::{Annotations, Blob, Copied, Text, copied};
 use std::alloc::{AllocError, Global};
 
@@ -38,7 +38,7 @@ impl ImageLayer {
         ensures { IfOk result (λ made. made ≡ typed_layer
             (codes "application/vnd.oci.image.layer.v1.tar") content annotations) }
     {
-        let media_type = Text::new(alloc, media_types::IMAGE_LAYER_MEDIA_TYPE)?;
+        let media_type = Text::new(alloc, layer_types::IMAGE_LAYER_MEDIA_TYPE)?;
         Ok(ImageLayer::new(content, media_type, annotations))
     }
 
@@ -51,7 +51,7 @@ impl ImageLayer {
         ensures { IfOk result (λ made. made ≡ typed_layer
             (codes "application/vnd.oci.image.layer.v1.tar+gzip") content annotations) }
     {
-        let media_type = Text::new(alloc, media_types::IMAGE_LAYER_GZIP_MEDIA_TYPE)?;
+        let media_type = Text::new(alloc, layer_types::IMAGE_LAYER_GZIP_MEDIA_TYPE)?;
         Ok(ImageLayer::new(content, media_type, annotations))
     }
 

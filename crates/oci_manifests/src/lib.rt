@@ -9,8 +9,10 @@ mod descriptor;
 mod document;
 mod envelope;
 mod error_code;
+mod headers;
 mod index;
 mod index_entry;
+pub mod layer_types;
 mod manifest;
 pub mod media_types;
 mod platform;
@@ -30,17 +32,21 @@ pub use descriptor::OciDescriptor;
 pub use document::OciManifest;
 pub use envelope::{OciEnvelope, OciError};
 pub use error_code::OciErrorCode;
+pub use headers::DOCKER_DIGEST_HEADER;
 pub use index::OciImageIndex;
 pub use index_entry::ImageIndexEntry;
 pub use json_tables::ReadError;
-pub use manifest::OciImageManifest;
-pub use media_types::{
-    DOCKER_DIGEST_HEADER, IMAGE_CONFIG_MEDIA_TYPE, IMAGE_DOCKER_CONFIG_MEDIA_TYPE,
+pub use layer_types::{
     IMAGE_DOCKER_LAYER_GZIP_MEDIA_TYPE, IMAGE_DOCKER_LAYER_TAR_MEDIA_TYPE,
     IMAGE_LAYER_GZIP_MEDIA_TYPE, IMAGE_LAYER_MEDIA_TYPE,
     IMAGE_LAYER_NONDISTRIBUTABLE_GZIP_MEDIA_TYPE, IMAGE_LAYER_NONDISTRIBUTABLE_MEDIA_TYPE,
-    IMAGE_MANIFEST_LIST_MEDIA_TYPE, IMAGE_MANIFEST_MEDIA_TYPE, OCI_IMAGE_INDEX_MEDIA_TYPE,
-    OCI_IMAGE_MEDIA_TYPE, WASM_CONFIG_MEDIA_TYPE, WASM_LAYER_MEDIA_TYPE,
+    WASM_LAYER_MEDIA_TYPE,
+};
+pub use manifest::OciImageManifest;
+pub use media_types::{
+    IMAGE_CONFIG_MEDIA_TYPE, IMAGE_DOCKER_CONFIG_MEDIA_TYPE, IMAGE_MANIFEST_LIST_MEDIA_TYPE,
+    IMAGE_MANIFEST_MEDIA_TYPE, OCI_IMAGE_INDEX_MEDIA_TYPE, OCI_IMAGE_MEDIA_TYPE,
+    WASM_CONFIG_MEDIA_TYPE,
 };
 pub use oci_digests::{names_digest, sha256_digest};
 pub use platform::Platform;
