@@ -27,6 +27,7 @@ impl Model for Blob {
 }
 
 impl Blob {
+    /// A copy of these bytes.
     pub fn new(alloc: Global, bytes: &[u8]) -> Result<Blob, AllocError>
         ensures { IfOk result (λ b. b ≡ bytes.now) }
     {
@@ -64,6 +65,7 @@ impl Blob {
         self.inner.extend_from_slice(bytes)
     }
 
+    /// The bytes.
     pub fn as_slice(&self) -> &[u8]
         ensures { result.now ≡ self.now }
     {

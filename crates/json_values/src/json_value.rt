@@ -25,12 +25,14 @@ impl Model for Json {
 }
 
 impl Json {
+    /// Takes the value as it stands.
     pub fn new(value: Value) -> Json
         ensures { result ≡ view value }
     {
         Json { inner: value }
     }
 
+    /// The value, to be read.
     pub fn value(&self) -> &Value
         ensures { view result.now ≡ self.now }
     {

@@ -36,6 +36,7 @@ impl<V> Model for TextMap<V> {
 }
 
 impl<V: Drop> TextMap<V> {
+    /// No names.
     pub fn new(alloc: Global) -> TextMap<V>
         ensures { result ≡ map.empty }
     {
@@ -58,6 +59,7 @@ impl<V: Drop> TextMap<V> {
         }
     }
 
+    /// The value of the name, or none where it is not there.
     pub fn get(&self, name: &str) -> Option<&V>
         ensures { option_copied result ≡ map.get self.now name.now }
     {

@@ -18,6 +18,7 @@ pub struct MemorySink {
 impl MemorySink {
     ghost use Rattle.json_values.specs.Sinks.{memory_tray, calls_of, failing_of};
 
+    /// Holds nothing yet, and will fail at the calls of these numbers.
     pub fn new(alloc: Global, failing: List<u64>) -> MemorySink
         ensures taken { (memory_tray result).taken ≡ Some [] }
         ensures faults { (memory_tray result).faults ≡ 0 }

@@ -13,6 +13,7 @@ pub struct PlainSink {
 impl PlainSink {
     ghost use Rattle.json_values.specs.Sinks.{plain_tray};
 
+    /// Holds nothing yet.
     pub fn new(alloc: Global) -> PlainSink
         ensures { (plain_tray result).taken ≡ Some [] }
     {

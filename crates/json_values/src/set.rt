@@ -28,6 +28,7 @@ impl Model for TextSet {
 }
 
 impl TextSet {
+    /// No names.
     pub fn new(alloc: Global) -> TextSet
         ensures { result ≡ map.empty }
     {
@@ -36,6 +37,7 @@ impl TextSet {
         }
     }
 
+    /// Adds a name; one that is there stays.
     pub fn insert(&mut self, name: Text) -> Result<(), AllocError>
         ensures ok { OnOk result (self.new ≡ map.insert self.old name tt) }
         ensures err { OnErr result (self.new ≡ self.old) }
@@ -43,6 +45,7 @@ impl TextSet {
         self.inner.insert(name, ())
     }
 
+    /// Whether the name is there.
     pub fn contains(&self, name: &str) -> bool
         ensures { result ≡ map.contains_key self.now name.now }
     {
@@ -56,6 +59,7 @@ impl TextSet {
         self.inner.entries()
     }
 
+    /// The name at this place in the order of the names.
     pub fn name_at(&self, place: usize) -> Option<&Text>
         ensures { option_copied result ≡ slice_get (map.keys self.now) place }
     {
