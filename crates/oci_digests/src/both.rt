@@ -4,7 +4,7 @@ ghost use Rattle.oci_digests.specs.Both.{GivenHolds, given_text};
 ghost use Rattle.oci_digests.specs.Names.{digest_text};
 
 use crate::digester::{Algorithm, Digester};
-use json_values::{Copied, Text};
+use json_values::{Copied, Text, copied};
 use std::alloc::{AllocError, Global};
 
 // How a body is hashed for the digest of a header.
@@ -33,6 +33,12 @@ pub struct DigestTexts {
     pub given: Option<Text>,
     /// By the descriptor's algorithm.
     pub own: Text,
+}
+
+impl Copied for DigestTexts {
+    fn copy(&self, alloc: Global) -> Result<DigestTexts, AllocError> {
+        copied!(alloc, self, DigestTexts { given, own })
+    }
 }
 
 fn given_of(given: Option<Algorithm>, own: Algorithm) -> Given

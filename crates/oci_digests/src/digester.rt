@@ -3,7 +3,7 @@ ghost use Rattle.std.specs.Prelude.{◌≡◌, ℕ, List, [], ◌++◌, IfOk, On
 use crate::checks::named_algorithm;
 use crate::error::DigestError;
 use crate::names::text_of;
-use json_values::Text;
+use json_values::{Copied, Text};
 use sha2::{Digest, Sha256, Sha384, Sha512};
 use std::alloc::{AllocError, Global};
 
@@ -16,6 +16,12 @@ pub enum Algorithm {
     Sha384,
     /// SHA-512, 128 hexadecimal digits.
     Sha512,
+}
+
+impl Copied for Algorithm {
+    fn copy(&self, _alloc: Global) -> Result<Algorithm, AllocError> {
+        Ok(*self)
+    }
 }
 
 #[derive(Drop)]

@@ -1,8 +1,9 @@
-ghost use Rattle.std.specs.Prelude.{◌≡◌};
+// Why a digest text is refused.
+ghost use Rattle.std.specs.Prelude.{◌≡◌, IfOk};
 ghost use Rattle.oci_digests.specs.Checks.{is_memory};
 
-use json_values::{Blob, Text};
-use std::alloc::AllocError;
+use json_values::{Blob, Copied, Text};
+use std::alloc::{AllocError, Global};
 use thiserror::Error;
 
 /// Why a digest text is refused.
@@ -37,6 +38,31 @@ impl DigestError {
     {
         matches!(self, DigestError::WantOfMemory)
     }
+}
+
+impl Copied for DigestError {
+    fn copy(&self, alloc: Global) -> Result<DigestError, AllocError> {
+        match self {
+            DigestError::InvalidHeader(value) => Ok(DigestError::InvalidHeader(value.copy(alloc)?)),
+            DigestError::UnsupportedAlgorithm(name) => {
+                Ok(DigestError::UnsupportedAlgorithm(name.copy(alloc)?))
+            }
+            DigestError::MissingAlgorithm => Ok(DigestError::MissingAlgorithm),
+            DigestError::VerificationError { expected, actual } => {
+                let (expected, actual) = copied_texts(alloc, expected, actual)?;
+                Ok(DigestError::VerificationError { expected, actual })
+            }
+            DigestError::WantOfMemory => Ok(DigestError::WantOfMemory),
+        }
+    }
+}
+
+fn copied_texts(alloc: Global, expected: &Text, actual: &Text) -> Result<(Text, Text), AllocError>
+    ensures { IfOk result (λ texts. (texts.0 ≡ expected.now) × (texts.1 ≡ actual.now)) }
+{
+    let expected = expected.copy(alloc)?;
+    let actual = actual.copy(alloc)?;
+    Ok((expected, actual))
 }
 
 impl From<AllocError> for DigestError {
