@@ -13,8 +13,11 @@ use Rattle.sig_registry.specs.declared.error.SigstoreError.TheVariants as sigsto
 use Rattle.engine_requests.specs.declared.error.OciDistributionError.{OciDistributionError}
 use Rattle.engine_requests.specs.Errors.{is_memory as engine_is_memory, Says as SaysEngine}
 use Rattle.sig_registry.specs.declared.wording.Called.{Called}
-use Rattle.cosign_client.specs.declared.verified.PullRefusal.{PullRefusal}
-use Rattle.cosign_client.specs.Refusals.{is_memory as of_refusal, refused_as}
+use Rattle.cosign_client.specs.declared.refusal.PullRefusal.{PullRefusal}
+use Rattle.cosign_client.specs.Refusal.{is_memory as of_refusal, refused_as, Says as SaysWhole}
+use Rattle.cosign_client.specs.Verified.{as_whole, constrained, part_of, readable_by}
+use Rattle.cosign_client.specs.declared.refusal.PullRefusal.TheVariants as refusal
+use Rattle.oci_names.specs.declared.reference.Reference.{Reference}
 use Rattle.sig_registry.specs.Errors.{is_memory, Says, worded}
 use Rattle.sig_registry.specs.Clients.{Kept, Client, Made}
 
@@ -101,6 +104,14 @@ pub said_of : {A B : Type 0} {s : Settings} {p : Proto Kept (Result A SigstoreEr
 said_of f (Ok a) {t = t} stays first says = caught (λ x. Done (f x)) first (said t says)
 said_of f (Err e) stays first says = said_refusal (λ x. Done (f x)) refl (stays e) first says
 
+-- a step of the whole with no call
+pub said_whole : {A : Type 0} {s : Settings} (r : Result A PullRefusal) {w : Result A PullRefusal} {c : Client} {link : Link} → SaysWhole r w → Made of_refusal s (Done w) c c link link r
+said_whole (Ok a) h = rw h done
+said_whole {A} (Err e) {w = w} {c = c} {link = link} h = record { made = λ at. (at, record { outcome = refusing (of_refusal e) h }) } where
+  refusing : (b : Bool) → MatchBool b (Unit {0}) (w ≡ Err e) → MatchBool b (Breaks {A = Result A PullRefusal} (Done w) link link c.kept c.kept) (Performs (Done w) link link c.kept c.kept (Err e))
+  refusing true h = Breaks-start (Done w) link c.kept
+  refusing false h = rw h (Performs-done link c.kept (Err e))
+
 memory_as : (x : SigstoreError) → is_memory x ≡ true → of_refusal (refused_as x) ≡ true
 memory_as sigstore.WantOfMemory h = refl
 memory_as (sigstore.OciReferenceNotValidError reference) h = absurd (cc h)
@@ -144,3 +155,36 @@ worded_said called text r w t h says = said t (in_words_said called text r w t h
 -- memory was wanting before anything was asked
 pub meets_wanting : {A E : Type 0} {om : E → Bool} {p : Proto Kept (Result A E)} {k : Kept} {link : Link} (x : E) {r : Result A E} → om x ≡ true → IsErrAnd r (λ y. y ≡ x) → Meets om p link link k k r
 meets_wanting {om = om} {p = p} {k = k} {link = link} x {r = r} memory is = let at = err_from_is_err_and r is in rw (at.1, at.2) (Meets-memory om p link k x memory)
+
+-- a part that was answered, as a part of the whole
+pub part_answered : {A : Type 0} {s : Settings} {p : Proto Kept (Result A SigstoreError)} {c d : Client} {old new : Link} {a : A} → Made is_memory s p c d old new (Ok a) → Made of_refusal s (part_of p) c d old new (Ok a)
+unfolding part_of
+part_answered first = caught (λ r. Done (as_whole r)) first done
+
+-- and one that was refused
+pub part_refused : {A : Type 0} {s : Settings} {p : Proto Kept (Result A SigstoreError)} {c d : Client} {old new : Link} {x : SigstoreError} → Made is_memory s p c d old new (Err x) → Made of_refusal s (part_of p) c d old new (Err (refused_as x))
+unfolding part_of
+part_refused first = refused_whole (λ r. Done (as_whole r)) refl first
+
+-- a step that answers just so
+pub says_same : {A : Type 0} (r w : Result A PullRefusal) → r ≡ w → SaysWhole r w
+says_same (Ok a) w is = sym is
+says_same (Err e) w is = by_memory (of_refusal e) where
+  by_memory : (b : Bool) → MatchBool b (Unit {0}) (w ≡ Err e)
+  by_memory true = tt
+  by_memory false = sym is
+
+-- a policy without a constraint, at the exit of a `?`
+pub empty_policy : {A : Type 0} (b : Bool) (x : PullRefusal) {r : Result A PullRefusal} → (let w : Result (Unit {0}) PullRefusal = Err x in w) ≡ constrained b → b ≡ true → IsErrAnd r (λ y. y ≡ x) → r ≡ Err refusal.EmptyPolicy
+empty_policy false x is so at = absurd (cc so)
+empty_policy true x {r} is so at = let e = err_from_is_err_and r at in let same : x ≡ refusal.EmptyPolicy = cc is in rw (e.1, e.2, same) refl
+
+-- a policy that has one
+pub not_empty : {P : Type 0} (b : Bool) (u : Unit {0}) → (let w : Result (Unit {0}) PullRefusal = Ok u in w) ≡ constrained b → b ≡ true → P
+not_empty false u is so = absurd (cc so)
+not_empty true u is so = absurd (cc is)
+
+-- a reference that was read back
+pub readable_not : {P : Type 0} (image : Reference) (b : Bool) (u : Unit {0}) → readable_by image b ≡ Ok u → b ≡ false → P
+readable_not image true u is so = absurd (cc so)
+readable_not image false u is so = absurd (cc is)

@@ -1,8 +1,8 @@
--- What is skipped holds no want of memory, and no more faults than the transport had.
-use Rattle.std.proofs.Common.{◌≡◌, ◌≤◌, ◌+◌, ℕ, Bool, true, false, cond, List, [], ◌∷◌, ◌++◌, Option, Some, None, Result, Ok, Err, IfOk, IfErr, refl, sym, ap, ◌∙◌, subst, arith, zero-add}
+-- What is skipped holds no want of memory and no fault of a sink, and no more faults than the transport had.
+use Rattle.std.proofs.Common.{◌≡◌, ◌≤◌, ◌+◌, ◌-◌, ◌^◌, min, ℕ, Bool, true, false, cond, List, [], ◌∷◌, ◌++◌, Option, Some, None, Result, Ok, Err, IfOk, IfErr, refl, sym, ap, ◌∙◌, subst, arith, zero-add}
 use Rattle.std.specs.Prelude.{if◌then◌else◌, find, MatchBool, count_by, unwrap_or}
 use Rattle.std.specs.FinMap as map_of
-use Rattle.std.proofs.lemmas.List.Elements.{All-push}
+use Rattle.std.proofs.lemmas.List.Elements.{All-push, All-cons}
 use Rattle.std.proofs.lemmas.List.Sums.{sum_by-append}
 use Rattle.json_values.specs.Counts.{Rose}
 use Rattle.oci_names.specs.declared.reference.Reference.{Reference}
@@ -29,7 +29,7 @@ use Rattle.engine_steps.specs.Rows.{Row as Engine}
 use Rattle.engine_pull.specs.Pulls.{pull_manifest}
 use Rattle.engine_pull.specs.Images.{pull}
 use Rattle.engine_pull.specs.declared.image.ImageData.{ImageData}
-use Rattle.oci_engine.specs.Causes.{DocumentCause, OwnDigest, ManifestUrl}
+use Rattle.oci_engine.specs.Causes.{DocumentCause, ManifestUrl, OwnDigest}
 use Rattle.oci_engine.proofs.Early.{Loose}
 use Rattle.oci_engine.proofs.ImageRefused.{RowCause, manifest_causes, image_causes}
 use Rattle.oci_engine.proofs.Reasons.{manifest_fault, image_fault}
@@ -38,49 +38,58 @@ use Rattle.sig_registry.specs.declared.error.SigstoreError.TheVariants as sigsto
 use Rattle.sig_registry.specs.declared.wording.Called.{Called}
 use Rattle.sig_registry.specs.declared.wording.Called.TheVariants.{FetchManifest, Pull, PullManifest}
 use Rattle.sig_registry.specs.Errors.{is_memory, worded, refusal as call_refusal}
-use Rattle.sig_registry.specs.Clients.{Kept}
+use Rattle.sig_registry.specs.Clients.{Kept, Row}
 use Rattle.sig_registry.specs.Calls.{in_words, digest_call, manifest_call, image_call}
-use Rattle.cosign_layers.specs.Layer.{Input, payload_layer}
-use Rattle.cosign_layers.specs.Rejections.{is_memory as is_layer_memory}
+use Rattle.cosign_layers.specs.Checks.{input, Input, layer_read}
+use Rattle.cosign_layers.specs.Rejection.{is_memory as is_layer_memory}
+use Rattle.cosign_layers.specs.Standing.{Meaning}
+use Rattle.cosign_layers.specs.Trust.{Trust}
+use Rattle.cosign_layers.specs.declared.layer.LayerKind.TheVariants as kinds
 use Rattle.cosign_layers.specs.declared.layer.SignatureLayer.{SignatureLayer}
 use Rattle.cosign_layers.specs.declared.rejection.LayerRejection.{LayerRejection}
 use Rattle.cosign_layers.specs.declared.rejection.LayerRejection.TheVariants.{WantOfMemory, LayerNotPulled}
-use Rattle.cosign_layers.proofs.Outcomes.{rejected}
-use Rattle.cosign_client.specs.declared.found.TrustedLayers.{TrustedLayers}
+use Rattle.cosign_layers.proofs.Layers.{never_memory}
+use Rattle.cosign_chain.specs.declared.image.VerifiedImage.{VerifiedImage}
+use Rattle.cosign_client.specs.Image.{image_row}
+use Rattle.cosign_client.specs.Part.{skipping, layer_part, named_layer, read_layer, descriptor_part, descriptors_part}
+use Rattle.cosign_client.specs.References.{tag_reference, digest_reference, reading_back}
+use Rattle.cosign_client.specs.Refusal.{is_memory as of_refusal, refused_as}
+use Rattle.cosign_client.specs.Search.{payload_type, document_part, tag_layers, or_skipped, tag_by, tag_source, trusted_layers, searched}
+use Rattle.cosign_client.specs.Skips.{in_engine, in_refusal, holds_memory_or_sink, HoldsNoMemoryNorSink, is_engine_fault, is_refused_fault, is_fault, CountsFaults, OnSkipped}
+use Rattle.cosign_client.specs.Verified.{constrained, is_unconstrained, readable, readable_by, as_whole, part_of, stands_by, standing_by, standing, verified_image, after_search, verified}
+use Rattle.cosign_client.specs.declared.found.Part.{Part}
+use Rattle.cosign_client.specs.declared.found.SkipCause.TheVariants.{NotAReference, FoundIndex, Refused}
 use Rattle.cosign_client.specs.declared.found.Skipped.{Skipped}
 use Rattle.cosign_client.specs.declared.found.Skipped.TheVariants.{Source, Layer}
-use Rattle.cosign_client.specs.declared.found.SkipCause.TheVariants.{NotAReference, FoundIndex, Refused}
 use Rattle.cosign_client.specs.declared.found.SourceKind.TheVariants.{Tag}
+use Rattle.cosign_client.specs.declared.found.TrustedLayers.{TrustedLayers}
 use Rattle.cosign_client.specs.declared.pull.Pulled.{Pulled}
-use Rattle.cosign_client.specs.declared.verified.VerifiedImage.{VerifiedImage}
-use Rattle.cosign_client.specs.declared.verified.PullRefusal.{PullRefusal}
-use Rattle.cosign_client.specs.declared.verified.PullRefusal.TheVariants as refusal
-use Rattle.cosign_client.specs.Refusals.{is_memory as of_refusal, refused_as}
-use Rattle.cosign_client.specs.Search.{payload_type, tag_reference, digest_reference, skipping, added, named_layer, read_layer, turned, collected, refused_source, by_document, by_image, by_manifest, search_by, search_tag, nothing_yet, reading_back, searched}
-use Rattle.cosign_client.specs.Image.{image_row}
-use Rattle.cosign_client.specs.Skips.{in_engine, in_refusal, holds_memory, HoldsNoMemory, is_engine_fault, is_refused_fault, is_fault, CountsFaults, OnSkipped}
-use Rattle.cosign_client.specs.Verified.{completed, by_layer, by_search, by_reference, verified}
+use Rattle.cosign_client.specs.declared.refusal.PullRefusal.{PullRefusal}
+use Rattle.cosign_client.specs.declared.refusal.PullRefusal.TheVariants as refusal
+use Rattle.cosign_client.specs.declared.verified.Standing.{Standing}
 use Rattle.cosign_client.proofs.Counts.{Counts, Counts-any, Counts-done, Counts-more, Counts-bind, Meets-counts, silent, Runs-meets}
 
 -- ---- refusals of the engine
 
--- a refusal other than want of memory holds none, and a fault only where the count rose
-record Sincere (m n : ℕ) (e : OciDistributionError) : Type 0 where
-  falls : m ≤ n
-  no_memory : engine_is_memory e ≡ false → in_engine e ≡ false
-  fault : is_engine_fault e ≡ true → Rose m n
+-- a refusal other than want of memory holds none and no fault of a sink, and it is a fault only where the count rose
+pub record Sincere (m n : ℕ) (e : OciDistributionError) : Type 0 where
+  pub falls : m ≤ n
+  pub no_memory : engine_is_memory e ≡ false → in_engine e ≡ false
+  pub fault : is_engine_fault e ≡ true → Rose m n
 
-abbrev EngineCounts : {A : Type 0} → ℕ → ℕ → Result A OciDistributionError → Type 0
+abbrev pub EngineCounts : {A : Type 0} → ℕ → ℕ → Result A OciDistributionError → Type 0
 EngineCounts m n (Ok a) = m ≤ n
 EngineCounts m n (Err e) = Sincere m n e
 
 manifest_memory : (s : Settings) (image : Reference) (c : List Exchange) (n : ℕ) (e : OciDistributionError) → Loose (ManifestUrl s image) (DocumentCause (OwnDigest image)) s manifest_types c n e → engine_is_memory e ≡ false → in_engine e ≡ false
 manifest_memory s image c n engine_refusal.WantOfMemory h other = absurd (cc other)
+manifest_memory s image c n engine_refusal.SinkFault h other = absurd h.holds
 manifest_memory s image c n (engine_refusal.DigestError digest_refusal.WantOfMemory) h other = absurd h.holds
 manifest_memory s image c n _ h other = refl
 
 image_memory : (s : Settings) (image : Reference) (accepted : List (List ℕ)) (c : List Exchange) (n : ℕ) (e : OciDistributionError) → RowCause s image accepted c n e → engine_is_memory e ≡ false → in_engine e ≡ false
 image_memory s image accepted c n engine_refusal.WantOfMemory h other = absurd (cc other)
+image_memory s image accepted c n engine_refusal.SinkFault h other = absurd h
 image_memory s image accepted c n (engine_refusal.DigestError digest_refusal.WantOfMemory) h other = absurd h.holds
 image_memory s image accepted c n _ h other = refl
 
@@ -89,7 +98,7 @@ only_fault engine_refusal.TransportFault is = refl
 only_fault _ is = absurd (cc is)
 
 -- a refusal that is a fault, over a run
-fault_of : {A : Type 0} (p : Engine A) (k l : Kept) (m n : ℕ) (c : List Exchange) (e : OciDistributionError) → Runs p k m c n l (Err e)
+pub fault_of : {A : Type 0} (p : Engine A) (k l : Kept) (m n : ℕ) (c : List Exchange) (e : OciDistributionError) → Runs p k m c n l (Err e)
     → ((old new : Link) → Meets engine_is_memory p old new k l (Err engine_refusal.TransportFault) → Rose old.faults new.faults) → is_engine_fault e ≡ true → Rose m n
 fault_of {A} p k l m n c e run rose is = rose (silent m) (silent n) (Runs-meets engine_is_memory p k l m n c engine_refusal.TransportFault refl (subst (λ x. Runs p k m c n l (let r : Result A OciDistributionError = Err x in r)) (only_fault e is) run))
 
@@ -115,12 +124,12 @@ image_counts s image a accepted = record { counts = λ k l m n c r run. by_resul
 
 -- ---- refusals in words
 
-record SincereWords (m n : ℕ) (e : SigstoreError) : Type 0 where
-  falls : m ≤ n
-  no_memory : is_memory e ≡ false → in_refusal e ≡ false
-  fault : is_refused_fault e ≡ true → Rose m n
+pub record SincereWords (m n : ℕ) (e : SigstoreError) : Type 0 where
+  pub falls : m ≤ n
+  pub no_memory : is_memory e ≡ false → in_refusal e ≡ false
+  pub fault : is_refused_fault e ≡ true → Rose m n
 
-abbrev CallCounts : {A : Type 0} → ℕ → ℕ → Result A SigstoreError → Type 0
+abbrev pub CallCounts : {A : Type 0} → ℕ → ℕ → Result A SigstoreError → Type 0
 CallCounts m n (Ok a) = m ≤ n
 CallCounts m n (Err e) = SincereWords m n e
 
@@ -134,23 +143,23 @@ called_fault FetchManifest text e = refl
 called_fault Pull text e = refl
 called_fault PullManifest text e = refl
 
-worded_counts : {A : Type 0} (called : Called) (text : List ℕ) (m n : ℕ) (r : Result A OciDistributionError) → EngineCounts m n r → CallCounts m n (worded called text r)
+pub worded_counts : {A : Type 0} (called : Called) (text : List ℕ) (m n : ℕ) (r : Result A OciDistributionError) → EngineCounts m n r → CallCounts m n (worded called text r)
 worded_counts called text m n (Ok a) h = h
 worded_counts {A} called text m n (Err e) h = by_memory (engine_is_memory e) refl where
   by_memory : (b : Bool) → engine_is_memory e ≡ b → CallCounts {A = A} m n (if b then Err sigstore.WantOfMemory else Err (call_refusal called text e))
   by_memory true is = record { falls = h.falls; no_memory = λ other. absurd (cc other); fault = λ is. absurd (cc is) }
   by_memory false is = record { falls = h.falls; no_memory = λ other. in_called called text e ∙ h.no_memory is; fault = λ fault. h.fault (sym (called_fault called text e) ∙ fault) }
 
-words_count : {A : Type 0} (called : Called) (image : Reference) (p : Engine A) → Counts EngineCounts p → Counts CallCounts (in_words called image p)
+pub words_count : {A : Type 0} (called : Called) (image : Reference) (p : Engine A) → Counts EngineCounts p → Counts CallCounts (in_words called image p)
 unfolding in_words
 words_count called image p h = Counts-bind EngineCounts CallCounts p (λ r. Done (worded called (whole_text image) r)) h
     (λ m n r at. Counts-done (λ start o b. start ≡ n → CallCounts m o b) (worded called (whole_text image) r) (λ o same. rw same (worded_counts called (whole_text image) m n r at)))
 
-manifest_call_counts : (s : Context) (image : Reference) (a : RegistryAuth) → Counts CallCounts (manifest_call s image a)
+pub manifest_call_counts : (s : Context) (image : Reference) (a : RegistryAuth) → Counts CallCounts (manifest_call s image a)
 unfolding manifest_call
 manifest_call_counts s image a = words_count PullManifest image (pull_manifest s image a) (manifest_counts s image a)
 
-image_call_counts : (s : Context) (image : Reference) (a : RegistryAuth) (accepted : List (List ℕ)) → Counts CallCounts (image_call s image a accepted)
+pub image_call_counts : (s : Context) (image : Reference) (a : RegistryAuth) (accepted : List (List ℕ)) → Counts CallCounts (image_call s image a accepted)
 unfolding image_call
 image_call_counts s image a accepted = words_count Pull image (pull s image a accepted) (image_counts s image a accepted)
 
@@ -158,7 +167,7 @@ image_call_counts s image a accepted = words_count Pull image (pull s image a ac
 
 -- from this count to that one
 record Counted (m n : ℕ) (skipped : List Skipped) : Type 0 where
-  no_memory : HoldsNoMemory skipped
+  no_memory : HoldsNoMemoryNorSink skipped
   faults : CountsFaults m n skipped
 
 none_skipped : (m n : ℕ) → m ≤ n → Counted m n []
@@ -171,89 +180,135 @@ count_one : (x : Skipped) (xs : List Skipped) → count_by is_fault (xs ++ x ∷
 count_one x xs = sum_by-append (λ x. cond (is_fault x) 1 0) xs (x ∷ []) ∙ ap (λ n. count_by is_fault xs + n) (zero-add (cond (is_fault x) 1 0))
 
 -- one more cause, which is a fault only where the count rose
-one_more : (m n o : ℕ) (xs : List Skipped) (x : Skipped) → n ≤ o → Counted m n xs → holds_memory x ≡ false → (is_fault x ≡ true → Rose n o) → Counted m o (xs ++ x ∷ [])
-one_more m n o xs x le h memory fault = record { no_memory = All-push (λ cause. holds_memory cause ≡ false) xs x h.no_memory memory; faults = by_fault (is_fault x) refl } where
+one_more : (m n o : ℕ) (xs : List Skipped) (x : Skipped) → n ≤ o → Counted m n xs → holds_memory_or_sink x ≡ false → (is_fault x ≡ true → Rose n o) → Counted m o (xs ++ x ∷ [])
+one_more m n o xs x le h memory fault = record { no_memory = All-push (λ cause. holds_memory_or_sink cause ≡ false) xs x h.no_memory memory; faults = by_fault (is_fault x) refl } where
   by_fault : (b : Bool) → is_fault x ≡ b → CountsFaults m o (xs ++ x ∷ [])
   by_fault true is = let one : count_by is_fault (xs ++ x ∷ []) ≡ count_by is_fault xs + 1 = count_one x xs ∙ ap (λ b. count_by is_fault xs + cond b 1 0) is in let rose : Rose n o = fault is in rw one (omega (arith, h.faults, rose))
   by_fault false is = let one : count_by is_fault (xs ++ x ∷ []) ≡ count_by is_fault xs + 0 = count_one x xs ∙ ap (λ b. count_by is_fault xs + cond b 1 0) is in rw one (omega (arith, h.faults, le))
 
-abbrev FoundCounts : ℕ → ℕ → TrustedLayers → Type 0
-FoundCounts m n found = Counted m n found.skipped
+-- from an earlier count
+earlier : (m n o : ℕ) (skipped : List Skipped) → m ≤ n → Counted n o skipped → Counted m o skipped
+earlier m n o skipped le h = record { no_memory = h.no_memory; faults = omega (arith, le, h.faults) }
 
--- a quiet cause
-quiet : (m n : ℕ) (found : TrustedLayers) (x : Skipped) → FoundCounts m n found → holds_memory x ≡ false → is_fault x ≡ false → FoundCounts m n (skipping found x)
-quiet m n found x h memory fault = one_more m n n found.skipped x (omega arith) h memory (λ is. absurd (cc (sym fault ∙ is)))
+-- one cause
+one_cause : (m n : ℕ) (x : Skipped) → m ≤ n → holds_memory_or_sink x ≡ false → (is_fault x ≡ true → Rose m n) → Counted m n (x ∷ [])
+one_cause m n x le memory fault = one_more m m n [] x le (none_skipped m m (omega arith)) memory fault
 
-layer_memory : (d : List ℕ) (input : Input) (x : LayerRejection) → payload_layer d input ≡ Err x → is_layer_memory x ≡ false
-layer_memory d input WantOfMemory is = absurd (rejected d input WantOfMemory is)
-layer_memory d input _ is = refl
+-- causes that need no fault
+abbrev Quiet : List Skipped → Type 0
+Quiet skipped = (m n : ℕ) → m ≤ n → Counted m n skipped
 
-read_memory : (d : List ℕ) (x : OciDescriptor) (o : Option ImageLayer) (cause : LayerRejection) → read_layer d x o ≡ Err cause → is_layer_memory cause ≡ false
-read_memory d x None cause is = let same : LayerNotPulled ≡ cause = cc is in subst (λ y. is_layer_memory y ≡ false) same refl
-read_memory d x (Some layer) cause is = layer_memory d (record { content = layer.content; oci_digest = x.digest; annotations = unwrap_or x.annotations map_of.empty }) cause is
+quiet_one : (x : Skipped) → holds_memory_or_sink x ≡ false → is_fault x ≡ false → Quiet (x ∷ [])
+quiet_one x memory fault m n le = one_cause m n x le memory (λ is. absurd (cc (sym fault ∙ is)))
 
-added_counts : (m n : ℕ) (found : TrustedLayers) (name : List ℕ) (r : Result SignatureLayer LayerRejection) → FoundCounts m n found → ((x : LayerRejection) → r ≡ Err x → is_layer_memory x ≡ false) → FoundCounts m n (added found name r)
-added_counts m n found name (Ok layer) h memory = h
-added_counts m n found name (Err cause) h memory = quiet m n found (Layer Tag name cause) h (memory cause refl) refl
+quiet_none : Quiet []
+quiet_none m n le = none_skipped m n le
 
-collected_counts : (m n : ℕ) (xs : List OciDescriptor) (layers : List ImageLayer) (found : TrustedLayers) → FoundCounts m n found → FoundCounts m n (collected xs layers found)
-collected_counts m n [] layers found h = h
-collected_counts m n (x ∷ xs) layers found h = collected_counts m n xs layers (turned x layers found) (added_counts m n found x.digest (read_layer found.digest x (named_layer x.digest layers)) h (λ cause is. read_memory found.digest x (named_layer x.digest layers) cause is))
+both_memory : (x : Skipped) (xs : List Skipped) → holds_memory_or_sink x ≡ false → HoldsNoMemoryNorSink xs → HoldsNoMemoryNorSink (x ∷ xs)
+both_memory x xs memory rest = All-cons (λ cause. holds_memory_or_sink cause ≡ false) x xs memory rest
 
-document_counts : (m n : ℕ) (found : TrustedLayers) (document : OciManifest) (image : ImageData) → FoundCounts m n found → FoundCounts m n (by_document found document image)
-document_counts m n found (ImageIndex index) image h = quiet m n found (Source Tag FoundIndex) h refl refl
-document_counts m n found (Image manifest) image h = collected_counts m n manifest.layers image.layers found h
+one_before : (x : Skipped) (xs : List Skipped) → is_fault x ≡ false → count_by is_fault (x ∷ xs) ≡ count_by is_fault xs
+one_before x xs fault =
+    sum_by-append (λ x. cond (is_fault x) 1 0) (x ∷ []) xs
+    ∙ ap (λ b. 0 + cond b 1 0 + count_by is_fault xs) fault
+    ∙ zero-add (count_by is_fault xs)
 
-refused_counts : (m n o : ℕ) (found : TrustedLayers) (e : SigstoreError) → FoundCounts m n found → SincereWords n o e → OnAnswer (FoundCounts m o) (refused_source found e)
-refused_counts m n o found e h words = by_memory (is_memory e) refl where
-  by_memory : (b : Bool) → is_memory e ≡ b → OnAnswer (FoundCounts m o) (if b then Err e else Ok (skipping found (Source Tag (Refused e))))
+-- a quiet cause before others
+quiet_cons : (x : Skipped) (xs : List Skipped) → holds_memory_or_sink x ≡ false → is_fault x ≡ false → Quiet xs → Quiet (x ∷ xs)
+quiet_cons x xs memory fault h m n le = record {
+  no_memory = both_memory x xs memory (h m n le).no_memory;
+  faults = subst (λ k. min (m + k) (2 ^ 64 - 1) ≤ n) (sym (one_before x xs fault)) (h m n le).faults;
+}
+
+layer_memory : (trust : Trust) (d : List ℕ) (i : Input) (x : LayerRejection) → layer_read trust d i ≡ Err x → is_layer_memory x ≡ false
+layer_memory trust d i WantOfMemory is = absurd (never_memory trust d i is)
+layer_memory trust d i _ is = refl
+
+read_memory : (trust : Trust) (d : List ℕ) (x : OciDescriptor) (o : Option ImageLayer) (cause : LayerRejection) → read_layer trust d x o ≡ Err cause → is_layer_memory cause ≡ false
+read_memory trust d x None cause is = let same : LayerNotPulled ≡ cause = cc is in subst (λ y. is_layer_memory y ≡ false) same refl
+read_memory trust d x (Some layer) cause is = layer_memory trust d (input kinds.Payload layer.content x.digest (unwrap_or x.annotations map_of.empty)) cause is
+
+layer_quiet : (name : List ℕ) (r : Result SignatureLayer LayerRejection) (rest : List Skipped) → ((x : LayerRejection) → r ≡ Err x → is_layer_memory x ≡ false) → Quiet rest → Quiet ((layer_part Tag name r).skipped ++ rest)
+layer_quiet name (Ok layer) rest memory h = h
+layer_quiet name (Err cause) rest memory h = quiet_cons (Layer Tag name cause) rest (memory cause refl) refl h
+
+descriptors_quiet : (trust : Trust) (d : List ℕ) (layers : List ImageLayer) (xs : List OciDescriptor) → Quiet (descriptors_part trust d layers xs).skipped
+descriptors_quiet trust d layers [] = quiet_none
+descriptors_quiet trust d layers (x ∷ xs) = layer_quiet x.digest (read_layer trust d x (named_layer x.digest layers)) (descriptors_part trust d layers xs).skipped (λ cause is. read_memory trust d x (named_layer x.digest layers) cause is) (descriptors_quiet trust d layers xs)
+
+document_quiet : (trust : Trust) (d : List ℕ) (document : OciManifest) (image : ImageData) → Quiet (document_part trust d document image).skipped
+document_quiet trust d (ImageIndex index) image = quiet_one (Source Tag FoundIndex) refl refl
+document_quiet trust d (Image manifest) image = descriptors_quiet trust d image.layers manifest.layers
+
+-- ---- the tag as a source
+
+abbrev TagCounts : ℕ → ℕ → Result Part SigstoreError → Type 0
+TagCounts m n (Ok part) = Counted m n part.skipped
+TagCounts m n (Err e) = SincereWords m n e
+
+pub wider : (m n o : ℕ) (e : SigstoreError) → m ≤ n → SincereWords n o e → SincereWords m o e
+wider m n o e le h = record { falls = omega (arith, le, h.falls); no_memory = h.no_memory; fault = λ is. let rose : Rose n o = h.fault is in omega (arith, le, rose) }
+
+image_then : (m n o : ℕ) (trust : Trust) (d : List ℕ) (document : OciManifest) (r : Result ImageData SigstoreError) → m ≤ n → CallCounts n o r → Counts {K = Kept} (λ t p b. t ≡ o → TagCounts m p b) (unless_refused (λ image. Done (Ok (document_part trust d document image))) r)
+image_then m n o trust d document (Ok image) le call = Counts-done (λ t p b. t ≡ o → TagCounts m p b) (Ok (document_part trust d document image)) (λ p same. rw same (document_quiet trust d document image m o (omega (arith, le, call))))
+image_then m n o trust d document (Err e) le call = Counts-done (λ t p b. t ≡ o → TagCounts m p b) (Err e) (λ p same. rw same (wider m n o e le call))
+
+manifest_then : (m n : ℕ) (trust : Trust) (d : List ℕ) (s : Context) (tag : Reference) (a : RegistryAuth) (r : Result (OciManifest × List ℕ) SigstoreError) → CallCounts m n r → Counts (λ t p b. t ≡ n → TagCounts m p b) (unless_refused (λ document. image_call s tag a (payload_type ∷ []) >>= λ image. Done (Ok (document_part trust d document.0 image))) r)
+manifest_then m n trust d s tag a (Err e) call = Counts-done (λ t p b. t ≡ n → TagCounts m p b) (Err e) (λ p same. rw same call)
+manifest_then m n trust d s tag a (Ok document) call = Counts-bind CallCounts (λ t p b. t ≡ n → TagCounts m p b) (image_call s tag a (payload_type ∷ [])) _ (image_call_counts s tag a (payload_type ∷ []))
+    (λ t p r at. Counts-more (λ u q b. u ≡ p → t ≡ n → TagCounts m q b) (λ u q b. u ≡ p → t ≡ n → TagCounts m q b) _ (record { counts = λ k l u q c b run same begins. (image_then m t p trust d document.0 r (rw begins call) at).counts k l u q c b run same }) (λ u q b h. h))
+
+tag_layers_counts : (trust : Trust) (d : List ℕ) (s : Context) (tag : Reference) (a : RegistryAuth) → Counts TagCounts (tag_layers trust d s tag a)
+unfolding tag_layers
+tag_layers_counts trust d s tag a = Counts-bind CallCounts TagCounts (manifest_call s tag a) _ (manifest_call_counts s tag a) (λ m n r at. manifest_then m n trust d s tag a r at)
+
+abbrev SourceCounts : ℕ → ℕ → Result Part SigstoreError → Type 0
+SourceCounts m n r = OnAnswer (λ part. Counted m n part.skipped) r
+
+skipped_counts : (m n : ℕ) (r : Result Part SigstoreError) → TagCounts m n r → SourceCounts m n (or_skipped Tag r)
+skipped_counts m n (Ok part) h = h
+skipped_counts m n (Err e) h = by_memory (is_memory e) refl where
+  by_memory : (b : Bool) → is_memory e ≡ b → SourceCounts m n (if b then Err e else Ok (skipping (Source Tag (Refused e))))
   by_memory true is = tt
-  by_memory false is = one_more m n o found.skipped (Source Tag (Refused e)) words.falls h (words.no_memory is) words.fault
+  by_memory false is = one_cause m n (Source Tag (Refused e)) h.falls (h.no_memory is) h.fault
 
-by_image_counts : (m n o : ℕ) (found : TrustedLayers) (document : OciManifest) (r : Result ImageData SigstoreError) → FoundCounts m n found → CallCounts n o r → OnAnswer (FoundCounts m o) (by_image found document r)
-by_image_counts m n o found document (Ok image) h call = document_counts m o found document image (later m n o found.skipped call h)
-by_image_counts m n o found document (Err e) h call = refused_counts m n o found e h call
+by_counts : (trust : Trust) (d : List ℕ) (s : Context) (tag : Reference) (a : RegistryAuth) (b : Bool) → Counts SourceCounts (tag_by trust d s tag a b)
+by_counts trust d s tag a true = Counts-bind TagCounts SourceCounts (tag_layers trust d s tag a) (λ r. Done (or_skipped Tag r)) (tag_layers_counts trust d s tag a)
+    (λ m n r at. Counts-done (λ t p b. t ≡ n → SourceCounts m p b) (or_skipped Tag r) (λ p same. rw same (skipped_counts m n r at)))
+by_counts trust d s tag a false = Counts-done SourceCounts (Ok (skipping (Source Tag (NotAReference (whole_text tag))))) (λ m. quiet_one (Source Tag (NotAReference (whole_text tag))) refl refl m m (omega arith))
+
+source_counts : (trust : Trust) (s : Context) (image : Reference) (a : RegistryAuth) (d : List ℕ) → Counts SourceCounts (tag_source trust s image a d)
+unfolding tag_source
+source_counts trust s image a d = by_counts trust d s (tag_reference image d) a (reads_back (tag_reference image d))
 
 -- ---- the search
 
--- what is counted up to the start of a part is counted up to its end
-abbrev Keeps : ℕ → TrustedLayers → ℕ → ℕ → Result TrustedLayers SigstoreError → Type 0
-Keeps m found start o r = FoundCounts m start found → OnAnswer (FoundCounts m o) r
-
-by_manifest_counts : (m n o : ℕ) (s : Context) (tag : Reference) (a : RegistryAuth) (found : TrustedLayers) (r : Result (OciManifest × List ℕ) SigstoreError) → FoundCounts m n found → CallCounts n o r → Counts (λ start p b. start ≡ o → OnAnswer (FoundCounts m p) b) (by_manifest s tag a found r)
-by_manifest_counts m n o s tag a found (Err e) h call = Counts-done (λ start p b. start ≡ o → OnAnswer (FoundCounts m p) b) (refused_source found e) (λ p same. rw same (refused_counts m n o found e h call))
-by_manifest_counts m n o s tag a found (Ok document) h call = Counts-bind CallCounts (λ start p b. start ≡ o → OnAnswer (FoundCounts m p) b) (image_call s tag a (payload_type ∷ [])) (λ r. Done (by_image found document.0 r)) (image_call_counts s tag a (payload_type ∷ []))
-    (λ start p r at. Counts-done (λ t q b. t ≡ p → start ≡ o → OnAnswer (FoundCounts m q) b) (by_image found document.0 r) (λ q same begins. rw same (by_image_counts m start p found document.0 r (rw begins (later m n o found.skipped call h)) at)))
-
-by_counts : (m : ℕ) (s : Context) (tag : Reference) (a : RegistryAuth) (found : TrustedLayers) (b : Bool) → Counts (Keeps m found) (search_by s tag a found b)
-by_counts m s tag a found true = record { counts = λ k l n o c r run h. (Counts-bind CallCounts (λ start p b. FoundCounts m start found → OnAnswer (FoundCounts m p) b) (manifest_call s tag a) (by_manifest s tag a found) (manifest_call_counts s tag a) (λ start p r call. Counts-more (λ t q b. FoundCounts m start found → t ≡ p → OnAnswer (FoundCounts m q) b) (λ t q b. t ≡ p → FoundCounts m start found → OnAnswer (FoundCounts m q) b) (by_manifest s tag a found r) (record { counts = λ k l t q c b run h. (by_manifest_counts m start p s tag a found r h call).counts k l t q c b run }) (λ t q b f same h. f h same))).counts k l n o c r run h }
-by_counts m s tag a found false = Counts-done (Keeps m found) (Ok (skipping found (Source Tag (NotAReference (whole_text tag))))) (λ n h. quiet m n found (Source Tag (NotAReference (whole_text tag))) h refl refl)
-
-tag_counts : (m : ℕ) (s : Context) (image : Reference) (a : RegistryAuth) (found : TrustedLayers) → Counts (Keeps m found) (search_tag s image a found)
-unfolding search_tag
-tag_counts m s image a found = by_counts m s (tag_reference image found.digest) a found (reads_back (tag_reference image found.digest))
-
 abbrev SearchCounts : ℕ → ℕ → Result TrustedLayers SigstoreError → Type 0
-SearchCounts m n r = OnAnswer (FoundCounts m n) r
+SearchCounts m n r = OnAnswer (λ found. Counted m n found.skipped) r
 
-after_digest : (m n : ℕ) (s : Context) (image : Reference) (a : RegistryAuth) (digest : List ℕ) (r : Result (Unit {0}) SigstoreError) → m ≤ n → Counts (λ start o b. start ≡ n → SearchCounts m o b) (unless_refused (λ u. search_tag s image a (nothing_yet digest)) r)
-after_digest m n s image a digest (Err e) le = Counts-done (λ start o b. start ≡ n → SearchCounts m o b) (Err e) (λ o same. tt)
-after_digest m n s image a digest (Ok u) le = Counts-more (Keeps m (nothing_yet digest)) (λ start o b. start ≡ n → SearchCounts m o b) (search_tag s image a (nothing_yet digest)) (tag_counts m s image a (nothing_yet digest)) (λ start o b keeps same. keeps (none_skipped m start (rw same le)))
+part_then : (m n o : ℕ) (digest : List ℕ) (r : Result Part SigstoreError) → m ≤ n → SourceCounts n o r → Counts {K = Kept} (λ t p b. t ≡ o → SearchCounts m p b) (unless_refused (λ part. Done (Ok (trusted_layers digest part))) r)
+part_then m n o digest (Ok part) le h = Counts-done (λ t p b. t ≡ o → SearchCounts m p b) (Ok (trusted_layers digest part)) (λ p same. rw same (earlier m n o part.skipped le h))
+part_then m n o digest (Err e) le h = Counts-done (λ t p b. t ≡ o → SearchCounts m p b) (Err e) (λ p same. tt)
 
-digest_then : (m n : ℕ) (s : Context) (image : Reference) (a : RegistryAuth) (r : Result (List ℕ) SigstoreError) → m ≤ n → Counts (λ start o b. start ≡ n → SearchCounts m o b) (unless_refused (λ digest. Done (reading_back (digest_reference image digest)) >>= (λ u. search_tag s image a (nothing_yet digest))) r)
+after_digest : (m n : ℕ) (trust : Trust) (s : Context) (image : Reference) (a : RegistryAuth) (digest : List ℕ) (r : Result (Unit {0}) SigstoreError) → m ≤ n → Counts (λ t p b. t ≡ n → SearchCounts m p b) (unless_refused (λ u. tag_source trust s image a digest >>= λ part. Done (Ok (trusted_layers digest part))) r)
+after_digest m n trust s image a digest (Err e) le = Counts-done (λ t p b. t ≡ n → SearchCounts m p b) (Err e) (λ p same. tt)
+after_digest m n trust s image a digest (Ok u) le = Counts-bind SourceCounts (λ t p b. t ≡ n → SearchCounts m p b) (tag_source trust s image a digest) _ (source_counts trust s image a digest)
+    (λ t p r at. record { counts = λ k l u q c b run same begins. (part_then m t p digest r (rw begins le) at).counts k l u q c b run same })
+
+digest_then : (m n : ℕ) (trust : Trust) (s : Context) (image : Reference) (a : RegistryAuth) (r : Result (List ℕ) SigstoreError) → m ≤ n → Counts (λ t p b. t ≡ n → SearchCounts m p b) (unless_refused (λ digest. Done (reading_back (digest_reference image digest)) >>= (λ u. tag_source trust s image a digest >>= λ part. Done (Ok (trusted_layers digest part)))) r)
 unfolding bind
-digest_then m n s image a (Err e) le = Counts-done (λ start o b. start ≡ n → SearchCounts m o b) (Err e) (λ o same. tt)
-digest_then m n s image a (Ok digest) le = after_digest m n s image a digest (reading_back (digest_reference image digest)) le
+digest_then m n trust s image a (Err e) le = Counts-done (λ t p b. t ≡ n → SearchCounts m p b) (Err e) (λ p same. tt)
+digest_then m n trust s image a (Ok digest) le = after_digest m n trust s image a digest (reading_back (digest_reference image digest)) le
 
-search_counts : (s : Context) (image : Reference) (a : RegistryAuth) → Counts SearchCounts (searched s image a)
+search_counts : (trust : Trust) (s : Context) (image : Reference) (a : RegistryAuth) → Counts SearchCounts (searched trust s image a)
 unfolding searched
-search_counts s image a = Counts-bind (λ m n r. m ≤ n) SearchCounts (digest_call s image a) _ (Counts-any (digest_call s image a)) (λ m n r le. digest_then m n s image a r le)
+search_counts trust s image a = Counts-bind (λ m n r. m ≤ n) SearchCounts (digest_call s image a) _ (Counts-any (digest_call s image a)) (λ m n r le. digest_then m n trust s image a r le)
 
 -- ---- the pull
 
-abbrev PullCounts : ℕ → ℕ → Result VerifiedImage PullRefusal → Type 0
-PullCounts m n (Ok v) = Unit {0}
-PullCounts m n (Err e) = OnSkipped (Counted m n) e
+abbrev OfRefusal : {A : Type 0} → ℕ → ℕ → Result A PullRefusal → Type 0
+OfRefusal m n (Ok v) = Unit {0}
+OfRefusal m n (Err e) = OnSkipped (Counted m n) e
 
 refused_quiet : (P : List Skipped → Type 0) (e : SigstoreError) → OnSkipped P (refused_as e)
 refused_quiet P (sigstore.OciReferenceNotValidError text) = tt
@@ -262,41 +317,88 @@ refused_quiet P (sigstore.RegistryPullError name e) = tt
 refused_quiet P (sigstore.RegistryPullManifestError name e) = tt
 refused_quiet P sigstore.WantOfMemory = tt
 
-completed_quiet : (m n : ℕ) (found : TrustedLayers) (signature : SignatureLayer) (r : Result Pulled SigstoreError) → PullCounts m n (completed found signature r)
-completed_quiet m n found signature (Ok pulled) = tt
-completed_quiet m n found signature (Err e) = refused_quiet (Counted m n) e
+abbrev PartCounts : ℕ → ℕ → Result TrustedLayers PullRefusal → Type 0
+PartCounts m n (Ok found) = Counted m n found.skipped
+PartCounts m n (Err e) = (p : ℕ) → OnSkipped (Counted m p) e
 
-layer_counts : (m n : ℕ) (s : Context) (image : Reference) (a : RegistryAuth) (accepted : List (List ℕ)) (found : TrustedLayers) (o : Option SignatureLayer) → FoundCounts m n found → Counts (λ start p b. start ≡ n → PullCounts m p b) (by_layer s image a accepted found o)
-layer_counts m n s image a accepted found None h = Counts-done (λ start p b. start ≡ n → PullCounts m p b) (Err (refusal.Unsatisfied found.digest found.collected found.skipped)) (λ p same. rw same h)
-layer_counts m n s image a accepted found (Some signature) h = Counts-bind (λ start p r. Unit {0}) (λ start p b. start ≡ n → PullCounts m p b) (image_row s image (digest_reference image found.digest) a accepted) (λ r. Done (completed found signature r)) (record { counts = λ k l t q c r run. tt })
-    (λ start p r u. Counts-done (λ t q b. t ≡ p → start ≡ n → PullCounts m q b) (completed found signature r) (λ q same begins. completed_quiet m q found signature r))
+whole_counts : (m n : ℕ) (r : Result TrustedLayers SigstoreError) → SearchCounts m n r → PartCounts m n (as_whole r)
+whole_counts m n (Ok found) h = h
+whole_counts m n (Err e) h = λ p. refused_quiet (Counted m p) e
 
-search_then : (m n : ℕ) (stands : SignatureLayer → Bool) (s : Context) (image : Reference) (a : RegistryAuth) (accepted : List (List ℕ)) (r : Result TrustedLayers SigstoreError) → SearchCounts m n r → Counts (λ start p b. start ≡ n → PullCounts m p b) (by_search stands s image a accepted r)
-search_then m n stands s image a accepted (Ok found) h = layer_counts m n s image a accepted found (find stands found.collected) h
-search_then m n stands s image a accepted (Err e) h = Counts-done (λ start p b. start ≡ n → PullCounts m p b) (Err (refused_as e)) (λ p same. refused_quiet (Counted m p) e)
+search_part_counts : (trust : Trust) (s : Context) (image : Reference) (a : RegistryAuth) → Counts PartCounts (part_of (searched trust s image a))
+unfolding part_of
+search_part_counts trust s image a = Counts-bind SearchCounts PartCounts (searched trust s image a) (λ r. Done (as_whole r)) (search_counts trust s image a)
+    (λ m n r at. Counts-done (λ t p b. t ≡ n → PartCounts m p b) (as_whole r) (λ p same. rw same (whole_counts m n r at)))
 
-reference_counts : (stands : SignatureLayer → Bool) (s : Context) (image : Reference) (a : RegistryAuth) (accepted : List (List ℕ)) (b : Bool) → Counts PullCounts (by_reference stands s image a accepted b)
-reference_counts stands s image a accepted true = Counts-bind SearchCounts PullCounts (searched s image a) (by_search stands s image a accepted) (search_counts s image a) (λ m n r h. search_then m n stands s image a accepted r h)
-reference_counts stands s image a accepted false = Counts-done PullCounts (Err (refusal.OciReferenceNotValidError (whole_text image))) (λ m. tt)
+-- the image's refusal has nothing that was skipped
+abbrev Silent : {A : Type 0} → Result A PullRefusal → Type 0
+Silent (Ok a) = Unit {0}
+Silent (Err e) = (P : List Skipped → Type 0) → OnSkipped P e
 
-pull_counts : (u : Bool) (stands : SignatureLayer → Bool) (s : Context) (image : Reference) (a : RegistryAuth) (accepted : List (List ℕ)) → Counts PullCounts (verified u stands s image a accepted)
-unfolding verified
-pull_counts true stands s image a accepted = Counts-done PullCounts (Err refusal.EmptyPolicy) (λ m. tt)
-pull_counts false stands s image a accepted = reference_counts stands s image a accepted (reads_back image)
+image_silent : (r : Result Pulled SigstoreError) → Silent (as_whole r)
+image_silent (Ok pulled) = tt
+image_silent (Err e) = λ P. refused_quiet P e
+
+image_part_silent : (p : Row Pulled) → Counts (λ m n r. Silent r) (part_of p)
+unfolding part_of
+image_part_silent p = Counts-bind (λ m n r. Unit {0}) (λ m n r. Silent r) p (λ r. Done (as_whole r)) (record { counts = λ k l m n c r run. tt })
+    (λ m n r u. Counts-done (λ t q b. t ≡ n → Silent b) (as_whole r) (λ q same. image_silent r))
+
+pulled_then : (m : ℕ) (stood : Standing) (r : Result Pulled PullRefusal) → Silent r → Counts {K = Kept} (λ t q b. OfRefusal m q b) (unless_refused (λ pulled. Done (Ok (verified_image stood pulled))) r)
+pulled_then m stood (Ok pulled) h = Counts-done (λ t q b. OfRefusal m q b) (Ok (verified_image stood pulled)) (λ q. tt)
+pulled_then m stood (Err e) h = Counts-done (λ t q b. OfRefusal m q b) (Err e) (λ q. h (Counted m q))
+
+unsatisfied : (m n : ℕ) (found : TrustedLayers) (o : Option SignatureLayer) (e : PullRefusal) → Counted m n found.skipped → standing_by found o ≡ Err e → OnSkipped (Counted m n) e
+unsatisfied m n found (Some signature) e h wrong = absurd (cc wrong)
+unsatisfied m n found None e h wrong = let same : refusal.Unsatisfied found.digest found.collected found.skipped ≡ e = cc wrong in subst (OnSkipped (Counted m n)) same h
+
+module _ {V : Type 0} {H : V → Type 0} (meaning : Meaning V H) (s : Context) (image : Reference) (a : RegistryAuth) (accepted : List (List ℕ)) where
+  stood_then : (m n : ℕ) (found : TrustedLayers) (r : Result Standing PullRefusal) → ((e : PullRefusal) → r ≡ Err e → OnSkipped (Counted m n) e) → Counts (λ t q b. t ≡ n → OfRefusal m q b) (unless_refused (λ stood. part_of (image_row s image (digest_reference image stood.digest) a accepted) >>= λ pulled. Done (Ok (verified_image stood pulled))) r)
+  stood_then m n found (Err e) wrong = Counts-done (λ t q b. t ≡ n → OfRefusal m q b) (Err e) (λ q same. rw same (wrong e refl))
+  stood_then m n found (Ok stood) wrong = Counts-bind (λ t p r. Silent r) (λ t q b. t ≡ n → OfRefusal m q b) (part_of (image_row s image (digest_reference image stood.digest) a accepted)) _ (image_part_silent (image_row s image (digest_reference image stood.digest) a accepted))
+      (λ t p r h. record { counts = λ k l u q c b run same begins. (pulled_then m stood r h).counts k l u q c b run })
+
+  after_counts : (m n : ℕ) (found : TrustedLayers) → Counted m n found.skipped → Counts (λ t q b. t ≡ n → OfRefusal m q b) (after_search meaning s image a accepted found)
+  unfolding after_search bind
+  after_counts m n found h = stood_then m n found (standing meaning found) (λ e wrong. unsatisfied m n found (find (stands_by meaning) found.collected) e h wrong)
+
+  search_then : (m n : ℕ) (r : Result TrustedLayers PullRefusal) → PartCounts m n r → Counts (λ t q b. t ≡ n → OfRefusal m q b) (unless_refused (after_search meaning s image a accepted) r)
+  search_then m n (Ok found) h = after_counts m n found h
+  search_then m n (Err e) h = Counts-done (λ t q b. t ≡ n → OfRefusal m q b) (Err e) (λ q same. h q)
+
+  readable_then : (r : Result (Unit {0}) PullRefusal) → ((P : List Skipped → Type 0) (e : PullRefusal) → r ≡ Err e → OnSkipped P e) → Counts OfRefusal (unless_refused (λ u. part_of (searched meaning.trust s image a) >>= after_search meaning s image a accepted) r)
+  readable_then (Err e) wrong = Counts-done OfRefusal (Err e) (λ m. wrong (Counted m m) e refl)
+  readable_then (Ok u) wrong = Counts-bind PartCounts OfRefusal (part_of (searched meaning.trust s image a)) _ (search_part_counts meaning.trust s image a) (λ m n r h. search_then m n r h)
+
+  constrained_then : (r : Result (Unit {0}) PullRefusal) → ((P : List Skipped → Type 0) (e : PullRefusal) → r ≡ Err e → OnSkipped P e) → Counts OfRefusal (unless_refused (λ u. Done (readable image) >>= (λ v. part_of (searched meaning.trust s image a) >>= after_search meaning s image a accepted)) r)
+  unfolding bind
+  constrained_then (Err e) wrong = Counts-done OfRefusal (Err e) (λ m. wrong (Counted m m) e refl)
+  constrained_then (Ok u) wrong = readable_then (readable image) (λ P e is. unreadable_quiet P (reads_back image) e is) where
+    unreadable_quiet : (P : List Skipped → Type 0) (b : Bool) (e : PullRefusal) → readable_by image b ≡ Err e → OnSkipped P e
+    unreadable_quiet P true e is = absurd (cc is)
+    unreadable_quiet P false e is = let same : refusal.OciReferenceNotValidError (whole_text image) ≡ e = cc is in subst (OnSkipped P) same tt
+
+  empty_quiet : (P : List Skipped → Type 0) (b : Bool) (e : PullRefusal) → constrained b ≡ Err e → OnSkipped P e
+  empty_quiet P false e is = absurd (cc is)
+  empty_quiet P true e is = let same : refusal.EmptyPolicy ≡ e = cc is in subst (OnSkipped P) same tt
+
+  pull_counts : Counts OfRefusal (verified meaning s image a accepted)
+  unfolding verified bind
+  pull_counts = constrained_then (constrained (is_unconstrained meaning.policy)) (λ P e is. empty_quiet P (is_unconstrained meaning.policy) e is)
 
 -- ---- so it is of a call
 
-search_counted : (s : Context) (image : Reference) (a : RegistryAuth) {old new : Link} {k l : Kept} (r : Result TrustedLayers SigstoreError) → Meets is_memory (searched s image a) old new k l r → IfOk r (λ found. FoundCounts old.faults new.faults found)
-search_counted s image a (Ok found) met = Meets-counts SearchCounts (search_counts s image a) met
-search_counted s image a (Err e) met = tt
+search_counted : (trust : Trust) (s : Context) (image : Reference) (a : RegistryAuth) {old new : Link} {k l : Kept} (r : Result TrustedLayers SigstoreError) → Meets is_memory (searched trust s image a) old new k l r → IfOk r (λ found. Counted old.faults new.faults found.skipped)
+search_counted trust s image a (Ok found) met = Meets-counts SearchCounts (search_counts trust s image a) met
+search_counted trust s image a (Err e) met = tt
 
-pub search_no_memory : (s : Context) (image : Reference) (a : RegistryAuth) {old new : Link} {k l : Kept} (r : Result TrustedLayers SigstoreError) → Meets is_memory (searched s image a) old new k l r → IfOk r (λ found. HoldsNoMemory found.skipped)
-search_no_memory s image a (Ok found) met = (search_counted s image a (Ok found) met).no_memory
-search_no_memory s image a (Err e) met = tt
+pub search_no_memory : (trust : Trust) (s : Context) (image : Reference) (a : RegistryAuth) {old new : Link} {k l : Kept} (r : Result TrustedLayers SigstoreError) → Meets is_memory (searched trust s image a) old new k l r → IfOk r (λ found. HoldsNoMemoryNorSink found.skipped)
+search_no_memory trust s image a (Ok found) met = (search_counted trust s image a (Ok found) met).no_memory
+search_no_memory trust s image a (Err e) met = tt
 
-pub search_faults : (s : Context) (image : Reference) (a : RegistryAuth) {old new : Link} {k l : Kept} (r : Result TrustedLayers SigstoreError) → Meets is_memory (searched s image a) old new k l r → IfOk r (λ found. CountsFaults old.faults new.faults found.skipped)
-search_faults s image a (Ok found) met = (search_counted s image a (Ok found) met).faults
-search_faults s image a (Err e) met = tt
+pub search_faults : (trust : Trust) (s : Context) (image : Reference) (a : RegistryAuth) {old new : Link} {k l : Kept} (r : Result TrustedLayers SigstoreError) → Meets is_memory (searched trust s image a) old new k l r → IfOk r (λ found. CountsFaults old.faults new.faults found.skipped)
+search_faults trust s image a (Ok found) met = (search_counted trust s image a (Ok found) met).faults
+search_faults trust s image a (Err e) met = tt
 
 on_skipped : {P Q : List Skipped → Type 0} (e : PullRefusal) → ((xs : List Skipped) → P xs → Q xs) → OnSkipped P e → OnSkipped Q e
 on_skipped (refusal.Unsatisfied digest layers skipped) more h = more skipped h
@@ -314,13 +416,14 @@ unless_memory P (refusal.RegistryFetchManifestError name e) h = tt
 unless_memory P (refusal.RegistryPullError name e) h = tt
 unless_memory P refusal.WantOfMemory h = tt
 
-pull_counted : (u : Bool) (stands : SignatureLayer → Bool) (s : Context) (image : Reference) (a : RegistryAuth) (accepted : List (List ℕ)) {old new : Link} {k l : Kept} (e : PullRefusal) → Meets of_refusal (verified u stands s image a accepted) old new k l (Err e) → OnSkipped (Counted old.faults new.faults) e
-pull_counted u stands s image a accepted {old} {new} e met = unless_memory (Counted old.faults new.faults) e (Meets-counts PullCounts (pull_counts u stands s image a accepted) met)
+module _ {V : Type 0} {H : V → Type 0} (meaning : Meaning V H) (s : Context) (image : Reference) (a : RegistryAuth) (accepted : List (List ℕ)) where
+  pull_counted : {old new : Link} {k l : Kept} (e : PullRefusal) → Meets of_refusal (verified meaning s image a accepted) old new k l (Err e) → OnSkipped (Counted old.faults new.faults) e
+  pull_counted {old} {new} e met = unless_memory (Counted old.faults new.faults) e (Meets-counts OfRefusal (pull_counts meaning s image a accepted) met)
 
-pub pull_no_memory : (u : Bool) (stands : SignatureLayer → Bool) (s : Context) (image : Reference) (a : RegistryAuth) (accepted : List (List ℕ)) {old new : Link} {k l : Kept} (r : Result VerifiedImage PullRefusal) → Meets of_refusal (verified u stands s image a accepted) old new k l r → IfErr r (λ e. OnSkipped HoldsNoMemory e)
-pull_no_memory u stands s image a accepted (Ok v) met = tt
-pull_no_memory u stands s image a accepted (Err e) met = on_skipped e (λ xs h. h.no_memory) (pull_counted u stands s image a accepted e met)
+  pub pull_no_memory : {old new : Link} {k l : Kept} (r : Result VerifiedImage PullRefusal) → Meets of_refusal (verified meaning s image a accepted) old new k l r → IfErr r (λ e. OnSkipped HoldsNoMemoryNorSink e)
+  pull_no_memory (Ok v) met = tt
+  pull_no_memory (Err e) met = on_skipped e (λ xs h. h.no_memory) (pull_counted e met)
 
-pub pull_faults : (u : Bool) (stands : SignatureLayer → Bool) (s : Context) (image : Reference) (a : RegistryAuth) (accepted : List (List ℕ)) {old new : Link} {k l : Kept} (r : Result VerifiedImage PullRefusal) → Meets of_refusal (verified u stands s image a accepted) old new k l r → IfErr r (λ e. OnSkipped (CountsFaults old.faults new.faults) e)
-pull_faults u stands s image a accepted (Ok v) met = tt
-pull_faults u stands s image a accepted (Err e) met = on_skipped e (λ xs h. h.faults) (pull_counted u stands s image a accepted e met)
+  pub pull_faults : {old new : Link} {k l : Kept} (r : Result VerifiedImage PullRefusal) → Meets of_refusal (verified meaning s image a accepted) old new k l r → IfErr r (λ e. OnSkipped (CountsFaults old.faults new.faults) e)
+  pull_faults (Ok v) met = tt
+  pull_faults (Err e) met = on_skipped e (λ xs h. h.faults) (pull_counted e met)

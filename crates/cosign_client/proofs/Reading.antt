@@ -16,7 +16,7 @@ use Rattle.engine_requests.specs.declared.error.OciDistributionError.TheVariants
 use Rattle.engine_requests.specs.Errors.{◌>>=◌}
 use Rattle.engine_requests.specs.Documents.{plain_of, type_checked, version_checked, versioned_in, or_unread, reads_twice, tables_read, document_read}
 use Rattle.engine_pull.specs.Images.{image_manifest}
-use Rattle.cosign_client.specs.Chain.{ReadsAs}
+use Rattle.cosign_chain.specs.Chain.{ReadsAs}
 
 -- both steps were answered
 pub both : {A B : Type 0} (r : Result A OciDistributionError) (f : A → Result B OciDistributionError) (b : B) → (r >>= f) ≡ Ok b → (a : A) × (r ≡ Ok a) × (f a ≡ Ok b)

@@ -1,5 +1,5 @@
 -- Why a search or a pull was refused: which of its parts was, and what the parts before it answered.
-use Rattle.std.specs.Prelude.{◌≡◌, ◌⊎◌, ℕ, Bool, true, false, List, [], ◌++◌, Some, None, Result, Ok, Err, find}
+use Rattle.std.specs.Prelude.{◌≡◌, ◌⊎◌, ℕ, true, false, List, [], ◌++◌, Some, None, Result, Ok, Err, find}
 use Rattle.oci_names.specs.declared.reference.Reference.{Reference}
 use Rattle.oci_names.specs.References.{whole_text, reads_back}
 use Rattle.oci_auth.specs.declared.auth.RegistryAuth.{RegistryAuth}
@@ -10,12 +10,15 @@ use Rattle.sig_registry.specs.declared.error.SigstoreError.{SigstoreError}
 use Rattle.sig_registry.specs.declared.error.SigstoreError.TheVariants as sigstore
 use Rattle.sig_registry.specs.Clients.{Kept, Row}
 use Rattle.sig_registry.specs.Calls.{digest_call}
+use Rattle.cosign_layers.specs.Standing.{Meaning}
 use Rattle.cosign_layers.specs.declared.layer.SignatureLayer.{SignatureLayer}
 use Rattle.cosign_client.specs.declared.found.TrustedLayers.{TrustedLayers}
-use Rattle.cosign_client.specs.declared.verified.PullRefusal.{PullRefusal}
-use Rattle.cosign_client.specs.declared.verified.PullRefusal.TheVariants as refusal
-use Rattle.cosign_client.specs.Search.{digest_reference, searched}
+use Rattle.cosign_client.specs.declared.refusal.PullRefusal.{PullRefusal}
+use Rattle.cosign_client.specs.declared.refusal.PullRefusal.TheVariants as refusal
 use Rattle.cosign_client.specs.Image.{image_row}
+use Rattle.cosign_client.specs.References.{digest_reference}
+use Rattle.cosign_client.specs.Search.{searched}
+use Rattle.cosign_client.specs.Verified.{is_unconstrained, stands_by}
 
 -- these exchanges are a whole run of this part, which answered so
 pub record Ran {A : Type 0} (p : Row A) (c : List Exchange) (r : Result A SigstoreError) : Type 0 where
@@ -35,7 +38,8 @@ pub record NoReference (s : Context) (image : Reference) (a : RegistryAuth) (c :
 -- why a search was refused: only its first step can end it
 abbrev pub SearchCause : Context → Reference → RegistryAuth → List Exchange → SigstoreError → Type 0
 SearchCause s image a c (sigstore.OciReferenceNotValidError text) = NoReference s image a c text
-SearchCause s image a c (sigstore.RegistryFetchManifestError name e) = Ran (digest_call s image a) c (Err (sigstore.RegistryFetchManifestError name e))
+SearchCause s image a c (sigstore.RegistryFetchManifestError name e) =
+    Ran (digest_call s image a) c (Err (sigstore.RegistryFetchManifestError name e))
 SearchCause s image a c (sigstore.RegistryPullError name e) = ⊥
 SearchCause s image a c (sigstore.RegistryPullManifestError name e) = ⊥
 SearchCause s image a c sigstore.WantOfMemory = Unit {0}
@@ -47,25 +51,34 @@ pub record Unread (image : Reference) (c : List Exchange) (text : List ℕ) : Ty
   pub silent : c ≡ []
 
 -- the search ran and found this
-abbrev pub Found : Context → Reference → RegistryAuth → List Exchange → TrustedLayers → Type 0
-Found s image a c found = Ran (searched s image a) c (Ok found)
+abbrev pub Found : {V : Type 0} {H : V → Type 0} → Meaning V H → Context → Reference → RegistryAuth → List Exchange → TrustedLayers → Type 0
+Found meaning s image a c found = Ran (searched meaning.trust s image a) c (Ok found)
 
 -- a layer that the search found stands, and then the image was refused
-pub record ImageRefused (stands : SignatureLayer → Bool) (s : Context) (image : Reference) (a : RegistryAuth) (accepted : List (List ℕ)) (c : List Exchange) (e : SigstoreError) : Type 0 where
+pub record ImageRefused {V : Type 0} {H : V → Type 0} (meaning : Meaning V H) (s : Context) (image : Reference) (a : RegistryAuth) (accepted : List (List ℕ)) (c : List Exchange) (e : SigstoreError) : Type 0 where
   pub search : List Exchange
   pub pull : List Exchange
   pub split : c ≡ search ++ pull
   pub found : TrustedLayers
-  pub searched_is : Found s image a search found
+  pub searched_is : Found meaning s image a search found
   pub signature : SignatureLayer
-  pub stands_is : find stands found.collected ≡ Some signature
+  pub stands_is : find (stands_by meaning) found.collected ≡ Some signature
   pub refused : Ran (image_row s image (digest_reference image found.digest) a accepted) pull (Err e)
 
+-- no layer that the search found stands
+pub record NoneStands {V : Type 0} {H : V → Type 0} (meaning : Meaning V H) (s : Context) (image : Reference) (a : RegistryAuth) (c : List Exchange) (found : TrustedLayers) : Type 0 where
+  pub searched_is : Found meaning s image a c found
+  pub none : find (stands_by meaning) found.collected ≡ None
+
 -- why a pull was refused
-abbrev pub PullCause : Bool → (SignatureLayer → Bool) → Context → Reference → RegistryAuth → List (List ℕ) → List Exchange → PullRefusal → Type 0
-PullCause unconstrained stands s image a accepted c refusal.EmptyPolicy = (unconstrained ≡ true) × (c ≡ [])
-PullCause unconstrained stands s image a accepted c (refusal.OciReferenceNotValidError text) = Unread image c text ⊎ NoReference s image a c text
-PullCause unconstrained stands s image a accepted c (refusal.RegistryFetchManifestError name e) = Ran (digest_call s image a) c (Err (sigstore.RegistryFetchManifestError name e))
-PullCause unconstrained stands s image a accepted c (refusal.RegistryPullError name e) = ImageRefused stands s image a accepted c (sigstore.RegistryPullError name e)
-PullCause unconstrained stands s image a accepted c (refusal.Unsatisfied digest collected skipped) = Found s image a c (record { digest = digest; collected = collected; skipped = skipped }) × (find stands collected ≡ None)
-PullCause unconstrained stands s image a accepted c refusal.WantOfMemory = Unit {0}
+abbrev pub PullCause : {V : Type 0} {H : V → Type 0} → Meaning V H → Context → Reference → RegistryAuth → List (List ℕ) → List Exchange → PullRefusal → Type 0
+PullCause meaning s image a accepted c refusal.EmptyPolicy = (is_unconstrained meaning.policy ≡ true) × (c ≡ [])
+PullCause meaning s image a accepted c (refusal.OciReferenceNotValidError text) =
+    Unread image c text ⊎ NoReference s image a c text
+PullCause meaning s image a accepted c (refusal.RegistryFetchManifestError name e) =
+    Ran (digest_call s image a) c (Err (sigstore.RegistryFetchManifestError name e))
+PullCause meaning s image a accepted c (refusal.RegistryPullError name e) =
+    ImageRefused meaning s image a accepted c (sigstore.RegistryPullError name e)
+PullCause meaning s image a accepted c (refusal.Unsatisfied digest collected skipped) =
+    NoneStands meaning s image a c (record { digest = digest; collected = collected; skipped = skipped })
+PullCause meaning s image a accepted c refusal.WantOfMemory = Unit {0}

@@ -1,12 +1,12 @@
 pub mod Causes
-pub mod Chain
-pub mod Exact
+pub mod DigestStep
 pub mod Image
-pub mod LinkTests
-pub mod Links
-pub mod Refusals
+pub mod Part
+pub mod References
+pub mod Refusal
 pub mod Search
 pub mod Skips
 pub mod Sound
 pub mod State
+pub mod Terms
 pub mod Verified

@@ -1,4 +1,4 @@
--- What is skipped: never for want of memory, and never more faults than the transport had.
+-- What is skipped: never for want of memory or a fault of a sink, and never more faults than the transport had.
 use Rattle.std.specs.Prelude.{◌≡◌, ◌≤◌, ◌+◌, ◌-◌, ◌^◌, ℕ, Bool, true, false, List, All, count_by, min}
 use Rattle.oci_digests.specs.declared.error.DigestError.{DigestError}
 use Rattle.oci_digests.specs.declared.error.DigestError.TheVariants as digest_refusal
@@ -6,15 +6,15 @@ use Rattle.engine_requests.specs.declared.error.OciDistributionError.{OciDistrib
 use Rattle.engine_requests.specs.declared.error.OciDistributionError.TheVariants as engine_refusal
 use Rattle.sig_registry.specs.declared.error.SigstoreError.{SigstoreError}
 use Rattle.sig_registry.specs.declared.error.SigstoreError.TheVariants as sigstore
-use Rattle.cosign_layers.specs.Rejections.{is_memory as is_layer_memory}
+use Rattle.cosign_layers.specs.Rejection.{is_memory as is_layer_memory}
 use Rattle.cosign_client.specs.declared.found.Skipped.{Skipped}
 use Rattle.cosign_client.specs.declared.found.Skipped.TheVariants.{Source, Referrer, Layer}
 use Rattle.cosign_client.specs.declared.found.SkipCause.{SkipCause}
 use Rattle.cosign_client.specs.declared.found.SkipCause.TheVariants.{NotAReference, FoundIndex, Refused}
-use Rattle.cosign_client.specs.declared.verified.PullRefusal.{PullRefusal}
-use Rattle.cosign_client.specs.declared.verified.PullRefusal.TheVariants as refusal
+use Rattle.cosign_client.specs.declared.refusal.PullRefusal.{PullRefusal}
+use Rattle.cosign_client.specs.declared.refusal.PullRefusal.TheVariants as refusal
 
--- ---- want of memory, wherever it stands in a refusal
+-- ---- want of memory, or a fault of a sink, wherever it stands in a refusal
 
 abbrev pub in_digest : DigestError → Bool
 in_digest digest_refusal.WantOfMemory = true
@@ -22,6 +22,7 @@ in_digest _ = false
 
 abbrev pub in_engine : OciDistributionError → Bool
 in_engine engine_refusal.WantOfMemory = true
+in_engine engine_refusal.SinkFault = true
 in_engine (engine_refusal.DigestError e) = in_digest e
 in_engine _ = false
 
@@ -37,14 +38,14 @@ in_cause (NotAReference text) = false
 in_cause FoundIndex = false
 in_cause (Refused e) = in_refusal e
 
-abbrev pub holds_memory : Skipped → Bool
-holds_memory (Source kind cause) = in_cause cause
-holds_memory (Referrer digest cause) = in_cause cause
-holds_memory (Layer kind digest rejection) = is_layer_memory rejection
+abbrev pub holds_memory_or_sink : Skipped → Bool
+holds_memory_or_sink (Source kind cause) = in_cause cause
+holds_memory_or_sink (Referrer digest cause) = in_cause cause
+holds_memory_or_sink (Layer kind digest rejection) = is_layer_memory rejection
 
--- no cause holds want of memory
-abbrev pub HoldsNoMemory : List Skipped → Type 0
-HoldsNoMemory skipped = All (λ cause. holds_memory cause ≡ false) skipped
+-- no cause holds want of memory, nor a fault of a sink, since none takes part
+abbrev pub HoldsNoMemoryNorSink : List Skipped → Type 0
+HoldsNoMemoryNorSink skipped = All (λ cause. holds_memory_or_sink cause ≡ false) skipped
 
 -- ---- faults of the transport
 

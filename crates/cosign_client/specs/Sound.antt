@@ -6,8 +6,8 @@ use Rattle.oci_manifests.specs.declared.blob.ImageLayer.{ImageLayer}
 use Rattle.engine_requests.specs.declared.settings.Settings.{Settings}
 use Rattle.oci_engine.specs.Answered.{Answered, Body}
 use Rattle.cosign_layers.specs.Standing.{Meaning}
-use Rattle.cosign_client.specs.Chain.{Chain}
-use Rattle.cosign_client.specs.declared.verified.VerifiedImage.{VerifiedImage}
+use Rattle.cosign_chain.specs.Chain.{Chain}
+use Rattle.cosign_chain.specs.declared.image.VerifiedImage.{VerifiedImage}
 
 -- each layer is the body of an answer
 abbrev pub EachBody : List Exchange → List ImageLayer → Type 0

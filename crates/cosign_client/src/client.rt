@@ -1,30 +1,31 @@
-// The client that users hold.
+//! The client that users hold.
 ghost use Rattle.std.specs.Prelude.{◌≡◌, true, false, Err, IfOk, IfErr, IsTrue};
 ghost use Rattle.engine_requests.specs.Contexts.{within};
 ghost use Rattle.oci_names.specs.References.{whole_text, reads_back};
-ghost use Rattle.oci_protocol.specs.Runs.{Meets, Told};
 ghost use Rattle.oci_protocol.specs.Ends.{UnlessMemory};
-ghost use Rattle.cosign_layers.specs.Accepts.{has_no_item};
-ghost use Rattle.cosign_layers.specs.Standing.{meaning, stands};
+ghost use Rattle.oci_protocol.specs.Runs.{Meets, Told};
+ghost use Rattle.cosign_chain.specs.Chain.{Chain};
+ghost use Rattle.cosign_chain.specs.Links.{Links};
+ghost use Rattle.cosign_layers.specs.Standing.{meaning};
 ghost use Rattle.sig_registry.specs.Conversions.{registry_auth};
 ghost use Rattle.sig_registry.specs.Direct.{reference_in};
-ghost use Rattle.sig_registry.specs.Clients.{plain_state};
-ghost use Rattle.sig_registry.specs.Errors.{is_memory as of_memory};
-ghost use Rattle.cosign_client.specs.Causes.{SearchCause, PullCause};
-ghost use Rattle.cosign_client.specs.Chain.{Chain};
-ghost use Rattle.cosign_client.specs.Exact.{IsRefusedAs, BeginsWithDigest, unchanged};
-ghost use Rattle.cosign_client.specs.Links.{Links};
-ghost use Rattle.cosign_client.specs.Refusals.{is_memory, refused_as};
+ghost use Rattle.sig_registry.specs.Errors.{is_memory as of_memory, FaultCounted as SearchFaultCounted, NoSinkFault as NoSinkInSearch};
+ghost use Rattle.cosign_client.specs.Causes.{PullCause, SearchCause};
+ghost use Rattle.cosign_client.specs.DigestStep.{BeginsWithDigest, IsRefusedAs, unchanged};
+ghost use Rattle.cosign_client.specs.Refusal.{is_memory, refused_as, FaultCounted, NoSinkFault};
 ghost use Rattle.cosign_client.specs.Search.{searched};
-ghost use Rattle.cosign_client.specs.Skips.{HoldsNoMemory, CountsFaults, OnSkipped};
+ghost use Rattle.cosign_client.specs.Skips.{CountsFaults, HoldsNoMemoryNorSink, OnSkipped};
 ghost use Rattle.cosign_client.specs.Sound.{Backed};
-ghost use Rattle.cosign_client.specs.Verified.{verified};
+ghost use Rattle.cosign_client.specs.Terms.{without_logs};
+ghost use Rattle.cosign_client.specs.Verified.{is_unconstrained, verified};
 
 use crate::found::TrustedLayers;
+use crate::refusal::PullRefusal;
 use crate::search::search;
-use crate::standing::pull_verified;
-use crate::verified::{PullRefusal, VerifiedImage};
-use cosign_layers::{Offline, PullPolicy, SignatureVerifier};
+use crate::terms::{Asked, Terms};
+use crate::verified::pull_verified;
+use cosign_chain::VerifiedImage;
+use cosign_layers::{LogKeys, Offline, PullPolicy, SignatureVerifier, Trusted};
 use json_values::Text;
 use oci_transport::Transport;
 use sig_registry::{Auth, OciClient, OciReference, SigstoreError};
@@ -40,7 +41,7 @@ impl Client {
     ghost use Rattle.cosign_client.specs.State.{client_state};
 
     /// The digest of an image, the signature layers that stand in its repository, and why others do not. `moment` is in
-    /// seconds since 1970.
+    /// seconds since 1970. No log is known, so that a layer with a certificate has no log entry.
     ///
     /// The call is refused where the digest is not answered (`RegistryFetchManifestError`) or the reference by it does not
     /// read back (`OciReferenceNotValidError`). Whatever else is refused is a cause in `skipped`.
@@ -51,56 +52,117 @@ impl Client {
         moment: u64,
         auth: &Auth,
         source_image: &OciReference,
-        _verifier: &V,
-        _judge: &O,
+        verifier: &V,
+        judge: &O,
     ) -> Result<TrustedLayers, SigstoreError>
-        ensures run { Meets of_memory (searched (within (client_state self.old).settings moment) (reference_in source_image.now) (registry_auth auth.now)) (T.state transport.old) (T.state transport.new) (client_state self.old).kept (client_state self.new).kept result }
+        ensures run { Meets of_memory
+            (searched (without_logs (V.valid verifier.now) (O.vouched judge.now))
+            (within (client_state self.old).settings moment) (reference_in source_image.now)
+            (registry_auth auth.now))
+            (T.state transport.old) (T.state transport.new)
+            (client_state self.old).kept (client_state self.new).kept result }
         ensures settings { (client_state self.new).settings ≡ (client_state self.old).settings }
-        ensures digest { UnlessMemory of_memory (λ r. Told (λ c. BeginsWithDigest unchanged (within (client_state self.old).settings moment) (reference_in source_image.now) (registry_auth auth.now) c r) (T.state transport.old) (T.state transport.new)) result }
-        ensures causes { IfErr result (λ e. Told (λ c. SearchCause (within (client_state self.old).settings moment) (reference_in source_image.now) (registry_auth auth.now) c e) (T.state transport.old) (T.state transport.new)) }
-        ensures no_memory { IfOk result (λ found. HoldsNoMemory found.skipped) }
-        ensures faults { IfOk result (λ found. CountsFaults (T.state transport.old).faults (T.state transport.new).faults found.skipped) }
+        ensures digest { UnlessMemory of_memory (λ r. Told
+            (λ c. BeginsWithDigest unchanged (within (client_state self.old).settings moment)
+            (reference_in source_image.now) (registry_auth auth.now) c r)
+            (T.state transport.old) (T.state transport.new)) result }
+        ensures causes { IfErr result (λ e. Told
+            (λ c. SearchCause (within (client_state self.old).settings moment)
+            (reference_in source_image.now) (registry_auth auth.now) c e)
+            (T.state transport.old) (T.state transport.new)) }
+        ensures fault { SearchFaultCounted (T.state transport.old) (T.state transport.new) result }
+        ensures no_sink { NoSinkInSearch result }
+        ensures no_memory { IfOk result (λ found. HoldsNoMemoryNorSink found.skipped) }
+        ensures faults { IfOk result (λ found. CountsFaults
+            (T.state transport.old).faults (T.state transport.new).faults found.skipped) }
     {
         let auth = auth.to_registry(alloc)?;
+        let log_keys = LogKeys::new(alloc);
+        let asked = Asked {
+            moment,
+            image: source_image.reference(),
+            auth: &auth,
+        };
+        let trusted = Trusted {
+            log_keys: &log_keys,
+            verifier,
+            judge,
+        };
         search(
             alloc,
             &mut self.registry_client,
             transport,
-            moment,
-            source_image.reference(),
-            &auth,
+            &asked,
+            &trusted,
         )
     }
 
-    /// Pulls an image only where a trusted signature stands for it. `moment` is in seconds since 1970.
+    /// Pulls an image only where a trusted signature stands for it. `moment` is in seconds since 1970. No log is known, so
+    /// that a layer with a certificate has no log entry.
     ///
     /// The answer is a chain that checks by itself: it starts at the digest that was answered for the image, which names
     /// the manifest, whose digests name the configuration and the layers, and one signature layer stands for the digest
     /// under the policy. See `PullRefusal` for when the call is refused.
-    pub fn verified_pull<T: Transport, V: SignatureVerifier, O: Offline>(
+    pub fn verified_pull<'a, T: Transport, V: SignatureVerifier, O: Offline>(
         &mut self,
         alloc: Global,
         transport: &mut T,
         moment: u64,
         image: &OciReference,
         auth: &Auth,
-        accepted_media_types: &[Text],
-        policy: &PullPolicy,
-        verifier: &V,
-        _judge: &O,
+        accepted_media_types: &'a [Text],
+        policy: &'a PullPolicy,
+        verifier: &'a V,
+        judge: &'a O,
     ) -> Result<VerifiedImage, PullRefusal>
-        ensures run { Meets is_memory (verified (has_no_item policy.now.constraints) (stands (meaning policy.now (V.valid verifier.now) (λ b. accepts (b.vtable, b.value)))) (within (client_state self.old).settings moment) (reference_in image.now) (registry_auth auth.now) accepted_media_types.now) (T.state transport.old) (T.state transport.new) (client_state self.old).kept (client_state self.new).kept result }
+        ensures run { Meets is_memory
+            (verified (meaning policy.now (λ b. accepts (b.vtable, b.value))
+            (without_logs (V.valid verifier.now) (O.vouched judge.now)))
+            (within (client_state self.old).settings moment) (reference_in image.now)
+            (registry_auth auth.now) accepted_media_types.now)
+            (T.state transport.old) (T.state transport.new)
+            (client_state self.old).kept (client_state self.new).kept result }
         ensures settings { (client_state self.new).settings ≡ (client_state self.old).settings }
-        ensures unconstrained { IsTrue (has_no_item policy.now.constraints) → (result ≡ Err PullRefusal.EmptyPolicy) × (T.state transport.new ≡ T.state transport.old) }
-        ensures unread { has_no_item policy.now.constraints ≡ false → reads_back (reference_in image.now) ≡ false → IsRefusedAs (PullRefusal.OciReferenceNotValidError (whole_text (reference_in image.now))) result × (T.state transport.new ≡ T.state transport.old) }
-        ensures digest { has_no_item policy.now.constraints ≡ false → reads_back (reference_in image.now) ≡ true → UnlessMemory is_memory (λ r. Told (λ c. BeginsWithDigest refused_as (within (client_state self.old).settings moment) (reference_in image.now) (registry_auth auth.now) c r) (T.state transport.old) (T.state transport.new)) result }
-        ensures chain { IfOk result (λ v. Chain (meaning policy.now (V.valid verifier.now) (λ b. accepts (b.vtable, b.value))) (reference_in image.now) accepted_media_types.now v) }
-        ensures causes { IfErr result (λ e. Told (λ c. PullCause (has_no_item policy.now.constraints) (stands (meaning policy.now (V.valid verifier.now) (λ b. accepts (b.vtable, b.value)))) (within (client_state self.old).settings moment) (reference_in image.now) (registry_auth auth.now) accepted_media_types.now c e) (T.state transport.old) (T.state transport.new)) }
-        ensures backed { IfOk result (λ v. Told (λ c. Backed (client_state self.old).settings (reference_in image.now) c v) (T.state transport.old) (T.state transport.new)) }
+        ensures unconstrained { IsTrue (is_unconstrained policy.now) →
+            (result ≡ Err PullRefusal.EmptyPolicy) × (T.state transport.new ≡ T.state transport.old) }
+        ensures unread { is_unconstrained policy.now ≡ false → reads_back (reference_in image.now) ≡ false →
+            IsRefusedAs (PullRefusal.OciReferenceNotValidError (whole_text (reference_in image.now))) result
+            × (T.state transport.new ≡ T.state transport.old) }
+        ensures digest { is_unconstrained policy.now ≡ false → reads_back (reference_in image.now) ≡ true →
+            UnlessMemory is_memory (λ r. Told
+            (λ c. BeginsWithDigest refused_as (within (client_state self.old).settings moment)
+            (reference_in image.now) (registry_auth auth.now) c r)
+            (T.state transport.old) (T.state transport.new)) result }
+        ensures chain { IfOk result (λ v. Chain
+            (meaning policy.now (λ b. accepts (b.vtable, b.value))
+            (without_logs (V.valid verifier.now) (O.vouched judge.now)))
+            (reference_in image.now) accepted_media_types.now v) }
+        ensures causes { IfErr result (λ e. Told
+            (λ c. PullCause (meaning policy.now (λ b. accepts (b.vtable, b.value))
+            (without_logs (V.valid verifier.now) (O.vouched judge.now)))
+            (within (client_state self.old).settings moment) (reference_in image.now)
+            (registry_auth auth.now) accepted_media_types.now c e)
+            (T.state transport.old) (T.state transport.new)) }
+        ensures backed { IfOk result (λ v. Told
+            (λ c. Backed (client_state self.old).settings (reference_in image.now) c v)
+            (T.state transport.old) (T.state transport.new)) }
         ensures links { IfOk result (λ v. Links (reference_in image.now) accepted_media_types.now v) }
-        ensures no_memory { IfErr result (λ e. OnSkipped HoldsNoMemory e) }
-        ensures faults { IfErr result (λ e. OnSkipped (CountsFaults (T.state transport.old).faults (T.state transport.new).faults) e) }
+        ensures fault { FaultCounted (T.state transport.old) (T.state transport.new) result }
+        ensures no_sink { NoSinkFault result }
+        ensures no_memory { IfErr result (λ e. OnSkipped HoldsNoMemoryNorSink e) }
+        ensures faults { IfErr result (λ e. OnSkipped
+            (CountsFaults (T.state transport.old).faults (T.state transport.new).faults) e) }
     {
+        let log_keys = LogKeys::new(alloc);
+        let terms = Terms {
+            accepted: accepted_media_types,
+            policy,
+            trusted: Trusted {
+                log_keys: &log_keys,
+                verifier,
+                judge,
+            },
+        };
         pull_verified(
             alloc,
             &mut self.registry_client,
@@ -108,9 +170,7 @@ impl Client {
             moment,
             image.reference(),
             auth,
-            accepted_media_types,
-            policy,
-            verifier,
+            &terms,
         )
     }
 }

@@ -1,4 +1,4 @@
-// What a search for signatures found, and why it found no more.
+//! What a search for signatures found, and why it found no more.
 use cosign_layers::{LayerRejection, SignatureLayer};
 use json_values::{List, Text};
 use sig_registry::SigstoreError;
@@ -38,6 +38,13 @@ pub enum Skipped {
 pub struct TrustedLayers {
     pub digest: Text,
     /// Each is about the image of this digest.
+    pub collected: List<SignatureLayer>,
+    pub skipped: List<Skipped>,
+}
+
+/// What one source of signatures gave.
+#[derive(Drop)]
+pub(crate) struct Part {
     pub collected: List<SignatureLayer>,
     pub skipped: List<Skipped>,
 }

@@ -3,13 +3,15 @@
 
 mod client;
 mod found;
-mod links;
+mod part;
 mod pull;
+mod references;
+mod refusal;
 mod search;
-mod standing;
+mod terms;
 mod verified;
 
 pub use client::Client;
+pub use cosign_chain::{VerifiedImage, check_links};
 pub use found::{SkipCause, Skipped, SourceKind, TrustedLayers};
-pub use links::check_links;
-pub use verified::{PullRefusal, VerifiedImage};
+pub use refusal::PullRefusal;

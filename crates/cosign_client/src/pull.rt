@@ -1,4 +1,4 @@
-// The image of a digest for which a signature stands.
+//! The image of a digest for which a signature stands.
 ghost use Rattle.std.specs.Prelude.{◌≡◌, IfOk};
 ghost use Rattle.engine_requests.specs.Contexts.{within};
 ghost use Rattle.oci_names.specs.References.{digest_of};
@@ -9,10 +9,10 @@ ghost use Rattle.sig_registry.specs.Errors.{is_memory};
 ghost use Rattle.sig_registry.specs.Clients.{Made};
 ghost use Rattle.cosign_client.specs.Image.{named_by_reference, manifest_in, layers_row, image_row};
 
+use crate::terms::Asked;
 use engine_pull::{config_of, image_manifest, layer_of, layers_accepted};
 use engine_requests::read_document;
 use json_values::{Blob, Copied, List, Text};
-use oci_auth::RegistryAuth;
 use oci_digests::{DigestError, validate_digest};
 use oci_engine::OciDistributionError;
 use oci_manifests::blob::Config;
@@ -27,7 +27,7 @@ use std::alloc::{AllocError, Global};
 
 /// A manifest with its bytes, its configuration and its layers.
 #[derive(Drop)]
-pub struct Pulled {
+pub(crate) struct Pulled {
     pub first: Blob,
     pub manifest: OciImageManifest,
     pub config: Config,
@@ -88,7 +88,9 @@ fn pull_layers<C: ClientCapabilities, T: Transport>(
     descriptors: &[OciDescriptor],
     mut layers: List<ImageLayer>,
 ) -> Result<List<ImageLayer>, SigstoreError>
-    ensures { (s : Settings) → Made is_memory s (layers_row (within s moment) source.now descriptors.now layers) (C.state client.old) (C.state client.new) (T.state transport.old) (T.state transport.new) result }
+    ensures { (s : Settings) → Made is_memory s
+        (layers_row (within s moment) source.now descriptors.now layers)
+        (C.state client.old) (C.state client.new) (T.state transport.old) (T.state transport.new) result }
 {
     for descriptor in descriptors {
         let content = client.pull_blob(alloc, transport, moment, source, descriptor)?;
@@ -98,25 +100,32 @@ fn pull_layers<C: ClientCapabilities, T: Transport>(
     Ok(layers)
 }
 
-/// The document of the source's digest, which is a manifest, and its blobs. `image` is the reference that was asked for.
-pub fn pull_image<C: ClientCapabilities, T: Transport>(
+/// The document of the source's digest, which is a manifest, and its blobs. `asked` has the reference that was asked for.
+pub(crate) fn pull_image<C: ClientCapabilities, T: Transport>(
     alloc: Global,
     client: &mut C,
     transport: &mut T,
-    moment: u64,
-    image: &Reference,
+    asked: &Asked<'_>,
     source: &Reference,
-    auth: &RegistryAuth,
     accepted: &[Text],
 ) -> Result<Pulled, SigstoreError>
-    ensures { (s : Settings) → Made is_memory s (image_row (within s moment) image.now source.now auth.now accepted.now) (C.state client.old) (C.state client.new) (T.state transport.old) (T.state transport.new) result }
+    ensures { (s : Settings) → Made is_memory s
+        (image_row (within s asked.now.moment) asked.now.image.now source.now asked.now.auth.now accepted.now)
+        (C.state client.old) (C.state client.new) (T.state transport.old) (T.state transport.new) result }
 {
     let types = manifest_types(alloc)?;
-    let found = client.pull_manifest_raw(alloc, transport, moment, source, auth, types.as_slice())?;
+    let found = client.pull_manifest_raw(
+        alloc,
+        transport,
+        asked.moment,
+        source,
+        asked.auth,
+        types.as_slice(),
+    )?;
     let (first, _) = found;
-    let read = manifest_in(alloc, image, &first);
+    let read = manifest_in(alloc, asked.image, &first);
     let manifest = worded(alloc, Called::Pull, source, read)?;
-    let content = client.pull_blob(alloc, transport, moment, source, &manifest.config)?;
+    let content = client.pull_blob(alloc, transport, asked.moment, source, &manifest.config)?;
     let config = config_of(alloc, &manifest, content)?;
     let checked = layers_accepted(alloc, accepted, manifest.layers.as_slice());
     worded(alloc, Called::Pull, source, checked)?;
@@ -125,7 +134,7 @@ pub fn pull_image<C: ClientCapabilities, T: Transport>(
         alloc,
         client,
         transport,
-        moment,
+        asked.moment,
         source,
         descriptors,
         List::new(alloc),

@@ -1,115 +1,201 @@
-// An image with the signature layer that stands for it, and why there is none.
-use crate::found::Skipped;
-use cosign_layers::SignatureLayer;
-use json_values::{Blob, List, Text};
-use oci_engine::OciDistributionError;
-use oci_manifests::blob::Config;
-use oci_manifests::{ImageLayer, OciImageManifest};
-use sig_registry::SigstoreError;
-use std::alloc::{AllocError, AllocFailed};
+//! The whole pull, whatever the client.
+ghost use Rattle.std.specs.Prelude.{◌≡◌, true, false, Err, IfOk, IsTrue, find};
+ghost use Rattle.engine_requests.specs.Contexts.{within};
+ghost use Rattle.engine_requests.specs.declared.settings.Settings.{Settings};
+ghost use Rattle.oci_names.specs.References.{reads_back};
+ghost use Rattle.sig_registry.specs.Clients.{Made};
+ghost use Rattle.sig_registry.specs.Conversions.{registry_auth};
+ghost use Rattle.cosign_layers.specs.Standing.{stands};
+ghost use Rattle.cosign_client.specs.Refusal.{is_memory, Says};
+ghost use Rattle.cosign_client.specs.Terms.{meaning_of};
+ghost use Rattle.cosign_client.specs.Verified.{after_search, after_standing, constrained, is_unconstrained, readable, standing_by, verified, verified_image};
 
-/// An image, and the one signature layer that stands for it: a chain that can be checked again with nothing else.
+use crate::found::TrustedLayers;
+use crate::pull::{Pulled, pull_image};
+use crate::references::digest_reference;
+use crate::refusal::PullRefusal;
+use crate::search::search;
+use crate::terms::{Asked, Terms};
+use cosign_chain::VerifiedImage;
+use cosign_layers::{Offline, PullPolicy, SignatureLayer, SignatureVerifier, first_standing};
+use json_values::{Blob, Copied, Text};
+use oci_names::Reference;
+use oci_transport::Transport;
+use sig_registry::{Auth, ClientCapabilities};
+use std::alloc::{AllocError, Global};
+
+/// A digest, and the signature layer that stands for it.
 #[derive(Drop)]
-pub struct VerifiedImage {
-    /// The digest that was answered for the reference. It names `first`.
+pub(crate) struct Standing {
     pub digest: Text,
-    /// The document that was pulled for `digest`.
-    pub first: Blob,
-    /// The document that `manifest` is read from.
-    pub manifest_bytes: Blob,
-    pub manifest: OciImageManifest,
-    pub manifest_digest: Text,
-    /// The digest of the index that led to the manifest, where one did.
-    pub list_digest: Option<Text>,
-    pub config: Config,
-    /// In the manifest's order.
-    pub layers: List<ImageLayer>,
     pub signature: SignatureLayer,
 }
 
-/// Why an image was not pulled.
-#[derive(Drop)]
-pub enum PullRefusal {
-    /// The policy has no constraint. Nothing was asked.
-    EmptyPolicy,
-    /// The image does not read back, and nothing was asked; or the reference by the answered digest does not.
-    OciReferenceNotValidError {
-        reference: Text,
-    },
-    /// The digest of the image was not answered.
-    RegistryFetchManifestError {
-        image: Text,
-        error: OciDistributionError,
-    },
-    /// A signature layer stands for the digest, and its image was not pulled.
-    RegistryPullError {
-        image: Text,
-        error: OciDistributionError,
-    },
-    /// No signature layer that was found stands for the digest.
-    Unsatisfied {
-        digest: Text,
-        collected: List<SignatureLayer>,
-        skipped: List<Skipped>,
-    },
-    WantOfMemory,
-}
-
-impl PullRefusal {
-    ghost use Rattle.std.specs.Prelude.{◌≡◌};
-    ghost use Rattle.cosign_client.specs.Refusals.{is_memory};
-
-    /// Whether memory was wanting, and nothing is said of the image.
-    pub fn is_memory(&self) -> bool
-        ensures { result ≡ is_memory self.now }
-    {
-        matches!(self, PullRefusal::WantOfMemory)
+// The first layer that stands.
+#[tactic(auto, using(crate::proofs::First::first_at, crate::proofs::First::none_at))]
+fn first_signature<V: SignatureVerifier>(
+    alloc: Global,
+    verifier: &V,
+    policy: &PullPolicy,
+    layers: &[SignatureLayer],
+) -> Result<Option<SignatureLayer>, AllocError>
+    ensures { IfOk result (λ found. found ≡ find (stands (V.valid verifier.now) policy.now
+        (λ b. accepts (b.vtable, b.value))) layers.now) }
+{
+    match first_standing(alloc, verifier, policy, layers)? {
+        Some(place) => match layers.get(place) {
+            Some(layer) => Ok(Some(layer.copy(alloc)?)),
+            None => Ok(None),
+        },
+        None => Ok(None),
     }
 }
 
-impl From<AllocError> for PullRefusal {
-    ghost use Rattle.std.specs.Prelude.{◌≡◌};
-    ghost use Rattle.cosign_client.specs.declared.verified.PullRefusal.TheVariants.{WantOfMemory};
-
-    ghost from_gives = { λ _ e. e ≡ WantOfMemory };
-
-    fn from(_: AllocError) -> Self {
-        PullRefusal::WantOfMemory
+// The digest with its layer, where one stands.
+fn standing_by(found: TrustedLayers, first: Option<SignatureLayer>) -> Result<Standing, PullRefusal>
+    ensures { result ≡ standing_by found first }
+{
+    let TrustedLayers {
+        digest,
+        collected,
+        skipped,
+    } = found;
+    match first {
+        Some(signature) => Ok(Standing { digest, signature }),
+        None => Err(PullRefusal::Unsatisfied {
+            digest,
+            collected,
+            skipped,
+        }),
     }
 }
 
-impl<T: Drop> From<AllocFailed<T>> for PullRefusal {
-    ghost use Rattle.std.specs.Prelude.{◌≡◌};
-    ghost use Rattle.cosign_client.specs.declared.verified.PullRefusal.TheVariants.{WantOfMemory};
-
-    ghost from_gives = { λ _ e. e ≡ WantOfMemory };
-
-    fn from(_: AllocFailed<T>) -> Self {
-        PullRefusal::WantOfMemory
+// The image of the digest, with the signature layer that stands for it, of copies that were made before.
+fn verified_image(
+    standing: Standing,
+    pulled: Pulled,
+    manifest_digest: Text,
+    manifest_bytes: Blob,
+) -> VerifiedImage
+    requires digest { manifest_digest ≡ standing.digest }
+    requires bytes { manifest_bytes ≡ pulled.first }
+    ensures { result ≡ verified_image standing pulled }
+{
+    VerifiedImage {
+        digest: standing.digest,
+        first: pulled.first,
+        manifest_bytes,
+        manifest: pulled.manifest,
+        manifest_digest,
+        list_digest: None,
+        config: pulled.config,
+        layers: pulled.layers,
+        signature: standing.signature,
     }
 }
 
-impl From<SigstoreError> for PullRefusal {
-    ghost use Rattle.std.specs.Prelude.{◌≡◌};
-    ghost use Rattle.cosign_client.specs.Refusals.{refused_as};
+fn copied_image(
+    alloc: Global,
+    standing: Standing,
+    pulled: Pulled,
+) -> Result<VerifiedImage, AllocError>
+    ensures { IfOk result (λ image. image ≡ verified_image standing pulled) }
+{
+    let manifest_digest = standing.digest.copy(alloc)?;
+    let manifest_bytes = pulled.first.copy(alloc)?;
+    let image = verified_image(standing, pulled, manifest_digest, manifest_bytes);
+    Ok(image)
+}
 
-    ghost from_gives = { λ e r. r ≡ refused_as e };
+// The image of a digest for which a layer stands.
+fn pull_stood<C: ClientCapabilities, T: Transport>(
+    alloc: Global,
+    client: &mut C,
+    transport: &mut T,
+    asked: &Asked<'_>,
+    accepted: &[Text],
+    standing: Standing,
+) -> Result<VerifiedImage, PullRefusal>
+    ensures { (s : Settings) → Made is_memory s
+        (after_standing (within s asked.now.moment) asked.now.image.now asked.now.auth.now accepted.now standing)
+        (C.state client.old) (C.state client.new) (T.state transport.old) (T.state transport.new) result }
+{
+    let source = digest_reference(alloc, asked.image, standing.digest.as_str())?;
+    let pulled = pull_image(alloc, client, transport, asked, &source, accepted)?;
+    let image = copied_image(alloc, standing, pulled)?;
+    Ok(image)
+}
 
-    fn from(error: SigstoreError) -> Self {
-        match error {
-            SigstoreError::OciReferenceNotValidError { reference } => {
-                PullRefusal::OciReferenceNotValidError { reference }
-            }
-            SigstoreError::RegistryFetchManifestError { image, error } => {
-                PullRefusal::RegistryFetchManifestError { image, error }
-            }
-            SigstoreError::RegistryPullError { image, error } => {
-                PullRefusal::RegistryPullError { image, error }
-            }
-            SigstoreError::RegistryPullManifestError { image, error } => {
-                PullRefusal::RegistryPullError { image, error }
-            }
-            SigstoreError::WantOfMemory => PullRefusal::WantOfMemory,
-        }
+// The image for which a layer stands.
+fn pull_standing<C: ClientCapabilities, T: Transport, V: SignatureVerifier, O: Offline>(
+    alloc: Global,
+    client: &mut C,
+    transport: &mut T,
+    asked: &Asked<'_>,
+    terms: &Terms<'_, V, O>,
+    found: TrustedLayers,
+) -> Result<VerifiedImage, PullRefusal>
+    ensures { (s : Settings) → Made is_memory s
+        (after_search (meaning_of V.valid O.vouched (λ b. accepts (b.vtable, b.value)) terms.now)
+        (within s asked.now.moment) asked.now.image.now asked.now.auth.now terms.now.accepted.now found)
+        (C.state client.old) (C.state client.new) (T.state transport.old) (T.state transport.new) result }
+{
+    let verifier = terms.trusted.verifier;
+    let first = first_signature(alloc, verifier, terms.policy, found.collected.as_slice())?;
+    let standing = standing_by(found, first)?;
+    pull_stood(alloc, client, transport, asked, terms.accepted, standing)
+}
+
+// A policy without a constraint is refused.
+fn constrained(policy: &PullPolicy) -> Result<(), PullRefusal>
+    ensures { result ≡ constrained (is_unconstrained policy.now) }
+{
+    if policy.constraints.as_slice().is_empty() {
+        return Err(PullRefusal::EmptyPolicy);
     }
+    Ok(())
+}
+
+// A reference that does not read back is refused.
+fn readable(alloc: Global, image: &Reference) -> Result<(), PullRefusal>
+    ensures { Says result (readable image.now) }
+{
+    let reads_back = image.reads_back(alloc)?;
+    if reads_back {
+        return Ok(());
+    }
+    let reference = image.whole(alloc)?;
+    Err(PullRefusal::OciReferenceNotValidError { reference })
+}
+
+/// Pulls an image only where a layer stands for the digest that is answered for it. A policy without a constraint is
+/// refused before memory is taken.
+pub(crate) fn pull_verified<C: ClientCapabilities, T: Transport, V: SignatureVerifier, O: Offline>(
+    alloc: Global,
+    client: &mut C,
+    transport: &mut T,
+    moment: u64,
+    image: &Reference,
+    auth: &Auth,
+    terms: &Terms<'_, V, O>,
+) -> Result<VerifiedImage, PullRefusal>
+    ensures run { (s : Settings) → Made is_memory s
+        (verified (meaning_of V.valid O.vouched (λ b. accepts (b.vtable, b.value)) terms.now)
+        (within s moment) image.now (registry_auth auth.now) terms.now.accepted.now)
+        (C.state client.old) (C.state client.new) (T.state transport.old) (T.state transport.new) result }
+    ensures unconstrained { IsTrue (is_unconstrained terms.now.policy.now) →
+        (result ≡ Err PullRefusal.EmptyPolicy) × (T.state transport.new ≡ T.state transport.old) }
+    ensures unread { reads_back image.now ≡ false → T.state transport.new ≡ T.state transport.old }
+{
+    constrained(terms.policy)?;
+    let auth = auth.to_registry(alloc)?;
+    readable(alloc, image)?;
+    let asked = Asked {
+        moment,
+        image,
+        auth: &auth,
+    };
+    let found = search(alloc, client, transport, &asked, &terms.trusted)?;
+    let image = pull_standing(alloc, client, transport, &asked, terms, found)?;
+    Ok(image)
 }

@@ -1,88 +1,179 @@
--- What the reading of a payload layer says of it.
-use Rattle.std.proofs.Common.{◌≡◌, ℕ, Bool, true, false, List, bytes_eq, Option, Some, None, ok_or, Result, Ok, Err, IfOk, refl, sym, ap, ◌∙◌, subst}
-use Rattle.std.specs.FinMap.{get}
-use Rattle.std.proofs.lemmas.Slice.Eq.{bytes_eq-Decides}
-use Rattle.base64.specs.Engines.{standard}
-use Rattle.base64.specs.GeneralPurpose.{decoded_of}
-use Rattle.oci_digests.specs.Names.{names}
-use Rattle.oci_digests.proofs.Equal.{named}
-use Rattle.cosign_layers.specs.Layer.{Input, Gives, unless, payload_about, spelled, signature_in, no_certificate, payload_layer, signature_annotation, certificate_annotation}
-use Rattle.cosign_layers.specs.Payload.{content_of}
-use Rattle.cosign_layers.specs.Rejections.{◌>>=◌, Says}
-use Rattle.cosign_layers.specs.declared.layer.LayerKind.TheVariants.{Payload}
+-- Each input gives one layer or fails one check first.
+use Rattle.std.proofs.Common.{◌≡◌, ◌⊎◌, inl, inr, ℕ, Bool, true, false, IsTrue, List, Option, Some, None, IsSomeAnd, Result, Ok, Err, IfOk, IfErr, refl, sym, ap, ◌∙◌, subst}
+use Rattle.std.specs.Prelude.{MatchBool}
+use Rattle.cosign_layers.specs.Checks.{Input, Spelled, content_checked, signature_checked, entry_checked, certificate_checked, layer_with, layer_read}
+use Rattle.cosign_layers.specs.Layer.{IsSignature, IsEntry, IsCertificate, LayerOf, Named}
+use Rattle.cosign_layers.specs.Read.{HasContent, IsAbout, ContentRejected, SignatureRejected, EntryRejected, CertificateRejected, Rejected, RejectedUnlessMemory, input_of, Gives, HasOneOutcome}
+use Rattle.cosign_layers.specs.Rejection.{◌>>=◌, Says, is_memory}
+use Rattle.cosign_layers.specs.Shown.{shown, is_about}
+use Rattle.cosign_layers.specs.Trust.{Trust, knows_no_log}
+use Rattle.cosign_layers.specs.declared.certificate.CertificateSignature.{CertificateSignature}
 use Rattle.cosign_layers.specs.declared.layer.SignatureLayer.{SignatureLayer}
 use Rattle.cosign_layers.specs.declared.layer.SimpleSigning.{SimpleSigning}
-use Rattle.cosign_layers.specs.declared.rejection.LayerPart.TheVariants.{Content, Signature}
+use Rattle.cosign_layers.specs.declared.log_entry.LogEntryBundle.{LogEntryBundle}
 use Rattle.cosign_layers.specs.declared.rejection.LayerRejection.{LayerRejection}
-use Rattle.cosign_layers.specs.declared.rejection.LayerRejection.TheVariants.{DigestMismatch, Unreadable, OtherDigest, NoSignature}
+use Rattle.cosign_layers.specs.declared.rejection.LayerRejection.TheVariants.{WantOfMemory}
+use Rattle.cosign_layers.specs.declared.shown.Shown.{Shown}
+use Rattle.cosign_layers.proofs.Outcomes.{Decides, both, reworded, answered, ok_same, ok_err, err_same}
+use Rattle.cosign_layers.proofs.Reading.{content, signature, entry, certificate}
 
--- the layer of these parts
-abbrev pub layer_with : Input → SimpleSigning → List ℕ → SignatureLayer
-layer_with input signing signature = record { kind = Payload; content = input.content; oci_digest = input.oci_digest; annotations = input.annotations; simple_signing = Some signing; signature = signature; certificate_signature = None; bundle = None }
+module _ (trust : Trust) (d : List ℕ) where
+  -- the parts of a layer
+  abbrev Made : Input → SignatureLayer → Type 0
+  Made input layer =
+      (s : Shown) × IsAbout d input s
+      × ((p : Spelled) × IsSignature s.signature p.0 p.1
+      × ((e : Option LogEntryBundle) × IsEntry trust input.kind input.content p.1 s.log_entry e
+      × ((c : Option CertificateSignature) × IsCertificate trust e s.certificate c × (layer_with input s p.0 e c ≡ layer))))
 
-pub joined : (d : List ℕ) (input : Input) (signing : SimpleSigning) (signature : List ℕ)
-    → payload_about d input ≡ Ok signing → signature_in input.annotations ≡ Ok signature → no_certificate (get input.annotations certificate_annotation) ≡ Ok tt
-    → payload_layer d input ≡ Ok (layer_with input signing signature)
-joined d input signing signature about signed none =
-    ap (λ r. r >>= λ s. signature_in input.annotations >>= λ t. no_certificate (get input.annotations certificate_annotation) >>= λ u. Ok (layer_with input s t)) about
-    ∙ ap (λ r. r >>= λ t. no_certificate (get input.annotations certificate_annotation) >>= λ u. Ok (layer_with input signing t)) signed
-    ∙ ap (λ r. r >>= λ u. Ok (layer_with input signing signature)) none
+  -- why there is none
+  abbrev Fails : Input → LayerRejection → Type 0
+  Fails input x =
+      ContentRejected d input x ⊎ ((s : Shown) × IsAbout d input s
+      × (SignatureRejected s.signature x ⊎ ((p : Spelled) × IsSignature s.signature p.0 p.1
+      × (((knows_no_log trust ≡ false) × EntryRejected trust input p.1 s.log_entry x)
+      ⊎ ((e : Option LogEntryBundle) × IsEntry trust input.kind input.content p.1 s.log_entry e
+      × (CertificateRejected trust e s.certificate x ⊎ ((c : Option CertificateSignature) × IsCertificate trust e s.certificate c × ⊥)))))))
 
--- a step before an answer had an answer
-ok_before : {A B : Type 0} (r : Result A LayerRejection) (f : A → Result B LayerRejection) (b : B) → (r >>= f) ≡ Ok b → (a : A) × (r ≡ Ok a) × (f a ≡ Ok b)
-ok_before (Ok a) f b e = (a, refl, e)
-ok_before (Err x) f b e = cc
+  read : (input : Input) → Decides (layer_read trust d input) (Made input) (Fails input)
+  read input =
+      both (content_checked d input) _ _ _ _ _ (content d input) (λ s.
+      both (signature_checked s.signature) _ _ _ _ _ (signature s.signature) (λ p.
+      both (entry_checked trust input.kind input.content p.1 s.log_entry) _ _ _ _ _ (entry trust input p.1 s.log_entry) (λ e.
+      both (certificate_checked trust.vouched e s.certificate) _ _ _ _ _ (certificate trust e s.certificate) (λ c.
+      answered (layer_with input s p.0 e c)))))
 
-ok_is : {A : Type 0} (a b : A) → (let r : Result A LayerRejection = Ok a in r) ≡ Ok b → a ≡ b
-ok_is a b e = cc
+  given : (input : Input) (layer : SignatureLayer) → Made input layer → Gives trust d input layer
+  given input layer h =
+      let s = h.0 in let about = h.1 in let p = h.2.0 in let signed = h.2.1 in
+      let e = h.2.2.0 in let logged = h.2.2.1 in let c = h.2.2.2.0 in let certified = h.2.2.2.1 in
+      subst (Gives trust d input) h.2.2.2.2 (record {
+        from = refl;
+        layer_of = record {
+          named = about.has.named;
+          shows = s;
+          content = about.has.content;
+          signing = refl;
+          bytes = p.1;
+          signature = signed;
+          entry = logged;
+          certificate = certified;
+        };
+        is_named = subst (λ o. IsSomeAnd o (λ t. IsTrue (is_about d t))) (sym about.has.content) about.about;
+      })
 
-found : {A : Type 0} (o : Option A) (x : LayerRejection) (a : A) → ok_or o x ≡ Ok a → o ≡ Some a
-found None x a e = cc
-found (Some b) x a e = cc
+  abbrev with_signing : SignatureLayer → Option SimpleSigning → SignatureLayer
+  with_signing layer signing = record {
+    kind = layer.kind;
+    content = layer.content;
+    oci_digest = layer.oci_digest;
+    annotations = layer.annotations;
+    simple_signing = signing;
+    signature = layer.signature;
+    certificate_signature = layer.certificate_signature;
+    bundle = layer.bundle;
+  }
 
-passed : (x : LayerRejection) (b : Bool) (u : Unit {0}) → unless x b ≡ Ok u → b ≡ true
-passed x true u e = refl
-passed x false u e = cc
+  made_of : (layer : SignatureLayer) → LayerOf trust layer → Named layer d → Made (input_of layer) layer
+  made_of layer l n =
+      let about : is_about d l.shows ≡ true = subst (λ o. IsSomeAnd o (λ t. IsTrue (is_about d t))) l.content n in (
+        l.shows,
+        record { has = record { named = l.named; content = l.content }; about = about },
+        (
+          (layer.signature, l.bytes),
+          l.signature,
+          (
+            layer.bundle,
+            l.entry,
+            (layer.certificate_signature, l.certificate, ap (with_signing layer) (sym l.signing)),
+          ),
+        ),
+      )
 
-absent : (o : Option (List ℕ)) (u : Unit {0}) → no_certificate o ≡ Ok u → o ≡ None
-absent None u e = refl
-absent (Some c) u e = cc
+  made : (input : Input) (layer : SignatureLayer) → Gives trust d input layer → Made input layer
+  made input layer g = subst (λ i. Made i layer) g.from (made_of layer g.layer_of g.is_named)
 
-pub gives : (d : List ℕ) (input : Input) (layer : SignatureLayer) → payload_layer d input ≡ Ok layer → Gives d input layer
-gives d input layer e =
-    let about = ok_before (payload_about d input) _ layer e in
-    let signing = about.0 in
-    let signed = ok_before (signature_in input.annotations) _ layer about.2 in
-    let signature = signed.0 in
-    let none = ok_before (no_certificate (get input.annotations certificate_annotation)) _ layer signed.2 in
-    let is = ok_is (layer_with input signing signature) layer none.2 in
-    let name = ok_before (unless DigestMismatch (names input.oci_digest input.content)) _ signing about.1 in
-    let content = ok_before (ok_or (content_of input.content) (Unreadable Content)) _ signing name.2 in
-    let other = ok_before (unless OtherDigest (bytes_eq content.0.docker_manifest_digest d)) _ signing content.2 in
-    let same = ok_is content.0 signing other.2 in
-    let says = found (content_of input.content) (Unreadable Content) content.0 content.1 ∙ ap Some same in
-    let there = ok_before (ok_or (get input.annotations signature_annotation) NoSignature) spelled signature signed.1 in
-    let spells = ok_before (ok_or (decoded_of standard there.0) (Unreadable Signature)) _ signature there.2 in
-    let text = ok_is there.0 signature spells.2 in
-    let digest = (bytes_eq-Decides content.0.docker_manifest_digest d).0 (passed OtherDigest _ other.0 other.1) in
-    subst (Gives d input) is (record {
-      from = refl;
-      layer_of = record {
-        kind = refl;
-        named = (named input.oci_digest input.content).0 (passed DigestMismatch _ name.0 name.1);
-        signing = sym says;
-        readable = signing;
-        says = says;
-        signature = found _ NoSignature there.0 there.1 ∙ ap Some text;
-        bytes = spells.0;
-        spells = ap (decoded_of standard) (sym text) ∙ found _ (Unreadable Signature) spells.0 spells.1;
-        no_certificate_there = absent _ none.0 none.1;
-        no_certificate = refl;
-        no_entry = refl;
-      };
-      is_named = ap (λ s. s.docker_manifest_digest) (sym same) ∙ digest;
-    })
+  fails : (input : Input) (x : LayerRejection) → Fails input x → Rejected trust d input x
+  fails input x h = elim h [
+    | inl k ↦ inl k
+    | inr k ↦ inr (
+      k.0,
+      k.1,
+      elim k.2 [
+        | inl l ↦ inl l
+        | inr l ↦ inr (
+          l.0.0,
+          l.0.1,
+          l.1,
+          elim l.2 [
+            | inl m ↦ inl m
+            | inr m ↦ inr (m.0, m.1, elim m.2 [ inl n ↦ n | inr n ↦ absurd n.2 ])
+          ],
+        )
+      ],
+    )
+  ]
 
-pub given : (d : List ℕ) (input : Input) (result : Result SignatureLayer LayerRejection) → Says result (payload_layer d input) → IfOk result (Gives d input)
-given d input (Ok layer) says = gives d input layer says
-given d input (Err e) says = tt
+  failed : (input : Input) (x : LayerRejection) → Rejected trust d input x → Fails input x
+  failed input x h = elim h [
+    | inl k ↦ inl k
+    | inr k ↦ inr (
+      k.0,
+      k.1,
+      elim k.2 [
+        | inl l ↦ inl l
+        | inr l ↦ inr (
+          (l.0, l.1),
+          l.2,
+          elim l.3 [
+            | inl m ↦ inl m
+            | inr m ↦ inr (m.0, m.1, inl m.2)
+          ],
+        )
+      ],
+    )
+  ]
+
+  pub decided : (input : Input) → Decides (layer_read trust d input) (Gives trust d input) (Rejected trust d input)
+  decided input = reworded _ (Made input) _ (Fails input) _ (given input) (made input) (fails input) (failed input) (read input)
+
+  by_result : (input : Input) (r : Result SignatureLayer LayerRejection) → layer_read trust d input ≡ r → ((layer : SignatureLayer) × Gives trust d input layer) ⊎ ((x : LayerRejection) × Rejected trust d input x)
+  by_result input (Ok layer) e = inl (layer, (decided input).passed layer e)
+  by_result input (Err x) e = inr (x, (decided input).rejected x e)
+
+  differ : {r : Result SignatureLayer LayerRejection} (layer : SignatureLayer) (x : LayerRejection) → r ≡ Ok layer → r ≡ Err x → ⊥
+  differ layer x o e = ok_err layer x (sym o ∙ e)
+
+  pub one_outcome : (input : Input) → HasOneOutcome trust d input
+  one_outcome input = record {
+    one_of = by_result input (layer_read trust d input) refl;
+    not_both = λ layer x g h. differ layer x ((decided input).passes layer g) ((decided input).rejects x h);
+    one_layer = λ a b g h. ok_same a b (sym ((decided input).passes a g) ∙ (decided input).passes b h);
+    one_rejection = λ x y g h. err_same x y (sym ((decided input).rejects x g) ∙ (decided input).rejects y h);
+  }
+
+  pub gives : (input : Input) (r : Result SignatureLayer LayerRejection) → Says r (layer_read trust d input) → IfOk r (Gives trust d input)
+  gives input (Ok layer) says = (decided input).passed layer says
+  gives input (Err x) says = tt
+
+  pub rejects : (input : Input) (r : Result SignatureLayer LayerRejection) → Says r (layer_read trust d input) → IfErr r (RejectedUnlessMemory trust d input)
+  rejects input (Ok layer) says = tt
+  rejects input (Err x) says = by_memory (is_memory x) says where
+    by_memory : (b : Bool) → MatchBool b (Unit {0}) (layer_read trust d input ≡ Err x) → MatchBool b (Unit {0}) (Rejected trust d input x)
+    by_memory true h = tt
+    by_memory false h = (decided input).rejected x h
+
+  -- want of memory is no check
+  pub never_memory : (input : Input) → layer_read trust d input ≡ Err WantOfMemory → ⊥
+  never_memory input e = no_check input ((decided input).rejected WantOfMemory e) where
+    no_check : (input : Input) → Rejected trust d input WantOfMemory → ⊥
+    no_check input h = elim h [
+      | inl k ↦ k
+      | inr k ↦ elim k.2 [
+        | inl l ↦ l
+        | inr l ↦ elim l.3 [
+          | inl m ↦ m.1
+          | inr m ↦ m.2
+        ]
+      ]
+    ]

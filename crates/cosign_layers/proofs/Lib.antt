@@ -1,4 +1,10 @@
+pub mod Decimals
 pub mod Layers
 pub mod Loops
 pub mod Outcomes
+pub mod Ranges
+pub mod Reading
+pub mod Shows
+pub mod Steps
 pub mod Supports
+pub mod Texts

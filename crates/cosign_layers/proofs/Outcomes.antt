@@ -1,205 +1,136 @@
--- Each input gives one layer or fails one check first.
-use Rattle.std.proofs.Common.{◌≡◌, ◌⊎◌, inl, inr, ℕ, Bool, true, false, List, bytes_eq, Option, Some, None, ok_or, Result, Ok, Err, IfErr, refl, sym, ap, ◌∙◌, subst}
+-- Each check passes or rejects, and never both; so does a list of checks.
+use Rattle.std.proofs.Common.{◌≡◌, ◌⊎◌, inl, inr, Bool, true, false, Option, Some, None, ok_or, Result, Ok, Err, refl, sym, ap, ◌∙◌, subst}
+use Rattle.cosign_layers.specs.Checks.{unless}
 use Rattle.std.specs.Prelude.{MatchBool}
-use Rattle.std.specs.FinMap.{get}
-use Rattle.std.proofs.lemmas.Slice.Eq.{bytes_eq-Decides}
-use Rattle.base64.specs.Engines.{standard}
-use Rattle.base64.specs.GeneralPurpose.{decoded_of}
-use Rattle.oci_digests.specs.Names.{Names, names}
-use Rattle.oci_digests.proofs.Equal.{named}
-use Rattle.cosign_layers.specs.Checks.{IsPayload, IsAbout, HasSignature, Rejected, RejectedUnlessMemory, HasOneOutcome}
-use Rattle.cosign_layers.specs.Layer.{Input, LayerOf, Named, Gives, input_of, unless, payload_about, spelled, signature_in, no_certificate, payload_layer, signature_annotation, certificate_annotation}
-use Rattle.cosign_layers.specs.Payload.{content_of}
-use Rattle.cosign_layers.specs.Rejections.{◌>>=◌, Says, is_memory}
-use Rattle.cosign_layers.specs.declared.certificate.CertificateSignature.{CertificateSignature}
-use Rattle.cosign_layers.specs.declared.layer.LayerKind.{LayerKind}
-use Rattle.cosign_layers.specs.declared.layer.SignatureLayer.{SignatureLayer}
-use Rattle.cosign_layers.specs.declared.layer.SimpleSigning.{SimpleSigning}
-use Rattle.cosign_layers.specs.declared.log_entry.LogEntryBundle.{LogEntryBundle}
-use Rattle.cosign_layers.specs.declared.rejection.LayerPart.TheVariants.{Content, Signature, LogEntry, Certificate}
+use Rattle.std.specs.Result.{IsErrAnd}
+use Rattle.cosign_layers.specs.Rejection.{◌>>=◌, Says, is_memory}
 use Rattle.cosign_layers.specs.declared.rejection.LayerRejection.{LayerRejection}
-use Rattle.cosign_layers.specs.declared.rejection.LayerRejection.TheVariants.{DigestMismatch, Unreadable, OtherDigest, NoSignature, UnknownLogKey, BadLogSignature, NoLogEntry, NotVouched, LayerNotPulled, WantOfMemory}
-use Rattle.cosign_layers.proofs.Layers.{layer_with, joined}
+use Rattle.cosign_layers.specs.declared.rejection.LayerRejection.TheVariants.{WantOfMemory}
 
--- ---- the tests, as facts
+-- what a check answers where it passes, and why it rejects
+pub record Decides {A : Type 0} (r : Result A LayerRejection) (Is : A → Type 0) (Rejects : LayerRejection → Type 0) : Type 0 where
+  pub passes : (a : A) → Is a → r ≡ Ok a
+  pub passed : (a : A) → r ≡ Ok a → Is a
+  pub rejects : (x : LayerRejection) → Rejects x → r ≡ Err x
+  pub rejected : (x : LayerRejection) → r ≡ Err x → Rejects x
 
-false_true : (b : Bool) → b ≡ false → b ≡ true → ⊥
-false_true b f t = cc (sym f ∙ t)
+-- a step before an answer had an answer
+pub ok_before : {A B : Type 0} (r : Result A LayerRejection) (f : A → Result B LayerRejection) (b : B) → (r >>= f) ≡ Ok b → (a : A) × (r ≡ Ok a) × (f a ≡ Ok b)
+ok_before (Ok a) f b e = (a, refl, e)
+ok_before (Err x) f b e = cc
 
-unnamed : (input : Input) → names input.oci_digest input.content ≡ false → ¬ Names input.oci_digest input.content
-unnamed input is n = false_true (names input.oci_digest input.content) is ((named input.oci_digest input.content).1 n)
+-- a rejection is of a step, or of what comes after it
+pub err_before : {A B : Type 0} (r : Result A LayerRejection) (f : A → Result B LayerRejection) (x : LayerRejection) → (r >>= f) ≡ Err x → (r ≡ Err x) ⊎ ((a : A) × (r ≡ Ok a) × (f a ≡ Err x))
+err_before (Ok a) f x e = inr (a, refl, e)
+err_before {A} (Err y) f x e = let same : y ≡ x = cc e in inl (ap (λ z. let r : Result A LayerRejection = Err z in r) same)
 
-other : (a d : List ℕ) → bytes_eq a d ≡ false → a ≡ d → ⊥
-other a d is same = false_true (bytes_eq a d) is ((bytes_eq-Decides a d).1 same)
+pub ok_same : {A : Type 0} (a b : A) → (let r : Result A LayerRejection = Ok a in r) ≡ Ok b → a ≡ b
+ok_same a b e = cc
 
-untrue : (b : Bool) → (b ≡ true → ⊥) → b ≡ false
-untrue true h = absurd (h refl)
-untrue false h = refl
+pub err_same : {A : Type 0} (x y : LayerRejection) → (let r : Result A LayerRejection = Err x in r) ≡ Err y → x ≡ y
+err_same x y e = cc
 
--- ---- one of the outcomes holds
+pub ok_err : {A : Type 0} {P : Type 0} (a : A) (x : LayerRejection) → (let r : Result A LayerRejection = Ok a in r) ≡ Err x → P
+ok_err a x e = cc
 
-abbrev OneOf : List ℕ → Input → Type 0
-OneOf d input = ((layer : SignatureLayer) × Gives d input layer) ⊎ ((x : LayerRejection) × Rejected d input x)
+pub err_ok : {A : Type 0} {P : Type 0} (a : A) (x : LayerRejection) → (let r : Result A LayerRejection = Err x in r) ≡ Ok a → P
+err_ok a x e = cc
 
-one_of : (d : List ℕ) (input : Input) → OneOf d input
-one_of d input = by_name (names input.oci_digest input.content) refl where
-  given : (s : HasSignature d input) → get input.annotations certificate_annotation ≡ None → Gives d input (layer_with input s.about.signing s.text)
-  given s none = record {
-    from = refl;
-    layer_of = record {
-      kind = refl;
-      named = s.about.payload.named;
-      signing = sym s.about.payload.says;
-      readable = s.about.signing;
-      says = s.about.payload.says;
-      signature = s.there;
-      bytes = s.bytes;
-      spells = s.spells;
-      no_certificate_there = none;
-      no_certificate = refl;
-      no_entry = refl;
-    };
-    is_named = s.about.about;
-  }
-
-  by_certificate : HasSignature d input → (o : Option (List ℕ)) → get input.annotations certificate_annotation ≡ o → OneOf d input
-  by_certificate s None is = inl (layer_with input s.about.signing s.text, given s is)
-  by_certificate s (Some certificate) is = inr (NoLogEntry, (certificate, s, is))
-
-  by_bytes_of : IsAbout d input → (text : List ℕ) → get input.annotations signature_annotation ≡ Some text → (o : Option (List ℕ)) → decoded_of standard text ≡ o → OneOf d input
-  by_bytes_of about text there None is = inr (Unreadable Signature, (text, about, there, is))
-  by_bytes_of about text there (Some bytes) is = by_certificate (record { about = about; text = text; there = there; bytes = bytes; spells = is }) (get input.annotations certificate_annotation) refl
-
-  by_text : IsAbout d input → (o : Option (List ℕ)) → get input.annotations signature_annotation ≡ o → OneOf d input
-  by_text about None is = inr (NoSignature, (about, is))
-  by_text about (Some text) is = by_bytes_of about text is (decoded_of standard text) refl
-
-  by_digest : (signing : SimpleSigning) → IsPayload input signing → (b : Bool) → bytes_eq signing.docker_manifest_digest d ≡ b → OneOf d input
-  by_digest signing payload false is = inr (OtherDigest, (signing, payload, other signing.docker_manifest_digest d is))
-  by_digest signing payload true is = by_text (record { signing = signing; payload = payload; about = (bytes_eq-Decides signing.docker_manifest_digest d).0 is }) (get input.annotations signature_annotation) refl
-
-  by_content : Names input.oci_digest input.content → (o : Option SimpleSigning) → content_of input.content ≡ o → OneOf d input
-  by_content n None is = inr (Unreadable Content, (n, is))
-  by_content n (Some signing) is = by_digest signing (record { named = n; says = is }) (bytes_eq signing.docker_manifest_digest d) refl
-
-  by_name : (b : Bool) → names input.oci_digest input.content ≡ b → OneOf d input
-  by_name false is = inr (DigestMismatch, unnamed input is)
-  by_name true is = by_content ((named input.oci_digest input.content).0 is) (content_of input.content) refl
-
--- ---- what each outcome makes of the reading
-
-name_there : (input : Input) → Names input.oci_digest input.content → unless DigestMismatch (names input.oci_digest input.content) ≡ Ok tt
-name_there input n = ap (unless DigestMismatch) ((named input.oci_digest input.content).1 n)
-
--- the payload is there, and is compared
-payload_there : (d : List ℕ) (input : Input) (signing : SimpleSigning) → IsPayload input signing → payload_about d input ≡ (unless OtherDigest (bytes_eq signing.docker_manifest_digest d) >>= λ u. Ok signing)
-payload_there d input signing p =
-    ap (λ r. r >>= λ u. ok_or (content_of input.content) (Unreadable Content) >>= λ s. unless OtherDigest (bytes_eq s.docker_manifest_digest d) >>= λ v. Ok s) (name_there input p.named)
-    ∙ ap (λ o. ok_or o (Unreadable Content) >>= λ s. unless OtherDigest (bytes_eq s.docker_manifest_digest d) >>= λ v. Ok s) p.says
-
-about_there : (d : List ℕ) (input : Input) (a : IsAbout d input) → payload_about d input ≡ Ok a.signing
-about_there d input a = payload_there d input a.signing a.payload ∙ ap (λ b. unless OtherDigest b >>= λ u. Ok a.signing) ((bytes_eq-Decides a.signing.docker_manifest_digest d).1 a.about)
-
-text_there : (input : Input) (text : List ℕ) → get input.annotations signature_annotation ≡ Some text → signature_in input.annotations ≡ spelled text
-text_there input text is = ap (λ o. ok_or o NoSignature >>= spelled) is
-
-signature_there : (d : List ℕ) (input : Input) (s : HasSignature d input) → signature_in input.annotations ≡ Ok s.text
-signature_there d input s = text_there input s.text s.there ∙ ap (λ o. ok_or o (Unreadable Signature) >>= λ bytes. Ok s.text) s.spells
-
--- what is made of a payload
-after_payload : Input → Result SimpleSigning LayerRejection → Result SignatureLayer LayerRejection
-after_payload input r = r >>= λ s. signature_in input.annotations >>= λ t. no_certificate (get input.annotations certificate_annotation) >>= λ u. Ok (layer_with input s t)
-
--- what is made of a payload and a signature
-after_signature : Input → SimpleSigning → Result (List ℕ) LayerRejection → Result SignatureLayer LayerRejection
-after_signature input s r = r >>= λ t. no_certificate (get input.annotations certificate_annotation) >>= λ u. Ok (layer_with input s t)
-
-unread : (d : List ℕ) (input : Input) (x : LayerRejection) → payload_about d input ≡ Err x → payload_layer d input ≡ Err x
-unfolding after_payload
-unread d input x is = ap (after_payload input) is
-
-unsigned : (d : List ℕ) (input : Input) (x : LayerRejection) (a : IsAbout d input) → signature_in input.annotations ≡ Err x → payload_layer d input ≡ Err x
-unfolding after_payload after_signature
-unsigned d input x a is = ap (after_payload input) (about_there d input a) ∙ ap (after_signature input a.signing) is
-
-certified : (d : List ℕ) (input : Input) (s : HasSignature d input) (certificate : List ℕ) → get input.annotations certificate_annotation ≡ Some certificate → payload_layer d input ≡ Err NoLogEntry
-unfolding after_payload after_signature
-certified d input s certificate is =
-    ap (after_payload input) (about_there d input s.about)
-    ∙ ap (after_signature input s.about.signing) (signature_there d input s)
-    ∙ ap (λ o. no_certificate o >>= λ u. Ok (layer_with input s.about.signing s.text)) is
-
-refused : (d : List ℕ) (input : Input) (x : LayerRejection) → Rejected d input x → payload_layer d input ≡ Err x
-refused d input DigestMismatch h = unread d input DigestMismatch (ap (λ b. unless DigestMismatch b >>= λ u. ok_or (content_of input.content) (Unreadable Content) >>= λ s. unless OtherDigest (bytes_eq s.docker_manifest_digest d) >>= λ v. Ok s) (untrue (names input.oci_digest input.content) (λ is. h ((named input.oci_digest input.content).0 is))))
-refused d input (Unreadable Content) h = unread d input (Unreadable Content) (
-    ap (λ r. r >>= λ u. ok_or (content_of input.content) (Unreadable Content) >>= λ s. unless OtherDigest (bytes_eq s.docker_manifest_digest d) >>= λ v. Ok s) (name_there input h.0)
-    ∙ ap (λ o. ok_or o (Unreadable Content) >>= λ s. unless OtherDigest (bytes_eq s.docker_manifest_digest d) >>= λ v. Ok s) h.1)
-refused d input (Unreadable Signature) h = unsigned d input (Unreadable Signature) h.1 (text_there input h.0 h.2 ∙ ap (λ o. ok_or o (Unreadable Signature) >>= λ bytes. Ok h.0) h.3)
-refused d input (Unreadable LogEntry) h = absurd h
-refused d input (Unreadable Certificate) h = absurd h
-refused d input OtherDigest h = unread d input OtherDigest (payload_there d input h.0 h.1 ∙ ap (λ b. unless OtherDigest b >>= λ u. Ok h.0) (untrue (bytes_eq h.0.docker_manifest_digest d) (λ is. h.2 ((bytes_eq-Decides h.0.docker_manifest_digest d).0 is))))
-refused d input NoSignature h = unsigned d input NoSignature h.0 (ap (λ o. ok_or o NoSignature >>= spelled) h.1)
-refused d input (UnknownLogKey id) h = absurd h
-refused d input BadLogSignature h = absurd h
-refused d input NoLogEntry h = certified d input h.1 h.0 h.2
-refused d input NotVouched h = absurd h
-refused d input LayerNotPulled h = absurd h
-refused d input WantOfMemory h = absurd h
-
--- a layer is its parts
-of_parts : (l : SignatureLayer) {kind : LayerKind} {signing : Option SimpleSigning} {certificate : Option CertificateSignature} {bundle : Option LogEntryBundle} → l.kind ≡ kind → l.simple_signing ≡ signing → l.certificate_signature ≡ certificate → l.bundle ≡ bundle
-    → record { kind = kind; content = l.content; oci_digest = l.oci_digest; annotations = l.annotations; simple_signing = signing; signature = l.signature; certificate_signature = certificate; bundle = bundle } ≡ l
-of_parts l a b c d = rw (← a, ← b, ← c, ← d) refl
-
-taken : (d : List ℕ) (input : Input) (layer : SignatureLayer) → Gives d input layer → payload_layer d input ≡ Ok layer
-taken d input layer g = subst (λ i. payload_layer d i ≡ Ok layer) g.from (of_layer layer g.layer_of g.is_named) where
-  is_about : (l : SignatureLayer) (h : LayerOf l) → Named l d → h.readable.docker_manifest_digest ≡ d
-  is_about l h n = rw (h.signing ∙ h.says) at n
-
-  of_layer : (l : SignatureLayer) (h : LayerOf l) → Named l d → payload_layer d (input_of l) ≡ Ok l
-  of_layer l h n =
-      let about : IsAbout d (input_of l) = record { signing = h.readable; payload = record { named = h.named; says = h.says }; about = is_about l h n } in
-      let signed : HasSignature d (input_of l) = record { about = about; text = l.signature; there = h.signature; bytes = h.bytes; spells = h.spells } in
-      joined d (input_of l) h.readable l.signature (about_there d (input_of l) about) (signature_there d (input_of l) signed) (ap no_certificate h.no_certificate_there)
-      ∙ ap (λ m. let r : Result SignatureLayer LayerRejection = Ok m in r) (of_parts l h.kind (h.signing ∙ h.says) h.no_certificate h.no_entry)
-
--- ---- the law
-
-differ : (r : Result SignatureLayer LayerRejection) (layer : SignatureLayer) (x : LayerRejection) → r ≡ Ok layer → r ≡ Err x → ⊥
-differ r layer x g h = cc (sym g ∙ h)
-
-same_layer : (r : Result SignatureLayer LayerRejection) (a b : SignatureLayer) → r ≡ Ok a → r ≡ Ok b → a ≡ b
-same_layer r a b g h = cc (sym g ∙ h)
-
-same_rejection : (r : Result SignatureLayer LayerRejection) (x y : LayerRejection) → r ≡ Err x → r ≡ Err y → x ≡ y
-same_rejection r x y g h = cc (sym g ∙ h)
-
-pub one_outcome : (d : List ℕ) (input : Input) → HasOneOutcome d input
-one_outcome d input = record {
-  one_of = one_of d input;
-  not_both = λ layer x g h. differ (payload_layer d input) layer x (taken d input layer g) (refused d input x h);
-  one_layer = λ a b g h. same_layer (payload_layer d input) a b (taken d input a g) (taken d input b h);
-  one_rejection = λ x y g h. same_rejection (payload_layer d input) x y (refused d input x g) (refused d input y h);
+-- a check, and then another one
+pub both : {A B : Type 0} (r : Result A LayerRejection) (f : A → Result B LayerRejection) (Is : A → Type 0) (Rejects : LayerRejection → Type 0) (Next : A → B → Type 0) (RejectsNext : A → LayerRejection → Type 0)
+    → Decides r Is Rejects → ((a : A) → Decides (f a) (Next a) (RejectsNext a))
+    → Decides (r >>= f) (λ b. (a : A) × Is a × Next a b) (λ x. Rejects x ⊎ ((a : A) × Is a × RejectsNext a x))
+both r f Is Rejects Next RejectsNext first next = record {
+  passes = λ b h. ap (λ r. r >>= f) (first.passes h.0 h.1) ∙ (next h.0).passes b h.2;
+  passed = λ b e.
+      let before = ok_before r f b e in
+      (before.0, first.passed before.0 before.1, (next before.0).passed b before.2);
+  rejects = λ x h. elim h [
+    | inl here ↦ ap (λ r. r >>= f) (first.rejects x here)
+    | inr later ↦ ap (λ r. r >>= f) (first.passes later.0 later.1) ∙ (next later.0).rejects x later.2
+  ];
+  rejected = λ x e. elim (err_before r f x e) [
+    | inl here ↦ inl (first.rejected x here)
+    | inr later ↦ inr (later.0, first.passed later.0 later.1, (next later.0).rejected x later.2)
+  ];
 }
 
--- ---- so the reading answers
+-- the same in other words
+pub reworded : {A : Type 0} (r : Result A LayerRejection) (Is Is' : A → Type 0) (Rejects Rejects' : LayerRejection → Type 0)
+    → ((a : A) → Is a → Is' a) → ((a : A) → Is' a → Is a)
+    → ((x : LayerRejection) → Rejects x → Rejects' x) → ((x : LayerRejection) → Rejects' x → Rejects x)
+    → Decides r Is Rejects → Decides r Is' Rejects'
+reworded r Is Is' Rejects Rejects' there back why because d = record {
+  passes = λ a h. d.passes a (back a h);
+  passed = λ a e. there a (d.passed a e);
+  rejects = λ x h. d.rejects x (because x h);
+  rejected = λ x e. why x (d.rejected x e);
+}
 
-pub layer_said : (d : List ℕ) (input : Input) (r : Result SignatureLayer LayerRejection) → Says r (payload_layer d input) → (layer : SignatureLayer) → Gives d input layer → Says r (Ok layer)
-layer_said d input r says layer g = subst (Says r) (taken d input layer g) says
+-- a test
+pub tested : (x : LayerRejection) (b : Bool) → Decides (unless x b) (λ u. b ≡ true) (λ y. (b ≡ false) × (x ≡ y))
+tested x true = record {
+  passes = λ u h. refl;
+  passed = λ u e. refl;
+  rejects = λ y h. cc;
+  rejected = λ y e. cc;
+}
+tested x false = record {
+  passes = λ u h. cc;
+  passed = λ u e. cc;
+  rejects = λ y h. ap Err h.1;
+  rejected = λ y e. (refl, err_same x y e);
+}
 
-pub rejection_said : (d : List ℕ) (input : Input) (r : Result SignatureLayer LayerRejection) → Says r (payload_layer d input) → (x : LayerRejection) → Rejected d input x → Says r (Err x)
-rejection_said d input r says x h = subst (Says r) (refused d input x h) says
+-- something that has to be there
+pub needed : {A : Type 0} (o : Option A) (x : LayerRejection) → Decides (ok_or o x) (λ a. o ≡ Some a) (λ y. (o ≡ None) × (x ≡ y))
+needed None x = record {
+  passes = λ a h. cc;
+  passed = λ a e. cc;
+  rejects = λ y h. ap Err h.1;
+  rejected = λ y e. (refl, err_same x y e);
+}
+needed (Some b) x = record {
+  passes = λ a h. cc;
+  passed = λ a e. cc;
+  rejects = λ y h. cc;
+  rejected = λ y e. cc;
+}
 
--- a rejection that was answered is of the first check that fails
-pub rejected : (d : List ℕ) (input : Input) (x : LayerRejection) → payload_layer d input ≡ Err x → Rejected d input x
-rejected d input x is = by_outcome (one_of d input) where
-  by_outcome : OneOf d input → Rejected d input x
-  by_outcome (inl g) = absurd (differ (payload_layer d input) g.0 x (taken d input g.0 g.1) is)
-  by_outcome (inr h) = subst (Rejected d input) (same_rejection (payload_layer d input) h.0 x (refused d input h.0 h.1) is) h.1
+-- an answer
+pub answered : {A : Type 0} (b : A) → Decides (let r : Result A LayerRejection = Ok b in r) (λ a. b ≡ a) (λ y. ⊥)
+answered b = record {
+  passes = λ a h. ap Ok h;
+  passed = λ a e. ok_same b a e;
+  rejects = λ y h. absurd h;
+  rejected = λ y e. ok_err b y e;
+}
 
-pub rejection_is : (d : List ℕ) (input : Input) (r : Result SignatureLayer LayerRejection) → Says r (payload_layer d input) → IfErr r (RejectedUnlessMemory d input)
-rejection_is d input (Ok layer) says = tt
-rejection_is d input (Err x) says = by_memory (is_memory x) says where
-  by_memory : (b : Bool) → MatchBool b (Unit {0}) (payload_layer d input ≡ Err x) → MatchBool b (Unit {0}) (Rejected d input x)
-  by_memory true h = tt
-  by_memory false h = rejected d input x h
+-- a rejection
+pub refused : {A : Type 0} (x : LayerRejection) → Decides (let r : Result A LayerRejection = Err x in r) (λ a. ⊥) (λ y. x ≡ y)
+refused x = record {
+  passes = λ a h. absurd h;
+  passed = λ a e. err_ok a x e;
+  rejects = λ y h. ap Err h;
+  rejected = λ y e. err_same x y e;
+}
+
+-- ---- steps of a function
+
+-- a step that was answered, and what comes after it
+pub after : {A B : Type 0} (step : Result A LayerRejection) (f : A → Result B LayerRejection) (a : A) (r : Result B LayerRejection) → step ≡ Ok a → Says r (f a) → Says r (step >>= f)
+after step f a r is says = subst (λ s. Says r (s >>= f)) (sym is) says
+
+refused_later : {A B : Type 0} (step : Result A LayerRejection) (f : A → Result B LayerRejection) (x : LayerRejection) (b : Bool) → MatchBool b (Unit {0}) (step ≡ Err x) → MatchBool b (Unit {0}) ((step >>= f) ≡ Err x)
+refused_later step f x true h = tt
+refused_later step f x false h = ap (λ s. s >>= f) h
+
+-- a step that was refused, at the exit of a `?`
+pub stopped : {A B : Type 0} (step : Result A LayerRejection) (f : A → Result B LayerRejection) (x : LayerRejection) (r : Result B LayerRejection) → MatchBool (is_memory x) (Unit {0}) (step ≡ Err x) → IsErrAnd r (λ y. y ≡ x) → Says r (step >>= f)
+stopped step f x (Ok b) h is = absurd is
+stopped step f x (Err y) h is = subst (λ z. MatchBool (is_memory z) (Unit {0}) ((step >>= f) ≡ Err z)) (sym is) (refused_later step f x (is_memory x) h)
+
+-- memory was wanting between two steps
+pub wanting : {A : Type 0} (said r : Result A LayerRejection) → IsErrAnd r (λ y. y ≡ WantOfMemory) → Says r said
+wanting said (Ok a) is = absurd is
+wanting said (Err y) is = subst (λ z. MatchBool (is_memory z) (Unit {0}) (said ≡ Err z)) (sym is) tt

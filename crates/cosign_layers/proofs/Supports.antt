@@ -5,16 +5,18 @@ use Rattle.std.proofs.lemmas.List.Sums.{AllPass-from_list_all, list_all-from_All
 use Rattle.std.specs.Option.{option_map_or}
 use Rattle.base64.specs.Engines.{standard}
 use Rattle.base64.specs.GeneralPurpose.{decoded_of}
-use Rattle.cosign_layers.specs.Layer.{LayerOf, Named, StandsFor}
-use Rattle.cosign_layers.specs.Standing.{Meaning, signs, SignedUnder, is_signed, Signed, is_accepted, stands, Supports}
+use Rattle.cosign_layers.specs.Layer.{LayerOf, Named}
+use Rattle.cosign_layers.specs.Standing.{Meaning, Owns, signs, SignedUnder, is_signed, Signed, is_accepted, stands, StandsFor, Supports, text_of}
+use Rattle.cosign_layers.specs.Trust.{Valid}
 use Rattle.cosign_layers.specs.declared.certificate.CertificateSignature.{CertificateSignature}
 use Rattle.cosign_layers.specs.declared.layer.SignatureLayer.{SignatureLayer}
+use Rattle.cosign_layers.specs.declared.policy.PullPolicy.{PullPolicy}
 
-under : (valid : List ℕ → List ℕ → List ℕ → Bool) (keys : List (List ℕ)) (c : Option CertificateSignature) (text bytes : List ℕ) → signs valid keys c text bytes ≡ true → SignedUnder valid keys c text bytes
+under : (valid : Valid) (keys : List (List ℕ)) (c : Option CertificateSignature) (text bytes : List ℕ) → signs valid keys c text bytes ≡ true → SignedUnder valid keys c text bytes
 under valid keys None text bytes e = Any-from_list_any _ keys e
 under valid keys (Some c) text bytes e = e
 
-signs_under : (valid : List ℕ → List ℕ → List ℕ → Bool) (keys : List (List ℕ)) (c : Option CertificateSignature) (text bytes : List ℕ) → SignedUnder valid keys c text bytes → signs valid keys c text bytes ≡ true
+signs_under : (valid : Valid) (keys : List (List ℕ)) (c : Option CertificateSignature) (text bytes : List ℕ) → SignedUnder valid keys c text bytes → signs valid keys c text bytes ≡ true
 signs_under valid keys None text bytes h = list_any-from_Any _ keys h
 signs_under valid keys (Some c) text bytes h = h
 
@@ -26,36 +28,36 @@ both : (a b : Bool) → (a && b) ≡ true → (a ≡ true) × (b ≡ true)
 both true b e = (refl, e)
 both false b e = cc
 
-module _ {V : Type 0} {H : V → Type 0} (meaning : Meaning V H) (layer : SignatureLayer) where
-  pub is_signed_exact : is_signed meaning layer ≡ true → Signed meaning layer
+module _ {V : Type 0} {H : V → Type 0} (valid : Valid) (policy : PullPolicy V H) (own : Owns V H) (layer : SignatureLayer) where
+  pub is_signed_exact : is_signed valid policy layer ≡ true → Signed valid policy layer
   is_signed_exact e =
-      let found = spelled_and (decoded_of standard layer.signature) (signs meaning.valid meaning.policy.keys layer.certificate_signature layer.content) e in
+      let found = spelled_and (decoded_of standard layer.signature) (signs valid policy.keys layer.certificate_signature (text_of layer)) e in
       record { bytes = found.0; spells = found.1; under = under _ _ layer.certificate_signature _ _ found.2 }
 
-  pub signed_is : Signed meaning layer → is_signed meaning layer ≡ true
+  pub signed_is : Signed valid policy layer → is_signed valid policy layer ≡ true
   signed_is s =
-      ap (λ o. option_map_or (signs meaning.valid meaning.policy.keys layer.certificate_signature layer.content) o false) s.spells
+      ap (λ o. option_map_or (signs valid policy.keys layer.certificate_signature (text_of layer)) o false) s.spells
       ∙ signs_under _ _ layer.certificate_signature _ _ s.under
 
-  pub supports : IsTrue (stands meaning layer) → Supports meaning layer
+  pub supports : IsTrue (stands valid policy own layer) → Supports valid policy own layer
+  unfolding stands
   supports e =
-      let two = both (is_signed meaning layer) (is_accepted meaning layer) e in
-      record { signed = is_signed_exact two.0; accepted = AllPass-from_list_all _ meaning.policy.constraints two.1 }
+      let two = both (is_signed valid policy layer) (is_accepted policy own layer) e in
+      record { signed = is_signed_exact two.0; accepted = AllPass-from_list_all _ policy.constraints two.1 }
 
-  pub stands_by : Supports meaning layer → IsTrue (stands meaning layer)
+  pub stands_by : Supports valid policy own layer → IsTrue (stands valid policy own layer)
+  unfolding stands
   stands_by s =
-      ap (λ b. b && is_accepted meaning layer) (signed_is s.signed)
-      ∙ list_all-from_AllPass _ meaning.policy.constraints s.accepted
+      ap (λ b. b && is_accepted policy own layer) (signed_is s.signed)
+      ∙ list_all-from_AllPass _ policy.constraints s.accepted
 
-  -- the test answers whether the layer supports an image
-  pub exactly : IsTrue (stands meaning layer) ↔ Supports meaning layer
-  exactly = (supports, stands_by)
-
-  -- where the rest is given, the test answers whether the layer stands for an image
-  pub stands_for : (d : List ℕ) → LayerOf layer → Named layer d → 0 < length meaning.policy.constraints → IsTrue (stands meaning layer) ↔ StandsFor meaning d layer
-  stands_for d layer_of is_named constrained =
-      (λ e. record { layer_of = layer_of; is_named = is_named; constrained = constrained; supports = supports e }, λ s. stands_by s.supports)
-
-  pub answered : {E : Type 0} (result : Result Bool E) → IfOk result (λ b. b ≡ stands meaning layer) → IfOk result (λ b. IsTrue b ↔ Supports meaning layer)
+  pub answered : {E : Type 0} (result : Result Bool E) → IfOk result (λ b. b ≡ stands valid policy own layer) → IfOk result (λ b. IsTrue b ↔ Supports valid policy own layer)
   answered (Ok b) e = (λ t. supports (sym e ∙ t), λ s. e ∙ stands_by s)
   answered (Err x) e = tt
+
+-- where the rest is given, the test answers whether the layer stands for an image
+pub stands_for : {V : Type 0} {H : V → Type 0} (meaning : Meaning V H) (layer : SignatureLayer) (d : List ℕ)
+    → LayerOf meaning.trust layer → Named layer d → 0 < length meaning.policy.constraints
+    → IsTrue (stands meaning.trust.valid meaning.policy meaning.own layer) ↔ StandsFor meaning d layer
+stands_for meaning layer d layer_of is_named constrained =
+    (λ e. record { layer_of = layer_of; is_named = is_named; constrained = constrained; supports = supports _ _ _ layer e }, λ s. stands_by _ _ _ layer s.supports)

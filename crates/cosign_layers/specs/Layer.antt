@@ -1,98 +1,63 @@
--- Which signature layer a payload's bytes and annotations give, or the first check that they fail.
-use Rattle.std.specs.Prelude.{◌≡◌, ℕ, Bool, true, false, ◌<◌, List, length, codes, bytes_eq, Option, Some, None, ok_or, IsSomeAnd, Result, Ok, Err}
-use Rattle.std.specs.FinMap.{FinMap, get}
+-- What a signature layer is: its fields are what its bytes and annotations give.
+use Rattle.std.specs.Prelude.{◌≡◌, ◌⊎◌, ℕ, List, Bool, true, false, IsTrue, Option, Some, None, IsSomeAnd}
 use Rattle.base64.specs.Engines.{standard}
 use Rattle.base64.specs.GeneralPurpose.{decoded_of}
-use Rattle.json_values.specs.Places.{by_bytes}
-use Rattle.oci_digests.specs.Names.{Names, names}
-use Rattle.cosign_layers.specs.Payload.{content_of}
-use Rattle.cosign_layers.specs.Rejections.{◌>>=◌}
-use Rattle.cosign_layers.specs.Standing.{Meaning, Supports}
-use Rattle.cosign_layers.specs.declared.layer.LayerKind.TheVariants.{Payload}
+use Rattle.oci_digests.specs.Names.{Names}
+use Rattle.cosign_layers.specs.LogEntry.{LogSigned, logs}
+use Rattle.cosign_layers.specs.Shown.{shown, is_about}
+use Rattle.cosign_layers.specs.Trust.{Trust, knows_no_log}
+use Rattle.cosign_layers.specs.declared.certificate.CertificateSignature.{CertificateSignature}
+use Rattle.cosign_layers.specs.declared.certificate.Evidence.{Evidence}
+use Rattle.cosign_layers.specs.declared.layer.LayerKind.{LayerKind}
+use Rattle.cosign_layers.specs.declared.layer.LayerKind.TheVariants as kinds
 use Rattle.cosign_layers.specs.declared.layer.SignatureLayer.{SignatureLayer}
-use Rattle.cosign_layers.specs.declared.layer.SimpleSigning.{SimpleSigning}
-use Rattle.cosign_layers.specs.declared.rejection.LayerPart.TheVariants.{Content, Signature}
-use Rattle.cosign_layers.specs.declared.rejection.LayerRejection.{LayerRejection}
-use Rattle.cosign_layers.specs.declared.rejection.LayerRejection.TheVariants.{DigestMismatch, Unreadable, OtherDigest, NoSignature, NoLogEntry}
+use Rattle.cosign_layers.specs.declared.log_entry.LogEntryBundle.{LogEntryBundle}
+use Rattle.cosign_layers.specs.declared.shown.Found.{Found}
+use Rattle.cosign_layers.specs.declared.shown.Found.TheVariants.{Absent, Read}
+use Rattle.cosign_layers.specs.declared.shown.Shown.{Shown}
 
--- what is read: the content, the digest by which it came, and its annotations
-pub record Input : Type 0 where
-  pub content : List ℕ
-  pub oci_digest : List ℕ
-  pub annotations : FinMap by_bytes (List ℕ)
+-- there is a signature, which spells these bytes in padded standard base64
+pub record IsSignature (shown : Option (List ℕ)) (signature bytes : List ℕ) : Type 0 where
+  pub there : shown ≡ Some signature
+  pub spells : decoded_of standard signature ≡ Some bytes
 
-abbrev pub signature_annotation : List ℕ
-signature_annotation = codes "dev.cosignproject.cosign/signature"
+-- the entry names the signature that it logs; one beside a bundle need not
+abbrev pub is_logged : LayerKind → List ℕ → List ℕ → List ℕ → Bool
+is_logged kinds.Payload content bytes body = logs body content bytes
+is_logged kinds.Bundle content bytes body = true
 
-abbrev pub certificate_annotation : List ℕ
-certificate_annotation = codes "dev.sigstore.cosign/certificate"
+-- the entry that stands there is signed by its log and names this signature of the content
+pub record IsLogged (trust : Trust) (kind : LayerKind) (content bytes : List ℕ) (e : LogEntryBundle) : Type 0 where
+  pub signed : LogSigned trust e
+  pub names : IsTrue (is_logged kind content bytes e.body)
 
--- go on where this is so
-abbrev pub unless : LayerRejection → Bool → Result (Unit {0}) LayerRejection
-unless rejection true = Ok tt
-unless rejection false = Err rejection
+-- the entry of a layer: none where no log is known or none stands there, else what stands there
+abbrev pub IsEntry : Trust → LayerKind → List ℕ → List ℕ → Found LogEntryBundle → Option LogEntryBundle → Type 0
+IsEntry trust kind content bytes found None = IsTrue (knows_no_log trust) ⊎ (found ≡ Absent)
+IsEntry trust kind content bytes found (Some e) =
+    (knows_no_log trust ≡ false) × (found ≡ Read e) × IsLogged trust kind content bytes e
 
--- the payload in the content, which is about this image
-abbrev pub payload_about : List ℕ → Input → Result SimpleSigning LayerRejection
-payload_about d input = do
-  named ← unless DigestMismatch (names input.oci_digest input.content)
-  signing ← ok_or (content_of input.content) (Unreadable Content)
-  about ← unless OtherDigest (bytes_eq signing.docker_manifest_digest d)
-  Ok signing
+abbrev pub evidence : List ℕ → LogEntryBundle → Evidence
+evidence certificate e = record { certificate = certificate; integrated_time = e.integrated_time }
 
--- a text, where it spells bytes in padded standard base64
-abbrev pub spelled : List ℕ → Result (List ℕ) LayerRejection
-spelled signature = ok_or (decoded_of standard signature) (Unreadable Signature) >>= λ bytes. Ok signature
-
--- the signature in the annotations
-abbrev pub signature_in : FinMap by_bytes (List ℕ) → Result (List ℕ) LayerRejection
-signature_in annotations = ok_or (get annotations signature_annotation) NoSignature >>= spelled
-
--- without a log entry there is no certificate
-abbrev pub no_certificate : Option (List ℕ) → Result (Unit {0}) LayerRejection
-no_certificate None = Ok tt
-no_certificate (Some certificate) = Err NoLogEntry
-
--- the layer that the input gives for this image, or the first check that it fails
-abbrev pub payload_layer : List ℕ → Input → Result SignatureLayer LayerRejection
-payload_layer d input = do
-  signing ← payload_about d input
-  signature ← signature_in input.annotations
-  none ← no_certificate (get input.annotations certificate_annotation)
-  Ok (record { kind = Payload; content = input.content; oci_digest = input.oci_digest; annotations = input.annotations; simple_signing = Some signing; signature = signature; certificate_signature = None; bundle = None })
+-- the certificate of a layer: none where none stands there, else vouched for at the time of the log entry
+abbrev pub IsCertificate : Trust → Option LogEntryBundle → Found (List ℕ) → Option CertificateSignature → Type 0
+IsCertificate trust entry found None = found ≡ Absent
+IsCertificate trust entry found (Some c) =
+    (e : LogEntryBundle) × (found ≡ Read c.certificate) × (entry ≡ Some e)
+    × (trust.vouched (evidence c.certificate e) ≡ Some c.vouched)
 
 -- the fields of a layer are what its bytes and annotations give
-pub record LayerOf (layer : SignatureLayer) : Type 0 where
-  pub kind : layer.kind ≡ Payload
+pub record LayerOf (trust : Trust) (layer : SignatureLayer) : Type 0 where
   pub named : Names layer.oci_digest layer.content
-  pub signing : layer.simple_signing ≡ content_of layer.content
-  pub readable : SimpleSigning
-  pub says : content_of layer.content ≡ Some readable
-  pub signature : get layer.annotations signature_annotation ≡ Some layer.signature
+  pub shows : Shown
+  pub content : shown layer.kind layer.content layer.annotations ≡ Some shows
+  pub signing : layer.simple_signing ≡ shows.signing
   pub bytes : List ℕ
-  pub spells : decoded_of standard layer.signature ≡ Some bytes
-  pub no_certificate_there : get layer.annotations certificate_annotation ≡ None
-  pub no_certificate : layer.certificate_signature ≡ None
-  pub no_entry : layer.bundle ≡ None
+  pub signature : IsSignature shows.signature layer.signature bytes
+  pub entry : IsEntry trust layer.kind layer.content bytes shows.log_entry layer.bundle
+  pub certificate : IsCertificate trust layer.bundle shows.certificate layer.certificate_signature
 
--- the layer is about the image of this digest
+-- the layer is about the image of this digest: a payload by its digest, a bundle by a subject of its statement
 abbrev pub Named : SignatureLayer → List ℕ → Type 0
-Named layer d = IsSomeAnd layer.simple_signing (λ signing. signing.docker_manifest_digest ≡ d)
-
--- the input of a layer
-abbrev pub input_of : SignatureLayer → Input
-input_of layer = record { content = layer.content; oci_digest = layer.oci_digest; annotations = layer.annotations }
-
--- the layer is what this input says, and is about this image
-pub record Gives (d : List ℕ) (input : Input) (layer : SignatureLayer) : Type 0 where
-  pub from : input_of layer ≡ input
-  pub layer_of : LayerOf layer
-  pub is_named : Named layer d
-
--- the layer stands for the image: it is what its bytes say, is about the image, is signed, and is accepted by each
--- constraint of a policy that has one
-pub record StandsFor {V : Type 0} {H : V → Type 0} (meaning : Meaning V H) (d : List ℕ) (layer : SignatureLayer) : Type 0 where
-  pub layer_of : LayerOf layer
-  pub is_named : Named layer d
-  pub constrained : 0 < length meaning.policy.constraints
-  pub supports : Supports meaning layer
+Named layer d = IsSomeAnd (shown layer.kind layer.content layer.annotations) (λ s. IsTrue (is_about d s))

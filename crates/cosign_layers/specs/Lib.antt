@@ -1,7 +1,14 @@
-pub mod Accepts
+pub mod Bundle
 pub mod Checks
+pub mod Constraint
+pub mod Judge
 pub mod Layer
+pub mod LogEntry
 pub mod Payload
-pub mod Rejections
-pub mod Rows
+pub mod Read
+pub mod Rejection
+pub mod Shown
+pub mod Envelope
 pub mod Standing
+pub mod Trust
+pub mod Verifier

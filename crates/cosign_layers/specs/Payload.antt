@@ -18,7 +18,11 @@ payload_of d = do
   kind ← text_at (codes "critical" ∷ codes "type" ∷ []) d
   known ← equal_to (codes "cosign container image signature") kind
   optional ← or_null (get (codes "optional") d)
-  Some (record { docker_reference = docker_reference; docker_manifest_digest = docker_manifest_digest; optional = optional })
+  Some (record {
+    docker_reference = docker_reference;
+    docker_manifest_digest = docker_manifest_digest;
+    optional = optional;
+  })
 
 -- the payload that the bytes spell in JSON without floats
 abbrev pub content_of : List ℕ → Option SimpleSigning

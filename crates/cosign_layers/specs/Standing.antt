@@ -1,56 +1,83 @@
 -- Which layers are signed and accepted under a policy.
-use Rattle.std.specs.Prelude.{◌≡◌, ℕ, Bool, IsTrue, ◌&&◌, List, Option, Some, None, false}
+use Rattle.std.specs.Prelude.{◌≡◌, ℕ, Bool, IsTrue, ◌&&◌, ◌<◌, List, length, Option, Some, None, false}
 use Rattle.std.specs.List.{list_all, list_any, Any, All}
 use Rattle.std.specs.Option.{option_map_or}
 use Rattle.std.specs.declared.alloc.Global.{Global}
 use Rattle.std.specs.declared.dyn_box.DynBox.{DynBox}
 use Rattle.base64.specs.Engines.{standard}
 use Rattle.base64.specs.GeneralPurpose.{decoded_of}
-use Rattle.cosign_layers.specs.Accepts.{accepts}
+use Rattle.cosign_layers.specs.Constraint.{accepts}
+use Rattle.cosign_layers.specs.Layer.{LayerOf, Named}
+use Rattle.cosign_layers.specs.Envelope.{signed_text}
+use Rattle.cosign_layers.specs.Trust.{Trust, Valid}
 use Rattle.cosign_layers.specs.declared.certificate.CertificateSignature.{CertificateSignature}
 use Rattle.cosign_layers.specs.declared.layer.SignatureLayer.{SignatureLayer}
 use Rattle.cosign_layers.specs.declared.policy.PullPolicy.{PullPolicy}
 
--- what is handed in: the policy, which signatures are valid, and what a box of the caller accepts
+-- what is handed in: the policy, what a box of the caller accepts, and whom the reader of layers trusts
 pub record Meaning (V : Type 0) (H : V → Type 0) : Type 0 where
   pub policy : PullPolicy V H
-  pub valid : List ℕ → List ℕ → List ℕ → Bool
   pub own : DynBox V Global H → SignatureLayer → Bool
+  pub trust : Trust
 
-abbrev pub meaning : {V : Type 0} {H : V → Type 0} → PullPolicy V H → (List ℕ → List ℕ → List ℕ → Bool) → (DynBox V Global H → SignatureLayer → Bool) → Meaning V H
-meaning policy valid own = record { policy = policy; valid = valid; own = own }
+abbrev pub meaning : {V : Type 0} {H : V → Type 0} → PullPolicy V H → (DynBox V Global H → SignatureLayer → Bool)
+    → Trust → Meaning V H
+meaning policy own trust = record { policy = policy; own = own; trust = trust }
 
 -- whether these bytes sign the text under the certificate's key, or without a certificate under one of the keys
-abbrev pub signs : (List ℕ → List ℕ → List ℕ → Bool) → List (List ℕ) → Option CertificateSignature → List ℕ → List ℕ → Bool
+abbrev pub signs : Valid → List (List ℕ) → Option CertificateSignature → List ℕ → List ℕ → Bool
 signs valid keys None text bytes = list_any (λ key. valid key text bytes) keys
 signs valid keys (Some c) text bytes = valid c.vouched.key text bytes
 
 -- the same as a fact
-abbrev pub SignedUnder : (List ℕ → List ℕ → List ℕ → Bool) → List (List ℕ) → Option CertificateSignature → List ℕ → List ℕ → Type 0
+abbrev pub SignedUnder : Valid → List (List ℕ) → Option CertificateSignature → List ℕ → List ℕ → Type 0
 SignedUnder valid keys None text bytes = Any (λ key. IsTrue (valid key text bytes)) keys
 SignedUnder valid keys (Some c) text bytes = IsTrue (valid c.vouched.key text bytes)
 
--- whether the layer's signature spells bytes that sign its content
-abbrev pub is_signed : {V : Type 0} {H : V → Type 0} → Meaning V H → SignatureLayer → Bool
-is_signed meaning layer =
-    option_map_or (signs meaning.valid meaning.policy.keys layer.certificate_signature layer.content)
+-- the text that the layer's signature signs
+abbrev pub text_of : SignatureLayer → List ℕ
+text_of layer = signed_text layer.kind layer.content
+
+-- whether the layer's signature spells bytes that sign its text under the certificate's key, or one of these
+abbrev pub is_signed_by : Valid → List (List ℕ) → SignatureLayer → Bool
+is_signed_by valid keys layer =
+    option_map_or (signs valid keys layer.certificate_signature (text_of layer))
     (decoded_of standard layer.signature) false
 
--- the layer's signature spells bytes that sign its content, under the certificate's key or under one of the policy's
-pub record Signed {V : Type 0} {H : V → Type 0} (meaning : Meaning V H) (layer : SignatureLayer) : Type 0 where
+-- the same under one of the policy's keys
+abbrev pub is_signed : {V : Type 0} {H : V → Type 0} → Valid → PullPolicy V H → SignatureLayer → Bool
+is_signed valid policy layer = is_signed_by valid policy.keys layer
+
+-- the layer's signature spells bytes that sign its text, under the certificate's key or under one of the policy's
+pub record Signed {V : Type 0} {H : V → Type 0} (valid : Valid) (policy : PullPolicy V H) (layer : SignatureLayer)
+    : Type 0 where
   pub bytes : List ℕ
   pub spells : decoded_of standard layer.signature ≡ Some bytes
-  pub under : SignedUnder meaning.valid meaning.policy.keys layer.certificate_signature layer.content bytes
+  pub under : SignedUnder valid policy.keys layer.certificate_signature (text_of layer) bytes
+
+-- what a box of the caller accepts
+abbrev pub Owns : (V : Type 0) → (V → Type 0) → Type 0
+Owns V H = DynBox V Global H → SignatureLayer → Bool
 
 -- whether each constraint of the policy accepts the layer
-abbrev pub is_accepted : {V : Type 0} {H : V → Type 0} → Meaning V H → SignatureLayer → Bool
-is_accepted meaning layer = list_all (λ c. accepts meaning.own c layer) meaning.policy.constraints
+abbrev pub is_accepted : {V : Type 0} {H : V → Type 0} → PullPolicy V H → Owns V H → SignatureLayer → Bool
+is_accepted policy own layer = list_all (λ c. accepts own c layer) policy.constraints
 
 -- whether the layer is signed and accepted
-abbrev pub stands : {V : Type 0} {H : V → Type 0} → Meaning V H → SignatureLayer → Bool
-stands meaning layer = is_signed meaning layer && is_accepted meaning layer
+unfoldable pub stands : {V : Type 0} {H : V → Type 0} → Valid → PullPolicy V H → Owns V H → SignatureLayer → Bool
+stands valid policy own layer = is_signed valid policy layer && is_accepted policy own layer
 
 -- the layer is signed, and each constraint accepts it
-pub record Supports {V : Type 0} {H : V → Type 0} (meaning : Meaning V H) (layer : SignatureLayer) : Type 0 where
-  pub signed : Signed meaning layer
-  pub accepted : All (λ c. IsTrue (accepts meaning.own c layer)) meaning.policy.constraints
+pub record Supports {V : Type 0} {H : V → Type 0} (valid : Valid) (policy : PullPolicy V H) (own : Owns V H)
+    (layer : SignatureLayer) : Type 0 where
+  pub signed : Signed valid policy layer
+  pub accepted : All (λ c. IsTrue (accepts own c layer)) policy.constraints
+
+-- the layer stands for the image: it is what its bytes say, is about the image, is signed, and is accepted by each
+-- constraint of a policy that has one
+pub record StandsFor {V : Type 0} {H : V → Type 0} (meaning : Meaning V H) (d : List ℕ)
+    (layer : SignatureLayer) : Type 0 where
+  pub layer_of : LayerOf meaning.trust layer
+  pub is_named : Named layer d
+  pub constrained : 0 < length meaning.policy.constraints
+  pub supports : Supports meaning.trust.valid meaning.policy meaning.own layer

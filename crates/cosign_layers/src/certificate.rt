@@ -1,9 +1,5 @@
-//! Certificates, and who vouches for them.
-ghost use Rattle.std.specs.Prelude.{◌≡◌, IfOk, Option};
-ghost use Rattle.cosign_layers.specs.declared.certificate.Evidence.{Evidence};
-ghost use Rattle.cosign_layers.specs.declared.certificate.Vouched.{Vouched};
-
-use json_values::{Blob, Copied, Text, copies2, copies4};
+//! Certificates, and what is vouched of them.
+use json_values::{Blob, Copied, Text, copied};
 use std::alloc::{AllocError, Global};
 
 /// What a certificate stands for.
@@ -30,54 +26,31 @@ pub struct Evidence {
     pub integrated_time: i64,
 }
 
-/// Judges certificates, with nothing asked of a network.
-pub trait Offline {
-    /// What it vouches of this evidence.
-    ghost vouched: { Self → Evidence → Option Vouched };
-
-    fn judge(&self, alloc: Global, evidence: &Evidence) -> Result<Option<Vouched>, AllocError>
-        ensures { IfOk result (λ found. found ≡ vouched self.now evidence.now) };
-}
-
-/// Vouches for no certificate.
-#[derive(Clone, Copy, Debug, Default, PartialEq, Eq)]
-pub struct NoCertificates;
-
-impl Offline for NoCertificates {
-    ghost use Rattle.std.specs.Prelude.{None};
-
-    ghost vouched = { λ judge evidence. None };
-
-    fn judge(&self, _alloc: Global, _evidence: &Evidence) -> Result<Option<Vouched>, AllocError> {
-        Ok(None)
-    }
-}
-
 impl Copied for Vouched {
     fn copy(&self, alloc: Global) -> Result<Vouched, AllocError> {
-        let (key, email, url, issuer) = copies4(
+        copied!(
             alloc,
-            &self.key,
-            &self.email,
-            &self.url,
-            &self.issuer,
-        )?;
-        Ok(Vouched {
-            key,
-            email,
-            url,
-            issuer,
-        })
+            self,
+            Vouched {
+                key,
+                email,
+                url,
+                issuer
+            }
+        )
     }
 }
 
 impl Copied for CertificateSignature {
     fn copy(&self, alloc: Global) -> Result<CertificateSignature, AllocError> {
-        let (certificate, vouched) = copies2(alloc, &self.certificate, &self.vouched)?;
-        Ok(CertificateSignature {
-            certificate,
-            vouched,
-        })
+        copied!(
+            alloc,
+            self,
+            CertificateSignature {
+                certificate,
+                vouched
+            }
+        )
     }
 }
 

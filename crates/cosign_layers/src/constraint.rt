@@ -2,10 +2,11 @@
 ghost use Rattle.std.specs.Prelude.{◌≡◌, ℕ, List, Bool, IfOk};
 ghost use Rattle.std.specs.List.{list_all};
 ghost use Rattle.serde_json.specs.View.{view};
-ghost use Rattle.cosign_layers.specs.Accepts.{accepts as accepts_by, has_text_member};
+ghost use Rattle.cosign_layers.specs.Constraint.{accepts as accepts_by, has_text_member};
 ghost use Rattle.cosign_layers.specs.declared.layer.SignatureLayer.{SignatureLayer};
 
 use crate::layer::SignatureLayer;
+use crate::subject::{CertSubjectEmailVerifier, CertSubjectUrlVerifier};
 use json_values::{Annotations, Copied, Text};
 use serde_json::Value;
 use std::alloc::{AllocError, Global};
@@ -30,6 +31,8 @@ pub struct AnnotationVerifier {
 #[derive(Drop)]
 pub enum Constraint {
     Annotations(AnnotationVerifier),
+    Email(CertSubjectEmailVerifier),
+    Url(CertSubjectUrlVerifier),
     /// A constraint of the caller's own.
     Own(Box<dyn VerificationConstraint>),
 }
@@ -40,13 +43,15 @@ impl Constraint {
     {
         match self {
             Constraint::Annotations(annotations) => annotations.verify(layer),
+            Constraint::Email(email) => email.verify(layer),
+            Constraint::Url(url) => url.verify(layer),
             Constraint::Own(own) => own.verify(layer),
         }
     }
 }
 
 impl VerificationConstraint for AnnotationVerifier {
-    ghost use Rattle.cosign_layers.specs.Accepts.{has_annotations};
+    ghost use Rattle.cosign_layers.specs.Constraint.{has_annotations};
 
     ghost accepts = { λ verifier layer. has_annotations verifier.annotations layer.simple_signing };
 

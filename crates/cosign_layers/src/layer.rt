@@ -3,7 +3,7 @@ ghost use Rattle.std.specs.Prelude.{◌≡◌, IfOk};
 
 use crate::certificate::CertificateSignature;
 use crate::log_entry::LogEntryBundle;
-use json_values::{Annotations, Blob, Copied, Json, Text, copies3, copies7};
+use json_values::{Annotations, Blob, Copied, Json, Text, copied};
 use std::alloc::{AllocError, Global};
 
 /// The form of a signature layer.
@@ -41,51 +41,41 @@ pub struct SimpleSigning {
     pub optional: Json,
 }
 
+impl Copied for LayerKind {
+    fn copy(&self, _alloc: Global) -> Result<LayerKind, AllocError> {
+        Ok(*self)
+    }
+}
+
 impl Copied for SignatureLayer {
     fn copy(&self, alloc: Global) -> Result<SignatureLayer, AllocError> {
-        let (
-            content,
-            oci_digest,
-            annotations,
-            simple_signing,
-            signature,
-            certificate_signature,
-            bundle,
-        ) = copies7(
+        copied!(
             alloc,
-            &self.content,
-            &self.oci_digest,
-            &self.annotations,
-            &self.simple_signing,
-            &self.signature,
-            &self.certificate_signature,
-            &self.bundle,
-        )?;
-        Ok(SignatureLayer {
-            kind: self.kind,
-            content,
-            oci_digest,
-            annotations,
-            simple_signing,
-            signature,
-            certificate_signature,
-            bundle,
-        })
+            self,
+            SignatureLayer {
+                kind,
+                content,
+                oci_digest,
+                annotations,
+                simple_signing,
+                signature,
+                certificate_signature,
+                bundle
+            }
+        )
     }
 }
 
 impl Copied for SimpleSigning {
     fn copy(&self, alloc: Global) -> Result<SimpleSigning, AllocError> {
-        let (docker_reference, docker_manifest_digest, optional) = copies3(
+        copied!(
             alloc,
-            &self.docker_reference,
-            &self.docker_manifest_digest,
-            &self.optional,
-        )?;
-        Ok(SimpleSigning {
-            docker_reference,
-            docker_manifest_digest,
-            optional,
-        })
+            self,
+            SimpleSigning {
+                docker_reference,
+                docker_manifest_digest,
+                optional
+            }
+        )
     }
 }

@@ -1,23 +1,36 @@
 //! Signature layers and the policy that they have to meet.
 #![tactic(auto)]
 
+mod bundle;
 mod certificate;
+mod checks;
 mod constraint;
+mod envelope;
+mod judge;
+mod laws;
 mod layer;
 mod log_entry;
 mod payload;
 mod policy;
 mod read;
 mod rejection;
+mod shown;
 mod standing;
+mod subject;
+mod trust;
 mod verifier;
 
-pub use certificate::{CertificateSignature, Evidence, NoCertificates, Offline, Vouched};
+pub use certificate::{CertificateSignature, Evidence, Vouched};
 pub use constraint::{AnnotationVerifier, Constraint, VerificationConstraint};
+pub use envelope::signed_text;
+pub use judge::{NoCertificates, Offline, TableJudge, VouchedRow};
+pub use laws::log_texts_are_canonical;
 pub use layer::{LayerKind, SignatureLayer, SimpleSigning};
 pub use log_entry::LogEntryBundle;
 pub use policy::{LogKeys, PullPolicy};
-pub use read::read_payload_layer;
+pub use read::{read_bundle_layer, read_payload_layer};
 pub use rejection::{LayerPart, LayerRejection};
 pub use standing::{first_standing, stands};
+pub use subject::{CertSubjectEmailVerifier, CertSubjectUrlVerifier};
+pub use trust::Trusted;
 pub use verifier::{SignatureVerifier, SignedRow, TableVerifier};

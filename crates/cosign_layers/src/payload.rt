@@ -4,8 +4,8 @@ ghost use Rattle.serde_json.specs.View.{view};
 ghost use Rattle.cosign_layers.specs.Payload.{content_of, payload_of};
 
 use crate::layer::SimpleSigning;
-use json_tables::{holds_float, or_null, text_at};
-use json_values::{Text, read_json};
+use json_tables::{or_null, read_plain_json, text_at};
+use json_values::Text;
 use serde_json::Value;
 use std::alloc::{AllocError, Global};
 
@@ -18,12 +18,9 @@ pub(crate) fn read_payload(
 ) -> Result<Option<SimpleSigning>, AllocError>
     ensures { IfOk result (λ found. found ≡ content_of content.now) }
 {
-    let Some(json) = read_json(alloc, content)? else {
+    let Some(json) = read_plain_json(alloc, content)? else {
         return Ok(None);
     };
-    if holds_float(json.value()) {
-        return Ok(None);
-    }
     let signing = payload_in(alloc, json.value())?;
     Ok(signing)
 }

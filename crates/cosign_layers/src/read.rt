@@ -1,23 +1,20 @@
-//! Payload layers read from their bytes and annotations.
-ghost use Rattle.std.specs.Prelude.{◌≡◌, IfOk, IfErr};
-ghost use Rattle.std.specs.FinMap.{get};
-ghost use Rattle.cosign_layers.specs.Checks.{Rejected, RejectedUnlessMemory, HasOneOutcome};
-ghost use Rattle.cosign_layers.specs.Layer.{Gives, certificate_annotation, no_certificate, payload_about, payload_layer, signature_in};
-ghost use Rattle.cosign_layers.specs.Rejections.{Says};
-ghost use Rattle.cosign_layers.specs.declared.layer.SignatureLayer.{SignatureLayer};
-ghost use Rattle.cosign_layers.specs.declared.rejection.LayerRejection.{LayerRejection};
+//! Signature layers read from their bytes and annotations.
+ghost use Rattle.std.specs.Prelude.{IfOk, IfErr};
+ghost use Rattle.cosign_layers.specs.Checks.{input, layer_read};
+ghost use Rattle.cosign_layers.specs.Read.{Gives, HasOneOutcome, RejectedUnlessMemory};
+ghost use Rattle.cosign_layers.specs.Rejection.{Says};
+ghost use Rattle.cosign_layers.specs.Trust.{trust};
+ghost use Rattle.cosign_layers.specs.declared.layer.LayerKind.TheVariants as kinds;
 
-use crate::layer::{LayerKind, SignatureLayer, SimpleSigning};
-use crate::payload::read_payload;
-use crate::rejection::{LayerPart, LayerRejection};
-use json_tables::decode_base64;
-use json_values::{Annotations, Blob, Copied, Text, copies2};
-use oci_digests::names_digest;
+use crate::checks::{Pulled, read_layer};
+use crate::judge::Offline;
+use crate::layer::{LayerKind, SignatureLayer};
+use crate::policy::LogKeys;
+use crate::rejection::LayerRejection;
+use crate::trust::Trusted;
+use crate::verifier::SignatureVerifier;
+use json_values::{Annotations, Blob};
 use std::alloc::Global;
-
-const SIGNATURE_ANNOTATION: &str = "dev.cosignproject.cosign/signature";
-
-const CERTIFICATE_ANNOTATION: &str = "dev.sigstore.cosign/certificate";
 
 /// Reads a payload layer that is about the image of `source_digest`, or says which check fails first. Each input has
 /// exactly one of these two outcomes, and the call answers it, or want of memory.
@@ -31,95 +28,98 @@ const CERTIFICATE_ANNOTATION: &str = "dev.sigstore.cosign/certificate";
 /// 3. `OtherDigest`: the payload's digest is not `source_digest`.
 /// 4. `NoSignature`: there is no annotation `dev.cosignproject.cosign/signature`. `Unreadable(Signature)`: it is not
 ///    padded standard base64 (RFC 4648, 4).
-/// 5. `NoLogEntry`: there is an annotation `dev.sigstore.cosign/certificate`. Log entries are not looked at, so nothing
-///    says when a certificate was used.
-#[tactic(auto, using(crate::proofs::Layers::given))]
-pub fn read_payload_layer(
+/// 5. Where there are log keys and an annotation `dev.sigstore.cosign/bundle`: `Unreadable(LogEntry)`: it is not an
+///    object with `SignedEntryTimestamp` in base64 and a `Payload` with the texts `body` and `logID` and the whole
+///    numbers `integratedTime` and `logIndex` from 0 to 9007199254740991. `UnknownLogKey`: no key has that log id.
+///    `BadLogSignature`: the timestamp is not valid over the canonical text (RFC 8785) of these four members.
+///    `OtherLogEntry`: the body is no `hashedrekord` of the content's SHA-256 and of this signature.
+/// 6. Where there is an annotation `dev.sigstore.cosign/certificate`: `NoLogEntry`: no log entry says when the
+///    certificate was used. `NotVouched`: the judge does not vouch for it at that time.
+pub fn read_payload_layer<V: SignatureVerifier, O: Offline>(
     alloc: Global,
     content: &Blob,
     oci_digest: &str,
     annotations: &Annotations,
     source_digest: &str,
+    log_keys: &LogKeys,
+    verifier: &V,
+    judge: &O,
 ) -> Result<SignatureLayer, LayerRejection>
-    ensures says { Says result (payload_layer source_digest.now (record { content = content.now; oci_digest = oci_digest.now; annotations = annotations.now })) }
-    ensures gives { IfOk result (Gives source_digest.now (record { content = content.now; oci_digest = oci_digest.now; annotations = annotations.now })) }
-    ensures rejects { IfErr result (RejectedUnlessMemory source_digest.now (record { content = content.now; oci_digest = oci_digest.now; annotations = annotations.now })) }
-    ensures layer { (layer : SignatureLayer) → Gives source_digest.now (record { content = content.now; oci_digest = oci_digest.now; annotations = annotations.now }) layer → Says result (Ok layer) }
-    ensures rejection { (x : LayerRejection) → Rejected source_digest.now (record { content = content.now; oci_digest = oci_digest.now; annotations = annotations.now }) x → Says result (Err x) }
-    ensures law { HasOneOutcome source_digest.now (record { content = content.now; oci_digest = oci_digest.now; annotations = annotations.now }) }
+    ensures says { Says result (layer_read
+        (trust (V.valid verifier.now) (O.vouched judge.now) log_keys.now) source_digest.now
+        (input kinds.Payload content.now oci_digest.now annotations.now)) }
+    ensures gives { IfOk result (Gives
+        (trust (V.valid verifier.now) (O.vouched judge.now) log_keys.now) source_digest.now
+        (input kinds.Payload content.now oci_digest.now annotations.now)) }
+    ensures rejects { IfErr result (RejectedUnlessMemory
+        (trust (V.valid verifier.now) (O.vouched judge.now) log_keys.now) source_digest.now
+        (input kinds.Payload content.now oci_digest.now annotations.now)) }
+    ensures law { HasOneOutcome
+        (trust (V.valid verifier.now) (O.vouched judge.now) log_keys.now) source_digest.now
+        (input kinds.Payload content.now oci_digest.now annotations.now) }
 {
-    read_layer(alloc, content, oci_digest, annotations, source_digest)
-}
-
-#[tactic(auto, using(crate::proofs::Layers::joined))]
-fn read_layer(
-    alloc: Global,
-    content: &Blob,
-    oci_digest: &str,
-    annotations: &Annotations,
-    source_digest: &str,
-) -> Result<SignatureLayer, LayerRejection>
-    ensures { Says result (payload_layer source_digest.now (record { content = content.now; oci_digest = oci_digest.now; annotations = annotations.now })) }
-{
-    let signing = payload_about(alloc, content, oci_digest, annotations, source_digest)?;
-    let signature = signature_in(alloc, annotations)?;
-    no_certificate(annotations)?;
-    let oci_digest = Text::new(alloc, oci_digest)?;
-    let (content, annotations) = copies2(alloc, content, annotations)?;
-    Ok(SignatureLayer {
+    let pulled = Pulled {
         kind: LayerKind::Payload,
         content,
         oci_digest,
         annotations,
-        simple_signing: Some(signing),
-        signature,
-        certificate_signature: None,
-        bundle: None,
-    })
+    };
+    let trusted = Trusted {
+        log_keys,
+        verifier,
+        judge,
+    };
+    read_layer(alloc, &pulled, source_digest, &trusted)
 }
 
-// The payload of a layer that is about this image.
-fn payload_about(
+/// Reads a bundle layer (sigstore bundle v0.3, in this project's profile) as `read_payload_layer` reads a payload
+/// layer. What differs in the checks:
+///
+/// 2. `Unreadable(Content)`: the content is not a JSON object without floats whose `mediaType` is that of the bundle,
+///    whose `dsseEnvelope` has a `payload` in base64, a text `payloadType` and a list `signatures` of one object, and
+///    whose `verificationMaterial` is an object, in which `certificate` is an object and `tlogEntries` a list where
+///    they are there and not null; or the payload is not a JSON object without floats whose `subject` is a list of
+///    objects with a `digest` map of texts.
+/// 3. `OtherDigest`: no subject has the digits of `source_digest` by its algorithm.
+/// 4. The signature is the text `sig` of the one object of `signatures`.
+/// 5. The log entry is the first of `tlogEntries`, where it has `inclusionPromise.signedEntryTimestamp`; its log id is
+///    the lower-case hexadecimal of the bytes of `logId.keyId`, its body is `canonicalizedBody`, and its time and index
+///    may be decimal texts of 1 to 16 digits. It need not name the signature.
+/// 6. The certificate is what `rawBytes` spells. `Unreadable(Certificate)` comes first: it is no text of padded
+///    standard base64.
+pub fn read_bundle_layer<V: SignatureVerifier, O: Offline>(
     alloc: Global,
     content: &Blob,
     oci_digest: &str,
     annotations: &Annotations,
     source_digest: &str,
-) -> Result<SimpleSigning, LayerRejection>
-    ensures { Says result (payload_about source_digest.now (record { content = content.now; oci_digest = oci_digest.now; annotations = annotations.now })) }
+    log_keys: &LogKeys,
+    verifier: &V,
+    judge: &O,
+) -> Result<SignatureLayer, LayerRejection>
+    ensures says { Says result (layer_read
+        (trust (V.valid verifier.now) (O.vouched judge.now) log_keys.now) source_digest.now
+        (input kinds.Bundle content.now oci_digest.now annotations.now)) }
+    ensures gives { IfOk result (Gives
+        (trust (V.valid verifier.now) (O.vouched judge.now) log_keys.now) source_digest.now
+        (input kinds.Bundle content.now oci_digest.now annotations.now)) }
+    ensures rejects { IfErr result (RejectedUnlessMemory
+        (trust (V.valid verifier.now) (O.vouched judge.now) log_keys.now) source_digest.now
+        (input kinds.Bundle content.now oci_digest.now annotations.now)) }
+    ensures law { HasOneOutcome
+        (trust (V.valid verifier.now) (O.vouched judge.now) log_keys.now) source_digest.now
+        (input kinds.Bundle content.now oci_digest.now annotations.now) }
 {
-    if !names_digest(oci_digest, content.as_slice()) {
-        return Err(LayerRejection::DigestMismatch);
-    }
-    let Some(signing) = read_payload(alloc, content.as_slice())? else {
-        return Err(LayerRejection::Unreadable(LayerPart::Content));
+    let pulled = Pulled {
+        kind: LayerKind::Bundle,
+        content,
+        oci_digest,
+        annotations,
     };
-    if signing.docker_manifest_digest.as_str() != source_digest {
-        return Err(LayerRejection::OtherDigest);
-    }
-    Ok(signing)
-}
-
-// The signature in the annotations.
-fn signature_in(alloc: Global, annotations: &Annotations) -> Result<Text, LayerRejection>
-    ensures { Says result (signature_in annotations.now) }
-{
-    let Some(signature) = annotations.get(SIGNATURE_ANNOTATION) else {
-        return Err(LayerRejection::NoSignature);
+    let trusted = Trusted {
+        log_keys,
+        verifier,
+        judge,
     };
-    let Some(_) = decode_base64(alloc, signature.as_str())? else {
-        return Err(LayerRejection::Unreadable(LayerPart::Signature));
-    };
-    let signature = signature.copy(alloc)?;
-    Ok(signature)
-}
-
-// A certificate has no log entry.
-fn no_certificate(annotations: &Annotations) -> Result<(), LayerRejection>
-    ensures { result ≡ no_certificate (get annotations.now certificate_annotation) }
-{
-    match annotations.get(CERTIFICATE_ANNOTATION) {
-        Some(_) => Err(LayerRejection::NoLogEntry),
-        None => Ok(()),
-    }
+    read_layer(alloc, &pulled, source_digest, &trusted)
 }

@@ -1,9 +1,9 @@
 //! Why a signature layer is refused.
 ghost use Rattle.std.specs.Prelude.{◌≡◌};
-ghost use Rattle.cosign_layers.specs.Rejections.{is_memory};
+ghost use Rattle.cosign_layers.specs.Rejection.{is_memory};
 
-use json_values::Text;
-use std::alloc::AllocError;
+use json_values::{Copied, Text};
+use std::alloc::{AllocError, Global};
 use thiserror::Error;
 
 /// A part of a signature layer.
@@ -32,11 +32,16 @@ pub enum LayerRejection {
     /// No key is known for the log of this id.
     #[error("the log's key is unknown")]
     UnknownLogKey(Text),
+    /// The log's signature is not valid for the entry's canonical text.
     #[error("the log's signature is not valid")]
     BadLogSignature,
+    /// The entry with this body logs another signature.
+    #[error("the log entry is of another signature")]
+    OtherLogEntry(Text),
     /// There is a certificate, and no log entry that says when it was used.
     #[error("the certificate has no log entry")]
     NoLogEntry,
+    /// The judge vouches for no such certificate at the time of the log entry.
     #[error("nobody vouches for the certificate")]
     NotVouched,
     /// The layer is described and was not among those that came.
@@ -62,5 +67,29 @@ impl From<AllocError> for LayerRejection {
 
     fn from(_error: AllocError) -> LayerRejection {
         LayerRejection::WantOfMemory
+    }
+}
+
+impl Copied for LayerPart {
+    fn copy(&self, _alloc: Global) -> Result<LayerPart, AllocError> {
+        Ok(*self)
+    }
+}
+
+impl Copied for LayerRejection {
+    fn copy(&self, alloc: Global) -> Result<LayerRejection, AllocError> {
+        Ok(match self {
+            LayerRejection::DigestMismatch => LayerRejection::DigestMismatch,
+            LayerRejection::Unreadable(part) => LayerRejection::Unreadable(*part),
+            LayerRejection::OtherDigest => LayerRejection::OtherDigest,
+            LayerRejection::NoSignature => LayerRejection::NoSignature,
+            LayerRejection::UnknownLogKey(id) => LayerRejection::UnknownLogKey(id.copy(alloc)?),
+            LayerRejection::BadLogSignature => LayerRejection::BadLogSignature,
+            LayerRejection::OtherLogEntry(body) => LayerRejection::OtherLogEntry(body.copy(alloc)?),
+            LayerRejection::NoLogEntry => LayerRejection::NoLogEntry,
+            LayerRejection::NotVouched => LayerRejection::NotVouched,
+            LayerRejection::LayerNotPulled => LayerRejection::LayerNotPulled,
+            LayerRejection::WantOfMemory => LayerRejection::WantOfMemory,
+        })
     }
 }

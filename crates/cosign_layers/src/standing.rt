@@ -4,19 +4,21 @@ ghost use Rattle.std.specs.Option.{option_map_or};
 ghost use Rattle.std.specs.List.{list_all, list_any, position};
 ghost use Rattle.base64.specs.Engines.{standard};
 ghost use Rattle.base64.specs.GeneralPurpose.{decoded_of};
-ghost use Rattle.cosign_layers.specs.Accepts.{accepts as accepts_by};
-ghost use Rattle.cosign_layers.specs.Standing.{meaning, signs, is_signed, is_accepted, stands, Supports};
+ghost use Rattle.cosign_layers.specs.Constraint.{accepts as accepts_by};
+ghost use Rattle.cosign_layers.specs.Standing.{is_accepted, is_signed, is_signed_by, signs, stands, Supports, text_of};
 
+use crate::certificate::CertificateSignature;
 use crate::constraint::Constraint;
-use crate::layer::SignatureLayer;
+use crate::envelope::enveloped_text;
+use crate::layer::{LayerKind, SignatureLayer};
 use crate::policy::PullPolicy;
 use crate::verifier::SignatureVerifier;
 use json_tables::decode_base64;
 use json_values::Blob;
 use std::alloc::{AllocError, Global};
 
-/// Whether a layer stands under a policy: its signature is valid for its content, under the key of its certificate or,
-/// where it has none, under one of the policy's keys, and each constraint of the policy accepts it.
+/// Whether a layer stands under a policy: its signature is valid for its signed text, under the key of its certificate
+/// or, where it has none, under one of the policy's keys, and each constraint of the policy accepts it.
 #[tactic(auto, using(crate::proofs::Supports::answered))]
 pub fn stands<V: SignatureVerifier>(
     alloc: Global,
@@ -24,8 +26,9 @@ pub fn stands<V: SignatureVerifier>(
     policy: &PullPolicy,
     layer: &SignatureLayer,
 ) -> Result<bool, AllocError>
-    ensures same { IfOk result (λ b. b ≡ stands (meaning policy.now (V.valid verifier.now) accepts) layer.now) }
-    ensures exact { IfOk result (λ b. IsTrue b ↔ Supports (meaning policy.now (V.valid verifier.now) accepts) layer.now) }
+    ensures same { IfOk result (λ b. b ≡ stands (V.valid verifier.now) policy.now accepts layer.now) }
+    ensures exact { IfOk result (λ b.
+        IsTrue b ↔ Supports (V.valid verifier.now) policy.now accepts layer.now) }
 {
     is_signed_and_accepted(alloc, verifier, policy, layer)
 }
@@ -38,7 +41,8 @@ pub fn first_standing<V: SignatureVerifier>(
     policy: &PullPolicy,
     layers: &[SignatureLayer],
 ) -> Result<Option<usize>, AllocError>
-    ensures { IfOk result (λ place. place ≡ position (stands (meaning policy.now (V.valid verifier.now) accepts)) layers.now) }
+    ensures { IfOk result (λ place.
+        place ≡ position (stands (V.valid verifier.now) policy.now accepts) layers.now) }
 {
     for (place, layer) in layers.iter().enumerate() {
         let found = stands(alloc, verifier, policy, layer)?;
@@ -49,13 +53,14 @@ pub fn first_standing<V: SignatureVerifier>(
     Ok(None)
 }
 
+#[tactic(auto, unfolding(crate::specs::Standing::stands))]
 fn is_signed_and_accepted<V: SignatureVerifier>(
     alloc: Global,
     verifier: &V,
     policy: &PullPolicy,
     layer: &SignatureLayer,
 ) -> Result<bool, AllocError>
-    ensures { IfOk result (λ b. b ≡ stands (meaning policy.now (V.valid verifier.now) accepts) layer.now) }
+    ensures { IfOk result (λ b. b ≡ stands (V.valid verifier.now) policy.now accepts layer.now) }
 {
     let signed = is_signed(alloc, verifier, policy.keys.as_slice(), layer)?;
     if !signed {
@@ -71,17 +76,53 @@ fn is_signed<V: SignatureVerifier>(
     keys: &[Blob],
     layer: &SignatureLayer,
 ) -> Result<bool, AllocError>
-    ensures { IfOk result (λ b. b ≡ option_map_or (signs (V.valid verifier.now) keys.now layer.now.certificate_signature layer.now.content) (decoded_of standard layer.now.signature) false) }
+    ensures { IfOk result (λ b. b ≡ is_signed_by (V.valid verifier.now) keys.now layer.now) }
 {
     let Some(signature) = decode_base64(alloc, layer.signature.as_str())? else {
         return Ok(false);
     };
-    let content = layer.content.as_slice();
-    let Some(certificate) = &layer.certificate_signature else {
-        let signed = some_key_signs(verifier, keys, content, signature.as_slice())?;
+    match layer.kind {
+        LayerKind::Payload => {
+            let text = layer.content.as_slice();
+            let signed = signs(
+                verifier,
+                keys,
+                &layer.certificate_signature,
+                text,
+                signature.as_slice(),
+            )?;
+            Ok(signed)
+        }
+        LayerKind::Bundle => {
+            let text = enveloped_text(alloc, layer.content.as_slice())?;
+            let signed = signs(
+                verifier,
+                keys,
+                &layer.certificate_signature,
+                text.as_slice(),
+                signature.as_slice(),
+            )?;
+            Ok(signed)
+        }
+    }
+}
+
+// Whether the certificate's key, or without a certificate one of these, makes the signature valid.
+fn signs<V: SignatureVerifier>(
+    verifier: &V,
+    keys: &[Blob],
+    certificate: &Option<CertificateSignature>,
+    text: &[u8],
+    signature: &[u8],
+) -> Result<bool, AllocError>
+    ensures { IfOk result (λ b.
+        b ≡ signs (V.valid verifier.now) keys.now certificate.now text.now signature.now) }
+{
+    let Some(certificate) = certificate else {
+        let signed = some_key_signs(verifier, keys, text, signature)?;
         return Ok(signed);
     };
-    let signed = verifier.verify(&certificate.vouched.key, content, signature.as_slice())?;
+    let signed = verifier.verify(&certificate.vouched.key, text, signature)?;
     Ok(signed)
 }
 
@@ -92,7 +133,8 @@ fn some_key_signs<V: SignatureVerifier>(
     message: &[u8],
     signature: &[u8],
 ) -> Result<bool, AllocError>
-    ensures { IfOk result (λ b. b ≡ list_any (λ key. V.valid verifier.now key message.now signature.now) keys.now) }
+    ensures { IfOk result (λ b.
+        b ≡ list_any (λ key. V.valid verifier.now key message.now signature.now) keys.now) }
 {
     for key in keys {
         let signed = verifier.verify(key, message, signature)?;

@@ -1,8 +1,8 @@
 //! Who says which signatures are valid.
 ghost use Rattle.std.specs.Prelude.{◌≡◌, ℕ, List, Bool, IfOk};
-ghost use Rattle.cosign_layers.specs.Rows.{is_valid_by};
+ghost use Rattle.cosign_layers.specs.Verifier.{is_valid_by};
 
-use json_values::{Blob, Copied, List, Text, copies3};
+use json_values::{Blob, Copied, List, Text, copied};
 use oci_digests::names_digest;
 use std::alloc::{AllocError, Global};
 
@@ -30,7 +30,7 @@ pub struct TableVerifier {
 }
 
 impl SignatureVerifier for TableVerifier {
-    ghost use Rattle.cosign_layers.specs.Rows.{valid_in};
+    ghost use Rattle.cosign_layers.specs.Verifier.{valid_in};
 
     ghost valid = { valid_in };
 
@@ -55,12 +55,15 @@ fn is_valid_by(row: &SignedRow, key: &Blob, message: &[u8], signature: &[u8]) ->
 
 impl Copied for SignedRow {
     fn copy(&self, alloc: Global) -> Result<SignedRow, AllocError> {
-        let (key, message, signature) = copies3(alloc, &self.key, &self.message, &self.signature)?;
-        Ok(SignedRow {
-            key,
-            message,
-            signature,
-        })
+        copied!(
+            alloc,
+            self,
+            SignedRow {
+                key,
+                message,
+                signature
+            }
+        )
     }
 }
 

@@ -1,4 +1,5 @@
-use std::alloc::{AllocError, AllocFailed};
+use json_values::Copied;
+use std::alloc::{AllocError, AllocFailed, Global};
 use thiserror::Error;
 
 /// Why a value, a text or an event has no canonical text (RFC 8785).
@@ -27,6 +28,12 @@ pub enum CanonError {
     SinkFault,
     #[error("out of memory")]
     WantOfMemory,
+}
+
+impl Copied for CanonError {
+    fn copy(&self, _alloc: Global) -> Result<CanonError, AllocError> {
+        Ok(*self)
+    }
 }
 
 impl From<AllocError> for CanonError {

@@ -1,5 +1,6 @@
 // Why a text is no reference.
-use std::alloc::AllocError;
+use json_values::Copied;
+use std::alloc::{AllocError, Global};
 use thiserror::Error;
 
 /// Why a text is no reference (OCI distribution specification, "Pulling manifests").
@@ -23,6 +24,12 @@ pub enum ParseError {
     /// The allocator had no memory.
     #[error("out of memory: free some and try again")]
     WantOfMemory,
+}
+
+impl Copied for ParseError {
+    fn copy(&self, _alloc: Global) -> Result<ParseError, AllocError> {
+        Ok(*self)
+    }
 }
 
 impl From<AllocError> for ParseError {

@@ -3,7 +3,7 @@ ghost use Rattle.std.specs.Prelude.{◌≡◌, ◌∷◌, [], IfOk};
 ghost use Rattle.sig_registry.specs.Conversions.{registry_auth, auth_from};
 
 use json_values::{Copied, List, Text, ToValue, copy_all, row};
-use json_writing::object1;
+use json_writing::object;
 use oci_auth::RegistryAuth;
 use serde_json::Value;
 use std::alloc::{AllocError, Global};
@@ -76,11 +76,11 @@ impl ToValue for Auth {
             Auth::Anonymous => Text::new(alloc, "Anonymous")?.to_value(alloc),
             Auth::Basic(user, password) => {
                 let pair = pair(alloc, user, password)?;
-                let value = object1(alloc, "Basic", &pair)?;
+                let value = object!(alloc, { "Basic": &pair })?;
                 Ok(value)
             }
             Auth::Bearer(token) => {
-                let value = object1(alloc, "Bearer", token)?;
+                let value = object!(alloc, { "Bearer": token })?;
                 Ok(value)
             }
         }

@@ -1,7 +1,7 @@
 use Rattle.std.proofs.Common.{refl}
 use Rattle.std.proofs.lemmas.List.{drop_all}
 use Rattle.cosign_client.proofs.Exits.{and_then, refused, wanting}
-use Rattle.cosign_client.proofs.Loops.{layers_end, layers_next}
+use Rattle.cosign_client.proofs.Descriptors.{layers_end, layers_next}
 use Rattle.cosign_client.proofs.pull.pull_layers.Goals as goal
 
 pub returns-in_err-content : goal.returns-in_err-content

@@ -1,6 +1,6 @@
 use Rattle.std.proofs.Common.{refl}
 use Rattle.cosign_client.specs.Search.{searched}
-use Rattle.cosign_client.proofs.Exits.{and_then, refused, wanting, passed, said}
+use Rattle.cosign_client.proofs.Exits.{and_then, refused, wanting, said, done}
 use Rattle.cosign_client.proofs.search.search.Goals as goal
 
 pub returns-in_err-digest : goal.returns-in_err-digest
@@ -15,10 +15,10 @@ pub returns-in_err-reading_back : goal.returns-in_err-reading_back
 unfolding searched
 returns-in_err-reading_back g c = λ s. and_then _ (c.in_ok-digest.ensures.run s) (refused _ (said _ (rw (c.in_ok-source.ensures, c.as_str.ensures) at c.in_err-reading_back.ensures)) c.from_residual-in_err-reading_back.ensures.1)
 
-pub returns-in_err-all : goal.returns-in_err-all
+pub returns-in_err-part : goal.returns-in_err-part
 unfolding searched
-returns-in_err-all g c = λ s. and_then _ (c.in_ok-digest.ensures.run s) (and_then _ (said _ (rw (c.in_ok-source.ensures, c.as_str.ensures) at c.in_ok-reading_back.ensures)) (passed (rw (c.new.ensures, c.new-2.ensures) at (c.in_err-all.ensures s)) c.from_residual-in_err-all.ensures.1))
+returns-in_err-part g c = λ s. and_then _ (c.in_ok-digest.ensures.run s) (and_then _ (said _ (rw (c.in_ok-source.ensures, c.as_str.ensures) at c.in_ok-reading_back.ensures)) (refused _ (rw c.as_str-2.ensures at (c.in_err-part.ensures s)) c.from_residual-in_err-part.ensures.1))
 
 pub returns : goal.returns
 unfolding searched
-returns g c = λ s. and_then _ (c.in_ok-digest.ensures.run s) (and_then _ (said _ (rw (c.in_ok-source.ensures, c.as_str.ensures) at c.in_ok-reading_back.ensures)) (rw (c.new.ensures, c.new-2.ensures) at (c.in_ok-all.ensures s)))
+returns g c = λ s. and_then _ (c.in_ok-digest.ensures.run s) (and_then _ (said _ (rw (c.in_ok-source.ensures, c.as_str.ensures) at c.in_ok-reading_back.ensures)) (and_then _ (rw c.as_str-2.ensures at (c.in_ok-part.ensures s)) done))

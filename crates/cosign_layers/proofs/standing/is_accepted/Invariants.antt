@@ -1,5 +1,5 @@
 use Rattle.std.proofs.Common.{◌≡◌, ℕ, ◌<◌, true, get_or}
-use Rattle.cosign_layers.specs.Accepts.{accepts}
+use Rattle.cosign_layers.specs.Constraint.{accepts}
 use Rattle.cosign_layers.proofs.standing.is_accepted.Given as goal
 
 abbrev pub invariant-loop-constraint : goal.invariant-loop-constraint

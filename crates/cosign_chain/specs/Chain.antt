@@ -1,0 +1,62 @@
+-- A chain of hashes that can be checked again with nothing else: no request stands in it.
+use Rattle.std.specs.Prelude.{◌≡◌, ◌<◌, ℕ, List, [], ◌∷◌, length, Some, None, Contains}
+use Rattle.serde_json.specs.Data.{Data}
+use Rattle.json_values.specs.JsonText.{json_of}
+use Rattle.oci_names.specs.declared.reference.Reference.{Reference}
+use Rattle.oci_names.specs.References.{digest_of}
+use Rattle.oci_digests.specs.Names.{Names}
+use Rattle.oci_manifests.specs.Document.{document_of}
+use Rattle.oci_manifests.specs.Versioned.{IsVersioned}
+use Rattle.oci_manifests.specs.declared.document.OciManifest.TheVariants.{Image}
+use Rattle.oci_manifests.specs.declared.manifest.OciImageManifest.{OciImageManifest}
+use Rattle.oci_manifests.specs.declared.descriptor.OciDescriptor.{OciDescriptor}
+use Rattle.oci_manifests.specs.declared.blob.ImageLayer.{ImageLayer}
+use Rattle.oci_manifests.specs.declared.blob.Config.{Config}
+use Rattle.cosign_layers.specs.Standing.{Meaning, StandsFor}
+use Rattle.cosign_chain.specs.declared.image.VerifiedImage.{VerifiedImage}
+
+-- the bytes are JSON of the supported version, and read as this manifest and as nothing else
+pub record ReadsAs (bytes : List ℕ) (manifest : OciImageManifest) : Type 0 where
+  pub value : Data
+  pub json : json_of bytes ≡ Some value
+  pub versioned : IsVersioned value
+  pub reads : document_of value ≡ Some (Image manifest)
+
+-- the first document is the manifest
+pub record FirstIsManifest (v : VerifiedImage) : Type 0 where
+  pub reads : ReadsAs v.first v.manifest
+  pub bytes : v.manifest_bytes ≡ v.first
+  pub digest : v.manifest_digest ≡ v.digest
+  pub no_list : v.list_digest ≡ None
+
+-- the configuration is the one that the manifest names
+pub record ConfigLinks (manifest : OciImageManifest) (config : Config) : Type 0 where
+  pub named : Names manifest.config.digest config.content
+  pub media_type : config.media_type ≡ manifest.config.media_type
+  pub annotations : config.annotations ≡ manifest.annotations
+
+-- the layer is the one that the descriptor names, and of an accepted type
+pub record LayerLinks (accepted : List (List ℕ)) (x : OciDescriptor) (layer : ImageLayer) : Type 0 where
+  pub named : Names x.digest layer.content
+  pub media_type : layer.media_type ≡ x.media_type
+  pub annotations : layer.annotations ≡ x.annotations
+  pub allowed : Contains accepted layer.media_type
+
+-- one layer for each descriptor, in order
+abbrev pub LayersLink : List (List ℕ) → List OciDescriptor → List ImageLayer → Type 0
+LayersLink accepted [] [] = Unit {0}
+LayersLink accepted [] (layer ∷ layers) = ⊥
+LayersLink accepted (x ∷ xs) [] = ⊥
+LayersLink accepted (x ∷ xs) (layer ∷ layers) = LayerLinks accepted x layer × LayersLink accepted xs layers
+
+-- The digest names the first document, as the digest that was asked for does where there is one. The
+-- document's digests name the configuration and the layers, of which there is one, and a signature
+-- layer stands for the digest.
+pub record Chain {V : Type 0} {H : V → Type 0} (meaning : Meaning V H) (image : Reference) (accepted : List (List ℕ)) (v : VerifiedImage) : Type 0 where
+  pub named : Names v.digest v.first
+  pub asked : (digest : List ℕ) → digest_of image ≡ Some digest → Names digest v.first
+  pub manifest : FirstIsManifest v
+  pub config : ConfigLinks v.manifest v.config
+  pub some : 0 < length v.layers
+  pub layers : LayersLink accepted v.manifest.layers v.layers
+  pub signature : StandsFor meaning v.digest v.signature

@@ -1,0 +1,72 @@
+-- References of parts, and the first layer that stands.
+use Rattle.std.proofs.Common.{◌≡◌, ◌≤◌, ◌<◌, ◌+◌, arith, get_or, not, ℕ, suc, Bool, true, false, cond, nat_lt, length, List, [], ◌∷◌, map, Option, Some, None, refl, sym, ap, ◌∙◌}
+use Rattle.std.specs.Prelude.{find, position}
+use Rattle.std.specs.List.{position_or_len, slice_get}
+use Rattle.std.proofs.lemmas.List.Folds.{find_at}
+use Rattle.std.proofs.lemmas.Bool.{ltb-false, lt-ltb, le-ltb}
+use Rattle.std.proofs.lemmas.List.Sums.{position_or_len_is}
+use Rattle.std.proofs.lemmas.Option.{slice_get_past}
+use Rattle.oci_names.specs.declared.reference.Reference.{Reference}
+use Rattle.oci_digests.specs.Names.{names}
+use Rattle.oci_manifests.specs.declared.blob.ImageLayer.{ImageLayer}
+use Rattle.cosign_client.specs.Part.{is_among, layer_digests, named_layer}
+use Rattle.cosign_client.specs.declared.part.LayerDigests.{LayerDigests}
+use Rattle.oci_names.specs.References.{registry_of, mirror_of, repository_of, tag_of, digest_of}
+
+-- a reference is its parts
+pub of_parts : (r : Reference) {registry repository : List ℕ} {mirror tag digest : Option (List ℕ)} → registry_of r ≡ registry → mirror_of r ≡ mirror → repository_of r ≡ repository → tag_of r ≡ tag → digest_of r ≡ digest
+    → r ≡ record { registry = registry; mirror = mirror; repository = repository; tag = tag; digest = digest }
+of_parts r a b c d e = rw (← a, ← b, ← c, ← d, ← e) refl
+
+at_place : {X : Type 0} (n m i : ℕ) (xs : List X) → cond (nat_lt n m) (Some n) None ≡ Some i → slice_get xs n ≡ slice_get xs i
+at_place n m i xs is = by_test (nat_lt n m) is where
+  by_test : (b : Bool) → cond b (Some n) None ≡ Some i → slice_get xs n ≡ slice_get xs i
+  by_test true h = let same : n ≡ i = cc h in ap (λ k. slice_get xs k) same
+  by_test false h = absurd (cc h)
+
+-- what stands at the place of the first one
+pub first_at : {X : Type 0} (p : X → Bool) (xs : List X) (i : ℕ) → position p xs ≡ Some i → find p xs ≡ slice_get xs i
+first_at p xs i is = find_at p xs ∙ at_place (position_or_len p xs) (length xs) i xs is
+
+past : (n m : ℕ) → cond (nat_lt n m) (Some n) None ≡ None → m ≤ n
+past n m is = by_test (nat_lt n m) refl is where
+  by_test : (b : Bool) → nat_lt n m ≡ b → cond b (Some n) None ≡ None → m ≤ n
+  by_test true so h = absurd (cc h)
+  by_test false so h = ltb-false n m so
+
+-- there is none where there is no place
+pub none_at : {X : Type 0} (p : X → Bool) (xs : List X) → position p xs ≡ None → find p xs ≡ None
+none_at {X} p xs is = find_at p xs ∙ slice_get_past xs (position_or_len p xs) (past (position_or_len p xs) (length xs) is)
+
+-- what the place of the first among the results of a function is
+place_of_results : {X Y : Type 0} (p : Y → Bool) (f : X → Y) (xs : List X) → position_or_len p (map f xs) ≡ position_or_len (λ x. p (f x)) xs
+place_of_results p f [] = refl
+place_of_results p f (x ∷ xs) = ap (λ n. cond (not (p (f x))) (1 + n) 0) (place_of_results p f xs)
+
+as_many : {X Y : Type 0} (f : X → Y) (xs : List X) → length (map f xs) ≡ length xs
+as_many f [] = refl
+as_many f (x ∷ xs) = ap suc (as_many f xs)
+
+position_of_results : {X Y : Type 0} (p : Y → Bool) (f : X → Y) (xs : List X) → position p (map f xs) ≡ position (λ x. p (f x)) xs
+position_of_results p f xs = ap (λ n. cond (nat_lt n (length (map f xs))) (Some n) None) (place_of_results p f xs) ∙ ap (λ m. cond (nat_lt (position_or_len (λ x. p (f x)) xs) m) (Some (position_or_len (λ x. p (f x)) xs)) None) (as_many f xs)
+
+-- the layer at the first place whose digest texts have the digest is the first that the digest names
+pub named_there : (digest : List ℕ) (digests : List LayerDigests) (layers : List ImageLayer) (place : ℕ) → digests ≡ map layer_digests layers → position (is_among digest) digests ≡ Some place → named_layer digest layers ≡ slice_get layers place
+named_there digest digests layers place are is = first_at (λ layer. names digest layer.content) layers place (sym (position_of_results (is_among digest) layer_digests layers) ∙ ap (position (is_among digest)) (sym are) ∙ is)
+
+pub named_nowhere : (digest : List ℕ) (digests : List LayerDigests) (layers : List ImageLayer) → digests ≡ map layer_digests layers → position (is_among digest) digests ≡ None → None ≡ named_layer digest layers
+named_nowhere digest digests layers are is = sym (none_at (λ layer. names digest layer.content) layers (sym (position_of_results (is_among digest) layer_digests layers) ∙ ap (position (is_among digest)) (sym are) ∙ is))
+
+-- what a loop that looks for a place knows of it
+module _ {X : Type 0} (p : X → Bool) where
+  pub first_place : (xs : List X) (i : ℕ) (d : X) → i < length xs → ((k : ℕ) (d : X) → k < i → p (get_or xs k d) ≡ false) → p (get_or xs i d) ≡ true → position p xs ≡ Some i
+  first_place xs i d inside before here =
+      let at : position_or_len p xs ≡ i = position_or_len_is p xs i d (omega arith) (λ k l. before k d l) (λ _. here) in
+      ap (λ n. cond (nat_lt n (length xs)) (Some n) None) at ∙ ap (λ b. cond b (Some i) None) (lt-ltb i (length xs) inside)
+
+  pub no_place : (xs : List X) → ((k : ℕ) (d : X) → k < length xs → p (get_or xs k d) ≡ false) → position p xs ≡ None
+  no_place [] before = refl
+  no_place (x ∷ xs) before =
+      let all = x ∷ xs in
+      let at : position_or_len p all ≡ length all = position_or_len_is p all (length all) x (omega arith) (λ k l. before k x l) (λ l. absurd (omega arith)) in
+      ap (λ n. cond (nat_lt n (length all)) (Some n) None) at ∙ ap (λ b. cond b (Some (length all)) None) (le-ltb (length all) (length all) (omega arith))

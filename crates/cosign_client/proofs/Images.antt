@@ -1,0 +1,248 @@
+-- What each whole run of the pull's parts shows.
+use Rattle.std.proofs.Common.{◌≡◌, ◌<◌, ℕ, Bool, true, false, List, [], ◌∷◌, ◌++◌, Option, Some, None, Result, Ok, Err, Contains, length, refl, sym, ap, ◌∙◌, arith, append_assoc, append-nil}
+use Rattle.std.specs.Prelude.{if◌then◌else◌, bytes_eq}
+use Rattle.std.proofs.lemmas.Slice.Eq.{bytes_eq-Decides}
+use Rattle.std.proofs.lemmas.List.Elements.{Contains-append_right}
+use Rattle.oci_names.specs.declared.reference.Reference.{Reference}
+use Rattle.oci_names.specs.References.{digest_of, whole_text}
+use Rattle.oci_auth.specs.declared.auth.RegistryAuth.{RegistryAuth}
+use Rattle.oci_digests.specs.Names.{Names, digest_text}
+use Rattle.oci_digests.specs.Checks.{checked, checked_by, and_then}
+use Rattle.oci_digests.specs.Parts.{named_algorithm}
+use Rattle.oci_digests.specs.declared.digester.Algorithm.{Algorithm}
+use Rattle.oci_digests.specs.declared.error.DigestError.{DigestError}
+use Rattle.oci_digests.specs.declared.error.DigestError.TheVariants as digest_refusal
+use Rattle.oci_manifests.specs.declared.manifest.OciImageManifest.{OciImageManifest}
+use Rattle.oci_manifests.specs.declared.descriptor.OciDescriptor.{OciDescriptor}
+use Rattle.oci_manifests.specs.declared.blob.ImageLayer.{ImageLayer}
+use Rattle.oci_transport.specs.declared.message.Exchange.{Exchange}
+use Rattle.oci_protocol.specs.Proto.{Proto, Done, ◌>>=◌}
+use Rattle.oci_protocol.specs.Shows.{Shows, WhereOk}
+use Rattle.oci_protocol.proofs.Showing.{Shows-done, Shows-more, Shows-bind, Shows-next, Shows-step}
+use Rattle.engine_requests.specs.Contexts.{Context}
+use Rattle.engine_requests.specs.declared.error.OciDistributionError.{OciDistributionError}
+use Rattle.engine_requests.specs.declared.error.OciDistributionError.TheVariants as engine_refusal
+use Rattle.engine_requests.specs.Errors.{is_memory as engine_is_memory, ◌>>=◌ as ◌before◌}
+use Rattle.engine_requests.specs.Answers.{or_digest_error}
+use Rattle.engine_requests.specs.Requests.{manifest_types}
+use Rattle.engine_requests.specs.Documents.{document_read}
+use Rattle.engine_steps.specs.Blobs.{IntoMemory}
+use Rattle.engine_steps.specs.Rows.{Row as Engine}
+use Rattle.engine_pull.specs.Pulls.{fetch_manifest_digest, pull_manifest_raw, held_blob}
+use Rattle.engine_pull.specs.Images.{image_manifest, is_accepted, all_accepted, layers_accepted, layer_of, config_of}
+use Rattle.oci_engine.specs.Answered.{Answered, Body, Document, LastBody}
+use Rattle.oci_engine.proofs.Documents.{body_before, body_after, raw_shows}
+use Rattle.oci_engine.proofs.Blobs.{blob_shows}
+use Rattle.oci_engine.proofs.Digests.{digest_shows}
+use Rattle.sig_registry.specs.declared.error.SigstoreError.{SigstoreError}
+use Rattle.sig_registry.specs.declared.error.SigstoreError.TheVariants as sigstore
+use Rattle.sig_registry.specs.declared.wording.Called.{Called}
+use Rattle.sig_registry.specs.declared.wording.Called.TheVariants.{FetchManifest, Pull}
+use Rattle.sig_registry.specs.Errors.{worded, refusal}
+use Rattle.sig_registry.specs.Clients.{Kept, Row}
+use Rattle.sig_registry.specs.Calls.{in_words, digest_call, document_call, blob_call}
+use Rattle.cosign_client.specs.declared.pull.Pulled.{Pulled}
+use Rattle.cosign_client.specs.Image.{named_by_reference, manifest_in, layers_row, image_row}
+use Rattle.cosign_chain.specs.Chain.{ReadsAs, ConfigLinks, LayersLink}
+use Rattle.cosign_client.specs.Sound.{EachBody}
+use Rattle.cosign_client.proofs.Reading.{both, reads_as}
+
+-- ---- calls in words
+
+-- what is so of the exchanges and the answer, where there is one
+abbrev pub Seen : {A E : Type 0} → (List Exchange → A → Type 0) → ℕ → List Exchange → ℕ → Result A E → Type 0
+Seen P = WhereOk (λ m c n a. P c a)
+
+worded_seen : {A : Type 0} (P : List Exchange → A → Type 0) (called : Called) (text : List ℕ) (m n o : ℕ) (c : List Exchange) (r : Result A OciDistributionError) → Seen P m c n r → Seen P m (c ++ []) o (worded called text r)
+worded_seen P called text m n o c (Ok a) h = rw append-nil h
+worded_seen {A} P called text m n o c (Err e) h = by_memory (engine_is_memory e) where
+  by_memory : (b : Bool) → Seen {A = A} {E = SigstoreError} P m (c ++ []) o (if b then Err sigstore.WantOfMemory else Err (refusal called text e))
+  by_memory true = tt
+  by_memory false = tt
+
+-- a call in words shows what the engine's shows
+words_show : {A : Type 0} (P : List Exchange → A → Type 0) (called : Called) (image : Reference) (p : Engine A) → Shows (Seen P) p → Shows (Seen P) (in_words called image p)
+unfolding in_words
+words_show P called image p h = Shows-bind (Seen P) (Seen P) p (λ r. Done (worded called (whole_text image) r)) h
+    (λ m n c r at. Shows-done (λ s d o b. Seen P m (c ++ d) o b) (worded called (whole_text image) r) (λ o. worded_seen P called (whole_text image) m n o c r at))
+
+pub digest_call_shows : (s : Context) (image : Reference) (a : RegistryAuth) → Shows (Seen (Answered s.settings image)) (digest_call s image a)
+unfolding digest_call
+digest_call_shows s image a = words_show (Answered s.settings image) FetchManifest image (fetch_manifest_digest s image a) (digest_shows s image a)
+
+-- a document of this image
+abbrev IsDocument : Reference → List Exchange → List ℕ × List ℕ → Type 0
+IsDocument image c found = Document image c found.0 found.1
+
+document_call_shows : (s : Context) (image : Reference) (a : RegistryAuth) (types : List ℕ) → Shows (Seen (IsDocument image)) (document_call s image a types)
+unfolding document_call
+document_call_shows s image a types = words_show (IsDocument image) Pull image (pull_manifest_raw s image a types) (raw_shows s image a types)
+
+-- the bytes of the last answer, which the digest names
+abbrev IsBlob : List ℕ → List Exchange → List ℕ → Type 0
+IsBlob digest c bytes = Body c bytes × Names digest bytes × LastBody c bytes
+
+blob_call_shows : (s : Context) (image : Reference) (digest : List ℕ) → Shows (Seen (IsBlob digest)) (blob_call s image digest)
+unfolding blob_call
+blob_call_shows s image digest = words_show (IsBlob digest) Pull image (held_blob s image digest) (blob_shows IntoMemory s image digest)
+
+-- a step, and what it leads to, after what was seen before
+pub next_seen : {A B E : Type 0} (P : List Exchange → A → Type 0) (Q : List Exchange → B → Type 0) (p : Proto Kept (Result A E)) (f : A → Proto Kept (Result B E)) → Shows (Seen P) p → ((c : List Exchange) (a : A) → P c a → Shows (Seen (λ d b. Q (c ++ d) b)) (f a)) → Shows (Seen Q) (p >>= f)
+next_seen {B = B} {E = E} P Q p f h each = Shows-next (λ m c n a. P c a) (λ m c n b. Q c b) p f h (λ m n c a at. Shows-more (Seen (λ d b. Q (c ++ d) b)) (λ s d o b. Seen Q m (c ++ d) o b) (f a) (each c a at) (λ s o d b seen. moved c m s o d b seen)) where
+  moved : (c : List Exchange) (m s o : ℕ) (d : List Exchange) (b : Result B E) → Seen (λ d b. Q (c ++ d) b) s d o b → Seen Q m (c ++ d) o b
+  moved c m s o d (Ok b) h = h
+  moved c m s o d (Err e) h = tt
+
+-- a step with no request
+pub step_seen : {A B E : Type 0} (Q : List Exchange → B → Type 0) (r : Result A E) (f : A → Proto Kept (Result B E)) → ((a : A) → r ≡ Ok a → Shows (Seen Q) (f a)) → Shows (Seen Q) (Done r >>= f)
+step_seen Q r f each = Shows-step (Seen Q) r f each (λ e is m. tt)
+
+pub done_seen : {A E : Type 0} (Q : List Exchange → A → Type 0) (a : A) → Q [] a → Shows {K = Kept} {A = Result A E} (Seen Q) (Done (Ok a))
+done_seen Q a h = Shows-done (Seen Q) (Ok a) (λ m. h)
+
+pub more_seen : {A : Type 0} (P Q : List Exchange → A → Type 0) (p : Row A) → Shows (Seen P) p → ((c : List Exchange) (a : A) → P c a → Q c a) → Shows (Seen Q) p
+more_seen {A} P Q p h more = Shows-more (Seen P) (Seen Q) p h each where
+  each : (m n : ℕ) (c : List Exchange) (r : Result A SigstoreError) → Seen P m c n r → Seen Q m c n r
+  each m n c (Ok a) h = more c a h
+  each m n c (Err e) h = tt
+
+-- a step in words was answered
+worded_ok : {A : Type 0} (called : Called) (text : List ℕ) (r : Result A OciDistributionError) (a : A) → worded called text r ≡ Ok a → r ≡ Ok a
+worded_ok called text (Ok x) a is = let same : x ≡ a = cc is in ap Ok same
+worded_ok {A} called text (Err e) a is = by_memory (engine_is_memory e) is where
+  by_memory : (b : Bool) → (if b then Err sigstore.WantOfMemory else Err (refusal called text e)) ≡ Ok a → (let r : Result A OciDistributionError = Err e in r) ≡ Ok a
+  by_memory true h = absurd (cc h)
+  by_memory false h = absurd (cc h)
+
+-- ---- the layers of an image
+
+-- a descriptor's layer is an answer's body, which the digest names
+record IsLayer (c : List Exchange) (x : OciDescriptor) (layer : ImageLayer) : Type 0 where
+  body : Body c layer.content
+  named : Names x.digest layer.content
+  media_type : layer.media_type ≡ x.media_type
+  annotations : layer.annotations ≡ x.annotations
+
+-- one for each
+abbrev AreLayers : List Exchange → List OciDescriptor → List ImageLayer → Type 0
+AreLayers c [] [] = Unit {0}
+AreLayers c [] (layer ∷ layers) = ⊥
+AreLayers c (x ∷ xs) [] = ⊥
+AreLayers c (x ∷ xs) (layer ∷ layers) = IsLayer c x layer × AreLayers c xs layers
+
+-- in a longer conversation, too
+layers_after : (c d : List Exchange) (xs : List OciDescriptor) (layers : List ImageLayer) → AreLayers d xs layers → AreLayers (c ++ d) xs layers
+layers_after c d [] [] h = tt
+layers_after c d [] (layer ∷ layers) h = h
+layers_after c d (x ∷ xs) [] h = h
+layers_after c d (x ∷ xs) (layer ∷ layers) h = (record { body = body_after c (h.0).body; named = (h.0).named; media_type = (h.0).media_type; annotations = (h.0).annotations }, layers_after c d xs layers h.1)
+
+-- behind those that were there
+record Behind (xs : List OciDescriptor) (got : List ImageLayer) (c : List Exchange) (all : List ImageLayer) : Type 0 where
+  more : List ImageLayer
+  is : all ≡ got ++ more
+  layers : AreLayers c xs more
+
+one_more : (x : OciDescriptor) (xs : List OciDescriptor) (got : List ImageLayer) (content : List ℕ) (c d : List Exchange) (all : List ImageLayer) → IsBlob x.digest c content → Behind xs (got ++ layer_of x content ∷ []) d all → Behind (x ∷ xs) got (c ++ d) all
+one_more x xs got content c d all blob rest = record {
+  more = layer_of x content ∷ rest.more;
+  is = rest.is ∙ append_assoc got (layer_of x content ∷ []) rest.more;
+  layers = (record { body = body_before d blob.0; named = blob.1; media_type = refl; annotations = refl }, layers_after c d xs rest.more rest.layers);
+}
+
+layers_show : (s : Context) (source : Reference) (xs : List OciDescriptor) (got : List ImageLayer) → Shows (Seen (Behind xs got)) (layers_row s source xs got)
+unfolding layers_row
+layers_show s source [] got = done_seen (Behind [] got) got (record { more = []; is = sym (append-nil got); layers = tt })
+layers_show s source (x ∷ xs) got = next_seen (IsBlob x.digest) (Behind (x ∷ xs) got) (blob_call s source x.digest) (λ content. layers_row s source xs (got ++ layer_of x content ∷ [])) (blob_call_shows s source x.digest)
+    (λ c content blob. more_seen (Behind xs (got ++ layer_of x content ∷ [])) (λ d all. Behind (x ∷ xs) got (c ++ d) all) (layers_row s source xs (got ++ layer_of x content ∷ [])) (layers_show s source xs (got ++ layer_of x content ∷ [])) (λ d all rest. one_more x xs got content c d all blob rest))
+
+-- ---- an image
+
+accepted_by : (a : List ℕ) (accepted : List (List ℕ)) (kind : List ℕ) (b : Bool) → bytes_eq a kind ≡ b → (is_accepted accepted kind ≡ true → Contains accepted kind) → (if b then true else is_accepted accepted kind) ≡ true → Contains (a ∷ accepted) kind
+accepted_by a accepted kind true same later h = (0, omega arith, (bytes_eq-Decides a kind).0 same)
+accepted_by a accepted kind false same later h = Contains-append_right (a ∷ []) accepted kind (later h)
+
+accepted_in : (accepted : List (List ℕ)) (kind : List ℕ) → is_accepted accepted kind ≡ true → Contains accepted kind
+accepted_in [] kind is = absurd (cc is)
+accepted_in (a ∷ accepted) kind is = accepted_by a accepted kind (bytes_eq a kind) refl (λ h. accepted_in accepted kind h) is
+
+links_by : (accepted : List (List ℕ)) (c : List Exchange) (x : OciDescriptor) (xs : List OciDescriptor) (layer : ImageLayer) (layers : List ImageLayer) (u : Unit) (b : Bool) → is_accepted accepted x.media_type ≡ b → IsLayer c x layer → (all_accepted accepted xs ≡ Ok u → LayersLink accepted xs layers)
+    → (if b then all_accepted accepted xs else Err (engine_refusal.IncompatibleLayerMediaTypeError x.media_type)) ≡ Ok u → LayersLink accepted (x ∷ xs) (layer ∷ layers)
+links_by accepted c x xs layer layers u true so h later rest = (record { named = h.named; media_type = h.media_type; annotations = h.annotations; allowed = rw h.media_type (accepted_in accepted x.media_type so) }, later rest)
+links_by accepted c x xs layer layers u false so h later rest = absurd (cc rest)
+
+links_of : (accepted : List (List ℕ)) (c : List Exchange) (xs : List OciDescriptor) (layers : List ImageLayer) (u : Unit) → all_accepted accepted xs ≡ Ok u → AreLayers c xs layers → LayersLink accepted xs layers
+links_of accepted c [] [] u all h = tt
+links_of accepted c [] (layer ∷ layers) u all h = h
+links_of accepted c (x ∷ xs) [] u all h = h
+links_of accepted c (x ∷ xs) (layer ∷ layers) u all h = links_by accepted c x xs layer layers u (is_accepted accepted x.media_type) refl h.0 (λ rest. links_of accepted c xs layers u rest h.1) all
+
+some_layers : (accepted : List (List ℕ)) (c : List Exchange) (xs : List OciDescriptor) (layers : List ImageLayer) (u : Unit) → layers_accepted accepted xs ≡ Ok u → AreLayers c xs layers → (0 < length layers) × LayersLink accepted xs layers
+some_layers accepted c [] layers u is h = absurd (cc is)
+some_layers accepted c (x ∷ xs) [] u is h = absurd h
+some_layers accepted c (x ∷ xs) (layer ∷ layers) u is h = (omega arith, links_of accepted c (x ∷ xs) (layer ∷ layers) u is h)
+
+bodies_of : (c : List Exchange) (xs : List OciDescriptor) (layers : List ImageLayer) → AreLayers c xs layers → EachBody c layers
+bodies_of c [] [] h = tt
+bodies_of c [] (layer ∷ layers) h = absurd h
+bodies_of c (x ∷ xs) [] h = absurd h
+bodies_of c (x ∷ xs) (layer ∷ layers) h = ((h.0).body, bodies_of c xs layers h.1)
+
+-- the digest of the reference that was asked for names the document
+digest_ok : {A : Type 0} (r : Result A DigestError) (a : A) → or_digest_error r ≡ Ok a → r ≡ Ok a
+digest_ok (Ok x) a h = let same : x ≡ a = cc h in ap Ok same
+digest_ok (Err e) a h = absurd (cc h)
+
+by_algorithm : (text bytes u : List ℕ) (r : Result Algorithm DigestError) → and_then r (λ a. checked_by a bytes text) ≡ Ok u → Names text bytes
+by_algorithm text bytes u (Err e) h = absurd (cc h)
+by_algorithm text bytes u (Ok a) h = by_test (bytes_eq text (digest_text a bytes)) refl h where
+  by_test : (b : Bool) → bytes_eq text (digest_text a bytes) ≡ b → (if b then Ok text else Err (digest_refusal.VerificationError text (digest_text a bytes))) ≡ Ok u → Names text bytes
+  by_test true same h = (a, (bytes_eq-Decides text (digest_text a bytes)).0 same)
+  by_test false same h = absurd (cc h)
+
+asked_names : (o : Option (List ℕ)) (bytes : List ℕ) (u : Unit) → named_by_reference o bytes ≡ Ok u → (digest : List ℕ) → o ≡ Some digest → Names digest bytes
+asked_names None bytes u is digest so = absurd (cc so)
+asked_names (Some own) bytes u is digest so =
+    let same : own ≡ digest = cc so in
+    let parts = both (or_digest_error (checked bytes own)) (λ t. Ok tt) u is in
+    rw (← same) (by_algorithm own bytes parts.0 (named_algorithm own) (digest_ok (checked bytes own) parts.0 parts.1))
+
+-- an image whose parts hang together
+pub record Links (image : Reference) (digest : List ℕ) (accepted : List (List ℕ)) (c : List Exchange) (p : Pulled) : Type 0 where
+  pub named : Names digest p.first
+  pub asked : (own : List ℕ) → digest_of image ≡ Some own → Names own p.first
+  pub reads : ReadsAs p.first p.manifest
+  pub config : ConfigLinks p.manifest p.config
+  pub some : 0 < length p.layers
+  pub layers : LayersLink accepted p.manifest.layers p.layers
+  pub first_body : Body c p.first
+  pub config_body : Body c p.config.content
+  pub layer_bodies : EachBody c p.layers
+
+pub image_shows : (s : Context) (image source : Reference) (digest : List ℕ) (a : RegistryAuth) (accepted : List (List ℕ)) → digest_of source ≡ Some digest → Shows (Seen (Links image digest accepted)) (image_row s image source a accepted)
+unfolding image_row
+image_shows s image source digest a accepted is = next_seen (IsDocument source) (Links image digest accepted) (document_call s source a manifest_types) _ (document_call_shows s source a manifest_types) (λ c found document.
+    step_seen (λ d p. Links image digest accepted (c ++ d) p) (worded Pull (whole_text source) (manifest_in image found.0)) _ (λ manifest read.
+    next_seen (IsBlob manifest.config.digest) (λ d p. Links image digest accepted (c ++ d) p) (blob_call s source manifest.config.digest) _ (blob_call_shows s source manifest.config.digest) (λ d config blob.
+    step_seen (λ e p. Links image digest accepted (c ++ (d ++ e)) p) (worded Pull (whole_text source) (layers_accepted accepted manifest.layers)) _ (λ u allowed.
+    next_seen (Behind manifest.layers []) (λ e p. Links image digest accepted (c ++ (d ++ e)) p) (layers_row s source manifest.layers []) _ (layers_show s source manifest.layers []) (λ e layers behind.
+    done_seen (λ f p. Links image digest accepted (c ++ (d ++ (e ++ f))) p) (record { first = found.0; manifest = manifest; config = config_of manifest config; layers = layers })
+    (linked s c d e found.0 manifest config layers u document.body (document.named digest is) (worded_ok Pull (whole_text source) (manifest_in image found.0) manifest read) blob (worded_ok Pull (whole_text source) (layers_accepted accepted manifest.layers) u allowed) behind)))))) where
+      linked : (s : Context) (c d e : List Exchange) (first : List ℕ) (manifest : OciImageManifest) (config : List ℕ) (layers : List ImageLayer) (u : Unit) → Body c first → Names digest first → manifest_in image first ≡ Ok manifest → IsBlob manifest.config.digest d config → layers_accepted accepted manifest.layers ≡ Ok u → Behind manifest.layers [] e layers
+          → Links image digest accepted (c ++ (d ++ (e ++ []))) (record { first = first; manifest = manifest; config = config_of manifest config; layers = layers })
+      linked s c d e first manifest config layers u body named read blob allowed behind =
+          let asked = both (named_by_reference (digest_of image) first) (λ u. document_read first before image_manifest) manifest read in
+          let found = both (document_read first) image_manifest manifest asked.2 in
+          let some = some_layers accepted e manifest.layers behind.more u allowed behind.layers in
+          let same : layers ≡ behind.more = behind.is in
+          record {
+            named = named;
+            asked = asked_names (digest_of image) first asked.0 asked.1;
+            reads = reads_as first found.0 manifest found.1 found.2;
+            config = record { named = blob.1; media_type = refl; annotations = refl };
+            some = rw same some.0;
+            layers = rw same some.1;
+            first_body = body_before (d ++ (e ++ [])) body;
+            config_body = body_after c (body_before (e ++ []) blob.0);
+            layer_bodies = rw same (bodies_of (c ++ (d ++ (e ++ []))) manifest.layers behind.more (layers_after c (d ++ (e ++ [])) manifest.layers behind.more (layers_after d (e ++ []) manifest.layers behind.more (rw append-nil behind.layers))));
+          }

@@ -1,5 +1,0 @@
-use Rattle.cosign_client.proofs.Linking.{linked}
-use Rattle.cosign_client.proofs.links.check_links.Goals as goal
-
-pub returns : goal.returns
-returns c = linked _ _ _ c.is_linked.result c.is_linked.ensures

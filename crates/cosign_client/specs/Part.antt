@@ -1,0 +1,65 @@
+-- What a source of signatures gives: layers that were read, and why others were not.
+use Rattle.std.specs.Prelude.{ℕ, Bool, List, [], ◌∷◌, ◌++◌, ◌||◌, bytes_eq, find, Option, Some, None, Result, Ok, Err, unwrap_or}
+use Rattle.std.specs.FinMap as map_of
+use Rattle.oci_digests.specs.Names.{digest_text, names}
+use Rattle.oci_digests.specs.declared.digester.Algorithm.TheVariants as algorithms
+use Rattle.oci_manifests.specs.declared.descriptor.OciDescriptor.{OciDescriptor}
+use Rattle.oci_manifests.specs.declared.blob.ImageLayer.{ImageLayer}
+use Rattle.cosign_layers.specs.Checks.{input, layer_read}
+use Rattle.cosign_layers.specs.Trust.{Trust}
+use Rattle.cosign_layers.specs.declared.layer.LayerKind.TheVariants as kinds
+use Rattle.cosign_layers.specs.declared.layer.SignatureLayer.{SignatureLayer}
+use Rattle.cosign_layers.specs.declared.rejection.LayerRejection.{LayerRejection}
+use Rattle.cosign_layers.specs.declared.rejection.LayerRejection.TheVariants.{LayerNotPulled}
+use Rattle.cosign_client.specs.declared.found.Part.{Part}
+use Rattle.cosign_client.specs.declared.found.Skipped.{Skipped}
+use Rattle.cosign_client.specs.declared.found.Skipped.TheVariants.{Layer}
+use Rattle.cosign_client.specs.declared.found.SourceKind.{SourceKind}
+use Rattle.cosign_client.specs.declared.part.LayerDigests.{LayerDigests}
+use Rattle.cosign_client.specs.declared.found.SourceKind.TheVariants.{Tag}
+
+abbrev pub nothing : Part
+nothing = record { collected = []; skipped = [] }
+
+abbrev pub skipping : Skipped → Part
+skipping cause = record { collected = []; skipped = cause ∷ [] }
+
+-- one part, and then another one
+abbrev pub appended : Part → Part → Part
+appended p q = record { collected = p.collected ++ q.collected; skipped = p.skipped ++ q.skipped }
+
+-- a layer that was read, or why it was not
+abbrev pub layer_part : SourceKind → List ℕ → Result SignatureLayer LayerRejection → Part
+layer_part kind digest (Ok layer) = record { collected = layer ∷ []; skipped = [] }
+layer_part kind digest (Err cause) = skipping (Layer kind digest cause)
+
+-- the first pulled layer that the digest names
+abbrev pub named_layer : List ℕ → List ImageLayer → Option ImageLayer
+named_layer digest layers = find (λ layer. names digest layer.content) layers
+
+-- the digest texts of a pulled layer by each algorithm
+abbrev pub layer_digests : ImageLayer → LayerDigests
+layer_digests layer = record {
+  sha256 = digest_text algorithms.Sha256 layer.content;
+  sha384 = digest_text algorithms.Sha384 layer.content;
+  sha512 = digest_text algorithms.Sha512 layer.content;
+}
+
+-- whether the digest is one of these texts
+abbrev pub is_among : List ℕ → LayerDigests → Bool
+is_among digest own = bytes_eq digest own.sha256 || bytes_eq digest own.sha384 || bytes_eq digest own.sha512
+
+-- the signature layer of a pulled layer, with the digest and the annotations of its descriptor
+abbrev pub read_layer : Trust → List ℕ → OciDescriptor → Option ImageLayer → Result SignatureLayer LayerRejection
+read_layer trust d x None = Err LayerNotPulled
+read_layer trust d x (Some layer) =
+    layer_read trust d (input kinds.Payload layer.content x.digest (unwrap_or x.annotations map_of.empty))
+
+-- what a descriptor under the signature tag gives for the image of digest d
+abbrev pub descriptor_part : Trust → List ℕ → List ImageLayer → OciDescriptor → Part
+descriptor_part trust d layers x = layer_part Tag x.digest (read_layer trust d x (named_layer x.digest layers))
+
+-- what each descriptor gives, in order
+abbrev pub descriptors_part : Trust → List ℕ → List ImageLayer → List OciDescriptor → Part
+descriptors_part trust d layers [] = nothing
+descriptors_part trust d layers (x ∷ xs) = appended (descriptor_part trust d layers x) (descriptors_part trust d layers xs)

@@ -1,0 +1,21 @@
+//! What a search and a pull are asked.
+use cosign_layers::{PullPolicy, Trusted};
+use json_values::Text;
+use oci_auth::RegistryAuth;
+use oci_names::Reference;
+
+/// Which image, with which credentials, and at which moment (in seconds since 1970).
+#[derive(Drop)]
+pub(crate) struct Asked<'a> {
+    pub moment: u64,
+    pub image: &'a Reference,
+    pub auth: &'a RegistryAuth,
+}
+
+/// By which terms an image is pulled: the media types of its layers, the policy, and whom the reader trusts.
+#[derive(Drop)]
+pub(crate) struct Terms<'a, V, O> {
+    pub accepted: &'a [Text],
+    pub policy: &'a PullPolicy,
+    pub trusted: Trusted<'a, V, O>,
+}

@@ -1,0 +1,10 @@
+use Rattle.std.proofs.Common.{◌≡◌, length}
+use Rattle.cosign_layers.specs.Judge.{has_two_equal}
+use Rattle.cosign_layers.proofs.judge.has_two_equal.Given as goal
+
+-- none so far, so the rest decides
+abbrev pub invariant-loop-row : goal.invariant-loop-row
+invariant-loop-row l = has_two_equal l.rest ≡ has_two_equal l.rows
+
+abbrev pub decreases-loop-row : goal.decreases-loop-row
+decreases-loop-row l = length l.rest

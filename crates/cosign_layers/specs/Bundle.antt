@@ -1,0 +1,114 @@
+-- What a bundle says (sigstore bundle v0.3, in this project's profile).
+use Rattle.std.specs.Prelude.{ℕ, List, [], ◌∷◌, Bool, false, bytes_eq, Option, Some, None, is_some, codes, if◌then◌else◌}
+use Rattle.std.specs.FinMap.{get as digits_by}
+use Rattle.json_tables.specs.Bytes.{base64_of}
+use Rattle.json_tables.specs.Reading.{◌>>=◌, text_at, text_of, required, optional, list_of, map_of, an_object}
+use Rattle.json_values.specs.JsonText.{plain_json_of}
+use Rattle.oci_digests.specs.Parts.{parts_of}
+use Rattle.serde_json.specs.Data.{Data, null, Items, no_items, item, array}
+use Rattle.serde_json.specs.Find.{get, as_array}
+use Rattle.cosign_layers.specs.LogEntry.{bundle_entry_of}
+use Rattle.cosign_layers.specs.Payload.{equal_to}
+use Rattle.cosign_layers.specs.declared.bundle.Bundle.{Bundle}
+use Rattle.cosign_layers.specs.declared.log_entry.LogEntryBundle.{LogEntryBundle}
+use Rattle.cosign_layers.specs.declared.shown.Found.{Found}
+use Rattle.cosign_layers.specs.declared.shown.Found.TheVariants.{Absent, Unreadable, Read}
+use Rattle.cosign_layers.specs.declared.shown.Subject.{Subject}
+
+-- a subject of an in-toto statement
+abbrev pub subject_of : Data → Option Subject
+subject_of d = required (map_of text_of) (codes "digest") d >>= λ digest. Some (record { digest = digest })
+
+-- the subjects of the statement that the bytes spell in JSON without floats
+abbrev pub subjects_of : List ℕ → Option (List Subject)
+subjects_of payload = plain_json_of payload >>= required (list_of subject_of) (codes "subject")
+
+-- the value, where it is an object
+abbrev pub object_only : Data → Option Data
+object_only d = an_object d >>= λ known. Some d
+
+-- the one item, where it is an object
+abbrev pub only_object : Items → Option Data
+only_object no_items = None
+only_object (item d no_items) = object_only d
+only_object (item d (item e ds)) = None
+
+-- the one object of a list
+abbrev pub one_object : Data → Option Data
+one_object d = as_array d >>= only_object
+
+-- the one object of the envelope's signatures
+abbrev pub signature_object : Data → Option Data
+signature_object d = get (codes "dsseEnvelope") d >>= get (codes "signatures") >>= one_object
+
+-- an object whose certificate is an object and whose log entries are a list, where they are there and not null
+abbrev pub material_of : Data → Option Data
+material_of d = do
+  material ← get (codes "verificationMaterial") d
+  known ← an_object material
+  certificate ← optional an_object (codes "certificate") material
+  entries ← optional as_array (codes "tlogEntries") material
+  Some material
+
+-- the envelope of a bundle, with the subjects of its statement
+unfoldable pub bundle_of : Data → Option Bundle
+bundle_of d = do
+  media_type ← text_at (codes "mediaType" ∷ []) d
+  known ← equal_to (codes "application/vnd.dev.sigstore.bundle.v0.3+json") media_type
+  payload_type ← text_at (codes "dsseEnvelope" ∷ codes "payloadType" ∷ []) d
+  signature ← signature_object d
+  material ← material_of d
+  encoded ← get (codes "dsseEnvelope") d
+  payload ← required base64_of (codes "payload") encoded
+  subjects ← subjects_of payload
+  Some (record { payload_type = payload_type; payload = payload; subjects = subjects })
+
+-- the bundle that the bytes spell in JSON without floats
+abbrev pub bundle_in : List ℕ → Option Bundle
+bundle_in bytes = plain_json_of bytes >>= bundle_of
+
+-- the text of the one signature
+abbrev pub signature_at : Data → Option (List ℕ)
+signature_at d = signature_object d >>= get (codes "sig") >>= text_of
+
+-- what was read where something stands
+abbrev pub read_or_not : {X : Type 0} → Option X → Found X
+read_or_not None = Unreadable
+read_or_not (Some x) = Read x
+
+-- the certificate's bytes, where there is one
+abbrev pub certificate_in : Option Data → Found (List ℕ)
+certificate_in None = Absent
+certificate_in (Some null) = Absent
+certificate_in (Some d) = read_or_not (required base64_of (codes "rawBytes") d)
+
+abbrev pub certificate_at : Data → Found (List ℕ)
+certificate_at d = certificate_in (get (codes "verificationMaterial") d >>= get (codes "certificate"))
+
+-- the first item of a list
+abbrev pub first_item : Data → Option Data
+first_item (array (item d ds)) = Some d
+first_item d = None
+
+-- the first log entry, where there is one with a promise of the log
+abbrev pub promised_entry : Data → Option Data
+promised_entry d = do
+  entry ← get (codes "verificationMaterial") d >>= get (codes "tlogEntries") >>= first_item
+  promise ← get (codes "inclusionPromise") entry >>= get (codes "signedEntryTimestamp")
+  Some entry
+
+abbrev pub entry_in : Option Data → Found LogEntryBundle
+entry_in None = Absent
+entry_in (Some d) = read_or_not (bundle_entry_of d)
+
+abbrev pub entry_at : Data → Found LogEntryBundle
+entry_at d = entry_in (promised_entry d)
+
+-- whether the subject has these digits by this algorithm
+abbrev pub has_digits : Option (List ℕ × List ℕ) → Subject → Bool
+has_digits None subject = false
+has_digits (Some parts) subject = is_some (digits_by subject.digest parts.0 >>= equal_to parts.1)
+
+-- whether the subject's digests have the digits of the digest text by its algorithm
+abbrev pub has_digest : List ℕ → Subject → Bool
+has_digest d subject = has_digits (parts_of d) subject

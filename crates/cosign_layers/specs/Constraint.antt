@@ -1,0 +1,58 @@
+-- What the written constraints accept.
+use Rattle.std.specs.Prelude.{ℕ, List, [], ◌∷◌, Bool, true, false, ◌&&◌, bytes_eq, Option, Some, None, option_and_then}
+use Rattle.std.specs.FinMap.{FinMap, entries}
+use Rattle.std.specs.List.{list_all}
+use Rattle.std.specs.declared.alloc.Global.{Global}
+use Rattle.std.specs.declared.dyn_box.DynBox.{DynBox}
+use Rattle.json_values.specs.Places.{by_bytes}
+use Rattle.serde_json.specs.Data.{Data}
+use Rattle.serde_json.specs.Find.{get, as_str}
+use Rattle.cosign_layers.specs.declared.certificate.CertificateSignature.{CertificateSignature}
+use Rattle.cosign_layers.specs.declared.certificate.Vouched.{Vouched}
+use Rattle.cosign_layers.specs.declared.constraint.Constraint.{Constraint}
+use Rattle.cosign_layers.specs.declared.constraint.Constraint.TheVariants.{Annotations, Email, Url, Own}
+use Rattle.cosign_layers.specs.declared.layer.SignatureLayer.{SignatureLayer}
+use Rattle.cosign_layers.specs.declared.layer.SimpleSigning.{SimpleSigning}
+use Rattle.cosign_layers.specs.declared.subject.CertSubjectEmailVerifier.{CertSubjectEmailVerifier}
+use Rattle.cosign_layers.specs.declared.subject.CertSubjectUrlVerifier.{CertSubjectUrlVerifier}
+
+-- there is a text, and it is this one
+abbrev pub is_text : List ℕ → Option (List ℕ) → Bool
+is_text text None = false
+is_text text (Some found) = bytes_eq found text
+
+-- the data has a member of this name with this text
+abbrev pub has_text_member : Data → List ℕ × List ℕ → Bool
+has_text_member d pair = is_text pair.1 (option_and_then as_str (get pair.0 d))
+
+abbrev pub has_no_item : {A : Type 0} → List A → Bool
+has_no_item [] = true
+has_no_item (x ∷ xs) = false
+
+-- each pair stands as a text member in the optional part; without a payload there is no pair
+abbrev pub has_annotations : FinMap by_bytes (List ℕ) → Option SimpleSigning → Bool
+has_annotations pairs None = has_no_item (entries pairs)
+has_annotations pairs (Some signing) = list_all (has_text_member signing.optional) (entries pairs)
+
+-- the issuer is this one, where one is asked for
+abbrev pub has_issuer : Option (List ℕ) → Option (List ℕ) → Bool
+has_issuer None found = true
+has_issuer (Some issuer) found = is_text issuer found
+
+-- the layer has a certificate that is vouched to be of this email, by this issuer
+abbrev pub has_email : CertSubjectEmailVerifier → Option CertificateSignature → Bool
+has_email asked None = false
+has_email asked (Some c) = is_text asked.email c.vouched.email && has_issuer asked.issuer c.vouched.issuer
+
+-- the layer has a certificate that is vouched to be of this URL, by this issuer
+abbrev pub has_url : CertSubjectUrlVerifier → Option CertificateSignature → Bool
+has_url asked None = false
+has_url asked (Some c) = is_text asked.url c.vouched.url && is_text asked.issuer c.vouched.issuer
+
+-- a constraint accepts what the value that it holds accepts; `own` says what a box accepts
+abbrev pub accepts : {V : Type 0} {H : V → Type 0} → (DynBox V Global H → SignatureLayer → Bool) → Constraint V H
+    → SignatureLayer → Bool
+accepts own (Annotations a) layer = has_annotations a.annotations layer.simple_signing
+accepts own (Email asked) layer = has_email asked layer.certificate_signature
+accepts own (Url asked) layer = has_url asked layer.certificate_signature
+accepts own (Own b) layer = own b layer
