@@ -1,5 +1,6 @@
 -- What a bundle says (sigstore bundle v0.3, in this project's profile).
-use Rattle.std.specs.Prelude.{ℕ, List, [], ◌∷◌, Bool, false, bytes_eq, Option, Some, None, is_some, codes, if◌then◌else◌}
+use Rattle.std.specs.Prelude.{ℕ, List, [], ◌∷◌, Bool, false, bytes_eq, Option, Some, None, is_some, codes}
+use Rattle.std.specs.Prelude.{if◌then◌else◌}
 use Rattle.std.specs.FinMap.{get as digits_by}
 use Rattle.json_tables.specs.Bytes.{base64_of}
 use Rattle.json_tables.specs.Reading.{◌>>=◌, text_at, text_of, required, optional, list_of, map_of, an_object}

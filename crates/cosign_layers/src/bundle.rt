@@ -1,7 +1,9 @@
 //! The content of a bundle layer (sigstore bundle v0.3, in this project's profile).
 ghost use Rattle.std.specs.Prelude.{◌≡◌, Option, IfOk, option_map, is_some};
 ghost use Rattle.serde_json.specs.View.{view, items_view};
-ghost use Rattle.cosign_layers.specs.Bundle.{bundle_of, certificate_at, certificate_in, entry_at, entry_in, first_item, material_of, object_only, one_object, only_object, promised_entry, signature_at, signature_object, subjects_of};
+ghost use Rattle.cosign_layers.specs.Bundle.{bundle_of, certificate_at, certificate_in, entry_at, entry_in};
+ghost use Rattle.cosign_layers.specs.Bundle.{first_item, material_of, object_only, one_object, only_object};
+ghost use Rattle.cosign_layers.specs.Bundle.{promised_entry, signature_at, signature_object, subjects_of};
 
 use crate::log_entry::{LogEntryBundle, bundle_entry};
 use crate::shown::{Found, Subject};

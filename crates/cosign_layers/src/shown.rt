@@ -5,7 +5,8 @@ ghost use Rattle.std.specs.List.{list_any};
 ghost use Rattle.serde_json.specs.View.{view};
 ghost use Rattle.cosign_layers.specs.Bundle.{has_digest, read_or_not};
 ghost use Rattle.cosign_layers.specs.LogEntry.{annotated_entry};
-ghost use Rattle.cosign_layers.specs.Shown.{is_about, noted_certificate, noted_entry, payload_shown, shown, shown_by_bundle, shown_in_bundle};
+ghost use Rattle.cosign_layers.specs.Shown.{is_about, noted_certificate, noted_entry, payload_shown, shown};
+ghost use Rattle.cosign_layers.specs.Shown.{shown_by_bundle, shown_in_bundle};
 
 use crate::bundle::{Bundle, certificate_at, entry_at, read_bundle, signature_at};
 use crate::layer::{LayerKind, SimpleSigning};
