@@ -225,9 +225,19 @@ fn note(notes: &mut Annotations, name: &str, text: &str, alloc: Global) -> Resul
 
 fn notes(alloc: Global, given: &[&str; 6]) -> Result<Annotations, AllocError> {
     let mut notes = Annotations::new(alloc);
-    note(&mut notes, "dev.cosignproject.cosign/signature", given[2], alloc)?;
+    note(
+        &mut notes,
+        "dev.cosignproject.cosign/signature",
+        given[2],
+        alloc,
+    )?;
     note(&mut notes, "dev.sigstore.cosign/bundle", given[3], alloc)?;
-    note(&mut notes, "dev.sigstore.cosign/certificate", given[4], alloc)?;
+    note(
+        &mut notes,
+        "dev.sigstore.cosign/certificate",
+        given[4],
+        alloc,
+    )?;
     Ok(notes)
 }
 

@@ -1,9 +1,8 @@
 // Signature layers read and judged by themselves.
 use cosign_layers::{
-    CertificateSignature, Constraint, Evidence, LayerKind, Offline,
-    PullPolicy, SignatureLayer, SignedRow, TableJudge, TableVerifier, VerificationConstraint,
-    Vouched, VouchedRow, first_standing, log_texts_are_canonical, signed_text,
-    stands,
+    CertificateSignature, Constraint, Evidence, LayerKind, Offline, PullPolicy, SignatureLayer,
+    SignedRow, TableJudge, TableVerifier, VerificationConstraint, Vouched, VouchedRow,
+    first_standing, log_texts_are_canonical, signed_text, stands,
 };
 use json_values::{Annotations, Blob, List, Text};
 use std::alloc::{AllocError, Global};
@@ -14,6 +13,9 @@ const P_DIGEST: &str = "sha256:148de9c5a7a44d19e56cd9ae1a554bf67847afb0c58f6e12f
 // A bundle whose payload is no statement (the example of DSSE v1).
 const BUNDLE: &str =
     r#"{"mediaType":"application/vnd.dev.sigstore.bundle.v0.3+json","dsseEnvelope":{"payload":"aGVsbG8gd29ybGQ=","payloadType":"http://example.com/HelloWorld","signatures":[{"sig":"c2lnMQ=="}]},"verificationMaterial":{}}"#;
+
+// What its signature signs.
+const ENCODING: &str = "DSSEv1 29 http://example.com/HelloWorld 11 hello world";
 
 fn holds(answer: Result<bool, AllocError>) -> bool {
     match answer {
@@ -195,9 +197,7 @@ fn encoded(alloc: Global) -> Result<Blob, AllocError> {
 
 fn is_encoded(alloc: Global) -> bool {
     match encoded(alloc) {
-        Ok(text) => {
-            text.as_slice() == b"DSSEv1 29 http://example.com/HelloWorld 11 hello world"
-        }
+        Ok(text) => text.as_slice() == ENCODING.as_bytes(),
         Err(_) => false,
     }
 }
