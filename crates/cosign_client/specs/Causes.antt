@@ -29,7 +29,8 @@ pub record Ran {A : Type 0} (p : Row A) (c : List Exchange) (r : Result A Sigsto
   pub runs : Runs p before start c end_count after r
 
 -- a digest was answered, by which the image's reference, whose text is this, does not read back
-pub record NoReference (s : Context) (image : Reference) (a : RegistryAuth) (c : List Exchange) (text : List ℕ) : Type 0 where
+pub record NoReference (s : Context) (image : Reference) (a : RegistryAuth) (c : List Exchange) (text : List ℕ)
+    : Type 0 where
   pub digest : List ℕ
   pub answered : Ran (digest_call s image a) c (Ok digest)
   pub unread : reads_back (digest_reference image digest) ≡ false
@@ -51,11 +52,13 @@ pub record Unread (image : Reference) (c : List Exchange) (text : List ℕ) : Ty
   pub silent : c ≡ []
 
 -- the search ran and found this
-abbrev pub Found : {V : Type 0} {H : V → Type 0} → Meaning V H → Context → Reference → RegistryAuth → List Exchange → TrustedLayers → Type 0
+abbrev pub Found : {V : Type 0} {H : V → Type 0} → Meaning V H → Context → Reference → RegistryAuth → List Exchange
+    → TrustedLayers → Type 0
 Found meaning s image a c found = Ran (searched meaning.trust s image a) c (Ok found)
 
 -- a layer that the search found stands, and then the image was refused
-pub record ImageRefused {V : Type 0} {H : V → Type 0} (meaning : Meaning V H) (s : Context) (image : Reference) (a : RegistryAuth) (accepted : List (List ℕ)) (c : List Exchange) (e : SigstoreError) : Type 0 where
+pub record ImageRefused {V : Type 0} {H : V → Type 0} (meaning : Meaning V H) (s : Context) (image : Reference)
+    (a : RegistryAuth) (accepted : List (List ℕ)) (c : List Exchange) (e : SigstoreError) : Type 0 where
   pub search : List Exchange
   pub pull : List Exchange
   pub split : c ≡ search ++ pull
@@ -66,12 +69,14 @@ pub record ImageRefused {V : Type 0} {H : V → Type 0} (meaning : Meaning V H) 
   pub refused : Ran (image_row s image (digest_reference image found.digest) a accepted) pull (Err e)
 
 -- no layer that the search found stands
-pub record NoneStands {V : Type 0} {H : V → Type 0} (meaning : Meaning V H) (s : Context) (image : Reference) (a : RegistryAuth) (c : List Exchange) (found : TrustedLayers) : Type 0 where
+pub record NoneStands {V : Type 0} {H : V → Type 0} (meaning : Meaning V H) (s : Context) (image : Reference)
+    (a : RegistryAuth) (c : List Exchange) (found : TrustedLayers) : Type 0 where
   pub searched_is : Found meaning s image a c found
   pub none : find (stands_by meaning) found.collected ≡ None
 
 -- why a pull was refused
-abbrev pub PullCause : {V : Type 0} {H : V → Type 0} → Meaning V H → Context → Reference → RegistryAuth → List (List ℕ) → List Exchange → PullRefusal → Type 0
+abbrev pub PullCause : {V : Type 0} {H : V → Type 0} → Meaning V H → Context → Reference → RegistryAuth
+    → List (List ℕ) → List Exchange → PullRefusal → Type 0
 PullCause meaning s image a accepted c refusal.EmptyPolicy = (is_unconstrained meaning.policy ≡ true) × (c ≡ [])
 PullCause meaning s image a accepted c (refusal.OciReferenceNotValidError text) =
     Unread image c text ⊎ NoReference s image a c text

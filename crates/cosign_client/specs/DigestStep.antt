@@ -24,14 +24,17 @@ unchanged e = e
 
 -- What the answer of the digest step decides of the whole: a refusal is the whole's, and so is, with that
 -- reference's text, a digest by which the image's reference does not read back. Nothing more is asked then.
-abbrev pub Decides : {A E : Type 0} → (SigstoreError → E) → Reference → Result (List ℕ) SigstoreError → List Exchange → Result A E → Type 0
+abbrev pub Decides : {A E : Type 0} → (SigstoreError → E) → Reference → Result (List ℕ) SigstoreError → List Exchange
+    → Result A E → Type 0
 Decides refused image (Err e) rest r = (r ≡ Err (refused e)) × (rest ≡ [])
 Decides refused image (Ok digest) rest r =
     reads_back (digest_reference image digest) ≡ false
-    → (r ≡ Err (refused (sigstore.OciReferenceNotValidError (whole_text (digest_reference image digest))))) × (rest ≡ [])
+    → (r ≡ Err (refused (sigstore.OciReferenceNotValidError (whole_text (digest_reference image digest)))))
+    × (rest ≡ [])
 
 -- the exchanges begin with those of the digest step, whose answer decides so
-pub record BeginsWithDigest {A E : Type 0} (refused : SigstoreError → E) (s : Context) (image : Reference) (a : RegistryAuth) (c : List Exchange) (r : Result A E) : Type 0 where
+pub record BeginsWithDigest {A E : Type 0} (refused : SigstoreError → E) (s : Context) (image : Reference)
+    (a : RegistryAuth) (c : List Exchange) (r : Result A E) : Type 0 where
   pub step : List Exchange
   pub rest : List Exchange
   pub split : c ≡ step ++ rest

@@ -1,6 +1,7 @@
 pub mod Causes
 pub mod DigestStep
 pub mod Image
+pub mod LayerTexts
 pub mod Part
 pub mod References
 pub mod Refusal

@@ -9,7 +9,8 @@ ghost use Rattle.cosign_chain.specs.Links.{Links};
 ghost use Rattle.cosign_layers.specs.Standing.{meaning};
 ghost use Rattle.sig_registry.specs.Conversions.{registry_auth};
 ghost use Rattle.sig_registry.specs.Direct.{reference_in};
-ghost use Rattle.sig_registry.specs.Errors.{is_memory as of_memory, FaultCounted as SearchFaultCounted, NoSinkFault as NoSinkInSearch};
+ghost use Rattle.sig_registry.specs.Errors.{is_memory as of_memory};
+ghost use Rattle.sig_registry.specs.Errors.{FaultCounted as SearchFaultCounted, NoSinkFault as NoSinkInSearch};
 ghost use Rattle.cosign_client.specs.Causes.{PullCause, SearchCause};
 ghost use Rattle.cosign_client.specs.DigestStep.{BeginsWithDigest, IsRefusedAs, unchanged};
 ghost use Rattle.cosign_client.specs.Refusal.{is_memory, refused_as, FaultCounted, NoSinkFault};
@@ -43,8 +44,8 @@ impl Client {
     /// The digest of an image, the signature layers that stand in its repository, and why others do not. `moment` is in
     /// seconds since 1970. No log is known, so that a layer with a certificate has no log entry.
     ///
-    /// The call is refused where the digest is not answered (`RegistryFetchManifestError`) or the reference by it does not
-    /// read back (`OciReferenceNotValidError`). Whatever else is refused is a cause in `skipped`.
+    /// The call is refused where the digest is not answered (`RegistryFetchManifestError`) or the reference by it does
+    /// not read back (`OciReferenceNotValidError`). Whatever else is refused is a cause in `skipped`.
     pub fn trusted_signature_layers<T: Transport, V: SignatureVerifier, O: Offline>(
         &mut self,
         alloc: Global,
@@ -97,12 +98,12 @@ impl Client {
         )
     }
 
-    /// Pulls an image only where a trusted signature stands for it. `moment` is in seconds since 1970. No log is known, so
-    /// that a layer with a certificate has no log entry.
+    /// Pulls an image only where a trusted signature stands for it. `moment` is in seconds since 1970. No log is known,
+    /// so that a layer with a certificate has no log entry.
     ///
-    /// The answer is a chain that checks by itself: it starts at the digest that was answered for the image, which names
-    /// the manifest, whose digests name the configuration and the layers, and one signature layer stands for the digest
-    /// under the policy. See `PullRefusal` for when the call is refused.
+    /// The answer is a chain that checks by itself: it starts at the digest that was answered for the image, which
+    /// names the manifest, whose digests name the configuration and the layers, and one signature layer stands for the
+    /// digest under the policy. See `PullRefusal` for when the call is refused.
     pub fn verified_pull<'a, T: Transport, V: SignatureVerifier, O: Offline>(
         &mut self,
         alloc: Global,
