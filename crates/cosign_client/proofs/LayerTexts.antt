@@ -1,8 +1,7 @@
 -- Digest texts of layers, and the layer that a digest names.
-use Rattle.std.proofs.Common.{◌≡◌, ◌≤◌, ◌<◌, ◌+◌, ℕ, suc, Bool, true, false, cond, nat_lt, not, length, List, [], ◌∷◌, ◌++◌, ◌||◌, map, drop, get_or, bytes_eq, Option, Some, None, IsTrue, refl, sym, ap, ap2, ◌∙◌, append_assoc, append-nil}
+use Rattle.std.proofs.Common.{◌≡◌, ◌≤◌, ◌<◌, ◌+◌, ℕ, suc, Bool, true, false, cond, nat_lt, not, length, List, [], ◌∷◌, ◌++◌, ◌||◌, map, drop, get_or, bytes_eq, Option, Some, None, IsTrue, refl, sym, ap, subst, ◌∙◌, append_assoc, append-nil}
 use Rattle.std.specs.Prelude.{find, position, All}
 use Rattle.std.specs.List.{position_or_len, slice_get}
-use Rattle.std.proofs.lemmas.List.Elements.{All-get_or, All-from_get_or}
 use Rattle.std.proofs.lemmas.Slice.Eq.{bytes_eq-Decides}
 use Rattle.oci_digests.specs.Names.{name_of, names, names_by, digest_text}
 use Rattle.oci_digests.specs.declared.digester.Algorithm.{Algorithm}
@@ -47,11 +46,10 @@ tells used digest layer serves = same_or (by_one algorithms.Sha256 used.sha256 d
 
 tell : (used : Used) (digest : List ℕ) (layers : List ImageLayer) → Serves used digest → Tell (map (layer_digests used) layers) layers digest
 tell used digest [] serves = refl
-tell used digest (x ∷ xs) serves = ap2 (λ (b : Bool) bs. b ∷ bs) (tells used digest x serves) (tell used digest xs serves)
+tell used digest (x ∷ xs) serves = ap (λ (b : Bool). b ∷ map (is_among digest) (map (layer_digests used) xs)) (tells used digest x serves) ∙ ap (λ bs. names digest x.content ∷ bs) (tell used digest xs serves)
 
 pub all_tell : (used : Used) (all : List LayerDigests) (layers : List ImageLayer) (xs : List OciDescriptor) → All (λ x. Serves used x.digest) xs → all ≡ map (layer_digests used) layers → All (λ x. Tell all layers x.digest) xs
-all_tell used all layers [] serves are = tt
-all_tell used all layers (x ∷ xs) serves are = (rw are (tell used x.digest layers serves.0), all_tell used all layers xs serves.1 are)
+all_tell used all layers xs serves are k d lt = rw are (tell used (get_or xs k d).digest layers (serves k d lt))
 
 -- ---- which algorithms are used
 
@@ -59,16 +57,14 @@ pub all_served : (used : Used) (xs : List OciDescriptor)
     → (used.sha256 ≡ false → All (λ x. BeginsOtherwise (name_of algorithms.Sha256) x.digest) xs)
     → (used.sha384 ≡ false → All (λ x. BeginsOtherwise (name_of algorithms.Sha384) x.digest) xs)
     → (used.sha512 ≡ false → All (λ x. BeginsOtherwise (name_of algorithms.Sha512) x.digest) xs) → All (λ x. Serves used x.digest) xs
-all_served used [] a b c = tt
-all_served used (x ∷ xs) a b c = ((λ is. (a is).0, (λ is. (b is).0, λ is. (c is).0)), all_served used xs (λ is. (a is).1) (λ is. (b is).1) (λ is. (c is).1))
+all_served used xs a b c k d lt = (λ is. a is k d lt, λ is. b is k d lt, λ is. c is k d lt)
 
 pub none_begins : (name : List ℕ) (xs : List OciDescriptor) → ((k : ℕ) (d : OciDescriptor) → k < length xs → BeginsOtherwise name (get_or xs k d).digest) → All (λ x. BeginsOtherwise name x.digest) xs
-none_begins name [] none = tt
-none_begins name (x ∷ xs) none = All-from_get_or (λ x. BeginsOtherwise name x.digest) (x ∷ xs) x (λ k l. none k x l)
+none_begins name xs none = none
 
 -- one descriptor of those whose layers are told
 pub tells_at : (texts : List LayerDigests) (layers : List ImageLayer) (xs : List OciDescriptor) (i : ℕ) (x : OciDescriptor) → All (λ x. Tell texts layers x.digest) xs → i < length xs → x ≡ get_or xs i x → Tell texts layers x.digest
-tells_at texts layers xs i x all lt is = rw is (All-get_or (λ x. Tell texts layers x.digest) xs i x lt all)
+tells_at texts layers xs i x all lt is = subst (λ y. Tell texts layers y.digest) (sym is) (all i x lt)
 
 -- ---- the layer that a digest names
 
