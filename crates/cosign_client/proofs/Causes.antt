@@ -305,7 +305,7 @@ module _ {V : Type 0} {H : V → Type 0} (meaning : Meaning V H) (s : Context) (
   image_part start between end c d found stood (Err sigstore.WantOfMemory) h stands ran own = tt
 
   -- what the image is refused for, after a search that ended there
-  abbrev AfterFound : Kept → ℕ → List Exchange → ℕ → Kept → {A : Type 0} → Kept → ℕ → List Exchange → ℕ → Kept → Result A PullRefusal → Type 0
+  abbrev AfterFound : {A : Type 0} → Kept → ℕ → List Exchange → ℕ → Kept → Kept → ℕ → List Exchange → ℕ → Kept → Result A PullRefusal → Type 0
   AfterFound k m c n j j' n' d o l b = (j' ≡ j) → (n' ≡ n) → ByPull (point k m) (c ++ d) (point l o) b
 
   image_ran : (k j j' l : Kept) (m n n' o : ℕ) (c d : List Exchange) (found : TrustedLayers) (stood : Standing) (r : Result Pulled SigstoreError) → Found meaning s image a (point k m) c (point j n) found → Stood found stood

@@ -49,7 +49,7 @@ pub(crate) fn skipping(alloc: Global, cause: Skipped) -> Result<Part, AllocError
 }
 
 /// What each descriptor under the signature tag gives for the image of this digest, in their order.
-#[tactic(auto, using(crate::proofs::Descriptors::descriptors_next, crate::proofs::Descriptors::descriptors_end, crate::proofs::LayerTexts::tells_at))]
+#[tactic(auto, using(crate::proofs::Descriptors::descriptors_next, crate::proofs::Descriptors::descriptors_end))]
 pub(crate) fn descriptors_part<V: SignatureVerifier, O: Offline>(
     alloc: Global,
     trusted: &Trusted<'_, V, O>,
