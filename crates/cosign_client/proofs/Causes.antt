@@ -330,11 +330,11 @@ module _ {V : Type 0} {H : V → Type 0} (meaning : Meaning V H) (s : Context) (
   unfolding after_search
   after_causes k j m n c found h = ShowsKept-step (AfterFound k m c n j) (standing meaning found) _
       (λ stood is. ShowsKept-bind (AfterFound k m c n j) (AfterFound k m c n j) (part_of (row stood)) _ (image_shown k j m n c found stood h (stood_of found (find (stands_by meaning) found.collected) stood refl is)) (λ j' i n' o d r h'. image_then k j j' i m n n' o c d stood r h'))
-      (λ e is. at_same ByPull k j m n c (Err e) (unsatisfied (point k m) c (point j n) found (find (stands_by meaning) found.collected) e h refl is))
+      (λ e is. at_same (ByPull {A = VerifiedImage}) k j m n c (Err e) (unsatisfied (point k m) c (point j n) found (find (stands_by meaning) found.collected) e h refl is))
 
   search_then : (k j : Kept) (m n : ℕ) (c : List Exchange) (r : Result TrustedLayers PullRefusal) → AfterSearch (point k m) c (point j n) r → ShowsKept (AfterFound k m c n j) (unless_refused (after_search meaning s image a accepted) r)
   search_then k j m n c (Ok found) h = after_causes k j m n c found h
-  search_then k j m n c (Err e) h = at_once ByPull k j m n c (Err e) h
+  search_then k j m n c (Err e) h = at_once (ByPull {A = VerifiedImage}) k j m n c (Err e) h
 
   empty_cause : (start : Point) (b : Bool) (e : PullRefusal) → is_unconstrained meaning.policy ≡ b → constrained b ≡ Err e → Cause start [] start e
   empty_cause start false e is wrong = absurd (cc wrong)
