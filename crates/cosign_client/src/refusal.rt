@@ -98,16 +98,16 @@ impl fmt::Debug for PullRefusal {
             PullRefusal::EmptyPolicy => f.write_str("EmptyPolicy"),
             PullRefusal::OciReferenceNotValidError { reference } => f
                 .debug_struct("OciReferenceNotValidError")
-                .field("reference", reference)
+                .field("reference", &reference.as_str())
                 .finish(),
             PullRefusal::RegistryFetchManifestError { image, error } => f
                 .debug_struct("RegistryFetchManifestError")
-                .field("image", image)
+                .field("image", &image.as_str())
                 .field("error", error)
                 .finish(),
             PullRefusal::RegistryPullError { image, error } => f
                 .debug_struct("RegistryPullError")
-                .field("image", image)
+                .field("image", &image.as_str())
                 .field("error", error)
                 .finish(),
             PullRefusal::Unsatisfied {
@@ -116,9 +116,9 @@ impl fmt::Debug for PullRefusal {
                 skipped,
             } => f
                 .debug_struct("Unsatisfied")
-                .field("digest", digest)
+                .field("digest", &digest.as_str())
                 .field("collected", &collected.as_slice().len())
-                .field("skipped", skipped)
+                .field("skipped", &skipped.as_slice())
                 .finish(),
             PullRefusal::WantOfMemory => f.write_str("WantOfMemory"),
         }
