@@ -48,7 +48,7 @@ fn layer_prints(alloc: Global) -> Option<bool> {
         alloc,
         &refusal,
         "no trusted signature stands for the image: look at what was found and skipped",
-        r#"Unsatisfied { digest: "sha256:00", collected: 0, skipped: [Layer(Tag, "sha256:01", NoSignature)] }"#,
+        r#"Unsatisfied { digest: "sha256:00", collected: 0, skipped: [Layer(Tag, Text { inner: "sha256:01" }, NoSignature)] }"#,
     )
 }
 
