@@ -5,3 +5,5 @@
 mod pulls;
 #[cfg(test)]
 mod recorded;
+#[cfg(test)]
+mod refusals;

@@ -2,7 +2,7 @@
 use crate::recorded::{CONFIG_DIGEST, LAYER_DIGEST, LAYER_TYPE, MANIFEST, MANIFEST_DIGEST, script};
 use cosign_client::{Client, PullRefusal, VerifiedImage, check_links};
 use cosign_layers::{
-    AnnotationVerifier, Constraint, NoCertificates, PullPolicy, SignedRow, TableVerifier,
+    AnnotationVerifier, Constraint, LogKeys, NoCertificates, PullPolicy, SignedRow, TableVerifier,
 };
 use json_values::{Annotations, Blob, List, Text};
 use oci_engine::ClientConfig;
@@ -93,6 +93,7 @@ fn client(alloc: Global) -> Result<Client, AllocError> {
     let engine = oci_engine::Client::new(alloc, config);
     Ok(Client {
         registry_client: OciClient::new(engine),
+        rekor_pub_keys: LogKeys::new(alloc),
     })
 }
 
