@@ -8,13 +8,14 @@ pub loop-moment-init : goal.loop-moment-init
 loop-moment-init g c = (none_yet _ (Extends-none _) c.empty.ensures refl, refl, refl, new_is_calm c.new-script.result c.new-script.ensures.told)
 
 pub loop-moment-preserved : goal.loop-moment-preserved
-loop-moment-preserved g c =
-    (next_round
-    (row_as (λ b. (goal.VerificationConstraint-dyn g (b.vtable, b.value)).accepts b.value) c.args.terms.now c.loop-moment.invariant.1 c.loop-moment.invariant.2)
-    (take_more c.args.moments.now c.loop-moment.moment-index c.loop-moment-test.true) c.loop-moment.invariant.0 c.in_ok-pull_at.ensures.round,
-    c.in_ok-pull_at.ensures.settings ∙ c.loop-moment.invariant.1,
-    c.in_ok-pull_at.ensures.log_keys ∙ c.loop-moment.invariant.2,
-    c.in_ok-pull_at.ensures.calm)
+loop-moment-preserved g c = (
+  next_round
+      (row_as (λ b. (goal.VerificationConstraint-dyn g (b.vtable, b.value)).accepts b.value) c.args.terms.now c.loop-moment.invariant.1 c.loop-moment.invariant.2)
+      (take_more c.args.moments.now c.loop-moment.moment-index c.loop-moment-test.true) c.loop-moment.invariant.0 c.in_ok-pull_at.ensures.round,
+  c.in_ok-pull_at.ensures.settings ∙ c.loop-moment.invariant.1,
+  c.in_ok-pull_at.ensures.log_keys ∙ c.loop-moment.invariant.2,
+  c.in_ok-pull_at.ensures.calm,
+)
 
 pub returns : goal.returns
 returns g c = played c.args.answers c.new-script.result c.loop-moment.script c.new-script.ensures.told c.new-script.ensures.faults c.new-script.ensures.table (rw (take_all _ _ c.loop-moment-test.false) at c.loop-moment.invariant.0) c.loop-moment.invariant.3
