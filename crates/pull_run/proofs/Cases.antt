@@ -79,7 +79,7 @@ by_parts s image a accepted none fits trusted = do
   Done (Ok (verified_image stood pulled))
 
 is_by_parts : {V : Type 0} {H : V → Type 0} (m : Meaning V H) (s : Context) (image : Reference) (a : RegistryAuth) (accepted : List (List ℕ)) → verified m s image a accepted ≡ by_parts s image a accepted (is_unconstrained m.policy) (stands_by m) m.trust
-unfolding (verified, after_search)
+unfolding verified after_search
 is_by_parts m s image a accepted = refl
 
 -- the row of a policy that a case gives is the case's
