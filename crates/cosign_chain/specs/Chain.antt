@@ -52,7 +52,8 @@ LayersLink accepted (x ∷ xs) (layer ∷ layers) = LayerLinks accepted x layer 
 -- The digest names the first document, as the digest that was asked for does where there is one. The
 -- document's digests name the configuration and the layers, of which there is one, and a signature
 -- layer stands for the digest.
-pub record Chain {V : Type 0} {H : V → Type 0} (meaning : Meaning V H) (image : Reference) (accepted : List (List ℕ)) (v : VerifiedImage) : Type 0 where
+pub record Chain {V : Type 0} {H : V → Type 0} (meaning : Meaning V H) (image : Reference)
+    (accepted : List (List ℕ)) (v : VerifiedImage) : Type 0 where
   pub named : Names v.digest v.first
   pub asked : (digest : List ℕ) → digest_of image ≡ Some digest → Names digest v.first
   pub manifest : FirstIsManifest v
