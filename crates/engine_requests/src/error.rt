@@ -3,10 +3,10 @@ ghost use Rattle.std.specs.Prelude.{◌≡◌};
 ghost use Rattle.engine_requests.specs.Errors.{is_memory, name_of};
 
 use crate::token_body::TokenBody;
-use json_values::{Blob, Text};
+use json_values::{Blob, Copied, Text, copy_all, row};
 use oci_digests::DigestError;
 use oci_manifests::OciEnvelope;
-use std::alloc::{AllocError, AllocFailed};
+use std::alloc::{AllocError, AllocFailed, Global};
 use std::error::Error;
 use std::fmt::{self, Display, Formatter};
 
@@ -123,6 +123,85 @@ impl Display for OciDistributionError {
 }
 
 impl Error for OciDistributionError {}
+
+impl Copied for GenericCause {
+    fn copy(&self, _alloc: Global) -> Result<GenericCause, AllocError> {
+        Ok(*self)
+    }
+}
+
+impl Copied for SpecViolation {
+    fn copy(&self, alloc: Global) -> Result<SpecViolation, AllocError> {
+        let SpecViolation::Status { expected, got, url } = self;
+        let url = url.copy(alloc)?;
+        Ok(SpecViolation::Status {
+            expected: *expected,
+            got: *got,
+            url,
+        })
+    }
+}
+
+impl Copied for OciDistributionError {
+    fn copy(&self, alloc: Global) -> Result<OciDistributionError, AllocError> {
+        Ok(match self {
+            OciDistributionError::AmbiguousManifest(body) => {
+                OciDistributionError::AmbiguousManifest(body.copy(alloc)?)
+            }
+            OciDistributionError::AuthenticationFailure(body) => {
+                OciDistributionError::AuthenticationFailure(body.copy(alloc)?)
+            }
+            OciDistributionError::BodyTooLong => OciDistributionError::BodyTooLong,
+            OciDistributionError::DigestError(error) => {
+                OciDistributionError::DigestError(error.copy(alloc)?)
+            }
+            OciDistributionError::GenericError(cause) => OciDistributionError::GenericError(*cause),
+            OciDistributionError::ImageIndexParsingNoPlatformResolverError => {
+                OciDistributionError::ImageIndexParsingNoPlatformResolverError
+            }
+            OciDistributionError::IncompatibleLayerMediaTypeError(media_type) => {
+                OciDistributionError::IncompatibleLayerMediaTypeError(media_type.copy(alloc)?)
+            }
+            OciDistributionError::ManifestParsingError(body) => {
+                OciDistributionError::ManifestParsingError(body.copy(alloc)?)
+            }
+            OciDistributionError::PullNoLayersError => OciDistributionError::PullNoLayersError,
+            OciDistributionError::RegistryError { envelope, url } => {
+                let row!(envelope, url) = copy_all(alloc, row!(envelope, url))?;
+                OciDistributionError::RegistryError { envelope, url }
+            }
+            OciDistributionError::RegistryTokenDecodeError(body) => {
+                OciDistributionError::RegistryTokenDecodeError(body.copy(alloc)?)
+            }
+            OciDistributionError::ServerError { code, url, message } => {
+                let row!(code, url, message) = copy_all(alloc, row!(code, url, message))?;
+                OciDistributionError::ServerError { code, url, message }
+            }
+            OciDistributionError::SinkFault => OciDistributionError::SinkFault,
+            OciDistributionError::SpecViolationError(violation) => {
+                OciDistributionError::SpecViolationError(violation.copy(alloc)?)
+            }
+            OciDistributionError::TransportFault => OciDistributionError::TransportFault,
+            OciDistributionError::UnauthorizedError { url } => {
+                let url = url.copy(alloc)?;
+                OciDistributionError::UnauthorizedError { url }
+            }
+            OciDistributionError::UnsupportedMediaTypeError(media_type) => {
+                OciDistributionError::UnsupportedMediaTypeError(media_type.copy(alloc)?)
+            }
+            OciDistributionError::UnsupportedSchemaVersionError(version) => {
+                OciDistributionError::UnsupportedSchemaVersionError(*version)
+            }
+            OciDistributionError::UrlParseError(text) => {
+                OciDistributionError::UrlParseError(text.copy(alloc)?)
+            }
+            OciDistributionError::VersionedParsingError(body) => {
+                OciDistributionError::VersionedParsingError(body.copy(alloc)?)
+            }
+            OciDistributionError::WantOfMemory => OciDistributionError::WantOfMemory,
+        })
+    }
+}
 
 impl From<AllocError> for OciDistributionError {
     ghost use Rattle.engine_requests.specs.declared.error.OciDistributionError.TheVariants.{WantOfMemory};
