@@ -1,5 +1,4 @@
 // Manifests, indexes, errors, listings and the text that is pushed.
-use crate::answers::{holds, is_written, json};
 use json_values::{Blob, Copied, Text, ToValue};
 use oci_docs::blob::Config;
 use oci_docs::{
@@ -7,6 +6,7 @@ use oci_docs::{
     OciErrorCode, OciImageIndex, OciImageManifest, OciManifest, Platform, ReadError, TagResponse,
     Versioned, is_manifest_media_type, manifest_text,
 };
+use test_answers::{holds, is_written, json};
 use std::alloc::{AllocError, Global};
 
 // An image of the configuration `{}` and of the one layer `hello world`.

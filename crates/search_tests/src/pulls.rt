@@ -1,5 +1,4 @@
 // The search for signatures, and the verified pull.
-use crate::recorded::{CONFIG_DIGEST, LAYER_DIGEST, LAYER_TYPE, MANIFEST, MANIFEST_DIGEST, script};
 use cosign_client::{Client, PullRefusal, VerifiedImage, check_links};
 use cosign_layers::{
     AnnotationVerifier, Constraint, NoCertificates, PullPolicy, SignedRow, TableVerifier,
@@ -8,6 +7,7 @@ use json_values::{Annotations, Blob, List, Text};
 use oci_engine::ClientConfig;
 use oci_transport::Script;
 use sig_registry::{Auth, OciClient, OciReference};
+use test_answers::{CONFIG_DIGEST, LAYER_DIGEST, LAYER_TYPE, MANIFEST, MANIFEST_DIGEST, script};
 use std::alloc::{AllocError, Global};
 
 const IMAGE: &str = "localhost:5000/app:v1";

@@ -1,9 +1,9 @@
 // Digests of bytes.
-use crate::answers::holds;
 use oci_digests::{
     Algorithm, Digest, DigestError, Digester, digest_header_value, digest_text, names_digest,
     sha256_digest, validate_digest,
 };
+use test_answers::holds;
 use std::alloc::{AllocError, Global};
 use std::cmp::Ordering;
 

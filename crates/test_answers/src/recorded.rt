@@ -6,19 +6,19 @@ use json_values::{Blob, List};
 use oci_transport::{HeaderError, Headers, Recorded, Script};
 use std::alloc::{AllocError, Global};
 
-pub(crate) const MANIFEST: &str =
+pub const MANIFEST: &str =
     r#"{"schemaVersion":2,"mediaType":"application/vnd.oci.image.manifest.v1+json","config":{"mediaType":"application/vnd.oci.image.config.v1+json","digest":"sha256:44136fa355b3678a1146ad16f7e8649e94fb4fc21fe77e8310c060f61caaff8a","size":2},"layers":[{"mediaType":"application/vnd.oci.image.layer.v1.tar","digest":"sha256:b94d27b9934d3e08a52e52d7da7dabfac484efe37a5380ee9088f7ace2efcde9","size":11}]}"#;
 
-pub(crate) const MANIFEST_DIGEST: &str =
+pub const MANIFEST_DIGEST: &str =
     "sha256:517b86da29754bfa57e312c35d4cf22caa38dbce39ecd24684830c1f9777a635";
 
-pub(crate) const CONFIG_DIGEST: &str =
+pub const CONFIG_DIGEST: &str =
     "sha256:44136fa355b3678a1146ad16f7e8649e94fb4fc21fe77e8310c060f61caaff8a";
 
-pub(crate) const LAYER_DIGEST: &str =
+pub const LAYER_DIGEST: &str =
     "sha256:b94d27b9934d3e08a52e52d7da7dabfac484efe37a5380ee9088f7ace2efcde9";
 
-pub(crate) const LAYER_TYPE: &str = "application/vnd.oci.image.layer.v1.tar";
+pub const LAYER_TYPE: &str = "application/vnd.oci.image.layer.v1.tar";
 
 // The body in one piece, where it has any byte.
 fn pieces(alloc: Global, body: &str) -> Result<List<Blob>, AllocError>
@@ -46,7 +46,7 @@ fn answer(alloc: Global, digest: &str, body: &str) -> Result<Recorded, HeaderErr
 }
 
 /// These answers, as digest and body, in order.
-pub(crate) fn script(alloc: Global, given: &[(&str, &str)]) -> Result<Script, HeaderError> {
+pub fn script(alloc: Global, given: &[(&str, &str)]) -> Result<Script, HeaderError> {
     let mut answers = List::new(alloc);
     for (digest, body) in given {
         answers.push(answer(alloc, *digest, *body)?)?;

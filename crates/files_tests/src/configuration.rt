@@ -1,8 +1,8 @@
 // Configuration files.
-use crate::answers::{holds, is_written, json};
 use json_values::{Blob, Copied, ToValue};
 use oci_docs::config::Config;
 use oci_docs::{ConfigError, ConfigFile, FromConfigFile, History, ReadError, Rootfs, blob};
+use test_answers::{holds, is_written, json};
 use std::alloc::{AllocError, Global};
 
 const FILE: &str =

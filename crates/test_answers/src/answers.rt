@@ -4,7 +4,7 @@ use serde_json::Value;
 use std::alloc::{AllocError, Global};
 
 /// Whether an answer is true.
-pub(crate) fn holds(answer: Result<bool, AllocError>) -> bool {
+pub fn holds(answer: Result<bool, AllocError>) -> bool {
     match answer {
         Ok(holds) => holds,
         Err(_) => false,
@@ -12,7 +12,7 @@ pub(crate) fn holds(answer: Result<bool, AllocError>) -> bool {
 }
 
 /// Whether the value is written as this text.
-pub(crate) fn is_written<V: ToValue>(alloc: Global, value: &V, want: &str) -> bool {
+pub fn is_written<V: ToValue>(alloc: Global, value: &V, want: &str) -> bool {
     match text_of(alloc, value) {
         Ok(text) => text.as_str() == want,
         Err(_) => false,
@@ -26,7 +26,7 @@ fn text_of<V: ToValue>(alloc: Global, value: &V) -> Result<String, AllocError> {
 }
 
 /// The value of a JSON text, or null.
-pub(crate) fn json(alloc: Global, text: &str) -> Value {
+pub fn json(alloc: Global, text: &str) -> Value {
     match Value::from_str(alloc, text) {
         Ok(value) => value,
         Err(_) => Value::Null,

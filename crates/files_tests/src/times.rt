@@ -1,10 +1,10 @@
 // Points in time.
-use crate::answers::{holds, is_written};
 use jiff::civil::DateTime;
 use json_tables::Reads;
 use json_values::Copied;
 use oci_docs::Time;
 use serde_json::Value;
+use test_answers::{holds, is_written};
 use std::alloc::{AllocError, Global};
 
 fn read(alloc: Global, text: &str) -> Option<Time> {
