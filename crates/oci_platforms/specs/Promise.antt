@@ -1,8 +1,7 @@
 -- Which image of an index a resolver of platforms may pick.
-use Rattle.std.specs.Prelude.{◌≡◌, ℕ, Bool, false, ◌&&◌, List, Option, Some, bytes_eq, IfOk, Result}
-use Rattle.std.specs.List.{find}
+use Rattle.std.specs.Prelude.{◌≡◌, ℕ, Bool, false, ◌&&◌, List, Option, Some, bytes_eq}
+use Rattle.std.specs.List.{find, list_any, Any as AnyOf}
 use Rattle.std.specs.Option.{option_map, option_map_or}
-use Rattle.std.specs.declared.alloc.AllocError.{AllocError}
 use Rattle.oci_manifests.specs.declared.index_entry.ImageIndexEntry.{ImageIndexEntry}
 use Rattle.oci_platforms.specs.declared.promise.ResolverPromise.{ResolverPromise}
 use Rattle.oci_platforms.specs.declared.promise.ResolverPromise.TheVariants.{FirstMatch, Fixed, Any}
@@ -22,6 +21,19 @@ Promised (FirstMatch os architecture) entries answer = answer ≡ first_for os a
 Promised (Fixed digest) entries answer = answer ≡ Some digest
 Promised Any entries answer = Unit {0}
 
--- an answer is one that the promise allows, or memory was wanting
-abbrev pub Keeps : ResolverPromise → List ImageIndexEntry → Result (Option (List ℕ)) AllocError → Type 0
-Keeps promise entries answer = IfOk answer (Promised promise entries)
+-- the promise allows this digest, and an entry has it
+pub record Picks (promise : ResolverPromise) (entries : List ImageIndexEntry) (digest : List ℕ) : Type 0 where
+  pub promised : Promised promise entries (Some digest)
+  pub listed : AnyOf (λ entry. entry.digest ≡ digest) entries
+
+-- ---- the same as a test
+
+-- whether an entry has this digest
+abbrev pub lists : List ℕ → List ImageIndexEntry → Bool
+lists digest entries = list_any (λ entry. bytes_eq entry.digest digest) entries
+
+abbrev pub picks : ResolverPromise → List ImageIndexEntry → List ℕ → Bool
+picks (FirstMatch os architecture) entries digest =
+    option_map_or (λ entry. bytes_eq entry.digest digest) (find (is_for os architecture) entries) false
+picks (Fixed fixed) entries digest = bytes_eq fixed digest && lists digest entries
+picks Any entries digest = lists digest entries

@@ -4,7 +4,7 @@ use Rattle.oci_platforms.specs.declared.promise.ResolverPromise.TheVariants as p
 use Rattle.oci_platforms.specs.declared.resolver.Way.{Way}
 use Rattle.oci_platforms.specs.declared.resolver.Way.TheVariants.{FirstMatch, Fixed, Own}
 
-abbrev pub promise_of : {g : _} → Way g → ResolverPromise
+abbrev pub promise_of : {V : Type 0} {H : V → Type 0} → Way V H → ResolverPromise
 promise_of (FirstMatch os architecture) = promises.FirstMatch os architecture
 promise_of (Fixed digest) = promises.Fixed digest
-promise_of (Own own) = own.promise
+promise_of (Own resolver) = promises.Any

@@ -7,7 +7,7 @@ mod promise;
 mod resolver;
 mod resolvers;
 
-pub use own::Resolve;
+pub use own::Resolves;
 pub use promise::ResolverPromise;
 pub use resolver::PlatformResolver;
 pub use resolvers::{current_platform_resolver, linux_amd64_resolver, windows_amd64_resolver};

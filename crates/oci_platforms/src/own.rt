@@ -1,20 +1,14 @@
-//! A resolver of the caller's own.
-ghost use Rattle.oci_platforms.specs.Promise.{Keeps};
-
-use crate::promise::ResolverPromise;
+//! Resolvers of the caller's own.
 use json_values::Text;
 use oci_manifests::ImageIndexEntry;
 use std::alloc::{AllocError, Global};
 
-/// Picks a digest for the entries of an index.
-pub type Resolve = Box<dyn Fn(Global, &[ImageIndexEntry]) -> Result<Option<Text>, AllocError>>;
-
-// A call that keeps its promise.
-#[derive(Drop)]
-pub struct OwnResolver {
-    pub promise: ResolverPromise,
-    pub call: Resolve,
-    ghost callable: { Resolve.IsAlwaysCallable call },
-    ghost keeps: { (alloc : _) (entries : _) (answer : _) → Resolve.post call alloc entries answer
-        → Keeps promise entries.now answer },
+/// Picks the image of an index that is meant, by the digest of its entry.
+pub trait Resolves: Drop {
+    /// The digest of the entry that is meant, where there is one.
+    fn resolve(
+        &self,
+        alloc: Global,
+        manifests: &[ImageIndexEntry],
+    ) -> Result<Option<Text>, AllocError>;
 }

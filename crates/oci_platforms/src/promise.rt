@@ -1,5 +1,10 @@
 //! What a resolver of platforms promises.
+ghost use Rattle.std.specs.Prelude.{◌≡◌, ◌↔◌, IsTrue};
+ghost use Rattle.oci_platforms.specs.Promise.{Picks, lists, picks};
+
+use crate::resolvers::first_entry;
 use json_values::{Copied, Text};
+use oci_manifests::ImageIndexEntry;
 use oci_names::{Arch, Os};
 use std::alloc::{AllocError, Global};
 
@@ -13,6 +18,38 @@ pub enum ResolverPromise {
     Fixed { digest: Text },
     /// Anything.
     Any,
+}
+
+impl ResolverPromise {
+    /// Whether the promise allows this digest, and an entry has it.
+    pub fn picks(&self, manifests: &[ImageIndexEntry], digest: &str) -> bool
+        ensures { IsTrue result ↔ Picks self.now manifests.now digest.now }
+    {
+        is_picked(self, manifests, digest)
+    }
+}
+
+fn is_picked(promise: &ResolverPromise, manifests: &[ImageIndexEntry], digest: &str) -> bool
+    ensures { result ≡ picks promise.now manifests.now digest.now }
+{
+    match promise {
+        ResolverPromise::FirstMatch { os, architecture } => {
+            match first_entry(os.as_str(), architecture.as_str(), manifests) {
+                Some(entry) => entry.digest.as_str() == digest,
+                None => false,
+            }
+        }
+        ResolverPromise::Fixed { digest: fixed } => {
+            fixed.as_str() == digest && lists(digest, manifests)
+        }
+        ResolverPromise::Any => lists(digest, manifests),
+    }
+}
+
+fn lists(digest: &str, manifests: &[ImageIndexEntry]) -> bool
+    ensures { result ≡ lists digest.now manifests.now }
+{
+    manifests.iter().any(|entry| entry.digest.as_str() == digest)
 }
 
 impl Copied for ResolverPromise {

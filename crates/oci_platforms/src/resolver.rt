@@ -1,9 +1,10 @@
 //! A resolver of platforms.
 ghost use Rattle.std.specs.Prelude.{◌≡◌, IfOk};
-ghost use Rattle.oci_platforms.specs.Promise.{Keeps, Promised};
+ghost use Rattle.oci_platforms.specs.Promise.{Promised};
+ghost use Rattle.oci_platforms.specs.Way.{promise_of};
 ghost use Rattle.oci_platforms.specs.declared.promise.ResolverPromise.TheVariants.{FirstMatch, Fixed};
 
-use crate::own::{OwnResolver, Resolve};
+use crate::own::Resolves;
 use crate::promise::ResolverPromise;
 use crate::resolvers::current_platform_resolver;
 use json_values::{Copied, Text};
@@ -17,7 +18,7 @@ use std::marker::Model;
 enum Way {
     FirstMatch { os: Os, architecture: Arch },
     Fixed { digest: Text },
-    Own(OwnResolver),
+    Own(Box<dyn Resolves>),
 }
 
 /// Picks the image of an index that is meant, by the digest of its entry. A contract sees what it promises.
@@ -36,16 +37,16 @@ impl Model for PlatformResolver {
 }
 
 impl PlatformResolver {
-    /// A resolver of the caller's own, which answers as the promise says on every list of entries, or wants memory.
-    pub fn new(promise: ResolverPromise, call: Resolve) -> PlatformResolver
-        requires callable { IsAlwaysCallable call }
-        requires keeps { (alloc : _) (entries : _) (answer : _) → post call alloc entries answer
-            → Keeps promise entries.now answer }
+    /// A resolver of the caller's own. Where the promise leaves one answer it is given, and the caller's is not asked.
+    pub fn new(promise: ResolverPromise, resolver: Box<dyn Resolves>) -> PlatformResolver
         ensures { result ≡ promise }
     {
-        PlatformResolver {
-            way: Way::Own(OwnResolver { promise, call }),
-        }
+        let way = match promise {
+            ResolverPromise::FirstMatch { os, architecture } => Way::FirstMatch { os, architecture },
+            ResolverPromise::Fixed { digest } => Way::Fixed { digest },
+            ResolverPromise::Any => Way::Own(resolver),
+        };
+        PlatformResolver { way }
     }
 
     /// Picks the first entry for this system and architecture.
@@ -78,7 +79,7 @@ impl PlatformResolver {
                 let digest = digest.copy(alloc)?;
                 Ok(Some(digest))
             }
-            Way::Own(own) => (own.call)(alloc, manifests),
+            Way::Own(own) => own.resolve(alloc, manifests),
         }
     }
 }

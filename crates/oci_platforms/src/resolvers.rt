@@ -1,5 +1,6 @@
 //! The resolvers that come with this.
 ghost use Rattle.std.specs.Prelude.{◌≡◌, IfOk, codes, option_copied};
+ghost use Rattle.std.specs.List.{find};
 ghost use Rattle.oci_platforms.specs.Promise.{first_for, is_for};
 
 use json_values::{Copied, Text};
@@ -41,7 +42,7 @@ fn first_for(
 ) -> Result<Option<Text>, AllocError>
     ensures { IfOk result (λ digest. digest ≡ first_for os.now architecture.now manifests.now) }
 {
-    match manifests.iter().find(|entry| is_for(os, architecture, entry)) {
+    match first_entry(os, architecture, manifests) {
         Some(entry) => {
             let digest = entry.digest.copy(alloc)?;
             Ok(Some(digest))
@@ -50,6 +51,18 @@ fn first_for(
     }
 }
 
+// The first entry for this system and architecture.
+pub(crate) fn first_entry<'a>(
+    os: &str,
+    architecture: &str,
+    manifests: &'a [ImageIndexEntry],
+) -> Option<&'a ImageIndexEntry>
+    ensures { option_copied result ≡ find (is_for os.now architecture.now) manifests.now }
+{
+    manifests.iter().find(|entry| is_for(os, architecture, entry))
+}
+
+// Whether the entry is for this system and architecture.
 fn is_for(os: &str, architecture: &str, entry: &ImageIndexEntry) -> bool
     ensures { result ≡ is_for os.now architecture.now entry.now }
 {
