@@ -19,7 +19,8 @@ use Rattle.oci_manifests.specs.declared.descriptor.OciDescriptor.{OciDescriptor}
 use Rattle.oci_manifests.specs.declared.blob.ImageLayer.{ImageLayer}
 use Rattle.oci_manifests.specs.declared.blob.Config.{Config}
 use Rattle.cosign_layers.specs.Standing.{Meaning}
-use Rattle.cosign_chain.specs.Chain.{ConfigLinks, LayerLinks, LayersLink, Chain}
+use Rattle.oci_platforms.specs.declared.promise.ResolverPromise.{ResolverPromise}
+use Rattle.cosign_chain.specs.Chain.{ConfigLinks, LayerLinks, LayersLink, FirstIsManifest, FirstIsIndex, LeadsToManifest, Chain}
 use Rattle.cosign_chain.specs.Links.{ManifestLinks, Links, named_by, same_annotations, has_manifest, has_config, is_layer_of, has_layers, is_linked}
 use Rattle.cosign_chain.specs.declared.image.VerifiedImage.{VerifiedImage}
 
@@ -108,5 +109,23 @@ linked image accepted v result is = rw is (more to from (both _ _ (both _ _ (bot
 
 -- ---- a chain has its links
 
-pub chain_links : {V : Type 0} {H : V → Type 0} {meaning : Meaning V H} {image : Reference} {accepted : List (List ℕ)} {v : VerifiedImage} → Chain meaning image accepted v → Links image accepted v
-chain_links {v = v} chain = record { named = chain.named; asked = chain.asked; manifest = rw chain.manifest.no_list (chain.manifest.bytes, chain.manifest.digest); config = chain.config; some = chain.some; layers = chain.layers }
+of_manifest : (v : VerifiedImage) → FirstIsManifest v → ManifestLinks v v.list_digest
+of_manifest v first = rw first.no_list (first.bytes, first.digest)
+
+manifest_links : (promise : Option ResolverPromise) (v : VerifiedImage) → LeadsToManifest promise v
+    → ManifestLinks v v.list_digest
+manifest_links None v first = of_manifest v first
+manifest_links (Some promise) v (inl first) = of_manifest v first
+manifest_links (Some promise) v (inr first) = rw first.list (refl, first.named)
+
+pub chain_links : {V : Type 0} {H : V → Type 0} {meaning : Meaning V H} {image : Reference}
+    {accepted : List (List ℕ)} {promise : Option ResolverPromise} {v : VerifiedImage}
+    → Chain meaning image accepted promise v → Links image accepted v
+chain_links {promise = promise} {v = v} chain = record {
+  named = chain.named;
+  asked = chain.asked;
+  manifest = manifest_links promise v chain.manifest;
+  config = chain.config;
+  some = chain.some;
+  layers = chain.layers;
+}

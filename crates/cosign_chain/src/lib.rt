@@ -2,8 +2,14 @@
 //! else, since no client and no request is known here.
 #![tactic(auto)]
 
+mod chain;
+mod documents;
 mod image;
 mod links;
+mod same;
+mod same_layer;
+mod same_manifest;
 
+pub use chain::check_chain;
 pub use image::VerifiedImage;
 pub use links::check_links;

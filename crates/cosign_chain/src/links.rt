@@ -110,7 +110,7 @@ fn is_accepted(accepted: &[Text], kind: &str) -> bool
     accepted.iter().any(|allowed| kind == allowed.as_str())
 }
 
-fn same_annotations(a: &Option<Annotations>, b: &Option<Annotations>) -> bool
+pub(crate) fn same_annotations(a: &Option<Annotations>, b: &Option<Annotations>) -> bool
     ensures { result ≡ same_annotations a.now b.now }
 {
     match (a, b) {

@@ -23,7 +23,8 @@ pub enum ResolverPromise {
 impl ResolverPromise {
     /// Whether the promise allows this digest, and an entry has it.
     pub fn picks(&self, manifests: &[ImageIndexEntry], digest: &str) -> bool
-        ensures { IsTrue result ↔ Picks self.now manifests.now digest.now }
+        ensures same { result ≡ picks self.now manifests.now digest.now }
+        ensures exact { IsTrue result ↔ Picks self.now manifests.now digest.now }
     {
         is_picked(self, manifests, digest)
     }
