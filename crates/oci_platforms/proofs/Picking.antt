@@ -66,18 +66,20 @@ and false b h i = absurd (cc h)
 decides : (promise : ResolverPromise) (entries : List ImageIndexEntry) (d : List ℕ)
     → Decides (picks promise entries d) (Picks promise entries d)
 decides (FirstMatch os architecture) entries d = (
-    λ h. record {
-      promised = digest_is d (find (is_for os architecture) entries) h;
-      listed = listed d entries (first_listed os architecture d entries h);
-    },
-    λ p. is_digest d (find (is_for os architecture) entries) p.promised)
+  λ h. record {
+    promised = digest_is d (find (is_for os architecture) entries) h;
+    listed = listed d entries (first_listed os architecture d entries h);
+  },
+  λ p. is_digest d (find (is_for os architecture) entries) p.promised,
+)
 decides (Fixed fixed) entries d = (
-    λ h. let parts = both (bytes_eq fixed d) (lists d entries) h in record {
-      promised = ap Some (sym ((bytes_eq-Decides fixed d).0 parts.0));
-      listed = listed d entries parts.1;
-    },
-    λ p. and (bytes_eq fixed d) (lists d entries) ((bytes_eq-Decides fixed d).1 (sym (some_same d fixed p.promised)))
-    (lists_it d entries p.listed))
+  λ h. let parts = both (bytes_eq fixed d) (lists d entries) h in record {
+    promised = ap Some (sym ((bytes_eq-Decides fixed d).0 parts.0));
+    listed = listed d entries parts.1;
+  },
+  λ p. and (bytes_eq fixed d) (lists d entries) ((bytes_eq-Decides fixed d).1 (sym (some_same d fixed p.promised)))
+      (lists_it d entries p.listed),
+)
 decides Any entries d = (λ h. record { promised = tt; listed = listed d entries h }, λ p. lists_it d entries p.listed)
 
 pub picked : (promise : ResolverPromise) (entries : List ImageIndexEntry) (d : List ℕ) (b : Bool)

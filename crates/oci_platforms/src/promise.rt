@@ -50,7 +50,9 @@ fn is_picked(promise: &ResolverPromise, manifests: &[ImageIndexEntry], digest: &
 fn lists(digest: &str, manifests: &[ImageIndexEntry]) -> bool
     ensures { result ≡ lists digest.now manifests.now }
 {
-    manifests.iter().any(|entry| entry.digest.as_str() == digest)
+    manifests
+        .iter()
+        .any(|entry| entry.digest.as_str() == digest)
 }
 
 impl Copied for ResolverPromise {

@@ -42,7 +42,10 @@ impl PlatformResolver {
         ensures { result ≡ promise }
     {
         let way = match promise {
-            ResolverPromise::FirstMatch { os, architecture } => Way::FirstMatch { os, architecture },
+            ResolverPromise::FirstMatch { os, architecture } => Way::FirstMatch {
+                os,
+                architecture,
+            },
             ResolverPromise::Fixed { digest } => Way::Fixed { digest },
             ResolverPromise::Any => Way::Own(resolver),
         };
@@ -68,7 +71,11 @@ impl PlatformResolver {
     }
 
     /// What the resolver picks: it answers as its promise says.
-    pub fn resolve(&self, alloc: Global, manifests: &[ImageIndexEntry]) -> Result<Option<Text>, AllocError>
+    pub fn resolve(
+        &self,
+        alloc: Global,
+        manifests: &[ImageIndexEntry],
+    ) -> Result<Option<Text>, AllocError>
         ensures { IfOk result (Promised self.now manifests.now) }
     {
         match &self.way {

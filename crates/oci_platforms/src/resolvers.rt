@@ -9,14 +9,20 @@ use oci_names::{Arch, Os};
 use std::alloc::{AllocError, Global};
 
 /// The digest of the first entry for Linux on 64 bits of x86.
-pub fn linux_amd64_resolver(alloc: Global, manifests: &[ImageIndexEntry]) -> Result<Option<Text>, AllocError>
+pub fn linux_amd64_resolver(
+    alloc: Global,
+    manifests: &[ImageIndexEntry],
+) -> Result<Option<Text>, AllocError>
     ensures { IfOk result (λ digest. digest ≡ first_for (codes "linux") (codes "amd64") manifests.now) }
 {
     first_for(alloc, Os::LINUX, Arch::AMD64, manifests)
 }
 
 /// The digest of the first entry for Windows on 64 bits of x86.
-pub fn windows_amd64_resolver(alloc: Global, manifests: &[ImageIndexEntry]) -> Result<Option<Text>, AllocError>
+pub fn windows_amd64_resolver(
+    alloc: Global,
+    manifests: &[ImageIndexEntry],
+) -> Result<Option<Text>, AllocError>
     ensures { IfOk result (λ digest. digest ≡ first_for (codes "windows") (codes "amd64") manifests.now) }
 {
     first_for(alloc, Os::WINDOWS, Arch::AMD64, manifests)
@@ -59,7 +65,9 @@ pub(crate) fn first_entry<'a>(
 ) -> Option<&'a ImageIndexEntry>
     ensures { option_copied result ≡ find (is_for os.now architecture.now) manifests.now }
 {
-    manifests.iter().find(|entry| is_for(os, architecture, entry))
+    manifests
+        .iter()
+        .find(|entry| is_for(os, architecture, entry))
 }
 
 // Whether the entry is for this system and architecture.
