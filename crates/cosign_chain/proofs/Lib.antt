@@ -1,1 +1,2 @@
 pub mod LinkTests
+pub mod Sameness

@@ -109,7 +109,7 @@ module _ (key message signature : List ℕ) where
   by_sha512 rows h i j b e none f neither_two g last =
       sym (by_algorithms rows ∙ one _ _ _ (found rows Sha256 h false e none) (found rows Sha384 i false f neither_two)
       ∙ found rows Sha512 j b g last) where
-    one : (a b c : Bool) → a ≡ false → b ≡ false → (a || b || c) ≡ c
-    one true b c e f = cc
-    one false true c e f = cc
-    one false false c e f = refl
+        one : (a b c : Bool) → a ≡ false → b ≡ false → (a || b || c) ≡ c
+        one true b c e f = cc
+        one false true c e f = cc
+        one false false c e f = refl
