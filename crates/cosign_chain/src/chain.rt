@@ -35,9 +35,9 @@ pub fn check_chain<V: SignatureVerifier, O: Offline>(
     judge: &O,
     found: &VerifiedImage,
 ) -> Result<bool, AllocError>
-    ensures { IfOk result (λ holds. IsTrue holds ↔ Chain
-        (meaning policy.now accepts (trust (V.valid verifier.now) (O.vouched judge.now) log_keys.now))
-        image.now accepted_media_types.now (option_copied promise) found.now) }
+    ensures { IfOk result (λ holds. IsTrue holds ↔ Chain (meaning policy.now (λ b. accepts (b.vtable, b.value))
+        (trust (V.valid verifier.now) (O.vouched judge.now) log_keys.now))
+        image.now accepted_media_types.now (option_copied promise.entry) found.now) }
 {
     if !check_links(image, accepted_media_types, found) {
         return Ok(false);
@@ -52,6 +52,7 @@ pub fn check_chain<V: SignatureVerifier, O: Offline>(
 }
 
 // Whether the layer stands for the image of this digest.
+#[tactic(auto, using(crate::proofs::Standing::unconstrained, crate::proofs::Standing::another, crate::proofs::Standing::supported, crate::proofs::Standing::rejected))]
 fn stands_for<V: SignatureVerifier, O: Offline>(
     alloc: Global,
     policy: &PullPolicy,
@@ -61,13 +62,16 @@ fn stands_for<V: SignatureVerifier, O: Offline>(
     digest: &str,
     layer: &SignatureLayer,
 ) -> Result<bool, AllocError>
-    ensures { IfOk result (λ stood. IsTrue stood ↔ StandsFor
-        (meaning policy.now accepts (trust (V.valid verifier.now) (O.vouched judge.now) log_keys.now))
+    ensures { IfOk result (λ stood. IsTrue stood ↔ StandsFor (meaning policy.now (λ b. accepts (b.vtable, b.value))
+        (trust (V.valid verifier.now) (O.vouched judge.now) log_keys.now))
         digest.now layer.now) }
 {
     match read_again(alloc, log_keys, verifier, judge, digest, layer) {
         Ok(again) => {
-            if policy.constraints.as_slice().is_empty() || !same_reading(&again, layer) {
+            if policy.constraints.as_slice().is_empty() {
+                return Ok(false);
+            }
+            if !same_reading(&again, layer) {
                 return Ok(false);
             }
             let stood = stands(alloc, verifier, policy, layer)?;
@@ -94,13 +98,35 @@ fn read_again<V: SignatureVerifier, O: Offline>(
     ensures law { HasOneOutcome
         (trust (V.valid verifier.now) (O.vouched judge.now) log_keys.now) digest.now (input_of layer.now) }
 {
-    let (content, named, annotations) = (&layer.content, layer.oci_digest.as_str(), &layer.annotations);
+    let (content, named, annotations) = (
+        &layer.content,
+        layer.oci_digest.as_str(),
+        &layer.annotations,
+    );
     match layer.kind {
         LayerKind::Payload => {
-            read_payload_layer(alloc, content, named, annotations, digest, log_keys, verifier, judge)
+            read_payload_layer(
+                alloc,
+                content,
+                named,
+                annotations,
+                digest,
+                log_keys,
+                verifier,
+                judge,
+            )
         }
         LayerKind::Bundle => {
-            read_bundle_layer(alloc, content, named, annotations, digest, log_keys, verifier, judge)
+            read_bundle_layer(
+                alloc,
+                content,
+                named,
+                annotations,
+                digest,
+                log_keys,
+                verifier,
+                judge,
+            )
         }
     }
 }

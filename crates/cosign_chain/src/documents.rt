@@ -25,10 +25,9 @@ pub(crate) fn leads_to_manifest(
     promise: Option<&ResolverPromise>,
     found: &VerifiedImage,
 ) -> Result<bool, AllocError>
-    ensures { IfOk result (λ leads. IsTrue leads ↔ LeadsToManifest (option_copied promise) found.now) }
+    ensures { IfOk result (λ leads. IsTrue leads ↔ LeadsToManifest (option_copied promise.entry) found.now) }
 {
-    let led = leads(alloc, promise, found)?;
-    Ok(led)
+    leads(alloc, promise, found)
 }
 
 fn leads(
@@ -36,7 +35,7 @@ fn leads(
     promise: Option<&ResolverPromise>,
     found: &VerifiedImage,
 ) -> Result<bool, AllocError>
-    ensures { IfOk result (λ led. led ≡ leads (option_copied promise) found.now (document_in found.now.first)) }
+    ensures { IfOk result (λ led. led ≡ leads (option_copied promise.entry) found.now (document_in found.now.first)) }
 {
     match document_in(alloc, &found.first)? {
         Some(OciManifest::Image(manifest)) => Ok(is_first(found, &manifest)),
@@ -63,7 +62,7 @@ fn is_led(
     found: &VerifiedImage,
     index: &OciImageIndex,
 ) -> Result<bool, AllocError>
-    ensures { IfOk result (λ led. led ≡ is_led (option_copied promise) found.now index.now) }
+    ensures { IfOk result (λ led. led ≡ is_led (option_copied promise.entry) found.now index.now) }
 {
     let Some(promise) = promise else {
         return Ok(false);
@@ -75,7 +74,10 @@ fn is_led(
         return Ok(false);
     }
     let document = document_in(alloc, &found.manifest_bytes)?;
-    Ok(is_manifest(&found.manifest, &document) && is_listed(&found.list_digest, found.digest.as_str()))
+    Ok(
+        is_manifest(&found.manifest, &document)
+            && is_listed(&found.list_digest, found.digest.as_str()),
+    )
 }
 
 fn is_listed(list_digest: &Option<Text>, digest: &str) -> bool
@@ -133,6 +135,7 @@ fn is_known(media_type: &Option<Text>) -> bool
 }
 
 // What a value without floats reads as.
+#[tactic(auto, using(crate::proofs::DocumentTests::no_table, crate::proofs::DocumentTests::two_tables))]
 fn document_of(alloc: Global, value: &Value) -> Result<Option<OciManifest>, AllocError>
     requires { is_versioned (view value.now) ≡ true }
     ensures { IfOk result (λ document. document ≡ document_of (view value.now)) }
