@@ -9,11 +9,11 @@ use Rattle.oci_manifests.specs.declared.blob.ImageLayer.{ImageLayer}
 use Rattle.oci_transport.specs.Link.{Link}
 use Rattle.oci_transport.specs.declared.message.Exchange.{Exchange}
 use Rattle.oci_protocol.specs.Proto.{Proto, Done, unless_refused, ◌>>=◌}
-use Rattle.oci_protocol.specs.Shows.{Shows}
+use Rattle.oci_protocol.specs.Shows.{ShowsKept}
 use Rattle.oci_protocol.specs.Ends.{Ends}
-use Rattle.oci_protocol.specs.Runs.{Meets, Told, Performs, Breaks}
+use Rattle.oci_protocol.specs.Runs.{Runs, Meets, Told, Performs, Breaks}
 use Rattle.oci_protocol.proofs.Ends.{Ends-any, Ends-bind, Runs-ends}
-use Rattle.oci_protocol.proofs.Showing.{Shows-done, Shows-more, Shows-bind, Shows-step}
+use Rattle.oci_protocol.proofs.Keeping.{ShowsKept-run, ShowsKept-done, ShowsKept-more, ShowsKept-both, ShowsKept-bind, ShowsKept-step}
 use Rattle.engine_requests.specs.Contexts.{Context}
 use Rattle.engine_requests.specs.declared.error.OciDistributionError.{OciDistributionError}
 use Rattle.engine_requests.specs.Errors.{is_memory as engine_is_memory}
@@ -32,9 +32,10 @@ use Rattle.cosign_layers.specs.Standing.{Meaning}
 use Rattle.cosign_layers.specs.Trust.{Trust}
 use Rattle.cosign_layers.specs.declared.layer.SignatureLayer.{SignatureLayer}
 use Rattle.cosign_chain.specs.declared.image.VerifiedImage.{VerifiedImage}
-use Rattle.cosign_client.specs.Causes.{Ran, SearchCause, Found, NoneStands, PullCause}
+use Rattle.cosign_client.specs.Causes.{SearchCause, Found, NoneStands, PullCause}
 use Rattle.cosign_client.specs.Image.{manifest_in, layers_row, image_row}
 use Rattle.cosign_client.specs.Part.{skipping}
+use Rattle.cosign_client.specs.Points.{Point, point, Ran}
 use Rattle.cosign_client.specs.References.{tag_reference, digest_reference, or_not_valid, reading_back}
 use Rattle.cosign_client.specs.Refusal.{is_memory, refused_as}
 use Rattle.cosign_client.specs.Search.{tag_layers, or_skipped, tag_by, tag_source, trusted_layers, searched}
@@ -157,100 +158,112 @@ rest_memory trust s image a digest = next_own IsMemory (tag_source trust s image
 
 -- ---- the search
 
-abbrev BySearch : Context → Reference → RegistryAuth → ℕ → List Exchange → ℕ → Result TrustedLayers SigstoreError → Type 0
-BySearch s image a m c n r = OnRefusal (SearchCause s image a c) r
+-- of both ends of a run, its exchanges and its answer
+abbrev pub Between : {A : Type 0} → (Point → List Exchange → Point → A → Type 0) → Kept → ℕ → List Exchange → ℕ → Kept → A → Type 0
+Between Q k m c n l a = Q (point k m) c (point l n) a
 
--- a part that ran ran
-pub ran : {A : Type 0} (p : Row A) → Shows (λ m c n r. Ran p c r) p
-ran p = record { shows = λ k l m n c r run. record { before = k; after = l; start = m; end_count = n; runs = run } }
+-- what is so at the end of a first part is so where the second one begins, and asks nothing
+pub at_same : {A : Type 0} (Q : Point → List Exchange → Point → A → Type 0) (k j : Kept) (m n : ℕ) (c : List Exchange) (a : A) → Q (point k m) c (point j n) a
+    → (j' : Kept) (n' : ℕ) → j' ≡ j → n' ≡ n → Between Q k m (c ++ []) n' j' a
+at_same Q k j m n c a h j' n' kept count = subst (λ d. Q (point k m) d (point j' n') a) (sym (append-nil c)) (subst (λ i. Q (point k m) c (point i n') a) (sym kept) (subst (λ o. Q (point k m) c (point j o) a) (sym count) h))
 
-both_shown : {K A : Type 0} (P Q : ℕ → List Exchange → ℕ → A → Type 0) (p : Proto K A) → Shows P p → Shows Q p → Shows (λ m c n a. P m c n a × Q m c n a) p
-both_shown P Q p h i = record { shows = λ k l m n c a run. (h.shows k l m n c a run, i.shows k l m n c a run) }
+pub at_once : {A : Type 0} (Q : Point → List Exchange → Point → A → Type 0) (k j : Kept) (m n : ℕ) (c : List Exchange) (a : A) → Q (point k m) c (point j n) a
+    → ShowsKept (λ j' n' d o l b. (j' ≡ j) → (n' ≡ n) → Between Q k m (c ++ d) o l b) (Done a)
+at_once Q k j m n c a h = ShowsKept-done (λ j' n' d o l b. (j' ≡ j) → (n' ≡ n) → Between Q k m (c ++ d) o l b) a (at_same Q k j m n c a h)
 
 -- what each answer is, each run shows
-ends_shown : {K A : Type 0} (Q : A → Type 0) (p : Proto K A) → Ends Q p → Shows (λ m c n a. Q a) p
+ends_shown : {K A : Type 0} (Q : A → Type 0) (p : Proto K A) → Ends Q p → ShowsKept (λ k m c n l a. Q a) p
 ends_shown Q p h = record { shows = λ k l m n c a run. Runs-ends Q p k l m n c a h run }
 
-digest_cause : (s : Context) (image : Reference) (a : RegistryAuth) (c : List Exchange) (e : SigstoreError) → Ran (digest_call s image a) c (Err e) → IsOwn FetchManifest e → SearchCause s image a c e
-digest_cause s image a c (sigstore.OciReferenceNotValidError text) r own = absurd own
-digest_cause s image a c (sigstore.RegistryFetchManifestError name e) r own = r
-digest_cause s image a c (sigstore.RegistryPullError name e) r own = absurd own
-digest_cause s image a c (sigstore.RegistryPullManifestError name e) r own = absurd own
-digest_cause s image a c sigstore.WantOfMemory r own = tt
+abbrev BySearch : Context → Reference → RegistryAuth → Point → List Exchange → Point → Result TrustedLayers SigstoreError → Type 0
+BySearch s image a start c end r = OnRefusal (SearchCause s image a start c end) r
 
-memory_cause : (s : Context) (image : Reference) (a : RegistryAuth) (c : List Exchange) (e : SigstoreError) → IsMemory e → SearchCause s image a c e
-memory_cause s image a c (sigstore.OciReferenceNotValidError text) is = absurd (cc is)
-memory_cause s image a c (sigstore.RegistryFetchManifestError name e) is = absurd (cc is)
-memory_cause s image a c (sigstore.RegistryPullError name e) is = absurd (cc is)
-memory_cause s image a c (sigstore.RegistryPullManifestError name e) is = absurd (cc is)
-memory_cause s image a c sigstore.WantOfMemory is = tt
+digest_cause : (s : Context) (image : Reference) (a : RegistryAuth) (start : Point) (c : List Exchange) (end : Point) (e : SigstoreError) → Ran (digest_call s image a) start c end (Err e) → IsOwn FetchManifest e → SearchCause s image a start c end e
+digest_cause s image a start c end (sigstore.OciReferenceNotValidError text) r own = absurd own
+digest_cause s image a start c end (sigstore.RegistryFetchManifestError name e) r own = r
+digest_cause s image a start c end (sigstore.RegistryPullError name e) r own = absurd own
+digest_cause s image a start c end (sigstore.RegistryPullManifestError name e) r own = absurd own
+digest_cause s image a start c end sigstore.WantOfMemory r own = tt
 
-tag_cause : (s : Context) (image : Reference) (a : RegistryAuth) (c d : List Exchange) (r : Result TrustedLayers SigstoreError) → OnRefusal IsMemory r → OnRefusal (SearchCause s image a (c ++ d)) r
-tag_cause s image a c d (Ok found) h = tt
-tag_cause s image a c d (Err e) h = memory_cause s image a (c ++ d) e h
+memory_cause : (s : Context) (image : Reference) (a : RegistryAuth) (start : Point) (c : List Exchange) (end : Point) (e : SigstoreError) → IsMemory e → SearchCause s image a start c end e
+memory_cause s image a start c end (sigstore.OciReferenceNotValidError text) is = absurd (cc is)
+memory_cause s image a start c end (sigstore.RegistryFetchManifestError name e) is = absurd (cc is)
+memory_cause s image a start c end (sigstore.RegistryPullError name e) is = absurd (cc is)
+memory_cause s image a start c end (sigstore.RegistryPullManifestError name e) is = absurd (cc is)
+memory_cause s image a start c end sigstore.WantOfMemory is = tt
 
-unread_cause : (s : Context) (image : Reference) (a : RegistryAuth) (c : List Exchange) (digest : List ℕ) (e : SigstoreError) → Ran (digest_call s image a) c (Ok digest) → reading_back (digest_reference image digest) ≡ Err e → SearchCause s image a (c ++ []) e
-unread_cause s image a c digest e r is = by_back (reads_back (digest_reference image digest)) refl is where
-  by_back : (b : Bool) → reads_back (digest_reference image digest) ≡ b → or_not_valid (digest_reference image digest) b ≡ Err e → SearchCause s image a (c ++ []) e
+tag_cause : (s : Context) (image : Reference) (a : RegistryAuth) (start : Point) (c : List Exchange) (end : Point) (r : Result TrustedLayers SigstoreError) → OnRefusal IsMemory r → BySearch s image a start c end r
+tag_cause s image a start c end (Ok found) h = tt
+tag_cause s image a start c end (Err e) h = memory_cause s image a start c end e h
+
+unread_cause : (s : Context) (image : Reference) (a : RegistryAuth) (start : Point) (c : List Exchange) (end : Point) (digest : List ℕ) (e : SigstoreError) → Ran (digest_call s image a) start c end (Ok digest) → reading_back (digest_reference image digest) ≡ Err e → SearchCause s image a start c end e
+unread_cause s image a start c end digest e ran is = by_back (reads_back (digest_reference image digest)) refl is where
+  by_back : (b : Bool) → reads_back (digest_reference image digest) ≡ b → or_not_valid (digest_reference image digest) b ≡ Err e → SearchCause s image a start c end e
   by_back true back is = absurd (cc is)
-  by_back false back is = let same : sigstore.OciReferenceNotValidError (whole_text (digest_reference image digest)) ≡ e = cc is in rw (append-nil, ← same) (record { digest = digest; answered = r; unread = back; text_is = refl })
+  by_back false back is = let same : sigstore.OciReferenceNotValidError (whole_text (digest_reference image digest)) ≡ e = cc is in subst (SearchCause s image a start c end) same (record { digest = digest; answered = ran; unread = back; text_is = refl })
 
-digest_then : (trust : Trust) (s : Context) (image : Reference) (a : RegistryAuth) (m n : ℕ) (c : List Exchange) (r : Result (List ℕ) SigstoreError) → Ran (digest_call s image a) c r → OnRefusal (IsOwn FetchManifest) r
-    → Shows (λ t d o b. BySearch s image a m (c ++ d) o b) (unless_refused (λ digest. Done (reading_back (digest_reference image digest)) >>= (λ u. rest_of trust s image a digest)) r)
-digest_then trust s image a m n c (Ok digest) r own = Shows-step (λ t d o b. BySearch s image a m (c ++ d) o b) (reading_back (digest_reference image digest)) (λ u. rest_of trust s image a digest)
-    (λ u is. Shows-more (λ t d o b. OnRefusal IsMemory b) (λ t d o b. BySearch s image a m (c ++ d) o b) (rest_of trust s image a digest) (ends_shown (OnRefusal IsMemory) (rest_of trust s image a digest) (rest_memory trust s image a digest)) (λ t o d b h. tag_cause s image a c d b h))
-    (λ e is t. unread_cause s image a c digest e r is)
-digest_then trust s image a m n c (Err e) r own = Shows-done (λ t d o b. BySearch s image a m (c ++ d) o b) (Err e) (λ t. rw append-nil (digest_cause s image a c e r own))
+-- the digest was answered, and what came of it
+after_digest : (trust : Trust) (s : Context) (image : Reference) (a : RegistryAuth) (k j : Kept) (m n : ℕ) (c : List Exchange) (digest : List ℕ) → Runs (digest_call s image a) k m c n j (Ok digest)
+    → ShowsKept (λ j' n' d o l b. (j' ≡ j) → (n' ≡ n) → Between (BySearch s image a) k m (c ++ d) o l b) (Done (reading_back (digest_reference image digest)) >>= (λ u. rest_of trust s image a digest))
+after_digest trust s image a k j m n c digest run = ShowsKept-step (λ j' n' d o l b. (j' ≡ j) → (n' ≡ n) → Between (BySearch s image a) k m (c ++ d) o l b) (reading_back (digest_reference image digest)) (λ u. rest_of trust s image a digest)
+    (λ u is. ShowsKept-more (λ j' n' d o l b. OnRefusal IsMemory b) (λ j' n' d o l b. (j' ≡ j) → (n' ≡ n) → Between (BySearch s image a) k m (c ++ d) o l b) (rest_of trust s image a digest) (ends_shown (OnRefusal IsMemory) (rest_of trust s image a digest) (rest_memory trust s image a digest))
+    (λ j' l n' o d b h kept count. tag_cause s image a (point k m) (c ++ d) (point l o) b h))
+    (λ e is. at_same (BySearch s image a) k j m n c (Err e) (unread_cause s image a (point k m) c (point j n) digest e run is))
 
-pub search_causes : (trust : Trust) (s : Context) (image : Reference) (a : RegistryAuth) → Shows (BySearch s image a) (searched trust s image a)
+digest_then : (trust : Trust) (s : Context) (image : Reference) (a : RegistryAuth) (k j : Kept) (m n : ℕ) (c : List Exchange) (r : Result (List ℕ) SigstoreError) → Runs (digest_call s image a) k m c n j r → OnRefusal (IsOwn FetchManifest) r
+    → ShowsKept (λ j' n' d o l b. (j' ≡ j) → (n' ≡ n) → Between (BySearch s image a) k m (c ++ d) o l b) (unless_refused (λ digest. Done (reading_back (digest_reference image digest)) >>= (λ u. rest_of trust s image a digest)) r)
+digest_then trust s image a k j m n c (Ok digest) run own = after_digest trust s image a k j m n c digest run
+digest_then trust s image a k j m n c (Err e) run own = at_once (BySearch s image a) k j m n c (Err e) (digest_cause s image a (point k m) c (point j n) e run own)
+
+pub search_causes : (trust : Trust) (s : Context) (image : Reference) (a : RegistryAuth) → ShowsKept (Between (BySearch s image a)) (searched trust s image a)
 unfolding searched
-search_causes trust s image a = Shows-bind (λ m c n r. Ran (digest_call s image a) c r × OnRefusal (IsOwn FetchManifest) r) (BySearch s image a) (digest_call s image a) _
-    (both_shown (λ m c n r. Ran (digest_call s image a) c r) (λ m c n r. OnRefusal (IsOwn FetchManifest) r) (digest_call s image a) (ran (digest_call s image a)) (ends_shown (OnRefusal (IsOwn FetchManifest)) (digest_call s image a) (digest_own s image a)))
-    (λ m n c r h. digest_then trust s image a m n c r h.0 h.1)
+search_causes trust s image a = ShowsKept-bind (λ k m c n l r. Runs (digest_call s image a) k m c n l r × OnRefusal (IsOwn FetchManifest) r) (Between (BySearch s image a)) (digest_call s image a) _
+    (ShowsKept-both (λ k m c n l r. Runs (digest_call s image a) k m c n l r) (λ k m c n l r. OnRefusal (IsOwn FetchManifest) r) (digest_call s image a) (ShowsKept-run (digest_call s image a)) (ends_shown (OnRefusal (IsOwn FetchManifest)) (digest_call s image a) (digest_own s image a)))
+    (λ k j m n c r h. digest_then trust s image a k j m n c r h.0 h.1)
 
 -- the refusal of a call has its cause in what was told, also where memory cut it off
-told_cause : {A E : Type 0} (of : E → Bool) (Q : List Exchange → E → Type 0) (p : Proto Kept (Result A E)) → Shows (λ m c n r. OnRefusal (Q c) r) p → ((c : List Exchange) (e : E) → of e ≡ true → Q c e)
-    → {old new : Link} {k l : Kept} (r : Result A E) → Meets of p old new k l r → IfErr r (λ e. Told (λ c. Q c e) old new)
+told_cause : {A E : Type 0} (of : E → Bool) (Q : Point → List Exchange → Point → E → Type 0) (p : Proto Kept (Result A E)) → ShowsKept (Between (λ start c end r. OnRefusal (Q start c end) r)) p → ((start : Point) (c : List Exchange) (end : Point) (e : E) → of e ≡ true → Q start c end e)
+    → {old new : Link} {k l : Kept} (r : Result A E) → Meets of p old new k l r → IfErr r (λ e. Told (λ c. Q (point k old.faults) c (point l new.faults) e) old new)
 told_cause of Q p h free (Ok a) met = tt
 told_cause {A} {E} of Q p h free {old} {new} {k} {l} (Err e) met = by_memory (of e) refl met.outcome where
-  by_memory : (b : Bool) → of e ≡ b → MatchBool b (Breaks p old new k l) (Performs p old new k l (Err e)) → Told (λ c. Q c e) old new
-  by_memory true is run = record { conversation = run.conversation; told = run.told; holds = free run.conversation e is }
+  by_memory : (b : Bool) → of e ≡ b → MatchBool b (Breaks p old new k l) (Performs p old new k l (Err e)) → Told (λ c. Q (point k old.faults) c (point l new.faults) e) old new
+  by_memory true is run = record { conversation = run.conversation; told = run.told; holds = free (point k old.faults) run.conversation (point l new.faults) e is }
   by_memory false is run = record { conversation = run.conversation; told = run.told; holds = h.shows k l old.faults new.faults run.conversation (Err e) run.runs }
 
 pub search_cause : (trust : Trust) (s : Context) (image : Reference) (a : RegistryAuth) {old new : Link} {k l : Kept} (r : Result TrustedLayers SigstoreError)
-    → Meets of_memory (searched trust s image a) old new k l r → IfErr r (λ e. Told (λ c. SearchCause s image a c e) old new)
+    → Meets of_memory (searched trust s image a) old new k l r → IfErr r (λ e. Told (λ c. SearchCause s image a (point k old.faults) c (point l new.faults) e) old new)
 search_cause trust s image a r met = told_cause of_memory (SearchCause s image a) (searched trust s image a) (search_causes trust s image a) (memory_cause s image a) r met
 
 -- ---- the pull
 
 module _ {V : Type 0} {H : V → Type 0} (meaning : Meaning V H) (s : Context) (image : Reference) (a : RegistryAuth) (accepted : List (List ℕ)) where
-  abbrev Cause : List Exchange → PullRefusal → Type 0
+  abbrev Cause : Point → List Exchange → Point → PullRefusal → Type 0
   Cause = PullCause meaning s image a accepted
 
-  abbrev ByPull : ℕ → List Exchange → ℕ → Result VerifiedImage PullRefusal → Type 0
-  ByPull m c n r = OnRefusal (Cause c) r
+  abbrev ByPull : {A : Type 0} → Point → List Exchange → Point → Result A PullRefusal → Type 0
+  ByPull start c end r = OnRefusal (Cause start c end) r
 
   -- the search as a part of the whole
-  abbrev AfterSearch : List Exchange → Result TrustedLayers PullRefusal → Type 0
-  AfterSearch c (Ok found) = Found meaning s image a c found
-  AfterSearch c (Err e) = Cause c e
+  abbrev AfterSearch : Point → List Exchange → Point → Result TrustedLayers PullRefusal → Type 0
+  AfterSearch start c end (Ok found) = Found meaning s image a start c end found
+  AfterSearch start c end (Err e) = Cause start c end e
 
-  lifted_cause : (c : List Exchange) (e : SigstoreError) → SearchCause s image a c e → Cause c (refused_as e)
-  lifted_cause c (sigstore.OciReferenceNotValidError text) h = inr h
-  lifted_cause c (sigstore.RegistryFetchManifestError name e) h = h
-  lifted_cause c (sigstore.RegistryPullError name e) h = absurd h
-  lifted_cause c (sigstore.RegistryPullManifestError name e) h = absurd h
-  lifted_cause c sigstore.WantOfMemory h = tt
+  lifted_cause : (start : Point) (c : List Exchange) (end : Point) (e : SigstoreError) → SearchCause s image a start c end e → Cause start c end (refused_as e)
+  lifted_cause start c end (sigstore.OciReferenceNotValidError text) h = inr h
+  lifted_cause start c end (sigstore.RegistryFetchManifestError name e) h = h
+  lifted_cause start c end (sigstore.RegistryPullError name e) h = absurd h
+  lifted_cause start c end (sigstore.RegistryPullManifestError name e) h = absurd h
+  lifted_cause start c end sigstore.WantOfMemory h = tt
 
-  search_part : (c : List Exchange) (r : Result TrustedLayers SigstoreError) → Ran (searched meaning.trust s image a) c r → OnRefusal (SearchCause s image a c) r → AfterSearch c (as_whole r)
-  search_part c (Ok found) ran cause = ran
-  search_part c (Err e) ran cause = lifted_cause c e cause
+  search_part : (start : Point) (c : List Exchange) (end : Point) (r : Result TrustedLayers SigstoreError) → Ran (searched meaning.trust s image a) start c end r → BySearch s image a start c end r → AfterSearch start c end (as_whole r)
+  search_part start c end (Ok found) ran cause = ran
+  search_part start c end (Err e) ran cause = lifted_cause start c end e cause
 
-  search_shown : Shows (λ m c n r. AfterSearch c r) (part_of (searched meaning.trust s image a))
+  search_shown : ShowsKept (Between AfterSearch) (part_of (searched meaning.trust s image a))
   unfolding part_of
-  search_shown = Shows-bind (λ m c n r. Ran (searched meaning.trust s image a) c r × BySearch s image a m c n r) (λ m c n r. AfterSearch c r) (searched meaning.trust s image a) (λ r. Done (as_whole r))
-      (both_shown (λ m c n r. Ran (searched meaning.trust s image a) c r) (BySearch s image a) (searched meaning.trust s image a) (ran (searched meaning.trust s image a)) (search_causes meaning.trust s image a))
-      (λ m n c r h. Shows-done (λ t d o b. AfterSearch (c ++ d) b) (as_whole r) (λ t. rw append-nil (search_part c r h.0 h.1)))
+  search_shown = ShowsKept-bind (λ k m c n l r. Runs (searched meaning.trust s image a) k m c n l r × Between (BySearch s image a) k m c n l r) (Between AfterSearch) (searched meaning.trust s image a) (λ r. Done (as_whole r))
+      (ShowsKept-both (λ k m c n l r. Runs (searched meaning.trust s image a) k m c n l r) (Between (BySearch s image a)) (searched meaning.trust s image a) (ShowsKept-run (searched meaning.trust s image a)) (search_causes meaning.trust s image a))
+      (λ k j m n c r h. at_once AfterSearch k j m n c (as_whole r) (search_part (point k m) c (point j n) r h.0 h.1))
 
   -- a layer of what was found stands
   record Stood (found : TrustedLayers) (stood : Standing) : Type 0 where
@@ -263,76 +276,90 @@ module _ {V : Type 0} {H : V → Type 0} (meaning : Meaning V H) (s : Context) (
       let same : (let x : Standing = record { digest = found.digest; signature = signature } in x) ≡ stood = cc e in
       subst (Stood found) same (record { digest = refl; first = is })
 
-  unsatisfied : (c : List Exchange) (found : TrustedLayers) (o : Option SignatureLayer) (e : PullRefusal) → Found meaning s image a c found → find (stands_by meaning) found.collected ≡ o → standing_by found o ≡ Err e → Cause (c ++ []) e
-  unsatisfied c found (Some signature) e h is wrong = absurd (cc wrong)
-  unsatisfied c found None e h is wrong =
+  unsatisfied : (start : Point) (c : List Exchange) (end : Point) (found : TrustedLayers) (o : Option SignatureLayer) (e : PullRefusal) → Found meaning s image a start c end found → find (stands_by meaning) found.collected ≡ o → standing_by found o ≡ Err e → Cause start c end e
+  unsatisfied start c end found (Some signature) e h is wrong = absurd (cc wrong)
+  unsatisfied start c end found None e h is wrong =
       let same : refusal.Unsatisfied found.digest found.collected found.skipped ≡ e = cc wrong in
-      rw append-nil (subst (Cause c) same (record { searched_is = h; none = is }))
+      subst (Cause start c end) same (record { searched_is = h; none = is })
 
   abbrev row : Standing → Row Pulled
   row stood = image_row s image (digest_reference image stood.digest) a accepted
 
   -- the image as a part of the whole
-  image_part : (c d : List Exchange) (found : TrustedLayers) (stood : Standing) (r : Result Pulled SigstoreError) → Found meaning s image a c found → Stood found stood → Ran (row stood) d r → OnRefusal (IsOwn Pull) r → OnRefusal (Cause (c ++ d)) (as_whole r)
-  image_part c d found stood (Ok pulled) h stands ran own = tt
-  image_part c d found stood (Err (sigstore.OciReferenceNotValidError text)) h stands ran own = absurd own
-  image_part c d found stood (Err (sigstore.RegistryFetchManifestError name e)) h stands ran own = absurd own
-  image_part c d found stood (Err (sigstore.RegistryPullError name e)) h stands ran own = record {
+  image_part : (start between end : Point) (c d : List Exchange) (found : TrustedLayers) (stood : Standing) (r : Result Pulled SigstoreError) → Found meaning s image a start c between found → Stood found stood → Ran (row stood) between d end r → OnRefusal (IsOwn Pull) r → ByPull start (c ++ d) end (as_whole r)
+  image_part start between end c d found stood (Ok pulled) h stands ran own = tt
+  image_part start between end c d found stood (Err (sigstore.OciReferenceNotValidError text)) h stands ran own = absurd own
+  image_part start between end c d found stood (Err (sigstore.RegistryFetchManifestError name e)) h stands ran own = absurd own
+  image_part start between end c d found stood (Err (sigstore.RegistryPullError name e)) h stands ran own = record {
     search = c;
     pull = d;
     split = refl;
+    between = between;
     found = found;
     searched_is = h;
     signature = stood.signature;
     stands_is = stands.first;
-    refused = subst (λ digest. Ran (image_row s image (digest_reference image digest) a accepted) d (Err (sigstore.RegistryPullError name e))) (sym stands.digest) ran;
+    refused = subst (λ digest. Ran (image_row s image (digest_reference image digest) a accepted) between d end (Err (sigstore.RegistryPullError name e))) (sym stands.digest) ran;
   }
-  image_part c d found stood (Err (sigstore.RegistryPullManifestError name e)) h stands ran own = absurd own
-  image_part c d found stood (Err sigstore.WantOfMemory) h stands ran own = tt
+  image_part start between end c d found stood (Err (sigstore.RegistryPullManifestError name e)) h stands ran own = absurd own
+  image_part start between end c d found stood (Err sigstore.WantOfMemory) h stands ran own = tt
 
-  image_shown : (c : List Exchange) (found : TrustedLayers) (stood : Standing) → Found meaning s image a c found → Stood found stood → Shows (λ m d n r. OnRefusal (Cause (c ++ d)) r) (part_of (row stood))
+  -- what the image is refused for, after a search that ended there
+  abbrev AfterFound : {A : Type 0} → Kept → ℕ → List Exchange → ℕ → Kept → Kept → ℕ → List Exchange → ℕ → Kept → Result A PullRefusal → Type 0
+  AfterFound k m c n j j' n' d o l b = (j' ≡ j) → (n' ≡ n) → ByPull (point k m) (c ++ d) (point l o) b
+
+  image_ran : (k j j' l : Kept) (m n n' o : ℕ) (c d : List Exchange) (found : TrustedLayers) (stood : Standing) (r : Result Pulled SigstoreError) → Found meaning s image a (point k m) c (point j n) found → Stood found stood
+      → Runs (row stood) j' n' d o l r → OnRefusal (IsOwn Pull) r → AfterFound k m c n j j' n' d o l (as_whole r)
+  image_ran k j j' l m n n' o c d found stood r h stands run own kept count = image_part (point k m) (point j n) (point l o) c d found stood r h stands
+      (subst (λ i. Runs (row stood) i n d o l r) kept (subst (λ i. Runs (row stood) j' i d o l r) count run)) own
+
+  image_shown : (k j : Kept) (m n : ℕ) (c : List Exchange) (found : TrustedLayers) (stood : Standing) → Found meaning s image a (point k m) c (point j n) found → Stood found stood → ShowsKept (AfterFound k m c n j) (part_of (row stood))
   unfolding part_of
-  image_shown c found stood h stands = Shows-bind (λ m d n r. Ran (row stood) d r × OnRefusal (IsOwn Pull) r) (λ m d n r. OnRefusal (Cause (c ++ d)) r) (row stood) (λ r. Done (as_whole r))
-      (both_shown (λ m d n r. Ran (row stood) d r) (λ m d n r. OnRefusal (IsOwn Pull) r) (row stood) (ran (row stood)) (ends_shown (OnRefusal (IsOwn Pull)) (row stood) (image_own s image (digest_reference image stood.digest) a accepted)))
-      (λ m n d r h'. Shows-done (λ t e o b. OnRefusal (Cause (c ++ (d ++ e))) b) (as_whole r) (λ t. rw append-nil (image_part c d found stood r h stands h'.0 h'.1)))
+  image_shown k j m n c found stood h stands = ShowsKept-bind (λ j' n' d o l r. Runs (row stood) j' n' d o l r × OnRefusal (IsOwn Pull) r) (AfterFound k m c n j) (row stood) (λ r. Done (as_whole r))
+      (ShowsKept-both (λ j' n' d o l r. Runs (row stood) j' n' d o l r) (λ j' n' d o l r. OnRefusal (IsOwn Pull) r) (row stood) (ShowsKept-run (row stood)) (ends_shown (OnRefusal (IsOwn Pull)) (row stood) (image_own s image (digest_reference image stood.digest) a accepted)))
+      (λ j' i n' o d r h'. ShowsKept-done (λ i' o' e p l b. (i' ≡ i) → (o' ≡ o) → AfterFound k m c n j j' n' (d ++ e) p l b) (as_whole r)
+      (λ i' o' kept count. subst (λ d. AfterFound k m c n j j' n' d o' i' (as_whole r)) (sym (append-nil d)) (subst (λ i. AfterFound k m c n j j' n' d o' i (as_whole r)) (sym kept) (subst (λ o. AfterFound k m c n j j' n' d o i (as_whole r)) (sym count) (image_ran k j j' i m n n' o c d found stood r h stands h'.0 h'.1)))))
 
-  image_then : (c d : List Exchange) (m : ℕ) (stood : Standing) (r : Result Pulled PullRefusal) → OnRefusal (Cause (c ++ d)) r → Shows (λ t e o b. ByPull m (c ++ (d ++ e)) o b) (unless_refused (λ pulled. Done (Ok (verified_image stood pulled))) r)
-  image_then c d m stood (Ok pulled) h = Shows-done (λ t e o b. ByPull m (c ++ (d ++ e)) o b) (Ok (verified_image stood pulled)) (λ t. tt)
-  image_then c d m stood (Err e) h = Shows-done (λ t e' o b. ByPull m (c ++ (d ++ e')) o b) (Err e) (λ t. rw append-nil h)
+  image_then : (k j j' i : Kept) (m n n' o : ℕ) (c d : List Exchange) (stood : Standing) (r : Result Pulled PullRefusal) → AfterFound k m c n j j' n' d o i r
+      → ShowsKept (λ i' o' e p l b. (i' ≡ i) → (o' ≡ o) → AfterFound k m c n j j' n' (d ++ e) p l b) (unless_refused (λ pulled. Done (Ok (verified_image stood pulled))) r)
+  image_then k j j' i m n n' o c d stood (Ok pulled) h = ShowsKept-done (λ i' o' e p l b. (i' ≡ i) → (o' ≡ o) → AfterFound k m c n j j' n' (d ++ e) p l b) (Ok (verified_image stood pulled)) (λ i' o' kept count kept' count'. tt)
+  image_then k j j' i m n n' o c d stood (Err e) h = ShowsKept-done (λ i' o' e' p l b. (i' ≡ i) → (o' ≡ o) → AfterFound k m c n j j' n' (d ++ e') p l b) (Err e)
+      (λ i' o' kept count. subst (λ d. AfterFound {A = VerifiedImage} k m c n j j' n' d o' i' (Err e)) (sym (append-nil d)) (subst (λ i. AfterFound {A = VerifiedImage} k m c n j j' n' d o' i (Err e)) (sym kept) (subst (λ o. AfterFound {A = VerifiedImage} k m c n j j' n' d o i (Err e)) (sym count) h)))
 
-  after_causes : (m : ℕ) (c : List Exchange) (found : TrustedLayers) → Found meaning s image a c found → Shows (λ t d o b. ByPull m (c ++ d) o b) (after_search meaning s image a accepted found)
+  after_causes : (k j : Kept) (m n : ℕ) (c : List Exchange) (found : TrustedLayers) → Found meaning s image a (point k m) c (point j n) found → ShowsKept (AfterFound k m c n j) (after_search meaning s image a accepted found)
   unfolding after_search
-  after_causes m c found h = Shows-step (λ t d o b. ByPull m (c ++ d) o b) (standing meaning found) _
-      (λ stood is. Shows-bind (λ t d o r. OnRefusal (Cause (c ++ d)) r) (λ t d o b. ByPull m (c ++ d) o b) (part_of (row stood)) _ (image_shown c found stood h (stood_of found (find (stands_by meaning) found.collected) stood refl is)) (λ t o d r h'. image_then c d m stood r h'))
-      (λ e is t. unsatisfied c found (find (stands_by meaning) found.collected) e h refl is)
+  after_causes k j m n c found h = ShowsKept-step (AfterFound k m c n j) (standing meaning found) _
+      (λ stood is. ShowsKept-bind (AfterFound k m c n j) (AfterFound k m c n j) (part_of (row stood)) _ (image_shown k j m n c found stood h (stood_of found (find (stands_by meaning) found.collected) stood refl is)) (λ j' i n' o d r h'. image_then k j j' i m n n' o c d stood r h'))
+      (λ e is. at_same (ByPull {A = VerifiedImage}) k j m n c (Err e) (unsatisfied (point k m) c (point j n) found (find (stands_by meaning) found.collected) e h refl is))
 
-  search_then : (m : ℕ) (c : List Exchange) (r : Result TrustedLayers PullRefusal) → AfterSearch c r → Shows (λ t d o b. ByPull m (c ++ d) o b) (unless_refused (after_search meaning s image a accepted) r)
-  search_then m c (Ok found) h = after_causes m c found h
-  search_then m c (Err e) h = Shows-done (λ t d o b. ByPull m (c ++ d) o b) (Err e) (λ t. rw append-nil h)
+  search_then : (k j : Kept) (m n : ℕ) (c : List Exchange) (r : Result TrustedLayers PullRefusal) → AfterSearch (point k m) c (point j n) r → ShowsKept (AfterFound k m c n j) (unless_refused (after_search meaning s image a accepted) r)
+  search_then k j m n c (Ok found) h = after_causes k j m n c found h
+  search_then k j m n c (Err e) h = at_once (ByPull {A = VerifiedImage}) k j m n c (Err e) h
 
-  empty_cause : (b : Bool) (e : PullRefusal) → is_unconstrained meaning.policy ≡ b → constrained b ≡ Err e → Cause [] e
-  empty_cause false e is wrong = absurd (cc wrong)
-  empty_cause true e is wrong = let same : refusal.EmptyPolicy ≡ e = cc wrong in subst (Cause []) same (is, refl)
+  empty_cause : (start : Point) (b : Bool) (e : PullRefusal) → is_unconstrained meaning.policy ≡ b → constrained b ≡ Err e → Cause start [] start e
+  empty_cause start false e is wrong = absurd (cc wrong)
+  empty_cause start true e is wrong = let same : refusal.EmptyPolicy ≡ e = cc wrong in subst (Cause start [] start) same (is, (refl, refl))
 
-  unreadable_cause : (b : Bool) (e : PullRefusal) → reads_back image ≡ b → readable_by image b ≡ Err e → Cause [] e
-  unreadable_cause true e is wrong = absurd (cc wrong)
-  unreadable_cause false e is wrong = let same : refusal.OciReferenceNotValidError (whole_text image) ≡ e = cc wrong in subst (Cause []) same (inl (record { unread = is; text_is = refl; silent = refl }))
+  unreadable_cause : (start : Point) (b : Bool) (e : PullRefusal) → reads_back image ≡ b → readable_by image b ≡ Err e → Cause start [] start e
+  unreadable_cause start true e is wrong = absurd (cc wrong)
+  unreadable_cause start false e is wrong = let same : refusal.OciReferenceNotValidError (whole_text image) ≡ e = cc wrong in subst (Cause start [] start) same (inl (record { unread = is; text_is = refl; silent = (refl, refl) }))
 
-  pub pull_causes : Shows ByPull (verified meaning s image a accepted)
+  pub pull_causes : ShowsKept (Between ByPull) (verified meaning s image a accepted)
   unfolding verified
-  pull_causes = Shows-step ByPull (constrained (is_unconstrained meaning.policy)) _
-      (λ u some. Shows-step ByPull (readable image) _
-      (λ v back. Shows-bind (λ m c n r. AfterSearch c r) ByPull (part_of (searched meaning.trust s image a)) _ search_shown (λ m n c r h. search_then m c r h))
-      (λ e is m. unreadable_cause (reads_back image) e refl is))
-      (λ e is m. empty_cause (is_unconstrained meaning.policy) e refl is)
+  pull_causes = ShowsKept-step (Between ByPull) (constrained (is_unconstrained meaning.policy)) _
+      (λ u some. ShowsKept-step (Between ByPull) (readable image) _
+      (λ v back. ShowsKept-bind (Between AfterSearch) (Between ByPull) (part_of (searched meaning.trust s image a)) _ search_shown (λ k j m n c r h. search_then k j m n c r h))
+      (λ e is k m. unreadable_cause (point k m) (reads_back image) e refl is))
+      (λ e is k m. empty_cause (point k m) (is_unconstrained meaning.policy) e refl is)
 
-  free_refusal : (c : List Exchange) (e : PullRefusal) → is_memory e ≡ true → Cause c e
-  free_refusal c refusal.EmptyPolicy is = absurd (cc is)
-  free_refusal c (refusal.OciReferenceNotValidError text) is = absurd (cc is)
-  free_refusal c (refusal.RegistryFetchManifestError name e) is = absurd (cc is)
-  free_refusal c (refusal.RegistryPullError name e) is = absurd (cc is)
-  free_refusal c (refusal.Unsatisfied digest collected skipped) is = absurd (cc is)
-  free_refusal c refusal.WantOfMemory is = tt
+  free_refusal : (start : Point) (c : List Exchange) (end : Point) (e : PullRefusal) → is_memory e ≡ true → Cause start c end e
+  free_refusal start c end refusal.EmptyPolicy is = absurd (cc is)
+  free_refusal start c end (refusal.OciReferenceNotValidError text) is = absurd (cc is)
+  free_refusal start c end (refusal.RegistryFetchManifestError name e) is = absurd (cc is)
+  free_refusal start c end (refusal.RegistryPullError name e) is = absurd (cc is)
+  free_refusal start c end (refusal.Unsatisfied digest collected skipped) is = absurd (cc is)
+  free_refusal start c end refusal.WantOfMemory is = tt
 
-  pub pull_cause : {old new : Link} {k l : Kept} (r : Result VerifiedImage PullRefusal) → Meets is_memory (verified meaning s image a accepted) old new k l r → IfErr r (λ e. Told (λ c. Cause c e) old new)
+  pub pull_cause : {old new : Link} {k l : Kept} (r : Result VerifiedImage PullRefusal) → Meets is_memory (verified meaning s image a accepted) old new k l r
+      → IfErr r (λ e. Told (λ c. Cause (point k old.faults) c (point l new.faults) e) old new)
   pull_cause r met = told_cause is_memory Cause (verified meaning s image a accepted) pull_causes free_refusal r met

@@ -139,7 +139,7 @@ any_answer (Err e) = tt
 any_ends : {A : Type 0} (p : Row A) → Ends (OnAnswer (λ (a : A). Unit {0})) p
 any_ends p = Ends-any (OnAnswer (λ a. Unit {0})) p any_answer
 
-done_ends : {A E : Type 0} (Q : A → Type 0) (a : A) → Q a → Ends {K = Kept} {A = Result A E} (OnAnswer Q) (Done (Ok a))
+done_ends : {A : Type 0} (Q : A → Type 0) (a : A) → Q a → Ends {K = Kept} {A = Result A SigstoreError} (OnAnswer Q) (Done (Ok a))
 unfolding Ends
 done_ends Q a h = h
 

@@ -1,5 +1,5 @@
 -- The layers of an image, one after another.
-use Rattle.std.proofs.Common.{◌≡◌, ◌<◌, ℕ, ◌+◌, suc, List, [], ◌∷◌, ◌++◌, Result, Ok, length, drop, get_or, sym, ap, ◌∙◌, add-one, append_assoc, append-nil, map}
+use Rattle.std.proofs.Common.{◌≡◌, ◌<◌, ℕ, ◌+◌, suc, List, [], ◌∷◌, ◌++◌, Result, Ok, length, drop, get_or, sym, ap, ◌∙◌, add-one, append_assoc, append-nil}
 use Rattle.std.proofs.Math.Seq.{drop-cons}
 use Rattle.oci_transport.specs.Link.{Link}
 use Rattle.oci_names.specs.declared.reference.Reference.{Reference}
@@ -15,12 +15,11 @@ use Rattle.sig_registry.specs.Clients.{Client, Made}
 use Rattle.sig_registry.specs.Calls.{blob_call}
 use Rattle.cosign_layers.specs.Trust.{Trust}
 use Rattle.cosign_client.specs.declared.found.Part.{Part}
-use Rattle.cosign_client.specs.Part.{appended, descriptor_part, descriptors_part, layer_digests, nothing}
-use Rattle.cosign_client.specs.declared.part.LayerDigests.{LayerDigests}
+use Rattle.cosign_client.specs.Part.{appended, descriptor_part, descriptors_part, nothing}
 use Rattle.cosign_client.specs.Image.{layers_row}
 use Rattle.cosign_client.proofs.Exits.{done}
 
-at_next : {A : Type 0} (xs : List A) (i : ℕ) (x : A) → i < length xs → x ≡ get_or xs i x → drop i xs ≡ x ∷ drop (i + 1) xs
+pub at_next : {A : Type 0} (xs : List A) (i : ℕ) (x : A) → i < length xs → x ≡ get_or xs i x → drop i xs ≡ x ∷ drop (i + 1) xs
 at_next {A} xs i x lt is = rw add-one (drop-cons xs i x lt ∙ ap (λ (y : A). y ∷ drop (suc i) xs) (sym is))
 
 pub layers_end : {s : Settings} (moment : ℕ) (source : Reference) (xs : List OciDescriptor) (layers : List ImageLayer) {c : Client} {link : Link} → xs ≡ [] → Made is_memory s (layers_row (within s moment) source xs layers) c c link link (Ok layers)
@@ -52,16 +51,3 @@ descriptors_next trust d layers xs i x p q all lt is more rest =
 -- and none more
 pub descriptors_end : (trust : Trust) (d : List ℕ) (layers : List ImageLayer) (xs : List OciDescriptor) (p all : Part) → xs ≡ [] → appended p (descriptors_part trust d layers xs) ≡ all → p ≡ all
 descriptors_end trust d layers xs p all none rest = sym (alone p) ∙ ap (λ ys. appended p (descriptors_part trust d layers ys)) (sym none) ∙ rest
-
--- ---- the digest texts of layers
-
-pub digests_next : (xs : List ImageLayer) (i : ℕ) (x : ImageLayer) (p q all : List LayerDigests) → i < length xs → x ≡ get_or xs i x
-    → q ≡ p ++ layer_digests x ∷ [] → p ++ map layer_digests (drop i xs) ≡ all → q ++ map layer_digests (drop (i + 1) xs) ≡ all
-digests_next xs i x p q all lt is more rest =
-    ap (λ q. q ++ map layer_digests (drop (i + 1) xs)) more
-    ∙ append_assoc p (layer_digests x ∷ []) (map layer_digests (drop (i + 1) xs))
-    ∙ ap (λ ys. p ++ map layer_digests ys) (sym (at_next xs i x lt is))
-    ∙ rest
-
-pub digests_end : (xs : List ImageLayer) (p all : List LayerDigests) → xs ≡ [] → p ++ map layer_digests xs ≡ all → p ≡ all
-digests_end xs p all none rest = sym (append-nil p) ∙ ap (λ ys. p ++ map layer_digests ys) (sym none) ∙ rest

@@ -331,22 +331,22 @@ search_part_counts trust s image a = Counts-bind SearchCounts PartCounts (search
     (λ m n r at. Counts-done (λ t p b. t ≡ n → PartCounts m p b) (as_whole r) (λ p same. rw same (whole_counts m n r at)))
 
 -- the image's refusal has nothing that was skipped
-abbrev Silent : {A : Type 0} → Result A PullRefusal → Type 0
-Silent (Ok a) = Unit {0}
-Silent (Err e) = (P : List Skipped → Type 0) → OnSkipped P e
+abbrev SkipsNone : {A : Type 0} → ℕ → Result A PullRefusal → Type 0
+SkipsNone m (Ok a) = Unit {0}
+SkipsNone m (Err e) = (q : ℕ) → OnSkipped (Counted m q) e
 
-image_silent : (r : Result Pulled SigstoreError) → Silent (as_whole r)
-image_silent (Ok pulled) = tt
-image_silent (Err e) = λ P. refused_quiet P e
+image_skips : (m : ℕ) (r : Result Pulled SigstoreError) → SkipsNone m (as_whole r)
+image_skips m (Ok pulled) = tt
+image_skips m (Err e) = λ q. refused_quiet (Counted m q) e
 
-image_part_silent : (p : Row Pulled) → Counts (λ m n r. Silent r) (part_of p)
+image_part_skips : (m : ℕ) (p : Row Pulled) → Counts (λ t q r. SkipsNone m r) (part_of p)
 unfolding part_of
-image_part_silent p = Counts-bind (λ m n r. Unit {0}) (λ m n r. Silent r) p (λ r. Done (as_whole r)) (record { counts = λ k l m n c r run. tt })
-    (λ m n r u. Counts-done (λ t q b. t ≡ n → Silent b) (as_whole r) (λ q same. image_silent r))
+image_part_skips m p = Counts-bind (λ t q r. Unit {0}) (λ t q r. SkipsNone m r) p (λ r. Done (as_whole r)) (record { counts = λ k l t q c r run. tt })
+    (λ t n r u. Counts-done (λ i q b. i ≡ n → SkipsNone m b) (as_whole r) (λ q same. image_skips m r))
 
-pulled_then : (m : ℕ) (stood : Standing) (r : Result Pulled PullRefusal) → Silent r → Counts {K = Kept} (λ t q b. OfRefusal m q b) (unless_refused (λ pulled. Done (Ok (verified_image stood pulled))) r)
+pulled_then : (m : ℕ) (stood : Standing) (r : Result Pulled PullRefusal) → SkipsNone m r → Counts {K = Kept} (λ t q b. OfRefusal m q b) (unless_refused (λ pulled. Done (Ok (verified_image stood pulled))) r)
 pulled_then m stood (Ok pulled) h = Counts-done (λ t q b. OfRefusal m q b) (Ok (verified_image stood pulled)) (λ q. tt)
-pulled_then m stood (Err e) h = Counts-done (λ t q b. OfRefusal m q b) (Err e) (λ q. h (Counted m q))
+pulled_then m stood (Err e) h = Counts-done (λ t q b. OfRefusal m q b) (Err e) (λ q. h q)
 
 unsatisfied : (m n : ℕ) (found : TrustedLayers) (o : Option SignatureLayer) (e : PullRefusal) → Counted m n found.skipped → standing_by found o ≡ Err e → OnSkipped (Counted m n) e
 unsatisfied m n found (Some signature) e h wrong = absurd (cc wrong)
@@ -355,7 +355,7 @@ unsatisfied m n found None e h wrong = let same : refusal.Unsatisfied found.dige
 module _ {V : Type 0} {H : V → Type 0} (meaning : Meaning V H) (s : Context) (image : Reference) (a : RegistryAuth) (accepted : List (List ℕ)) where
   stood_then : (m n : ℕ) (found : TrustedLayers) (r : Result Standing PullRefusal) → ((e : PullRefusal) → r ≡ Err e → OnSkipped (Counted m n) e) → Counts (λ t q b. t ≡ n → OfRefusal m q b) (unless_refused (λ stood. part_of (image_row s image (digest_reference image stood.digest) a accepted) >>= λ pulled. Done (Ok (verified_image stood pulled))) r)
   stood_then m n found (Err e) wrong = Counts-done (λ t q b. t ≡ n → OfRefusal m q b) (Err e) (λ q same. rw same (wrong e refl))
-  stood_then m n found (Ok stood) wrong = Counts-bind (λ t p r. Silent r) (λ t q b. t ≡ n → OfRefusal m q b) (part_of (image_row s image (digest_reference image stood.digest) a accepted)) _ (image_part_silent (image_row s image (digest_reference image stood.digest) a accepted))
+  stood_then m n found (Ok stood) wrong = Counts-bind (λ t p r. SkipsNone m r) (λ t q b. t ≡ n → OfRefusal m q b) (part_of (image_row s image (digest_reference image stood.digest) a accepted)) _ (image_part_skips m (image_row s image (digest_reference image stood.digest) a accepted))
       (λ t p r h. record { counts = λ k l u q c b run same begins. (pulled_then m stood r h).counts k l u q c b run })
 
   after_counts : (m n : ℕ) (found : TrustedLayers) → Counted m n found.skipped → Counts (λ t q b. t ≡ n → OfRefusal m q b) (after_search meaning s image a accepted found)

@@ -1,5 +1,5 @@
 -- References of parts, and the first layer that stands.
-use Rattle.std.proofs.Common.{◌≡◌, ◌≤◌, ◌<◌, ◌+◌, arith, get_or, not, ℕ, suc, Bool, true, false, cond, nat_lt, length, List, [], ◌∷◌, map, Option, Some, None, refl, sym, ap, ◌∙◌}
+use Rattle.std.proofs.Common.{◌≡◌, ◌≤◌, ◌<◌, ◌+◌, arith, get_or, not, ℕ, Bool, true, false, cond, nat_lt, length, List, [], ◌∷◌, Option, Some, None, refl, sym, ap, ◌∙◌}
 use Rattle.std.specs.Prelude.{find, position}
 use Rattle.std.specs.List.{position_or_len, slice_get}
 use Rattle.std.proofs.lemmas.List.Folds.{find_at}
@@ -7,10 +7,6 @@ use Rattle.std.proofs.lemmas.Bool.{ltb-false, lt-ltb, le-ltb}
 use Rattle.std.proofs.lemmas.List.Sums.{position_or_len_is}
 use Rattle.std.proofs.lemmas.Option.{slice_get_past}
 use Rattle.oci_names.specs.declared.reference.Reference.{Reference}
-use Rattle.oci_digests.specs.Names.{names}
-use Rattle.oci_manifests.specs.declared.blob.ImageLayer.{ImageLayer}
-use Rattle.cosign_client.specs.Part.{is_among, layer_digests, named_layer}
-use Rattle.cosign_client.specs.declared.part.LayerDigests.{LayerDigests}
 use Rattle.oci_names.specs.References.{registry_of, mirror_of, repository_of, tag_of, digest_of}
 
 -- a reference is its parts
@@ -37,25 +33,6 @@ past n m is = by_test (nat_lt n m) refl is where
 -- there is none where there is no place
 pub none_at : {X : Type 0} (p : X → Bool) (xs : List X) → position p xs ≡ None → find p xs ≡ None
 none_at {X} p xs is = find_at p xs ∙ slice_get_past xs (position_or_len p xs) (past (position_or_len p xs) (length xs) is)
-
--- what the place of the first among the results of a function is
-place_of_results : {X Y : Type 0} (p : Y → Bool) (f : X → Y) (xs : List X) → position_or_len p (map f xs) ≡ position_or_len (λ x. p (f x)) xs
-place_of_results p f [] = refl
-place_of_results p f (x ∷ xs) = ap (λ n. cond (not (p (f x))) (1 + n) 0) (place_of_results p f xs)
-
-as_many : {X Y : Type 0} (f : X → Y) (xs : List X) → length (map f xs) ≡ length xs
-as_many f [] = refl
-as_many f (x ∷ xs) = ap suc (as_many f xs)
-
-position_of_results : {X Y : Type 0} (p : Y → Bool) (f : X → Y) (xs : List X) → position p (map f xs) ≡ position (λ x. p (f x)) xs
-position_of_results p f xs = ap (λ n. cond (nat_lt n (length (map f xs))) (Some n) None) (place_of_results p f xs) ∙ ap (λ m. cond (nat_lt (position_or_len (λ x. p (f x)) xs) m) (Some (position_or_len (λ x. p (f x)) xs)) None) (as_many f xs)
-
--- the layer at the first place whose digest texts have the digest is the first that the digest names
-pub named_there : (digest : List ℕ) (digests : List LayerDigests) (layers : List ImageLayer) (place : ℕ) → digests ≡ map layer_digests layers → position (is_among digest) digests ≡ Some place → named_layer digest layers ≡ slice_get layers place
-named_there digest digests layers place are is = first_at (λ layer. names digest layer.content) layers place (sym (position_of_results (is_among digest) layer_digests layers) ∙ ap (position (is_among digest)) (sym are) ∙ is)
-
-pub named_nowhere : (digest : List ℕ) (digests : List LayerDigests) (layers : List ImageLayer) → digests ≡ map layer_digests layers → position (is_among digest) digests ≡ None → None ≡ named_layer digest layers
-named_nowhere digest digests layers are is = sym (none_at (λ layer. names digest layer.content) layers (sym (position_of_results (is_among digest) layer_digests layers) ∙ ap (position (is_among digest)) (sym are) ∙ is))
 
 -- what a loop that looks for a place knows of it
 module _ {X : Type 0} (p : X → Bool) where

@@ -7,6 +7,7 @@ pub mod Exits
 pub mod Faults
 pub mod First
 pub mod Images
+pub mod LayerTexts
 pub mod Leads
 pub mod Reading
 pub mod Refusals

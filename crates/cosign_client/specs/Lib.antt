@@ -1,7 +1,9 @@
 pub mod Causes
 pub mod DigestStep
 pub mod Image
+pub mod LayerTexts
 pub mod Part
+pub mod Points
 pub mod References
 pub mod Refusal
 pub mod Search

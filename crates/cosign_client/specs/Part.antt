@@ -1,8 +1,7 @@
 -- What a source of signatures gives: layers that were read, and why others were not.
-use Rattle.std.specs.Prelude.{ℕ, Bool, List, [], ◌∷◌, ◌++◌, ◌||◌, bytes_eq, find, Option, Some, None, Result, Ok, Err, unwrap_or}
+use Rattle.std.specs.Prelude.{ℕ, List, [], ◌∷◌, ◌++◌, find, Option, Some, None, Result, Ok, Err, unwrap_or}
 use Rattle.std.specs.FinMap as map_of
-use Rattle.oci_digests.specs.Names.{digest_text, names}
-use Rattle.oci_digests.specs.declared.digester.Algorithm.TheVariants as algorithms
+use Rattle.oci_digests.specs.Names.{names}
 use Rattle.oci_manifests.specs.declared.descriptor.OciDescriptor.{OciDescriptor}
 use Rattle.oci_manifests.specs.declared.blob.ImageLayer.{ImageLayer}
 use Rattle.cosign_layers.specs.Checks.{input, layer_read}
@@ -15,7 +14,6 @@ use Rattle.cosign_client.specs.declared.found.Part.{Part}
 use Rattle.cosign_client.specs.declared.found.Skipped.{Skipped}
 use Rattle.cosign_client.specs.declared.found.Skipped.TheVariants.{Layer}
 use Rattle.cosign_client.specs.declared.found.SourceKind.{SourceKind}
-use Rattle.cosign_client.specs.declared.part.LayerDigests.{LayerDigests}
 use Rattle.cosign_client.specs.declared.found.SourceKind.TheVariants.{Tag}
 
 abbrev pub nothing : Part
@@ -37,18 +35,6 @@ layer_part kind digest (Err cause) = skipping (Layer kind digest cause)
 abbrev pub named_layer : List ℕ → List ImageLayer → Option ImageLayer
 named_layer digest layers = find (λ layer. names digest layer.content) layers
 
--- the digest texts of a pulled layer by each algorithm
-abbrev pub layer_digests : ImageLayer → LayerDigests
-layer_digests layer = record {
-  sha256 = digest_text algorithms.Sha256 layer.content;
-  sha384 = digest_text algorithms.Sha384 layer.content;
-  sha512 = digest_text algorithms.Sha512 layer.content;
-}
-
--- whether the digest is one of these texts
-abbrev pub is_among : List ℕ → LayerDigests → Bool
-is_among digest own = bytes_eq digest own.sha256 || bytes_eq digest own.sha384 || bytes_eq digest own.sha512
-
 -- the signature layer of a pulled layer, with the digest and the annotations of its descriptor
 abbrev pub read_layer : Trust → List ℕ → OciDescriptor → Option ImageLayer → Result SignatureLayer LayerRejection
 read_layer trust d x None = Err LayerNotPulled
@@ -62,4 +48,5 @@ descriptor_part trust d layers x = layer_part Tag x.digest (read_layer trust d x
 -- what each descriptor gives, in order
 abbrev pub descriptors_part : Trust → List ℕ → List ImageLayer → List OciDescriptor → Part
 descriptors_part trust d layers [] = nothing
-descriptors_part trust d layers (x ∷ xs) = appended (descriptor_part trust d layers x) (descriptors_part trust d layers xs)
+descriptors_part trust d layers (x ∷ xs) =
+    appended (descriptor_part trust d layers x) (descriptors_part trust d layers xs)

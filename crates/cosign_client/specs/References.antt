@@ -1,5 +1,6 @@
 -- The references that the search and the pull ask for, in the image's repository.
-use Rattle.std.specs.Prelude.{ℕ, Bool, true, false, List, ◌++◌, ◌==◌, Some, None, Result, Ok, Err, codes, map, chars, encode_utf8_all, if◌then◌else◌}
+use Rattle.std.specs.Prelude.{ℕ, Bool, true, false, if◌then◌else◌, List, ◌++◌, ◌==◌, map, Some, None, Result, Ok, Err}
+use Rattle.std.specs.Prelude.{codes, chars, encode_utf8_all}
 use Rattle.oci_names.specs.declared.reference.Reference.{Reference}
 use Rattle.oci_names.specs.References.{registry_of, repository_of, whole_text, reads_back}
 use Rattle.sig_registry.specs.declared.error.SigstoreError.{SigstoreError}

@@ -1,6 +1,7 @@
 -- Why a pull was refused.
-use Rattle.std.specs.Prelude.{◌≡◌, Bool, true, false, MatchBool, Option, Some, None, Result, Ok, Err}
+use Rattle.std.specs.Prelude.{◌≡◌, Bool, true, false, Option, Some, None, Result, Ok, Err}
 use Rattle.json_values.specs.Counts.{Rose}
+use Rattle.json_values.specs.Refusals as Refusals
 use Rattle.oci_transport.specs.Link.{Link}
 use Rattle.engine_requests.specs.declared.error.OciDistributionError.{OciDistributionError}
 use Rattle.engine_requests.specs.declared.error.OciDistributionError.TheVariants.{TransportFault, SinkFault}
@@ -24,8 +25,7 @@ refused_as sigstore.WantOfMemory = refusal.WantOfMemory
 
 -- the answer is this one, unless memory was wanting
 abbrev pub Says : {A : Type 0} → Result A PullRefusal → Result A PullRefusal → Type 0
-Says (Ok a) said = said ≡ Ok a
-Says (Err e) said = MatchBool (is_memory e) (Unit {0}) (said ≡ Err e)
+Says answer said = Refusals.Says is_memory answer said
 
 -- what the registry's client answered, where the refusal holds that
 abbrev pub client_refusal : PullRefusal → Option OciDistributionError

@@ -23,6 +23,7 @@ pub record Backed (s : Settings) (image : Reference) (c : List Exchange) (v : Ve
   pub layers : EachBody c v.layers
 
 -- the chain holds, and comes of this conversation
-pub record Sound {V : Type 0} {H : V → Type 0} (s : Settings) (meaning : Meaning V H) (image : Reference) (accepted : List (List ℕ)) (c : List Exchange) (v : VerifiedImage) : Type 0 where
+pub record Sound {V : Type 0} {H : V → Type 0} (s : Settings) (meaning : Meaning V H) (image : Reference)
+    (accepted : List (List ℕ)) (c : List Exchange) (v : VerifiedImage) : Type 0 where
   pub chain : Chain meaning image accepted v
   pub backed : Backed s image c v

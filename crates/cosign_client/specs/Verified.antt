@@ -84,13 +84,15 @@ after_standing s image a accepted stood = do
   Done (Ok (verified_image stood pulled))
 
 -- a layer that stands, and only then the image
-unfoldable pub after_search : {V : Type 0} {H : V → Type 0} → Meaning V H → Context → Reference → RegistryAuth → List (List ℕ) → TrustedLayers → Whole VerifiedImage
+unfoldable pub after_search : {V : Type 0} {H : V → Type 0} → Meaning V H → Context → Reference → RegistryAuth
+    → List (List ℕ) → TrustedLayers → Whole VerifiedImage
 after_search meaning s image a accepted found = do
   stood ← Done (standing meaning found)
   after_standing s image a accepted stood
 
 -- the whole pull
-unfoldable pub verified : {V : Type 0} {H : V → Type 0} → Meaning V H → Context → Reference → RegistryAuth → List (List ℕ) → Whole VerifiedImage
+unfoldable pub verified : {V : Type 0} {H : V → Type 0} → Meaning V H → Context → Reference → RegistryAuth
+    → List (List ℕ) → Whole VerifiedImage
 verified meaning s image a accepted = do
   Done (constrained (is_unconstrained meaning.policy))
   Done (readable image)

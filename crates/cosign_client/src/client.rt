@@ -9,14 +9,15 @@ ghost use Rattle.cosign_chain.specs.Links.{Links};
 ghost use Rattle.cosign_layers.specs.Standing.{meaning};
 ghost use Rattle.sig_registry.specs.Conversions.{registry_auth};
 ghost use Rattle.sig_registry.specs.Direct.{reference_in};
-ghost use Rattle.sig_registry.specs.Errors.{is_memory as of_memory, FaultCounted as SearchFaultCounted, NoSinkFault as NoSinkInSearch};
+ghost use Rattle.sig_registry.specs.Errors.{is_memory as of_memory};
+ghost use Rattle.sig_registry.specs.Errors.{FaultCounted as SearchFaultCounted, NoSinkFault as NoSinkInSearch};
 ghost use Rattle.cosign_client.specs.Causes.{PullCause, SearchCause};
 ghost use Rattle.cosign_client.specs.DigestStep.{BeginsWithDigest, IsRefusedAs, unchanged};
+ghost use Rattle.cosign_client.specs.Points.{point_of};
 ghost use Rattle.cosign_client.specs.Refusal.{is_memory, refused_as, FaultCounted, NoSinkFault};
 ghost use Rattle.cosign_client.specs.Search.{searched};
 ghost use Rattle.cosign_client.specs.Skips.{CountsFaults, HoldsNoMemoryNorSink, OnSkipped};
 ghost use Rattle.cosign_client.specs.Sound.{Backed};
-ghost use Rattle.cosign_client.specs.Terms.{without_logs};
 ghost use Rattle.cosign_client.specs.Verified.{is_unconstrained, verified};
 
 use crate::found::TrustedLayers;
@@ -35,16 +36,18 @@ use std::alloc::Global;
 #[derive(Drop)]
 pub struct Client {
     pub registry_client: OciClient,
+    /// The keys of transparency logs by their ids.
+    pub rekor_pub_keys: LogKeys,
 }
 
 impl Client {
-    ghost use Rattle.cosign_client.specs.State.{client_state};
+    ghost use Rattle.cosign_client.specs.State.{client_state, trusts};
 
     /// The digest of an image, the signature layers that stand in its repository, and why others do not. `moment` is in
-    /// seconds since 1970. No log is known, so that a layer with a certificate has no log entry.
+    /// seconds since 1970. Where no log's key is known, a layer has no log entry.
     ///
-    /// The call is refused where the digest is not answered (`RegistryFetchManifestError`) or the reference by it does not
-    /// read back (`OciReferenceNotValidError`). Whatever else is refused is a cause in `skipped`.
+    /// The call is refused where the digest is not answered (`RegistryFetchManifestError`) or the reference by it does
+    /// not read back (`OciReferenceNotValidError`). Whatever else is refused is a cause in `skipped`.
     pub fn trusted_signature_layers<T: Transport, V: SignatureVerifier, O: Offline>(
         &mut self,
         alloc: Global,
@@ -56,19 +59,24 @@ impl Client {
         judge: &O,
     ) -> Result<TrustedLayers, SigstoreError>
         ensures run { Meets of_memory
-            (searched (without_logs (V.valid verifier.now) (O.vouched judge.now))
+            (searched (trusts (V.valid verifier.now) (O.vouched judge.now) self.old)
             (within (client_state self.old).settings moment) (reference_in source_image.now)
             (registry_auth auth.now))
             (T.state transport.old) (T.state transport.new)
             (client_state self.old).kept (client_state self.new).kept result }
         ensures settings { (client_state self.new).settings ≡ (client_state self.old).settings }
+        ensures keys { self.new.rekor_pub_keys ≡ self.old.rekor_pub_keys }
         ensures digest { UnlessMemory of_memory (λ r. Told
             (λ c. BeginsWithDigest unchanged (within (client_state self.old).settings moment)
-            (reference_in source_image.now) (registry_auth auth.now) c r)
+            (reference_in source_image.now) (registry_auth auth.now)
+            (point_of (client_state self.old) (T.state transport.old)) c
+            (point_of (client_state self.new) (T.state transport.new)) r)
             (T.state transport.old) (T.state transport.new)) result }
         ensures causes { IfErr result (λ e. Told
             (λ c. SearchCause (within (client_state self.old).settings moment)
-            (reference_in source_image.now) (registry_auth auth.now) c e)
+            (reference_in source_image.now) (registry_auth auth.now)
+            (point_of (client_state self.old) (T.state transport.old)) c
+            (point_of (client_state self.new) (T.state transport.new)) e)
             (T.state transport.old) (T.state transport.new)) }
         ensures fault { SearchFaultCounted (T.state transport.old) (T.state transport.new) result }
         ensures no_sink { NoSinkInSearch result }
@@ -77,14 +85,13 @@ impl Client {
             (T.state transport.old).faults (T.state transport.new).faults found.skipped) }
     {
         let auth = auth.to_registry(alloc)?;
-        let log_keys = LogKeys::new(alloc);
         let asked = Asked {
             moment,
             image: source_image.reference(),
             auth: &auth,
         };
         let trusted = Trusted {
-            log_keys: &log_keys,
+            log_keys: &self.rekor_pub_keys,
             verifier,
             judge,
         };
@@ -97,12 +104,12 @@ impl Client {
         )
     }
 
-    /// Pulls an image only where a trusted signature stands for it. `moment` is in seconds since 1970. No log is known, so
-    /// that a layer with a certificate has no log entry.
+    /// Pulls an image only where a trusted signature stands for it. `moment` is in seconds since 1970. Where no log's
+    /// key is known, a layer has no log entry.
     ///
-    /// The answer is a chain that checks by itself: it starts at the digest that was answered for the image, which names
-    /// the manifest, whose digests name the configuration and the layers, and one signature layer stands for the digest
-    /// under the policy. See `PullRefusal` for when the call is refused.
+    /// The answer is a chain that checks by itself: it starts at the digest that was answered for the image, which
+    /// names the manifest, whose digests name the configuration and the layers, and one signature layer stands for the
+    /// digest under the policy. See `PullRefusal` for when the call is refused.
     pub fn verified_pull<'a, T: Transport, V: SignatureVerifier, O: Offline>(
         &mut self,
         alloc: Global,
@@ -117,12 +124,13 @@ impl Client {
     ) -> Result<VerifiedImage, PullRefusal>
         ensures run { Meets is_memory
             (verified (meaning policy.now (λ b. accepts (b.vtable, b.value))
-            (without_logs (V.valid verifier.now) (O.vouched judge.now)))
+            (trusts (V.valid verifier.now) (O.vouched judge.now) self.old))
             (within (client_state self.old).settings moment) (reference_in image.now)
             (registry_auth auth.now) accepted_media_types.now)
             (T.state transport.old) (T.state transport.new)
             (client_state self.old).kept (client_state self.new).kept result }
         ensures settings { (client_state self.new).settings ≡ (client_state self.old).settings }
+        ensures keys { self.new.rekor_pub_keys ≡ self.old.rekor_pub_keys }
         ensures unconstrained { IsTrue (is_unconstrained policy.now) →
             (result ≡ Err PullRefusal.EmptyPolicy) × (T.state transport.new ≡ T.state transport.old) }
         ensures unread { is_unconstrained policy.now ≡ false → reads_back (reference_in image.now) ≡ false →
@@ -131,17 +139,21 @@ impl Client {
         ensures digest { is_unconstrained policy.now ≡ false → reads_back (reference_in image.now) ≡ true →
             UnlessMemory is_memory (λ r. Told
             (λ c. BeginsWithDigest refused_as (within (client_state self.old).settings moment)
-            (reference_in image.now) (registry_auth auth.now) c r)
+            (reference_in image.now) (registry_auth auth.now)
+            (point_of (client_state self.old) (T.state transport.old)) c
+            (point_of (client_state self.new) (T.state transport.new)) r)
             (T.state transport.old) (T.state transport.new)) result }
         ensures chain { IfOk result (λ v. Chain
             (meaning policy.now (λ b. accepts (b.vtable, b.value))
-            (without_logs (V.valid verifier.now) (O.vouched judge.now)))
+            (trusts (V.valid verifier.now) (O.vouched judge.now) self.old))
             (reference_in image.now) accepted_media_types.now v) }
         ensures causes { IfErr result (λ e. Told
             (λ c. PullCause (meaning policy.now (λ b. accepts (b.vtable, b.value))
-            (without_logs (V.valid verifier.now) (O.vouched judge.now)))
+            (trusts (V.valid verifier.now) (O.vouched judge.now) self.old))
             (within (client_state self.old).settings moment) (reference_in image.now)
-            (registry_auth auth.now) accepted_media_types.now c e)
+            (registry_auth auth.now) accepted_media_types.now
+            (point_of (client_state self.old) (T.state transport.old)) c
+            (point_of (client_state self.new) (T.state transport.new)) e)
             (T.state transport.old) (T.state transport.new)) }
         ensures backed { IfOk result (λ v. Told
             (λ c. Backed (client_state self.old).settings (reference_in image.now) c v)
@@ -153,12 +165,11 @@ impl Client {
         ensures faults { IfErr result (λ e. OnSkipped
             (CountsFaults (T.state transport.old).faults (T.state transport.new).faults) e) }
     {
-        let log_keys = LogKeys::new(alloc);
         let terms = Terms {
             accepted: accepted_media_types,
             policy,
             trusted: Trusted {
-                log_keys: &log_keys,
+                log_keys: &self.rekor_pub_keys,
                 verifier,
                 judge,
             },

@@ -1,7 +1,8 @@
 //! What a search for signatures found, and why it found no more.
 use cosign_layers::{LayerRejection, SignatureLayer};
-use json_values::{List, Text};
+use json_values::{Copied, List, Text, copied, copy_all, row};
 use sig_registry::SigstoreError;
+use std::alloc::{AllocError, Global};
 
 /// Where signatures are looked for.
 #[derive(Clone, Copy, Debug, PartialEq, Eq)]
@@ -13,7 +14,7 @@ pub enum SourceKind {
 }
 
 /// Why a source or a referrer gave nothing.
-#[derive(Drop)]
+#[derive(Debug, Drop)]
 pub enum SkipCause {
     /// The reference that would be asked for does not read back. It holds the reference's text.
     NotAReference(Text),
@@ -24,7 +25,7 @@ pub enum SkipCause {
 }
 
 /// What gave no signature layer, and why.
-#[derive(Drop)]
+#[derive(Debug, Drop)]
 pub enum Skipped {
     Source(SourceKind, SkipCause),
     /// A referrer, by its digest.
@@ -47,4 +48,50 @@ pub struct TrustedLayers {
 pub(crate) struct Part {
     pub collected: List<SignatureLayer>,
     pub skipped: List<Skipped>,
+}
+
+impl Copied for SourceKind {
+    fn copy(&self, _alloc: Global) -> Result<SourceKind, AllocError> {
+        Ok(*self)
+    }
+}
+
+impl Copied for SkipCause {
+    fn copy(&self, alloc: Global) -> Result<SkipCause, AllocError> {
+        Ok(match self {
+            SkipCause::NotAReference(text) => SkipCause::NotAReference(text.copy(alloc)?),
+            SkipCause::FoundIndex => SkipCause::FoundIndex,
+            SkipCause::Refused(error) => SkipCause::Refused(error.copy(alloc)?),
+        })
+    }
+}
+
+impl Copied for Skipped {
+    fn copy(&self, alloc: Global) -> Result<Skipped, AllocError> {
+        Ok(match self {
+            Skipped::Source(kind, cause) => Skipped::Source(*kind, cause.copy(alloc)?),
+            Skipped::Referrer(digest, cause) => {
+                let row!(digest, cause) = copy_all(alloc, row!(digest, cause))?;
+                Skipped::Referrer(digest, cause)
+            }
+            Skipped::Layer(kind, digest, cause) => {
+                let row!(digest, cause) = copy_all(alloc, row!(digest, cause))?;
+                Skipped::Layer(*kind, digest, cause)
+            }
+        })
+    }
+}
+
+impl Copied for TrustedLayers {
+    fn copy(&self, alloc: Global) -> Result<TrustedLayers, AllocError> {
+        copied!(
+            alloc,
+            self,
+            TrustedLayers {
+                digest,
+                collected,
+                skipped
+            }
+        )
+    }
 }

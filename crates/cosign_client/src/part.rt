@@ -1,11 +1,13 @@
 //! What a source of signatures gives.
-ghost use Rattle.std.specs.Prelude.{◌≡◌, IfOk, map, option_copied};
+ghost use Rattle.std.specs.Prelude.{◌≡◌, false, All, IfOk, map, option_copied};
 ghost use Rattle.std.specs.List.{position};
 ghost use Rattle.cosign_layers.specs.Checks.{input, layer_read};
 ghost use Rattle.cosign_layers.specs.Trust.{trust_of};
 ghost use Rattle.cosign_layers.specs.declared.layer.LayerKind.TheVariants as kinds;
 ghost use Rattle.cosign_layers.specs.Rejection.{Says as SaysLayer};
-ghost use Rattle.cosign_client.specs.Part.{appended, descriptors_part, is_among, layer_digests, layer_part, named_layer, read_layer, skipping};
+ghost use Rattle.cosign_client.specs.Part.{appended, descriptors_part, layer_part, named_layer, read_layer, skipping};
+ghost use Rattle.cosign_client.specs.LayerTexts.{is_among, is_text, layer_digests, text_by};
+ghost use Rattle.cosign_client.specs.LayerTexts.{BeginsOtherwise, Serves, Tell};
 ghost use Rattle.cosign_client.specs.declared.found.SourceKind.TheVariants.{Tag};
 
 use crate::found::{Part, Skipped, SourceKind};
@@ -17,12 +19,21 @@ use oci_digests::{Algorithm, digest_text};
 use oci_manifests::{ImageLayer, OciDescriptor};
 use std::alloc::{AllocError, Global};
 
-/// The digest texts of a pulled layer, so that it is hashed once, however many descriptors there are.
+/// Which algorithms the digests of descriptors begin with.
+#[derive(Clone, Copy)]
+pub(crate) struct Used {
+    pub sha256: bool,
+    pub sha384: bool,
+    pub sha512: bool,
+}
+
+/// The digest texts of a pulled layer by each algorithm that is used, so that it is hashed once by each of them,
+/// however many descriptors there are.
 #[derive(Drop)]
 pub(crate) struct LayerDigests {
-    pub sha256: Text,
-    pub sha384: Text,
-    pub sha512: Text,
+    pub sha256: Option<Text>,
+    pub sha384: Option<Text>,
+    pub sha512: Option<Text>,
 }
 
 /// A part that is one cause.
@@ -49,7 +60,7 @@ pub(crate) fn descriptors_part<V: SignatureVerifier, O: Offline>(
     ensures { IfOk result (λ part. part ≡ descriptors_part (trust_of V.valid O.vouched trusted.now)
         digest.now layers.now descriptors.now) }
 {
-    let digests = all_digests(alloc, layers)?;
+    let digests = all_digests(alloc, layers, descriptors)?;
     let mut part = Part {
         collected: List::new(alloc),
         skipped: List::new(alloc),
@@ -61,25 +72,71 @@ pub(crate) fn descriptors_part<V: SignatureVerifier, O: Offline>(
     Ok(part)
 }
 
-// The digest texts of each layer.
-#[tactic(auto, using(crate::proofs::Descriptors::digests_next, crate::proofs::Descriptors::digests_end))]
-fn all_digests(alloc: Global, layers: &[ImageLayer]) -> Result<List<LayerDigests>, AllocError>
-    ensures { IfOk result (λ all. all ≡ map layer_digests layers.now) }
+// Digest texts of each layer, which tell for each descriptor which layer it names.
+#[tactic(auto, using(crate::proofs::LayerTexts::all_tell))]
+fn all_digests(
+    alloc: Global,
+    layers: &[ImageLayer],
+    descriptors: &[OciDescriptor],
+) -> Result<List<LayerDigests>, AllocError>
+    ensures { IfOk result (λ all. All (λ x. Tell all layers.now x.digest) descriptors.now) }
+{
+    let used = used_algorithms(descriptors);
+    let all = used_digests(alloc, used, layers)?;
+    Ok(all)
+}
+
+#[tactic(auto, using(crate::proofs::LayerTexts::all_served))]
+fn used_algorithms(descriptors: &[OciDescriptor]) -> Used
+    ensures { All (λ x. Serves result x.digest) descriptors.now }
+{
+    Used {
+        sha256: is_used("sha256:", descriptors),
+        sha384: is_used("sha384:", descriptors),
+        sha512: is_used("sha512:", descriptors),
+    }
+}
+
+// Whether the digest of a descriptor begins so.
+#[tactic(auto, using(crate::proofs::LayerTexts::none_begins))]
+fn is_used(name: &str, descriptors: &[OciDescriptor]) -> bool
+    ensures { result ≡ false → All (λ x. BeginsOtherwise name.now x.digest) descriptors.now }
+{
+    for descriptor in descriptors {
+        if begins(name, descriptor.digest.as_str()) {
+            return true;
+        }
+    }
+    false
+}
+
+fn begins(name: &str, digest: &str) -> bool
+    ensures { result ≡ false → BeginsOtherwise name.now digest.now }
+{
+    digest.starts_with(name)
+}
+
+#[tactic(auto, using(crate::proofs::LayerTexts::digests_next, crate::proofs::LayerTexts::digests_end))]
+fn used_digests(
+    alloc: Global,
+    used: Used,
+    layers: &[ImageLayer],
+) -> Result<List<LayerDigests>, AllocError>
+    ensures { IfOk result (λ all. all ≡ map (layer_digests used) layers.now) }
 {
     let mut all = List::new(alloc);
     for layer in layers {
-        all.push(layer_digests(alloc, layer)?)?;
+        all.push(layer_digests(alloc, used, layer)?)?;
     }
     Ok(all)
 }
 
-fn layer_digests(alloc: Global, layer: &ImageLayer) -> Result<LayerDigests, AllocError>
-    ensures { IfOk result (λ own. own ≡ layer_digests layer.now) }
+fn layer_digests(alloc: Global, used: Used, layer: &ImageLayer) -> Result<LayerDigests, AllocError>
+    ensures { IfOk result (λ own. own ≡ layer_digests used layer.now) }
 {
-    let content = layer.content.as_slice();
-    let sha256 = digest_text(alloc, Algorithm::Sha256, content)?;
-    let sha384 = digest_text(alloc, Algorithm::Sha384, content)?;
-    let sha512 = digest_text(alloc, Algorithm::Sha512, content)?;
+    let sha256 = text_by(alloc, Algorithm::Sha256, used.sha256, layer)?;
+    let sha384 = text_by(alloc, Algorithm::Sha384, used.sha384, layer)?;
+    let sha512 = text_by(alloc, Algorithm::Sha512, used.sha512, layer)?;
     Ok(LayerDigests {
         sha256,
         sha384,
@@ -87,14 +144,29 @@ fn layer_digests(alloc: Global, layer: &ImageLayer) -> Result<LayerDigests, Allo
     })
 }
 
+fn text_by(
+    alloc: Global,
+    algorithm: Algorithm,
+    is_used: bool,
+    layer: &ImageLayer,
+) -> Result<Option<Text>, AllocError>
+    ensures { IfOk result (λ text. text ≡ text_by algorithm is_used layer.now) }
+{
+    if !is_used {
+        return Ok(None);
+    }
+    let text = digest_text(alloc, algorithm, layer.content.as_slice())?;
+    Ok(Some(text))
+}
+
 // The first layer that the digest names, by the layers' digest texts.
-#[tactic(auto, using(crate::proofs::First::named_nowhere))]
+#[tactic(auto, using(crate::proofs::LayerTexts::named_nowhere))]
 fn named_layer<'a>(
     digest: &str,
     digests: &[LayerDigests],
     layers: &'a [ImageLayer],
 ) -> Option<&'a ImageLayer>
-    requires { digests.now ≡ map layer_digests layers.now }
+    requires { Tell digests.now layers.now digest.now }
     ensures { option_copied result ≡ named_layer digest.now layers.now }
 {
     let Some(place) = place_among(digest, digests) else {
@@ -122,7 +194,16 @@ fn place_among(digest: &str, digests: &[LayerDigests]) -> Option<usize>
 fn is_among(own: &LayerDigests, digest: &str) -> bool
     ensures { result ≡ is_among digest.now own.now }
 {
-    digest == own.sha256.as_str() || digest == own.sha384.as_str() || digest == own.sha512.as_str()
+    is_text(&own.sha256, digest) || is_text(&own.sha384, digest) || is_text(&own.sha512, digest)
+}
+
+fn is_text(own: &Option<Text>, digest: &str) -> bool
+    ensures { result ≡ is_text digest.now own.now }
+{
+    match own {
+        Some(own) => digest == own.as_str(),
+        None => false,
+    }
 }
 
 // A descriptor's layer, or why there is none, behind what is there.

@@ -100,7 +100,8 @@ fn pull_layers<C: ClientCapabilities, T: Transport>(
     Ok(layers)
 }
 
-/// The document of the source's digest, which is a manifest, and its blobs. `asked` has the reference that was asked for.
+/// The document of the source's digest, which is a manifest, and its blobs. `asked` has the reference that was asked
+/// for.
 pub(crate) fn pull_image<C: ClientCapabilities, T: Transport>(
     alloc: Global,
     client: &mut C,

@@ -1,7 +1,8 @@
 //! The references that the search and the pull ask for, in the image's repository.
 ghost use Rattle.std.specs.Prelude.{◌≡◌, IfOk, string_bytes};
 ghost use Rattle.sig_registry.specs.Errors.{Says};
-ghost use Rattle.cosign_client.specs.References.{with_dashes, signature_tag, tag_reference, digest_reference, reading_back};
+ghost use Rattle.cosign_client.specs.References.{with_dashes, signature_tag, tag_reference};
+ghost use Rattle.cosign_client.specs.References.{digest_reference, reading_back};
 
 use json_values::Text;
 use oci_names::Reference;

@@ -8,7 +8,8 @@ ghost use Rattle.sig_registry.specs.Conversions.{registry_auth};
 ghost use Rattle.cosign_layers.specs.Standing.{stands};
 ghost use Rattle.cosign_client.specs.Refusal.{is_memory, Says};
 ghost use Rattle.cosign_client.specs.Terms.{meaning_of};
-ghost use Rattle.cosign_client.specs.Verified.{after_search, after_standing, constrained, is_unconstrained, readable, standing_by, verified, verified_image};
+ghost use Rattle.cosign_client.specs.Verified.{after_search, after_standing, constrained, is_unconstrained};
+ghost use Rattle.cosign_client.specs.Verified.{readable, standing_by, verified, verified_image};
 
 use crate::found::TrustedLayers;
 use crate::pull::{Pulled, pull_image};

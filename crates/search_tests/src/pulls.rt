@@ -1,7 +1,7 @@
 // The search for signatures, and the verified pull.
 use cosign_client::{Client, PullRefusal, VerifiedImage, check_links};
 use cosign_layers::{
-    AnnotationVerifier, Constraint, NoCertificates, PullPolicy, SignedRow, TableVerifier,
+    AnnotationVerifier, Constraint, LogKeys, NoCertificates, PullPolicy, SignedRow, TableVerifier,
 };
 use json_values::{Annotations, Blob, List, Text};
 use oci_engine::ClientConfig;
@@ -93,6 +93,7 @@ fn client(alloc: Global) -> Result<Client, AllocError> {
     let engine = oci_engine::Client::new(alloc, config);
     Ok(Client {
         registry_client: OciClient::new(engine),
+        rekor_pub_keys: LogKeys::new(alloc),
     })
 }
 

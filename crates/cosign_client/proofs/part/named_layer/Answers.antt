@@ -1,6 +1,6 @@
 use Rattle.std.proofs.Common.{length, refl, sym, ◌∙◌}
 use Rattle.std.proofs.lemmas.Option.{slice_get_read}
-use Rattle.cosign_client.proofs.First.{named_there}
+use Rattle.cosign_client.proofs.LayerTexts.{named_there}
 use Rattle.cosign_client.proofs.part.named_layer.Goals as goal
 
 pub returns : goal.returns

@@ -1,5 +1,5 @@
 use Rattle.std.proofs.Common.{◌≡◌, ℕ, ◌<◌, false, get_or}
-use Rattle.cosign_client.specs.Part.{is_among}
+use Rattle.cosign_client.specs.LayerTexts.{is_among}
 use Rattle.cosign_client.proofs.part.place_among.Given as goal
 
 -- none so far

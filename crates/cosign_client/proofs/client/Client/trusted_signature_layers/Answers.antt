@@ -1,7 +1,6 @@
 use Rattle.std.proofs.Common.{refl}
 use Rattle.engine_requests.specs.Contexts.{within}
-use Rattle.cosign_client.specs.State.{client_state}
-use Rattle.cosign_client.specs.Terms.{without_logs}
+use Rattle.cosign_client.specs.State.{client_state, trusts}
 use Rattle.cosign_client.proofs.Exits.{meets_wanting}
 use Rattle.sig_registry.specs.Conversions.{registry_auth}
 use Rattle.sig_registry.specs.Direct.{reference_in}
@@ -15,43 +14,43 @@ pub returns-in_err-auth-clause-run : goal.returns-in_err-auth-clause-run
 returns-in_err-auth-clause-run g c = meets_wanting _ refl c.from_residual.ensures.1
 
 pub returns-clause-run : goal.returns-clause-run
-returns-clause-run g c = rw (c.reference.ensures.inner, c.in_ok-auth.ensures, c.new.ensures) at ((c.search.ensures (client_state c.args.self.now).settings).made refl).1
+returns-clause-run g c = rw (c.reference.ensures.inner, c.in_ok-auth.ensures) at ((c.search.ensures (client_state c.args.self.now).settings).made refl).1
 
 pub returns-clause-settings : goal.returns-clause-settings
 returns-clause-settings g c = ((c.search.ensures (client_state c.args.self.now).settings).made refl).0
 
 pub returns-in_err-auth-clause-causes : goal.returns-in_err-auth-clause-causes
-returns-in_err-auth-clause-causes g c = search_cause (without_logs (g.V.SignatureVerifier.valid c.args.verifier.now) (g.O.Offline.vouched c.args.judge.now)) (within (client_state c.args.self.now).settings c.args.moment) (reference_in c.args.source_image.now) (registry_auth c.args.auth.now) c.from_residual.result (meets_wanting {k = (client_state c.args.self.now).kept} _ refl c.from_residual.ensures.1)
+returns-in_err-auth-clause-causes g c = search_cause (trusts (g.V.SignatureVerifier.valid c.args.verifier.now) (g.O.Offline.vouched c.args.judge.now) c.args.self.now) (within (client_state c.args.self.now).settings c.args.moment) (reference_in c.args.source_image.now) (registry_auth c.args.auth.now) c.from_residual.result (meets_wanting {k = (client_state c.args.self.now).kept} _ refl c.from_residual.ensures.1)
 
 pub returns-clause-causes : goal.returns-clause-causes
-returns-clause-causes g c = search_cause (without_logs (g.V.SignatureVerifier.valid c.args.verifier.now) (g.O.Offline.vouched c.args.judge.now)) _ _ (registry_auth c.args.auth.now) c.search.result (rw (c.reference.ensures.inner, c.in_ok-auth.ensures, c.new.ensures) at ((c.search.ensures (client_state c.args.self.now).settings).made refl).1)
+returns-clause-causes g c = search_cause (trusts (g.V.SignatureVerifier.valid c.args.verifier.now) (g.O.Offline.vouched c.args.judge.now) c.args.self.now) _ _ (registry_auth c.args.auth.now) c.search.result (rw (c.reference.ensures.inner, c.in_ok-auth.ensures) at ((c.search.ensures (client_state c.args.self.now).settings).made refl).1)
 
 pub returns-in_err-auth-clause-digest : goal.returns-in_err-auth-clause-digest
-returns-in_err-auth-clause-digest g c = search_decided (without_logs (g.V.SignatureVerifier.valid c.args.verifier.now) (g.O.Offline.vouched c.args.judge.now)) (within (client_state c.args.self.now).settings c.args.moment) (reference_in c.args.source_image.now) (registry_auth c.args.auth.now) c.from_residual.result (meets_wanting {k = (client_state c.args.self.now).kept} _ refl c.from_residual.ensures.1)
+returns-in_err-auth-clause-digest g c = search_decided (trusts (g.V.SignatureVerifier.valid c.args.verifier.now) (g.O.Offline.vouched c.args.judge.now) c.args.self.now) (within (client_state c.args.self.now).settings c.args.moment) (reference_in c.args.source_image.now) (registry_auth c.args.auth.now) c.from_residual.result (meets_wanting {k = (client_state c.args.self.now).kept} _ refl c.from_residual.ensures.1)
 
 pub returns-clause-digest : goal.returns-clause-digest
-returns-clause-digest g c = search_decided (without_logs (g.V.SignatureVerifier.valid c.args.verifier.now) (g.O.Offline.vouched c.args.judge.now)) _ _ (registry_auth c.args.auth.now) c.search.result (rw (c.reference.ensures.inner, c.in_ok-auth.ensures, c.new.ensures) at ((c.search.ensures (client_state c.args.self.now).settings).made refl).1)
+returns-clause-digest g c = search_decided (trusts (g.V.SignatureVerifier.valid c.args.verifier.now) (g.O.Offline.vouched c.args.judge.now) c.args.self.now) _ _ (registry_auth c.args.auth.now) c.search.result (rw (c.reference.ensures.inner, c.in_ok-auth.ensures) at ((c.search.ensures (client_state c.args.self.now).settings).made refl).1)
 
 pub returns-in_err-auth-clause-no_memory : goal.returns-in_err-auth-clause-no_memory
-returns-in_err-auth-clause-no_memory g c = search_no_memory (without_logs (g.V.SignatureVerifier.valid c.args.verifier.now) (g.O.Offline.vouched c.args.judge.now)) (within (client_state c.args.self.now).settings c.args.moment) (reference_in c.args.source_image.now) (registry_auth c.args.auth.now) c.from_residual.result (meets_wanting {k = (client_state c.args.self.now).kept} {link = g.T.Transport.state c.args.transport.now} _ refl c.from_residual.ensures.1)
+returns-in_err-auth-clause-no_memory g c = search_no_memory (trusts (g.V.SignatureVerifier.valid c.args.verifier.now) (g.O.Offline.vouched c.args.judge.now) c.args.self.now) (within (client_state c.args.self.now).settings c.args.moment) (reference_in c.args.source_image.now) (registry_auth c.args.auth.now) c.from_residual.result (meets_wanting {k = (client_state c.args.self.now).kept} {link = g.T.Transport.state c.args.transport.now} _ refl c.from_residual.ensures.1)
 
 pub returns-in_err-auth-clause-faults : goal.returns-in_err-auth-clause-faults
-returns-in_err-auth-clause-faults g c = search_faults (without_logs (g.V.SignatureVerifier.valid c.args.verifier.now) (g.O.Offline.vouched c.args.judge.now)) (within (client_state c.args.self.now).settings c.args.moment) (reference_in c.args.source_image.now) (registry_auth c.args.auth.now) {old = g.T.Transport.state c.args.transport.now} {new = g.T.Transport.state c.args.transport.now} c.from_residual.result (meets_wanting {k = (client_state c.args.self.now).kept} {link = g.T.Transport.state c.args.transport.now} _ refl c.from_residual.ensures.1)
+returns-in_err-auth-clause-faults g c = search_faults (trusts (g.V.SignatureVerifier.valid c.args.verifier.now) (g.O.Offline.vouched c.args.judge.now) c.args.self.now) (within (client_state c.args.self.now).settings c.args.moment) (reference_in c.args.source_image.now) (registry_auth c.args.auth.now) {old = g.T.Transport.state c.args.transport.now} {new = g.T.Transport.state c.args.transport.now} c.from_residual.result (meets_wanting {k = (client_state c.args.self.now).kept} {link = g.T.Transport.state c.args.transport.now} _ refl c.from_residual.ensures.1)
 
 pub returns-clause-no_memory : goal.returns-clause-no_memory
-returns-clause-no_memory g c = search_no_memory (without_logs (g.V.SignatureVerifier.valid c.args.verifier.now) (g.O.Offline.vouched c.args.judge.now)) _ _ (registry_auth c.args.auth.now) c.search.result (rw (c.reference.ensures.inner, c.in_ok-auth.ensures, c.new.ensures) at ((c.search.ensures (client_state c.args.self.now).settings).made refl).1)
+returns-clause-no_memory g c = search_no_memory (trusts (g.V.SignatureVerifier.valid c.args.verifier.now) (g.O.Offline.vouched c.args.judge.now) c.args.self.now) _ _ (registry_auth c.args.auth.now) c.search.result (rw (c.reference.ensures.inner, c.in_ok-auth.ensures) at ((c.search.ensures (client_state c.args.self.now).settings).made refl).1)
 
 pub returns-clause-faults : goal.returns-clause-faults
-returns-clause-faults g c = search_faults (without_logs (g.V.SignatureVerifier.valid c.args.verifier.now) (g.O.Offline.vouched c.args.judge.now)) _ _ (registry_auth c.args.auth.now) c.search.result (rw (c.reference.ensures.inner, c.in_ok-auth.ensures, c.new.ensures) at ((c.search.ensures (client_state c.args.self.now).settings).made refl).1)
+returns-clause-faults g c = search_faults (trusts (g.V.SignatureVerifier.valid c.args.verifier.now) (g.O.Offline.vouched c.args.judge.now) c.args.self.now) _ _ (registry_auth c.args.auth.now) c.search.result (rw (c.reference.ensures.inner, c.in_ok-auth.ensures) at ((c.search.ensures (client_state c.args.self.now).settings).made refl).1)
 
 pub returns-in_err-auth-clause-fault : goal.returns-in_err-auth-clause-fault
-returns-in_err-auth-clause-fault g c = search_fault (without_logs (g.V.SignatureVerifier.valid c.args.verifier.now) (g.O.Offline.vouched c.args.judge.now)) (within (client_state c.args.self.now).settings c.args.moment) (reference_in c.args.source_image.now) (registry_auth c.args.auth.now) {old = g.T.Transport.state c.args.transport.now} {new = g.T.Transport.state c.args.transport.now} c.from_residual.result (meets_wanting {k = (client_state c.args.self.now).kept} {link = g.T.Transport.state c.args.transport.now} _ refl c.from_residual.ensures.1)
+returns-in_err-auth-clause-fault g c = search_fault (trusts (g.V.SignatureVerifier.valid c.args.verifier.now) (g.O.Offline.vouched c.args.judge.now) c.args.self.now) (within (client_state c.args.self.now).settings c.args.moment) (reference_in c.args.source_image.now) (registry_auth c.args.auth.now) {old = g.T.Transport.state c.args.transport.now} {new = g.T.Transport.state c.args.transport.now} c.from_residual.result (meets_wanting {k = (client_state c.args.self.now).kept} {link = g.T.Transport.state c.args.transport.now} _ refl c.from_residual.ensures.1)
 
 pub returns-clause-fault : goal.returns-clause-fault
-returns-clause-fault g c = search_fault (without_logs (g.V.SignatureVerifier.valid c.args.verifier.now) (g.O.Offline.vouched c.args.judge.now)) _ _ (registry_auth c.args.auth.now) c.search.result (rw (c.reference.ensures.inner, c.in_ok-auth.ensures, c.new.ensures) at ((c.search.ensures (client_state c.args.self.now).settings).made refl).1)
+returns-clause-fault g c = search_fault (trusts (g.V.SignatureVerifier.valid c.args.verifier.now) (g.O.Offline.vouched c.args.judge.now) c.args.self.now) _ _ (registry_auth c.args.auth.now) c.search.result (rw (c.reference.ensures.inner, c.in_ok-auth.ensures) at ((c.search.ensures (client_state c.args.self.now).settings).made refl).1)
 
 pub returns-in_err-auth-clause-no_sink : goal.returns-in_err-auth-clause-no_sink
-returns-in_err-auth-clause-no_sink g c = search_no_sink (without_logs (g.V.SignatureVerifier.valid c.args.verifier.now) (g.O.Offline.vouched c.args.judge.now)) (within (client_state c.args.self.now).settings c.args.moment) (reference_in c.args.source_image.now) (registry_auth c.args.auth.now) {old = g.T.Transport.state c.args.transport.now} {new = g.T.Transport.state c.args.transport.now} c.from_residual.result (meets_wanting {k = (client_state c.args.self.now).kept} {link = g.T.Transport.state c.args.transport.now} _ refl c.from_residual.ensures.1)
+returns-in_err-auth-clause-no_sink g c = search_no_sink (trusts (g.V.SignatureVerifier.valid c.args.verifier.now) (g.O.Offline.vouched c.args.judge.now) c.args.self.now) (within (client_state c.args.self.now).settings c.args.moment) (reference_in c.args.source_image.now) (registry_auth c.args.auth.now) {old = g.T.Transport.state c.args.transport.now} {new = g.T.Transport.state c.args.transport.now} c.from_residual.result (meets_wanting {k = (client_state c.args.self.now).kept} {link = g.T.Transport.state c.args.transport.now} _ refl c.from_residual.ensures.1)
 
 pub returns-clause-no_sink : goal.returns-clause-no_sink
-returns-clause-no_sink g c = search_no_sink (without_logs (g.V.SignatureVerifier.valid c.args.verifier.now) (g.O.Offline.vouched c.args.judge.now)) _ _ (registry_auth c.args.auth.now) c.search.result (rw (c.reference.ensures.inner, c.in_ok-auth.ensures, c.new.ensures) at ((c.search.ensures (client_state c.args.self.now).settings).made refl).1)
+returns-clause-no_sink g c = search_no_sink (trusts (g.V.SignatureVerifier.valid c.args.verifier.now) (g.O.Offline.vouched c.args.judge.now) c.args.self.now) _ _ (registry_auth c.args.auth.now) c.search.result (rw (c.reference.ensures.inner, c.in_ok-auth.ensures) at ((c.search.ensures (client_state c.args.self.now).settings).made refl).1)

@@ -3,8 +3,7 @@ use Rattle.engine_requests.specs.Contexts.{within}
 use Rattle.sig_registry.specs.Conversions.{registry_auth}
 use Rattle.sig_registry.specs.Direct.{reference_in}
 use Rattle.cosign_layers.specs.Standing.{Meaning, meaning}
-use Rattle.cosign_client.specs.State.{client_state}
-use Rattle.cosign_client.specs.Terms.{without_logs}
+use Rattle.cosign_client.specs.State.{client_state, trusts}
 use Rattle.cosign_client.proofs.Causes.{pull_cause}
 use Rattle.cosign_client.proofs.Chains.{chain_of, links_of, backed_of}
 use Rattle.cosign_client.proofs.DigestStep.{unread_refused, pull_decided}
@@ -13,7 +12,7 @@ use Rattle.cosign_client.proofs.Refusals.{pull_fault, pull_no_sink}
 use Rattle.cosign_client.proofs.client.Client.verified_pull.Goals as goal
 
 pub returns-clause-run : goal.returns-clause-run
-returns-clause-run g c = rw (c.reference.ensures.inner, c.new.ensures) at ((c.pull_verified.ensures.run (client_state c.args.self.now).settings).made refl).1
+returns-clause-run g c = rw c.reference.ensures.inner at ((c.pull_verified.ensures.run (client_state c.args.self.now).settings).made refl).1
 
 pub returns-clause-settings : goal.returns-clause-settings
 returns-clause-settings g c = ((c.pull_verified.ensures.run (client_state c.args.self.now).settings).made refl).0
@@ -22,10 +21,10 @@ pub returns-clause-unconstrained : goal.returns-clause-unconstrained
 returns-clause-unconstrained g c = c.pull_verified.ensures.unconstrained
 
 pub returns-clause-unread : goal.returns-clause-unread
-returns-clause-unread g c = λ some unread. (unread_refused (meaning c.args.policy.now (λ b. (goal.VerificationConstraint-dyn g (b.vtable, b.value)).accepts b.value) (without_logs (g.V.SignatureVerifier.valid c.args.verifier.now) (g.O.Offline.vouched c.args.judge.now))) (within (client_state c.args.self.now).settings c.args.moment) (reference_in c.args.image.now) (registry_auth c.args.auth.now) c.args.accepted_media_types.now some unread (returns-clause-run g c), (rw c.reference.ensures.inner at c.pull_verified.ensures.unread) unread)
+returns-clause-unread g c = λ some unread. (unread_refused (meaning c.args.policy.now (λ b. (goal.VerificationConstraint-dyn g (b.vtable, b.value)).accepts b.value) (trusts (g.V.SignatureVerifier.valid c.args.verifier.now) (g.O.Offline.vouched c.args.judge.now) c.args.self.now)) (within (client_state c.args.self.now).settings c.args.moment) (reference_in c.args.image.now) (registry_auth c.args.auth.now) c.args.accepted_media_types.now some unread (returns-clause-run g c), (rw c.reference.ensures.inner at c.pull_verified.ensures.unread) unread)
 
 pub returns-clause-digest : goal.returns-clause-digest
-returns-clause-digest g c = λ some reads. pull_decided (meaning c.args.policy.now (λ b. (goal.VerificationConstraint-dyn g (b.vtable, b.value)).accepts b.value) (without_logs (g.V.SignatureVerifier.valid c.args.verifier.now) (g.O.Offline.vouched c.args.judge.now))) (within (client_state c.args.self.now).settings c.args.moment) (reference_in c.args.image.now) (registry_auth c.args.auth.now) c.args.accepted_media_types.now c.pull_verified.result some reads (returns-clause-run g c)
+returns-clause-digest g c = λ some reads. pull_decided (meaning c.args.policy.now (λ b. (goal.VerificationConstraint-dyn g (b.vtable, b.value)).accepts b.value) (trusts (g.V.SignatureVerifier.valid c.args.verifier.now) (g.O.Offline.vouched c.args.judge.now) c.args.self.now)) (within (client_state c.args.self.now).settings c.args.moment) (reference_in c.args.image.now) (registry_auth c.args.auth.now) c.args.accepted_media_types.now c.pull_verified.result some reads (returns-clause-run g c)
 
 pub returns-clause-chain : goal.returns-clause-chain
 returns-clause-chain g c = chain_of _ _ _ (registry_auth c.args.auth.now) _ c.pull_verified.result (returns-clause-run g c)
@@ -34,19 +33,19 @@ pub returns-clause-causes : goal.returns-clause-causes
 returns-clause-causes g c = pull_cause _ _ _ (registry_auth c.args.auth.now) c.args.accepted_media_types.now c.pull_verified.result (returns-clause-run g c)
 
 pub returns-clause-backed : goal.returns-clause-backed
-returns-clause-backed g c = backed_of _ (meaning c.args.policy.now (λ b. (goal.VerificationConstraint-dyn g (b.vtable, b.value)).accepts b.value) (without_logs (g.V.SignatureVerifier.valid c.args.verifier.now) (g.O.Offline.vouched c.args.judge.now))) _ (registry_auth c.args.auth.now) c.args.accepted_media_types.now c.pull_verified.result (returns-clause-run g c)
+returns-clause-backed g c = backed_of _ (meaning c.args.policy.now (λ b. (goal.VerificationConstraint-dyn g (b.vtable, b.value)).accepts b.value) (trusts (g.V.SignatureVerifier.valid c.args.verifier.now) (g.O.Offline.vouched c.args.judge.now) c.args.self.now)) _ (registry_auth c.args.auth.now) c.args.accepted_media_types.now c.pull_verified.result (returns-clause-run g c)
 
 pub returns-clause-links : goal.returns-clause-links
-returns-clause-links g c = links_of _ (meaning c.args.policy.now (λ b. (goal.VerificationConstraint-dyn g (b.vtable, b.value)).accepts b.value) (without_logs (g.V.SignatureVerifier.valid c.args.verifier.now) (g.O.Offline.vouched c.args.judge.now))) _ (registry_auth c.args.auth.now) c.args.accepted_media_types.now c.pull_verified.result (returns-clause-run g c)
+returns-clause-links g c = links_of _ (meaning c.args.policy.now (λ b. (goal.VerificationConstraint-dyn g (b.vtable, b.value)).accepts b.value) (trusts (g.V.SignatureVerifier.valid c.args.verifier.now) (g.O.Offline.vouched c.args.judge.now) c.args.self.now)) _ (registry_auth c.args.auth.now) c.args.accepted_media_types.now c.pull_verified.result (returns-clause-run g c)
 
 pub returns-clause-no_memory : goal.returns-clause-no_memory
-returns-clause-no_memory g c = pull_no_memory (meaning c.args.policy.now (λ b. (goal.VerificationConstraint-dyn g (b.vtable, b.value)).accepts b.value) (without_logs (g.V.SignatureVerifier.valid c.args.verifier.now) (g.O.Offline.vouched c.args.judge.now))) _ _ (registry_auth c.args.auth.now) c.args.accepted_media_types.now c.pull_verified.result (returns-clause-run g c)
+returns-clause-no_memory g c = pull_no_memory (meaning c.args.policy.now (λ b. (goal.VerificationConstraint-dyn g (b.vtable, b.value)).accepts b.value) (trusts (g.V.SignatureVerifier.valid c.args.verifier.now) (g.O.Offline.vouched c.args.judge.now) c.args.self.now)) _ _ (registry_auth c.args.auth.now) c.args.accepted_media_types.now c.pull_verified.result (returns-clause-run g c)
 
 pub returns-clause-faults : goal.returns-clause-faults
-returns-clause-faults g c = pull_faults (meaning c.args.policy.now (λ b. (goal.VerificationConstraint-dyn g (b.vtable, b.value)).accepts b.value) (without_logs (g.V.SignatureVerifier.valid c.args.verifier.now) (g.O.Offline.vouched c.args.judge.now))) _ _ (registry_auth c.args.auth.now) c.args.accepted_media_types.now c.pull_verified.result (returns-clause-run g c)
+returns-clause-faults g c = pull_faults (meaning c.args.policy.now (λ b. (goal.VerificationConstraint-dyn g (b.vtable, b.value)).accepts b.value) (trusts (g.V.SignatureVerifier.valid c.args.verifier.now) (g.O.Offline.vouched c.args.judge.now) c.args.self.now)) _ _ (registry_auth c.args.auth.now) c.args.accepted_media_types.now c.pull_verified.result (returns-clause-run g c)
 
 pub returns-clause-fault : goal.returns-clause-fault
-returns-clause-fault g c = pull_fault (meaning c.args.policy.now (λ b. (goal.VerificationConstraint-dyn g (b.vtable, b.value)).accepts b.value) (without_logs (g.V.SignatureVerifier.valid c.args.verifier.now) (g.O.Offline.vouched c.args.judge.now))) _ _ (registry_auth c.args.auth.now) c.args.accepted_media_types.now c.pull_verified.result (returns-clause-run g c)
+returns-clause-fault g c = pull_fault (meaning c.args.policy.now (λ b. (goal.VerificationConstraint-dyn g (b.vtable, b.value)).accepts b.value) (trusts (g.V.SignatureVerifier.valid c.args.verifier.now) (g.O.Offline.vouched c.args.judge.now) c.args.self.now)) _ _ (registry_auth c.args.auth.now) c.args.accepted_media_types.now c.pull_verified.result (returns-clause-run g c)
 
 pub returns-clause-no_sink : goal.returns-clause-no_sink
-returns-clause-no_sink g c = pull_no_sink (meaning c.args.policy.now (λ b. (goal.VerificationConstraint-dyn g (b.vtable, b.value)).accepts b.value) (without_logs (g.V.SignatureVerifier.valid c.args.verifier.now) (g.O.Offline.vouched c.args.judge.now))) _ _ (registry_auth c.args.auth.now) c.args.accepted_media_types.now c.pull_verified.result (returns-clause-run g c)
+returns-clause-no_sink g c = pull_no_sink (meaning c.args.policy.now (λ b. (goal.VerificationConstraint-dyn g (b.vtable, b.value)).accepts b.value) (trusts (g.V.SignatureVerifier.valid c.args.verifier.now) (g.O.Offline.vouched c.args.judge.now) c.args.self.now)) _ _ (registry_auth c.args.auth.now) c.args.accepted_media_types.now c.pull_verified.result (returns-clause-run g c)
