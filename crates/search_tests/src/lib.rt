@@ -3,10 +3,5 @@
 
 #[cfg(test)]
 mod pulls;
-<<<<<<< HEAD
-=======
-#[cfg(test)]
-mod recorded;
 #[cfg(test)]
 mod refusals;
->>>>>>> 61bda93fdb270b338d124ff8c44d19882eb877da
