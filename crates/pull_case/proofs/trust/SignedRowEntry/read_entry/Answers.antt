@@ -1,6 +1,6 @@
 use Rattle.json_tables.proofs.Refused.{passed_on, behind}
-use Rattle.pull_case.specs.Entries.{signature_of}
-use Rattle.pull_case.proofs.entries.SignedRowEntry.read_entry.Goals as goal
+use Rattle.pull_case.specs.Trust.{signature_of}
+use Rattle.pull_case.proofs.trust.SignedRowEntry.read_entry.Goals as goal
 
 pub returns-in_err-key : goal.returns-in_err-key
 unfolding signature_of
