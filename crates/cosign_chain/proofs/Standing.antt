@@ -1,5 +1,6 @@
 -- A layer that is read again stands for an image exactly where the test says so.
-use Rattle.std.proofs.Common.{◌≡◌, ◌⊎◌, inl, inr, ◌↔◌, ◌<◌, ℕ, Bool, true, false, IsTrue, not, List, [], ◌∷◌, length, bytes_eq, Option, Some, None, option_map, option_and_then, if◌then◌else◌, MatchBool, refl, sym, ap, ◌∙◌, arith, codes}
+use Rattle.std.proofs.Common.{◌≡◌, ◌⊎◌, inl, inr, ◌↔◌, ◌<◌, ℕ, Bool, true, false, IsTrue, not, zero, suc, List, [], ◌∷◌, length, bytes_eq, Option, Some, None, option_map, option_and_then, if◌then◌else◌, MatchBool, refl, sym, ap, ◌∙◌, arith, codes}
+use Rattle.std.specs.Prelude.{◌==◌}
 use Rattle.std.specs.FinMap.{FinMap}
 use Rattle.json_values.specs.JsonText.{json_of, is_plain, plain_json_of}
 use Rattle.json_values.specs.Places.{by_bytes}
@@ -121,18 +122,21 @@ another meaning d again layer gives law differs = (
 -- one that says what its bytes say stands exactly where it is signed and accepted
 pub supported : {V : Type 0} {H : V → Type 0} (meaning : Meaning V H) (d : List ℕ) (again layer : SignatureLayer) (b : Bool)
     → Gives meaning.trust d (input_of layer) again → same_reading again layer ≡ true
-    → 0 < length meaning.policy.constraints
+    → {X : Type 0} (xs : List X) → length xs ≡ length meaning.policy.constraints → false ≡ (length xs == 0)
     → (IsTrue b ↔ Supports meaning.trust.valid meaning.policy meaning.own layer) → IsTrue b ↔ StandsFor meaning d layer
-supported meaning d again layer b gives passes some exact = (
+supported meaning d again layer b gives passes xs long not_none exact = (
   λ h. let same : again ≡ layer = same_layer again layer gives.from (reading_is again layer passes) in
       record {
         layer_of = rw (← same) gives.layer_of;
         is_named = rw (← same) gives.is_named;
-        constrained = some;
+        constrained = rw (← long) (some (length xs) not_none);
         supports = exact.0 h;
       },
   λ s. exact.1 s.supports,
-)
+) where
+  some : (n : ℕ) → false ≡ (n == 0) → 0 < n
+  some zero is = absurd (cc is)
+  some (suc n) is = omega arith
 
 -- a layer that is rejected does not stand
 pub rejected : {V : Type 0} {H : V → Type 0} (meaning : Meaning V H) (d : List ℕ) (layer : SignatureLayer) (x : LayerRejection)

@@ -77,8 +77,12 @@ fn stands_for<V: SignatureVerifier, O: Offline>(
             let stood = stands(alloc, verifier, policy, layer)?;
             Ok(stood)
         }
-        Err(rejection) if rejection.is_memory() => Err(AllocError),
-        Err(_) => Ok(false),
+        Err(rejection) => {
+            if rejection.is_memory() {
+                return Err(AllocError);
+            }
+            Ok(false)
+        }
     }
 }
 

@@ -5,8 +5,8 @@ use oci_engine::{Client, ClientConfig};
 use oci_manifests::OciManifest;
 use oci_names::Reference;
 use oci_transport::Script;
-use test_answers::{CONFIG_DIGEST, LAYER_DIGEST, LAYER_TYPE, MANIFEST, MANIFEST_DIGEST, script};
 use std::alloc::{AllocError, Global};
+use test_answers::{CONFIG_DIGEST, LAYER_DIGEST, LAYER_TYPE, MANIFEST, MANIFEST_DIGEST, script};
 
 // A client, and the image that it asks for.
 fn begun(alloc: Global) -> Option<(Client, Reference)> {

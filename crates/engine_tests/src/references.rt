@@ -2,8 +2,8 @@
 use json_values::{Copied, Text};
 use oci_auth::RegistryAuth;
 use sig_registry::{Auth, OciReference, SigstoreError};
-use test_answers::LAYER_DIGEST;
 use std::alloc::{AllocError, Global};
+use test_answers::LAYER_DIGEST;
 
 fn holds(answer: Result<bool, AllocError>) -> bool {
     match answer {

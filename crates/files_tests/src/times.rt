@@ -4,8 +4,8 @@ use json_tables::Reads;
 use json_values::Copied;
 use oci_docs::Time;
 use serde_json::Value;
-use test_answers::{holds, is_written};
 use std::alloc::{AllocError, Global};
+use test_answers::{holds, is_written};
 
 fn read(alloc: Global, text: &str) -> Option<Time> {
     let Ok(text) = String::from_str(alloc, text) else {

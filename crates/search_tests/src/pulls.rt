@@ -7,8 +7,8 @@ use json_values::{Annotations, Blob, List, Text};
 use oci_engine::ClientConfig;
 use oci_transport::Script;
 use sig_registry::{Auth, OciClient, OciReference};
-use test_answers::{CONFIG_DIGEST, LAYER_DIGEST, LAYER_TYPE, MANIFEST, MANIFEST_DIGEST, script};
 use std::alloc::{AllocError, Global};
+use test_answers::{CONFIG_DIGEST, LAYER_DIGEST, LAYER_TYPE, MANIFEST, MANIFEST_DIGEST, script};
 
 const IMAGE: &str = "localhost:5000/app:v1";
 

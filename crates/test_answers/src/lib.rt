@@ -5,6 +5,4 @@ mod answers;
 mod recorded;
 
 pub use answers::{holds, is_written, json};
-pub use recorded::{
-    CONFIG_DIGEST, LAYER_DIGEST, LAYER_TYPE, MANIFEST, MANIFEST_DIGEST, script,
-};
+pub use recorded::{CONFIG_DIGEST, LAYER_DIGEST, LAYER_TYPE, MANIFEST, MANIFEST_DIGEST, script};

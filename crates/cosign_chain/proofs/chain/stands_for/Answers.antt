@@ -1,4 +1,4 @@
-use Rattle.std.proofs.Common.{rules, ◌≡◌, sym}
+use Rattle.std.proofs.Common.{◌≡◌, length, sym, ap}
 use Rattle.cosign_chain.proofs.Standing.{another, supported, rejected}
 use Rattle.cosign_chain.proofs.chain.stands_for.Goals as goal
 
@@ -8,5 +8,11 @@ returns-then-not-same_reading g c =
 
 pub returns-in_ok-stood-in-Ok : goal.returns-in_ok-stood-in-Ok
 returns-in_ok-stood-in-Ok g c =
-    supported _ _ c.in-Ok.again c.args.layer.now _ c.in-Ok.ensures.gives (sym c.if-not-same_reading.ensures) (search rules)
+    supported _ _ c.in-Ok.again c.args.layer.now _ c.in-Ok.ensures.gives (sym c.if-not-same_reading.ensures)
+    _ (ap length c.as_slice.ensures) c.if-is_empty.ensures
     c.in_ok-stood-in-Ok.ensures.exact
+
+pub returns-else-is_memory : goal.returns-else-is_memory
+returns-else-is_memory g c =
+    rejected _ _ c.args.layer.now c.in-Err.rejection c.in-Err.ensures.rejects (sym c.if-is_memory.ensures)
+    c.in-Err.ensures.law
