@@ -1,5 +1,6 @@
 // The bytes that a realm answered in place of a token.
-use json_values::Blob;
+use json_values::{Blob, Copied};
+use std::alloc::{AllocError, Global};
 use std::fmt;
 use std::marker::Model;
 
@@ -30,6 +31,13 @@ impl TokenBody {
         ensures { result.now ≡ self.now }
     {
         &self.bytes
+    }
+}
+
+impl Copied for TokenBody {
+    fn copy(&self, alloc: Global) -> Result<TokenBody, AllocError> {
+        let bytes = self.bytes.copy(alloc)?;
+        Ok(TokenBody { bytes })
     }
 }
 

@@ -13,9 +13,9 @@ use Rattle.engine_requests.specs.declared.error.OciDistributionError.{OciDistrib
 use Rattle.engine_requests.specs.declared.error.OciDistributionError.TheVariants as refusal
 use Rattle.engine_steps.specs.Blobs.{Destination}
 use Rattle.oci_engine.specs.declared.client.Client.{Client}
-use Rattle.oci_engine.specs.Held.{Entry, pulling}
-use Rattle.oci_engine.specs.Causes.{Cause, AnswerCause, DocumentCause, BadHeader, OwnDigest, ManifestUrl}
-use Rattle.oci_engine.specs.Causes.{BlobUrl, BlobCause, ImageCause, IsRefusedAs}
+use Rattle.engine_laws.specs.Held.{Entry, pulling}
+use Rattle.engine_laws.specs.Causes.{Cause, AnswerCause, DocumentCause, BadHeader, OwnDigest, ManifestUrl}
+use Rattle.engine_laws.specs.Causes.{BlobUrl, BlobCause, ImageCause, IsRefusedAs}
 
 -- what was told between two states of a transport has the cause of the refusal, if the call was refused
 abbrev pub RefusedFor : {A : Type 0} → (List Exchange → ℕ → OciDistributionError → Type 0) → Link → Link

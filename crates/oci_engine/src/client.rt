@@ -13,13 +13,13 @@ ghost use Rattle.oci_auth.specs.Memory.{fresh, stored};
 ghost use Rattle.engine_pull.specs.Pulls.{fetch_manifest_digest, pull_manifest, pull_manifest_raw};
 ghost use Rattle.engine_pull.specs.Pulls.{pull_blob, held_blob};
 ghost use Rattle.engine_pull.specs.Images.{pull};
-ghost use Rattle.oci_engine.specs.Answered.{Answered, Body, LastBody, TookBlob};
-ghost use Rattle.oci_engine.specs.Causes.{HasBadHeader, IsEarly};
+ghost use Rattle.engine_laws.specs.Answered.{Answered, Body, LastBody, TookBlob};
+ghost use Rattle.engine_laws.specs.Causes.{HasBadHeader, IsEarly};
 ghost use Rattle.oci_engine.specs.Clients.{settings_of};
 ghost use Rattle.oci_engine.specs.Refusals.{RefusedFor, FaultCounted, UrlRefused, at_moment};
 ghost use Rattle.oci_engine.specs.Refusals.{DigestRefused, DocumentRefused, ManifestRefused};
 ghost use Rattle.oci_engine.specs.Refusals.{PullRefused, BlobRefused};
-ghost use Rattle.oci_engine.specs.TokenCauses.{TokenCause};
+ghost use Rattle.engine_laws.specs.TokenCauses.{TokenCause};
 
 use crate::config::ClientConfig;
 use engine_pull::ImageData;

@@ -1,6 +1,6 @@
-use Rattle.oci_engine.proofs.Results.{digest_answered}
-use Rattle.oci_engine.proofs.Reasons.{digest_reason, digest_fault}
-use Rattle.oci_engine.proofs.Exact.{digest_url, digest_bad, met_only, met_early}
+use Rattle.engine_laws.proofs.CallResults.{digest_answered}
+use Rattle.engine_laws.proofs.CallCauses.{digest_reason, digest_fault}
+use Rattle.engine_laws.proofs.ExactRefusals.{digest_url, digest_bad, met_only, met_early}
 use Rattle.engine_requests.specs.Contexts.{within}
 use Rattle.oci_engine.proofs.client.Client.fetch_manifest_digest.Goals as goal
 

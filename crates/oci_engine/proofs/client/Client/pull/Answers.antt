@@ -1,5 +1,5 @@
-use Rattle.oci_engine.proofs.Reasons.{image_reason, image_fault}
-use Rattle.oci_engine.proofs.Exact.{image_url, image_bad, met_only, met_early}
+use Rattle.engine_laws.proofs.CallCauses.{image_reason, image_fault}
+use Rattle.engine_laws.proofs.ExactRefusals.{image_url, image_bad, met_only, met_early}
 use Rattle.engine_requests.specs.Contexts.{within}
 use Rattle.oci_engine.proofs.client.Client.pull.Goals as goal
 

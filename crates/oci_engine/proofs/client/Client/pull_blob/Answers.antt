@@ -1,7 +1,7 @@
 use Rattle.engine_steps.specs.Blobs.{IntoSink}
-use Rattle.oci_engine.proofs.Results.{blob_took}
-use Rattle.oci_engine.proofs.Reasons.{spilled_reason, spilled_fault}
-use Rattle.oci_engine.proofs.Exact.{blob_url, blob_bad, spilled_only, spilled_early}
+use Rattle.engine_laws.proofs.CallResults.{blob_took}
+use Rattle.engine_laws.proofs.CallCauses.{spilled_reason, spilled_fault}
+use Rattle.engine_laws.proofs.ExactRefusals.{blob_url, blob_bad, spilled_only, spilled_early}
 use Rattle.engine_requests.specs.Contexts.{within}
 use Rattle.oci_engine.proofs.client.Client.pull_blob.Goals as goal
 

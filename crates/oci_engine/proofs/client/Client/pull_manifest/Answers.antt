@@ -1,5 +1,5 @@
-use Rattle.oci_engine.proofs.Reasons.{manifest_reason, manifest_fault}
-use Rattle.oci_engine.proofs.Exact.{manifest_url, manifest_bad, met_only, met_early}
+use Rattle.engine_laws.proofs.CallCauses.{manifest_reason, manifest_fault}
+use Rattle.engine_laws.proofs.ExactRefusals.{manifest_url, manifest_bad, met_only, met_early}
 use Rattle.engine_requests.specs.Contexts.{within}
 use Rattle.oci_engine.proofs.client.Client.pull_manifest.Goals as goal
 

@@ -1,8 +1,8 @@
 use Rattle.std.proofs.Common.{◌∙◌}
 use Rattle.engine_steps.proofs.Exits.{wanting, passed_on}
-use Rattle.oci_engine.proofs.Reasons.{listed_reason, raw_fault}
-use Rattle.oci_engine.proofs.Results.{raw_body, raw_named, raw_given}
-use Rattle.oci_engine.proofs.Exact.{raw_url, raw_bad, met_only, met_early, listed_met}
+use Rattle.engine_laws.proofs.CallCauses.{listed_reason, raw_fault}
+use Rattle.engine_laws.proofs.CallResults.{raw_body, raw_named, raw_given}
+use Rattle.engine_laws.proofs.ExactRefusals.{raw_url, raw_bad, met_only, met_early, listed_met}
 use Rattle.engine_requests.specs.Contexts.{within}
 use Rattle.oci_engine.proofs.client.Client.pull_manifest_raw.Goals as goal
 

@@ -1,7 +1,7 @@
 use Rattle.engine_steps.specs.Blobs.{IntoMemory}
-use Rattle.oci_engine.proofs.Results.{blob_body, blob_last, blob_named}
-use Rattle.oci_engine.proofs.Reasons.{blob_reason, blob_fault}
-use Rattle.oci_engine.proofs.Exact.{blob_url, blob_bad, met_only, met_early}
+use Rattle.engine_laws.proofs.CallResults.{blob_body, blob_last, blob_named}
+use Rattle.engine_laws.proofs.CallCauses.{blob_reason, blob_fault}
+use Rattle.engine_laws.proofs.ExactRefusals.{blob_url, blob_bad, met_only, met_early}
 use Rattle.engine_requests.specs.Contexts.{within}
 use Rattle.oci_engine.proofs.client.Client.pulled_blob.Goals as goal
 

@@ -1,0 +1,4 @@
+pub mod Answered
+pub mod Causes
+pub mod Held
+pub mod TokenCauses
