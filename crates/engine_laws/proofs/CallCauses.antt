@@ -1,5 +1,5 @@
 -- Why the results of a client's calls are refusals.
-use Rattle.std.proofs.Common.{◌≡◌, ℕ, true, List, [], Some, None, Result, Ok, Err, IfErr, refl}
+use Rattle.std.proofs.Common.{◌≡◌, ℕ, true, List, [], Option, Some, None, Result, Ok, Err, IfErr, refl}
 use Rattle.json_values.specs.Counts.{Rose}
 use Rattle.json_values.specs.Tray.{Tray}
 use Rattle.oci_transport.specs.Link.{Link}
@@ -22,19 +22,23 @@ use Rattle.engine_steps.specs.Rows.{Row}
 use Rattle.engine_steps.specs.Blobs.{Spills}
 use Rattle.engine_pull.specs.Pulls.{fetch_manifest_digest, pull_manifest_raw, pull_manifest, blob_to, pull_blob}
 use Rattle.engine_pull.specs.Images.{pull}
+use Rattle.engine_pull.specs.Manifests.{pull_image_manifest_and_list_digest, pull_image_manifest, pull_manifest_and_config_and_list_digest, pull_manifest_and_config}
+use Rattle.oci_manifests.specs.declared.manifest.OciImageManifest.{OciImageManifest}
 use Rattle.engine_pull.specs.declared.image.ImageData.{ImageData}
 use Rattle.engine_laws.specs.Held.{Entry, pulling}
 use Rattle.engine_steps.specs.Blobs.{Destination, IntoSink}
-use Rattle.engine_laws.specs.Causes.{ManifestUrl, BlobUrl, LastFailed, AnswerCause, DocumentCause, BadHeader, Cause, OwnDigest, BlobCause, ImageCause}
+use Rattle.engine_laws.specs.Causes.{ManifestUrl, BlobUrl, LastFailed, AnswerCause, DocumentCause, BadHeader, Cause, OwnDigest, BlobCause, FoundCause, ConfigCause, ImageCause}
 use Rattle.engine_laws.proofs.EarlyCauses.{Loose, LooseBlob}
 use Rattle.engine_laws.proofs.DocumentCauses.{Accepted, raw_causes}
 use Rattle.engine_laws.proofs.DigestCauses.{digest_causes}
 use Rattle.engine_laws.proofs.BlobCauses.{blob_causes}
-use Rattle.engine_laws.proofs.ImageCauses.{ReadLast, RowCause, manifest_causes, image_causes}
+use Rattle.engine_laws.proofs.ManifestCauses.{ReadLast, manifest_causes}
+use Rattle.engine_laws.proofs.FoundCauses.{FoundLoose, found_any, one_causes}
+use Rattle.engine_laws.proofs.ImageCauses.{RowCause, ConfigRow, image_causes, config_causes, text_causes}
 use Rattle.engine_laws.proofs.FaultCounts.{fault_rose, refusal_both}
 use Rattle.engine_laws.proofs.KeptTokens.{Keeps, keeps_first}
 use Rattle.engine_laws.proofs.ShownTokens.{HeaderCause, Ended}
-use Rattle.engine_laws.proofs.HeaderCauses.{digest_sound, raw_sound, manifest_sound, image_sound, blob_sound}
+use Rattle.engine_laws.proofs.HeaderCauses.{digest_sound, raw_sound, manifest_sound, found_sound, one_sound, config_sound, text_sound, image_sound, blob_sound}
 
 -- a cause with the values that could not stand in a header
 tight : (T : List ℕ → Type 0) (Of : List ℕ → Answer → OciDistributionError → Type 0) (x : Entry) (s : Settings) (types : List ℕ) (now : ℕ) (c : List Exchange) (e : OciDistributionError) → Loose T Of s types c now e → HeaderCause x s types c e → Cause T Of (BadHeader x s types) s c now e
@@ -61,6 +65,22 @@ tight_image x s image accepted now c _ h bad = h
 image_free : (Bad : List Exchange → Type 0) (s : Settings) (image : Reference) (accepted : List (List ℕ)) (now : ℕ) (c : List Exchange) (e : OciDistributionError) → is_memory e ≡ true → ImageCause Bad s image accepted c now e
 image_free Bad s image accepted now c refusal.WantOfMemory is = tt
 image_free Bad s image accepted now c _ is = absurd (cc is)
+
+tight_found : (x : Entry) (s : Settings) (image : Reference) (now : ℕ) (c : List Exchange) (e : OciDistributionError) → FoundLoose s image c now e → HeaderCause x s manifest_types c e → FoundCause (BadHeader x s manifest_types) s image c now e
+tight_found x s image now c (refusal.GenericError HeaderText) h bad = bad
+tight_found x s image now c _ h bad = h
+
+found_free : (Bad : List Exchange → Type 0) (s : Settings) (image : Reference) (now : ℕ) (c : List Exchange) (e : OciDistributionError) → is_memory e ≡ true → FoundCause Bad s image c now e
+found_free Bad s image now c refusal.WantOfMemory is = tt
+found_free Bad s image now c _ is = absurd (cc is)
+
+tight_config : (x : Entry) (s : Settings) (image : Reference) (now : ℕ) (c : List Exchange) (e : OciDistributionError) → ConfigRow s image c now e → HeaderCause x s manifest_types c e → ConfigCause (BadHeader x s manifest_types) s image c now e
+tight_config x s image now c (refusal.GenericError HeaderText) h bad = bad
+tight_config x s image now c _ h bad = h
+
+config_free : (Bad : List Exchange → Type 0) (s : Settings) (image : Reference) (now : ℕ) (c : List Exchange) (e : OciDistributionError) → is_memory e ≡ true → ConfigCause Bad s image c now e
+config_free Bad s image now c refusal.WantOfMemory is = tt
+config_free Bad s image now c _ is = absurd (cc is)
 
 -- a fault of the transport, where a result is one
 faulted : {A : Type 0} (P : ℕ → List Exchange → ℕ → A → Type 0) (R : ℕ → List Exchange → ℕ → OciDistributionError → Type 0) (p : Row A) {old new : Link} {k l : Memory} {r : Result A OciDistributionError} → ((m n : ℕ) (c : List Exchange) → R m c n refusal.TransportFault → LastFailed c n) → Shows (ByAnswer P R) p → Meets is_memory p old new k l r → r ≡ Err refusal.TransportFault → Rose old.faults new.faults
@@ -113,6 +133,44 @@ image_reason s image a accepted {k = k} met =
 
 pub image_fault : (s : Context) (image : Reference) (a : RegistryAuth) (accepted : List (List ℕ)) {old new : Link} {k l : Memory} {r : Result ImageData OciDistributionError} → Meets is_memory (pull s image a accepted) old new k l r → r ≡ Err refusal.TransportFault → Rose old.faults new.faults
 image_fault s image a accepted met is = faulted (λ m c n found. Unit {0}) (λ m c n e. RowCause s.settings image accepted c n e) (pull s image a accepted) (λ m n c h. h) (image_causes s image a accepted) met is
+
+-- ---- manifests of images, and their configurations
+
+pub found_reason : (s : Context) (image : Reference) (a : RegistryAuth) {old new : Link} {k l : Memory} {r : Result (OciImageManifest × List ℕ × Option (List ℕ)) OciDistributionError} → Meets is_memory (pull_image_manifest_and_list_digest s image a) old new k l r → IfErr r (λ e. Told (λ c. FoundCause (BadHeader (pulling k s image (Some a)) s.settings manifest_types) s.settings image c new.faults e) old new)
+found_reason s image a {k = k} met =
+    let x = pulling k s image (Some a) in
+    refusal_both (λ m c n found. Unit {0}) (λ m c n e. FoundLoose s.settings image c n e) (Keeps x) (Ended x s.settings manifest_types) (λ c n e. FoundCause (BadHeader x s.settings manifest_types) s.settings image c n e) (pull_image_manifest_and_list_digest s image a)
+    (λ n c e is. found_free (BadHeader x s.settings manifest_types) s.settings image n c e is) (λ m n c e h bad. tight_found x s.settings image n c e h bad) (found_any s image a) (found_sound s image a k k [] (keeps_first x)) met
+
+pub found_fault : (s : Context) (image : Reference) (a : RegistryAuth) {old new : Link} {k l : Memory} {r : Result (OciImageManifest × List ℕ × Option (List ℕ)) OciDistributionError} → Meets is_memory (pull_image_manifest_and_list_digest s image a) old new k l r → r ≡ Err refusal.TransportFault → Rose old.faults new.faults
+found_fault s image a met is = faulted (λ m c n found. Unit {0}) (λ m c n e. FoundLoose s.settings image c n e) (pull_image_manifest_and_list_digest s image a) (λ m n c h. h) (found_any s image a) met is
+
+pub one_reason : (s : Context) (image : Reference) (a : RegistryAuth) {old new : Link} {k l : Memory} {r : Result (OciImageManifest × List ℕ) OciDistributionError} → Meets is_memory (pull_image_manifest s image a) old new k l r → IfErr r (λ e. Told (λ c. FoundCause (BadHeader (pulling k s image (Some a)) s.settings manifest_types) s.settings image c new.faults e) old new)
+one_reason s image a {k = k} met =
+    let x = pulling k s image (Some a) in
+    refusal_both (λ m c n found. Unit {0}) (λ m c n e. FoundLoose s.settings image c n e) (Keeps x) (Ended x s.settings manifest_types) (λ c n e. FoundCause (BadHeader x s.settings manifest_types) s.settings image c n e) (pull_image_manifest s image a)
+    (λ n c e is. found_free (BadHeader x s.settings manifest_types) s.settings image n c e is) (λ m n c e h bad. tight_found x s.settings image n c e h bad) (one_causes s image a) (one_sound s image a k k [] (keeps_first x)) met
+
+pub one_fault : (s : Context) (image : Reference) (a : RegistryAuth) {old new : Link} {k l : Memory} {r : Result (OciImageManifest × List ℕ) OciDistributionError} → Meets is_memory (pull_image_manifest s image a) old new k l r → r ≡ Err refusal.TransportFault → Rose old.faults new.faults
+one_fault s image a met is = faulted (λ m c n found. Unit {0}) (λ m c n e. FoundLoose s.settings image c n e) (pull_image_manifest s image a) (λ m n c h. h) (one_causes s image a) met is
+
+pub config_reason : (s : Context) (image : Reference) (a : RegistryAuth) {old new : Link} {k l : Memory} {r : Result (OciImageManifest × List ℕ × List ℕ × Option (List ℕ)) OciDistributionError} → Meets is_memory (pull_manifest_and_config_and_list_digest s image a) old new k l r → IfErr r (λ e. Told (λ c. ConfigCause (BadHeader (pulling k s image (Some a)) s.settings manifest_types) s.settings image c new.faults e) old new)
+config_reason s image a {k = k} met =
+    let x = pulling k s image (Some a) in
+    refusal_both (λ m c n found. Unit {0}) (λ m c n e. ConfigRow s.settings image c n e) (Keeps x) (Ended x s.settings manifest_types) (λ c n e. ConfigCause (BadHeader x s.settings manifest_types) s.settings image c n e) (pull_manifest_and_config_and_list_digest s image a)
+    (λ n c e is. config_free (BadHeader x s.settings manifest_types) s.settings image n c e is) (λ m n c e h bad. tight_config x s.settings image n c e h bad) (config_causes s image a) (config_sound s image a k k [] (keeps_first x)) met
+
+pub config_fault : (s : Context) (image : Reference) (a : RegistryAuth) {old new : Link} {k l : Memory} {r : Result (OciImageManifest × List ℕ × List ℕ × Option (List ℕ)) OciDistributionError} → Meets is_memory (pull_manifest_and_config_and_list_digest s image a) old new k l r → r ≡ Err refusal.TransportFault → Rose old.faults new.faults
+config_fault s image a met is = faulted (λ m c n found. Unit {0}) (λ m c n e. ConfigRow s.settings image c n e) (pull_manifest_and_config_and_list_digest s image a) (λ m n c h. h) (config_causes s image a) met is
+
+pub text_reason : (s : Context) (image : Reference) (a : RegistryAuth) {old new : Link} {k l : Memory} {r : Result (OciImageManifest × List ℕ × List ℕ) OciDistributionError} → Meets is_memory (pull_manifest_and_config s image a) old new k l r → IfErr r (λ e. Told (λ c. ConfigCause (BadHeader (pulling k s image (Some a)) s.settings manifest_types) s.settings image c new.faults e) old new)
+text_reason s image a {k = k} met =
+    let x = pulling k s image (Some a) in
+    refusal_both (λ m c n found. Unit {0}) (λ m c n e. ConfigRow s.settings image c n e) (Keeps x) (Ended x s.settings manifest_types) (λ c n e. ConfigCause (BadHeader x s.settings manifest_types) s.settings image c n e) (pull_manifest_and_config s image a)
+    (λ n c e is. config_free (BadHeader x s.settings manifest_types) s.settings image n c e is) (λ m n c e h bad. tight_config x s.settings image n c e h bad) (text_causes s image a) (text_sound s image a k k [] (keeps_first x)) met
+
+pub text_fault : (s : Context) (image : Reference) (a : RegistryAuth) {old new : Link} {k l : Memory} {r : Result (OciImageManifest × List ℕ × List ℕ) OciDistributionError} → Meets is_memory (pull_manifest_and_config s image a) old new k l r → r ≡ Err refusal.TransportFault → Rose old.faults new.faults
+text_fault s image a met is = faulted (λ m c n found. Unit {0}) (λ m c n e. ConfigRow s.settings image c n e) (pull_manifest_and_config s image a) (λ m n c h. h) (text_causes s image a) met is
 
 -- ---- blobs
 

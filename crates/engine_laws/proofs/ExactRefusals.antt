@@ -31,6 +31,7 @@ use Rattle.engine_steps.specs.Rows.{Row, store, authorized, prepared, named_afte
 use Rattle.engine_steps.specs.Blobs.{Destination, Spills, filled, attempt}
 use Rattle.engine_pull.specs.Pulls.{document, digest_by, manifest_document, pull_manifest_raw, fetch_manifest_digest, pull_manifest, blob_to}
 use Rattle.engine_pull.specs.Images.{pull}
+use Rattle.engine_pull.specs.Manifests.{pull_image_manifest_and_list_digest, pull_image_manifest, pull_manifest_and_config_and_list_digest, pull_manifest_and_config}
 use Rattle.engine_laws.specs.Causes.{IsEarly, IsEarlyRefusal, HasBadHeader, IsRefusedAs}
 use Rattle.engine_laws.proofs.EarlyCauses.{Early, EarlyCause, authorized_early}
 
@@ -71,9 +72,25 @@ pub manifest_url : (s : Context) (image : Reference) (a : RegistryAuth) → requ
 unfolding pull_manifest
 manifest_url s image a none = handed_on (refusal.UrlParseError (manifest_text s.settings image)) (pull_manifest_raw s image a manifest_types) _ (raw_url s image a manifest_types none)
 
+pub found_url : (s : Context) (image : Reference) (a : RegistryAuth) → request_url (manifest_text s.settings image) ≡ None → Ends (Only (refusal.UrlParseError (manifest_text s.settings image))) (pull_image_manifest_and_list_digest s image a)
+unfolding pull_image_manifest_and_list_digest
+found_url s image a none = handed_on (refusal.UrlParseError (manifest_text s.settings image)) (pull_manifest s image a) _ (manifest_url s image a none)
+
+pub one_url : (s : Context) (image : Reference) (a : RegistryAuth) → request_url (manifest_text s.settings image) ≡ None → Ends (Only (refusal.UrlParseError (manifest_text s.settings image))) (pull_image_manifest s image a)
+unfolding pull_image_manifest
+one_url s image a none = handed_on (refusal.UrlParseError (manifest_text s.settings image)) (pull_image_manifest_and_list_digest s image a) _ (found_url s image a none)
+
+pub config_url : (s : Context) (image : Reference) (a : RegistryAuth) → request_url (manifest_text s.settings image) ≡ None → Ends (Only (refusal.UrlParseError (manifest_text s.settings image))) (pull_manifest_and_config_and_list_digest s image a)
+unfolding pull_manifest_and_config_and_list_digest
+config_url s image a none = handed_on (refusal.UrlParseError (manifest_text s.settings image)) (pull_image_manifest_and_list_digest s image a) _ (found_url s image a none)
+
+pub text_url : (s : Context) (image : Reference) (a : RegistryAuth) → request_url (manifest_text s.settings image) ≡ None → Ends (Only (refusal.UrlParseError (manifest_text s.settings image))) (pull_manifest_and_config s image a)
+unfolding pull_manifest_and_config
+text_url s image a none = handed_on (refusal.UrlParseError (manifest_text s.settings image)) (pull_manifest_and_config_and_list_digest s image a) _ (config_url s image a none)
+
 pub image_url : (s : Context) (image : Reference) (a : RegistryAuth) (accepted : List (List ℕ)) → request_url (manifest_text s.settings image) ≡ None → Ends (Only (refusal.UrlParseError (manifest_text s.settings image))) (pull s image a accepted)
 unfolding pull
-image_url s image a accepted none = handed_on (refusal.UrlParseError (manifest_text s.settings image)) (pull_manifest s image a) _ (manifest_url s image a none)
+image_url s image a accepted none = handed_on (refusal.UrlParseError (manifest_text s.settings image)) (pull_image_manifest_and_list_digest s image a) _ (found_url s image a none)
 
 pub blob_url : (to : Destination) (s : Context) (image : Reference) (digest : List ℕ) → request_url (blob_text s.settings image digest) ≡ None → Ends (Only (refusal.UrlParseError (blob_text s.settings image digest))) (blob_to to s image digest)
 unfolding blob_to
@@ -169,9 +186,25 @@ pub manifest_bad : (s : Context) (image : Reference) (a : RegistryAuth) → HasB
 unfolding pull_manifest
 manifest_bad s image a bad = early_on (pull_manifest_raw s image a manifest_types) _ (raw_bad s image a manifest_types bad)
 
+pub found_bad : (s : Context) (image : Reference) (a : RegistryAuth) → HasBadHeader s.settings manifest_types → Ends IsEarly (pull_image_manifest_and_list_digest s image a)
+unfolding pull_image_manifest_and_list_digest
+found_bad s image a bad = early_on (pull_manifest s image a) _ (manifest_bad s image a bad)
+
+pub one_bad : (s : Context) (image : Reference) (a : RegistryAuth) → HasBadHeader s.settings manifest_types → Ends IsEarly (pull_image_manifest s image a)
+unfolding pull_image_manifest
+one_bad s image a bad = early_on (pull_image_manifest_and_list_digest s image a) _ (found_bad s image a bad)
+
+pub config_bad : (s : Context) (image : Reference) (a : RegistryAuth) → HasBadHeader s.settings manifest_types → Ends IsEarly (pull_manifest_and_config_and_list_digest s image a)
+unfolding pull_manifest_and_config_and_list_digest
+config_bad s image a bad = early_on (pull_image_manifest_and_list_digest s image a) _ (found_bad s image a bad)
+
+pub text_bad : (s : Context) (image : Reference) (a : RegistryAuth) → HasBadHeader s.settings manifest_types → Ends IsEarly (pull_manifest_and_config s image a)
+unfolding pull_manifest_and_config
+text_bad s image a bad = early_on (pull_manifest_and_config_and_list_digest s image a) _ (config_bad s image a bad)
+
 pub image_bad : (s : Context) (image : Reference) (a : RegistryAuth) (accepted : List (List ℕ)) → HasBadHeader s.settings manifest_types → Ends IsEarly (pull s image a accepted)
 unfolding pull
-image_bad s image a accepted bad = early_on (pull_manifest s image a) _ (manifest_bad s image a bad)
+image_bad s image a accepted bad = early_on (pull_image_manifest_and_list_digest s image a) _ (found_bad s image a bad)
 
 pub blob_bad : (to : Destination) (s : Context) (image : Reference) (digest : List ℕ) → HasBadHeader s.settings manifest_types → Ends IsEarly (blob_to to s image digest)
 unfolding blob_to

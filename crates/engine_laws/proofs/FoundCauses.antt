@@ -9,7 +9,7 @@ use Rattle.oci_manifests.specs.declared.document.OciManifest.TheVariants.{Image,
 use Rattle.oci_manifests.specs.declared.manifest.OciImageManifest.{OciImageManifest}
 use Rattle.oci_manifests.specs.declared.index.OciImageIndex.{OciImageIndex}
 use Rattle.oci_manifests.specs.declared.index_entry.ImageIndexEntry.{ImageIndexEntry}
-use Rattle.oci_platforms.specs.Promise.{lists}
+use Rattle.oci_platforms.specs.Promise.{lists, resolved}
 use Rattle.oci_platforms.specs.declared.promise.ResolverPromise.{ResolverPromise}
 use Rattle.oci_auth.specs.declared.auth.RegistryAuth.{RegistryAuth}
 use Rattle.oci_protocol.specs.Proto.{Done, ◌>>=◌}
@@ -21,7 +21,7 @@ use Rattle.engine_requests.specs.declared.error.OciDistributionError.{OciDistrib
 use Rattle.engine_requests.specs.declared.error.OciDistributionError.TheVariants as refusal
 use Rattle.engine_requests.specs.Addresses.{manifest_text}
 use Rattle.engine_requests.specs.Documents.{document_read}
-use Rattle.engine_requests.specs.Index.{promised, entry_named, entry_found, entry_manifest, entry_reference}
+use Rattle.engine_requests.specs.Index.{entry_named, entry_found, entry_manifest, entry_reference}
 use Rattle.engine_requests.specs.Requests.{manifest_types}
 use Rattle.engine_pull.specs.Manifests.{pull_entry, manifest_by, pull_image_manifest_and_list_digest, pull_image_manifest}
 use Rattle.engine_pull.specs.Pulls.{pull_manifest}
@@ -67,7 +67,7 @@ last_index b index h = last_later (λ address answer. (index : OciImageIndex) ×
 record Chosen (s : Settings) (index : OciImageIndex) (digest : List ℕ) : Type 0 where
   promise : ResolverPromise
   has : s.platform_resolver ≡ Some promise
-  answers : promised promise index.manifests ≡ Some digest
+  answers : resolved promise index.manifests ≡ Some digest
   listed : lists digest index.manifests ≡ true
 
 listed_ok : (entries : List ImageIndexEntry) (d digest : List ℕ) (b : Bool) → lists d entries ≡ b → (if b then Ok d else Err (refusal.ImageManifestNotFoundError d)) ≡ Ok digest → (d ≡ digest) × (lists digest entries ≡ true)
@@ -80,7 +80,7 @@ named_ok entries (Some d) digest is = let found = listed_ok entries d digest (li
 
 chosen_by : (s : Settings) (index : OciImageIndex) (o : Option ResolverPromise) (digest : List ℕ) → s.platform_resolver ≡ o → entry_found o index.manifests ≡ Ok digest → Chosen s index digest
 chosen_by s index None digest has is = absurd (cc is)
-chosen_by s index (Some promise) digest has is = let found = named_ok index.manifests (promised promise index.manifests) digest is in record { promise = promise; has = has; answers = found.0; listed = found.1 }
+chosen_by s index (Some promise) digest has is = let found = named_ok index.manifests (resolved promise index.manifests) digest is in record { promise = promise; has = has; answers = found.0; listed = found.1 }
 
 chosen : (s : Settings) (index : OciImageIndex) (digest : List ℕ) → entry_found s.platform_resolver index.manifests ≡ Ok digest → Chosen s index digest
 chosen s index digest is = chosen_by s index s.platform_resolver digest refl is
@@ -89,14 +89,14 @@ chosen s index digest is = chosen_by s index s.platform_resolver digest refl is
 abbrev pub FoundLoose : Settings → Reference → List Exchange → ℕ → OciDistributionError → Type 0
 FoundLoose s image c now e = FoundCause AnyValue s image c now e
 
-listed_err : (s : Settings) (image : Reference) (c : List Exchange) (now : ℕ) (index : OciImageIndex) (promise : ResolverPromise) (d : List ℕ) (e : OciDistributionError) (b : Bool) → s.platform_resolver ≡ Some promise → IndexRead c index → promised promise index.manifests ≡ Some d → lists d index.manifests ≡ b
+listed_err : (s : Settings) (image : Reference) (c : List Exchange) (now : ℕ) (index : OciImageIndex) (promise : ResolverPromise) (d : List ℕ) (e : OciDistributionError) (b : Bool) → s.platform_resolver ≡ Some promise → IndexRead c index → resolved promise index.manifests ≡ Some d → lists d index.manifests ≡ b
     → ◌≡◌ {A = Result (List ℕ) OciDistributionError} (if b then Ok d else Err (refusal.ImageManifestNotFoundError d)) (Err e) → FoundLoose s image c now e
 listed_err s image c now index promise d e true has read answers test is = absurd (cc is)
 listed_err s image c now index promise d e false has read answers test is =
     let same : refusal.ImageManifestNotFoundError d ≡ e = cc is in
     subst (FoundLoose s image c now) same (record { index = index; read = read; promise = promise; has = has; missing = inr (answers, inl test) })
 
-named_err : (s : Settings) (image : Reference) (c : List Exchange) (now : ℕ) (index : OciImageIndex) (promise : ResolverPromise) (o : Option (List ℕ)) (e : OciDistributionError) → s.platform_resolver ≡ Some promise → IndexRead c index → promised promise index.manifests ≡ o → entry_named index.manifests o ≡ Err e → FoundLoose s image c now e
+named_err : (s : Settings) (image : Reference) (c : List Exchange) (now : ℕ) (index : OciImageIndex) (promise : ResolverPromise) (o : Option (List ℕ)) (e : OciDistributionError) → s.platform_resolver ≡ Some promise → IndexRead c index → resolved promise index.manifests ≡ o → entry_named index.manifests o ≡ Err e → FoundLoose s image c now e
 named_err s image c now index promise None e has read answers is =
     let same : refusal.ImageManifestNotFoundError [] ≡ e = cc is in
     subst (FoundLoose s image c now) same (record { index = index; read = read; promise = promise; has = has; missing = inl (answers, refl) })
@@ -106,7 +106,7 @@ found_err : (s : Settings) (image : Reference) (c : List Exchange) (now : ℕ) (
 found_err s image c now index None e has last is =
     let same : refusal.ImageIndexParsingNoPlatformResolverError ≡ e = cc is in
     subst (FoundLoose s image c now) same (has, last_index [] index last)
-found_err s image c now index (Some promise) e has last is = named_err s image c now index promise (promised promise index.manifests) e has (read_index c index last) refl is
+found_err s image c now index (Some promise) e has last is = named_err s image c now index promise (resolved promise index.manifests) e has (read_index c index last) refl is
 
 -- ---- the two documents
 
@@ -185,6 +185,12 @@ unfolding pull_image_manifest_and_list_digest
 found_causes s image a = Shows-each (λ m c n found. ReadLast c found.0) Found (FoundRefused s.settings image) (pull_manifest s image a) (λ found. manifest_by s image a found.0 found.1)
     (Shows-more (ByAnswer (λ m c n found. ReadLast c found.0) (ManifestCause s.settings image)) (ByAnswer (λ m c n found. ReadLast c found.0) (FoundRefused s.settings image)) (pull_manifest s image a) (manifest_causes s image a) (λ m n c r h. first_where s.settings image m n c r h))
     (λ m n c found last. by_shows s image a found.0 found.1 m c last)
+
+pub found_any : (s : Context) (image : Reference) (a : RegistryAuth) → Shows (ByAnswer (λ m c n found. Unit {0}) (FoundRefused s.settings image)) (pull_image_manifest_and_list_digest s image a)
+found_any s image a = Shows-more (ByAnswer Found (FoundRefused s.settings image)) (ByAnswer (λ m c n found. Unit {0}) (FoundRefused s.settings image)) (pull_image_manifest_and_list_digest s image a) (found_causes s image a) (λ m n c r h. any_where s.settings image m n c r h) where
+  any_where : (s : Settings) (image : Reference) (m n : ℕ) (c : List Exchange) (r : Result (OciImageManifest × List ℕ × Option (List ℕ)) OciDistributionError) → ByAnswer Found (FoundRefused s image) m c n r → ByAnswer (λ m c n found. Unit {0}) (FoundRefused s image) m c n r
+  any_where s image m n c (Ok found) h = tt
+  any_where s image m n c (Err e) h = h
 
 pub one_causes : (s : Context) (image : Reference) (a : RegistryAuth) → Shows (ByAnswer (λ m c n found. Unit {0}) (FoundRefused s.settings image)) (pull_image_manifest s image a)
 unfolding pull_image_manifest

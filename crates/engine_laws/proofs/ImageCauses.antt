@@ -217,7 +217,7 @@ text_refused s image now c content e true said last is = absurd (cc is)
 text_refused s image now c content e false said last is = let same : refusal.GenericError ConfigNotText ≡ e = cc is in subst (ConfigRow s image c now) same (content, last, said)
 
 content_where : (s : Settings) (image : Reference) (manifest : OciImageManifest) (m start o : ℕ) (c d : List Exchange) (r : Result (List ℕ) OciDistributionError) → ManifestRead c manifest → ByAnswer (λ m c n bytes. Blob manifest.config.digest c bytes) (λ m c n e. LooseBlob (BlobUrl s image manifest.config.digest) IntoMemory s manifest.config.digest c n e) start d o r → ByAnswer (λ start d o bytes. LastBody (c ++ d) bytes) (λ start d o e. ConfigRefused s image m (c ++ d) o e) start d o r
-content_where s image manifest m start o c d (Ok bytes) read h = last_body_after c h.last
+content_where s image manifest m start o c d (Ok bytes) read h = last_body_after c h.2
 content_where s image manifest m start o c d (Err e) read h = blob_config s image c d manifest.config.digest o e (record { manifest = manifest; read = read_before d read; digest = inl refl }) h
 
 content_part : (s : Context) (image : Reference) (found : OciImageManifest × List ℕ × Option (List ℕ)) (m : ℕ) (c : List Exchange) → ManifestRead c found.0

@@ -1,7 +1,9 @@
 pub mod BlobAnswers
 pub mod BlobCauses
 pub mod CallCauses
+pub mod CallConfined
 pub mod CallResults
+pub mod Confining
 pub mod DigestAnswers
 pub mod DigestCauses
 pub mod DigestErrors
@@ -10,10 +12,13 @@ pub mod DocumentCauses
 pub mod EarlyCauses
 pub mod ExactRefusals
 pub mod FaultCounts
+pub mod FoundCauses
 pub mod HeaderCauses
 pub mod ImageCauses
 pub mod KeptTokens
+pub mod ManifestCauses
 pub mod PlainRefusals
 pub mod PreparedRequests
+pub mod SafeMore
 pub mod ShownTokens
 pub mod TokenCauses

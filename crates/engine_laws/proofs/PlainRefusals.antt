@@ -2,6 +2,7 @@
 use Rattle.std.proofs.Common.{ℕ, Bool, true, false, List, [], ◌∷◌, Option, Some, None, Result, Ok, Err}
 use Rattle.std.specs.Prelude.{if◌then◌else◌, nat_eq, pos}
 use Rattle.std.specs.Ordering.{int_eq}
+use Rattle.std.specs.Str.{is_utf8}
 use Rattle.json_values.specs.JsonText.{json_of}
 use Rattle.oci_manifests.specs.Types.{is_manifest_type}
 use Rattle.oci_manifests.specs.Document.{document_of}
@@ -16,10 +17,14 @@ use Rattle.engine_requests.specs.declared.error.OciDistributionError.{OciDistrib
 use Rattle.engine_requests.specs.declared.error.OciDistributionError.TheVariants as refusal
 use Rattle.engine_requests.specs.Answers.{is_success, is_client_error, envelope_in, by_envelope, refused_answer, accepted, or_digest_error, header_digest, answer_digest, document_in}
 use Rattle.engine_requests.specs.Documents.{plain_of, type_checked, version_checked, versioned_in, or_unread, reads_twice, tables_read, document_read}
-use Rattle.engine_pull.specs.Images.{image_manifest, is_accepted, all_accepted, layers_accepted}
+use Rattle.engine_requests.specs.Index.{entry_named, entry_found, entry_manifest, config_text}
+use Rattle.engine_pull.specs.Images.{is_accepted, all_accepted, layers_accepted}
+use Rattle.oci_platforms.specs.Promise.{lists, resolved}
+use Rattle.oci_platforms.specs.declared.promise.ResolverPromise.{ResolverPromise}
+use Rattle.oci_manifests.specs.declared.index_entry.ImageIndexEntry.{ImageIndexEntry}
 use Rattle.oci_manifests.specs.declared.descriptor.OciDescriptor.{OciDescriptor}
 use Rattle.oci_manifests.specs.declared.document.OciManifest.TheVariants.{Image, ImageIndex}
-use Rattle.engine_requests.specs.declared.error.GenericCause.TheVariants.{HeaderText}
+use Rattle.engine_requests.specs.declared.error.GenericCause.TheVariants.{ConfigNotText, HeaderText}
 use Rattle.engine_requests.specs.Errors.{◌>>=◌ as ◌into◌}
 
 -- the refusal is neither a fault of the sink nor a value that cannot stand in a header
@@ -96,9 +101,26 @@ read_document_plain body = into_plain (version_checked body (versioned_in (json_
 
 -- ---- images
 
-pub kind_plain : (document : OciManifest) → Plain (image_manifest document)
-kind_plain (Image manifest) = tt
-kind_plain (ImageIndex index) = tt
+pub named_plain : (entries : List ImageIndexEntry) (o : Option (List ℕ)) → Plain (entry_named entries o)
+named_plain entries None = tt
+named_plain entries (Some digest) = by_test (lists digest entries) where
+  by_test : (b : Bool) → Plain {A = List ℕ} (if b then Ok digest else Err (refusal.ImageManifestNotFoundError digest))
+  by_test true = tt
+  by_test false = tt
+
+pub meant_plain : (o : Option ResolverPromise) (entries : List ImageIndexEntry) → Plain (entry_found o entries)
+meant_plain None entries = tt
+meant_plain (Some promise) entries = named_plain entries (resolved promise entries)
+
+pub entry_plain : (digest : List ℕ) (document : OciManifest) → Plain (entry_manifest digest document)
+entry_plain digest (Image manifest) = tt
+entry_plain digest (ImageIndex index) = tt
+
+pub config_plain : (content : List ℕ) → Plain (config_text content)
+config_plain content = by_test (is_utf8 content) where
+  by_test : (b : Bool) → Plain {A = List ℕ} (if b then Ok content else Err (refusal.GenericError ConfigNotText))
+  by_test true = tt
+  by_test false = tt
 
 types_plain : (types : List (List ℕ)) (xs : List OciDescriptor) → Plain (all_accepted types xs)
 types_plain types [] = tt

@@ -73,14 +73,14 @@ with_token_keeps m None made is = let same : m ≡ made = cc is in ap (first_of 
 with_token_keeps m (Some token) made is = ap (first_of (codes "accept")) (with_ok m (codes "authorization") (authorization_of token) made is) ∙ token_keeps m (authorization_of token)
 
 -- a request that was made
-record Made (s : Settings) (method : Method) (url : Parts) (types : Option (List ℕ)) (token : Option RegistryTokenType) (request : Request) : Type 0 where
-  headers : Fields
-  is : request ≡ bare_request method url headers
-  listing : Fields
-  listed : with_accept types (added map.empty (codes "user-agent") s.user_agent) ≡ Ok listing
-  shown : with_token token listing ≡ Ok headers
+pub record Made (s : Settings) (method : Method) (url : Parts) (types : Option (List ℕ)) (token : Option RegistryTokenType) (request : Request) : Type 0 where
+  pub headers : Fields
+  pub is : request ≡ bare_request method url headers
+  pub listing : Fields
+  pub listed : with_accept types (added map.empty (codes "user-agent") s.user_agent) ≡ Ok listing
+  pub shown : with_token token listing ≡ Ok headers
 
-made_of : (s : Settings) (method : Method) (url : Parts) (types : Option (List ℕ)) (token : Option RegistryTokenType) (request : Request) → request_of s method url types token ≡ Ok request → Made s method url types token request
+pub made_of : (s : Settings) (method : Method) (url : Parts) (types : Option (List ℕ)) (token : Option RegistryTokenType) (request : Request) → request_of s method url types token ≡ Ok request → Made s method url types token request
 unfolding request_of
 made_of s method url types token request is =
     let three = into_ok (headers_of s types token) (λ headers. Ok (bare_request method url headers)) request is in

@@ -23,7 +23,7 @@ use Rattle.oci_manifests.specs.declared.document.OciManifest.TheVariants.{Image,
 use Rattle.oci_manifests.specs.declared.manifest.OciImageManifest.{OciImageManifest}
 use Rattle.oci_manifests.specs.declared.index.OciImageIndex.{OciImageIndex}
 use Rattle.oci_manifests.specs.declared.descriptor.OciDescriptor.{OciDescriptor}
-use Rattle.oci_platforms.specs.Promise.{lists}
+use Rattle.oci_platforms.specs.Promise.{lists, resolved}
 use Rattle.oci_platforms.specs.declared.promise.ResolverPromise.{ResolverPromise}
 use Rattle.oci_protocol.specs.Runs.{head_part}
 use Rattle.oci_protocol.specs.Ends.{UnlessMemory}
@@ -38,7 +38,7 @@ use Rattle.engine_requests.specs.Answers.{is_success, is_client_error, envelope_
 use Rattle.engine_requests.specs.Errors.{is_memory}
 use Rattle.engine_requests.specs.Documents.{document_read}
 use Rattle.engine_steps.specs.Blobs.{Destination, IntoSink, IntoMemory}
-use Rattle.engine_requests.specs.Index.{promised, entry_reference}
+use Rattle.engine_requests.specs.Index.{entry_reference}
 use Rattle.engine_pull.specs.Images.{is_accepted}
 use Rattle.engine_laws.specs.Answered.{Body, LastBody}
 use Rattle.engine_laws.specs.Held.{Entry, IsHeld}
@@ -229,8 +229,8 @@ pub record EntryDigest (c : List Exchange) (text : List ℕ) : Type 0 where
 -- The promise leaves no answer, or it leaves this one, which no entry has or which is that of an
 -- index again.
 abbrev pub IsMissing : ResolverPromise → OciImageIndex → List Exchange → List ℕ → Type 0
-IsMissing promise index c text = ((promised promise index.manifests ≡ None) × (text ≡ []))
-    ⊎ ((promised promise index.manifests ≡ Some text)
+IsMissing promise index c text = ((resolved promise index.manifests ≡ None) × (text ≡ []))
+    ⊎ ((resolved promise index.manifests ≡ Some text)
     × ((lists text index.manifests ≡ false) ⊎ ((lists text index.manifests ≡ true) × LastIsIndex c)))
 
 -- an index was read in which the image was not found

@@ -24,16 +24,19 @@ pub record Entry : Type 0 where
   pub moment : ℕ
   pub handed : Option RegistryAuth
 
--- a call that pulls
-abbrev pub pulling : Memory → Context → Reference → Option RegistryAuth → Entry
-pulling kept s image handed = record {
+-- a call for this operation
+abbrev pub asking : Memory → Context → Reference → RegistryOperation → Option RegistryAuth → Entry
+asking kept s image op handed = record {
   kept = kept;
   image = image;
-  operation = Pull;
+  operation = op;
   moment = s.moment;
-  handed
-      = handed;
+  handed = handed;
 }
+
+-- a call that pulls
+abbrev pub pulling : Memory → Context → Reference → Option RegistryAuth → Entry
+pulling kept s image handed = asking kept s image Pull handed
 
 -- credentials that are stored for the registry, or handed in
 abbrev pub IsAuth : Entry → RegistryAuth → Type 0

@@ -10,7 +10,7 @@ ghost use Rattle.engine_pull.specs.Images.{layers_accepted, layer_of, config_of,
 use crate::blobs::pulled_blob;
 use crate::manifests::pull_image_manifest_and_list_digest;
 use engine_requests::{Call, OciDistributionError};
-use json_values::{Blob, Copied, List, Text, copy_all, row};
+use json_values::{Blob, Copied, List, Text, copied, copy_all, row};
 use oci_auth::{Memory, RegistryAuth};
 use oci_manifests::blob::Config;
 use oci_manifests::{ImageLayer, OciDescriptor, OciImageManifest, OciManifest};
@@ -26,6 +26,21 @@ pub struct ImageData {
     pub digest: Option<Text>,
     pub config: Config,
     pub manifest: Option<OciImageManifest>,
+}
+
+impl Copied for ImageData {
+    fn copy(&self, alloc: Global) -> Result<ImageData, AllocError> {
+        copied!(
+            alloc,
+            self,
+            ImageData {
+                layers,
+                digest,
+                config,
+                manifest
+            }
+        )
+    }
 }
 
 /// The manifest of an image, where no index is taken.

@@ -10,15 +10,8 @@ use Rattle.oci_names.specs.References.{registry_of, mirror_of, repository_of}
 use Rattle.engine_requests.specs.declared.error.GenericCause.TheVariants.{ConfigNotText}
 use Rattle.engine_requests.specs.declared.error.OciDistributionError.{OciDistributionError}
 use Rattle.engine_requests.specs.declared.error.OciDistributionError.TheVariants as refusal
-use Rattle.oci_platforms.specs.Promise.{first_for, lists}
+use Rattle.oci_platforms.specs.Promise.{resolved, lists}
 use Rattle.oci_platforms.specs.declared.promise.ResolverPromise.{ResolverPromise}
-use Rattle.oci_platforms.specs.declared.promise.ResolverPromise.TheVariants.{FirstMatch, Fixed, Any}
-
--- the one answer that the promise leaves, and none where it leaves more
-abbrev pub promised : ResolverPromise → List ImageIndexEntry → Option (List ℕ)
-promised (FirstMatch os architecture) entries = first_for os architecture entries
-promised (Fixed digest) entries = Some digest
-promised Any entries = None
 
 -- the digest that was answered, which has to be an entry's
 abbrev pub entry_named : List ImageIndexEntry → Option (List ℕ) → Result (List ℕ) OciDistributionError
@@ -29,7 +22,7 @@ entry_named entries (Some digest) =
 -- the digest of the entry that is meant
 abbrev pub entry_found : Option ResolverPromise → List ImageIndexEntry → Result (List ℕ) OciDistributionError
 entry_found None entries = Err refusal.ImageIndexParsingNoPlatformResolverError
-entry_found (Some promise) entries = entry_named entries (promised promise entries)
+entry_found (Some promise) entries = entry_named entries (resolved promise entries)
 
 -- the document of an entry, which may not be an index again
 abbrev pub entry_manifest : List ℕ → OciManifest → Result OciImageManifest OciDistributionError

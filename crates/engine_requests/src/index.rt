@@ -2,37 +2,16 @@
 ghost use Rattle.std.specs.Prelude.{◌≡◌, IfOk};
 ghost use Rattle.oci_platforms.specs.Promise.{lists};
 ghost use Rattle.engine_requests.specs.Errors.{Says};
-ghost use Rattle.engine_requests.specs.Index.{promised, entry_named, entry_found, entry_manifest};
+ghost use Rattle.engine_requests.specs.Index.{entry_named, entry_found, entry_manifest};
 ghost use Rattle.engine_requests.specs.Index.{entry_reference, config_text};
 
 use crate::OciDistributionError;
 use crate::error::GenericCause;
-use json_values::{Blob, Copied, Text};
+use json_values::{Blob, Text};
 use oci_manifests::{ImageIndexEntry, OciImageManifest, OciManifest};
 use oci_names::Reference;
-use oci_platforms::{ResolverPromise, current_platform_resolver};
+use oci_platforms::PlatformResolver;
 use std::alloc::{AllocError, Global};
-
-// The one answer that the promise leaves, and none where it leaves more.
-fn promised(
-    alloc: Global,
-    promise: &ResolverPromise,
-    manifests: &[ImageIndexEntry],
-) -> Result<Option<Text>, AllocError>
-    ensures { IfOk result (λ answer. answer ≡ promised promise.now manifests.now) }
-{
-    match promise {
-        ResolverPromise::FirstMatch { os, architecture } => {
-            let digest = current_platform_resolver(alloc, os, architecture, manifests)?;
-            Ok(digest)
-        }
-        ResolverPromise::Fixed { digest } => {
-            let digest = digest.copy(alloc)?;
-            Ok(Some(digest))
-        }
-        ResolverPromise::Any => Ok(None),
-    }
-}
 
 fn lists(digest: &str, manifests: &[ImageIndexEntry]) -> bool
     ensures { result ≡ lists digest.now manifests.now }
@@ -60,17 +39,17 @@ fn entry_named(
     Err(OciDistributionError::ImageManifestNotFoundError(digest))
 }
 
-/// The digest of the entry that is meant, by what is said of it.
+/// The digest of the entry that is meant, as the resolver says.
 pub fn entry_found(
     alloc: Global,
-    promise: &Option<ResolverPromise>,
+    resolver: &Option<PlatformResolver>,
     manifests: &[ImageIndexEntry],
 ) -> Result<Text, OciDistributionError>
-    ensures { Says result (entry_found promise.now manifests.now) }
+    ensures { Says result (entry_found resolver.now manifests.now) }
 {
-    match promise {
-        Some(promise) => {
-            let answer = promised(alloc, promise, manifests)?;
+    match resolver {
+        Some(resolver) => {
+            let answer = resolver.resolve(alloc, manifests)?;
             let digest = entry_named(alloc, manifests, answer)?;
             Ok(digest)
         }

@@ -4,7 +4,7 @@ ghost use Rattle.engine_requests.specs.Addresses.{is_listed, scheme_for};
 ghost use Rattle.engine_requests.specs.declared.settings.ClientProtocol.TheVariants.{Https as https_alone};
 
 use json_values::{List, Text};
-use oci_platforms::ResolverPromise;
+use oci_platforms::PlatformResolver;
 
 /// The scheme of a registry's URLs.
 #[derive(Debug, Drop)]
@@ -24,7 +24,7 @@ pub struct Settings {
     /// How many bytes one body may have.
     pub max_body_bytes: u64,
     /// Which image of an index is meant. Where nothing is said of it, an index is refused.
-    pub platform_resolver: Option<ResolverPromise>,
+    pub platform_resolver: Option<PlatformResolver>,
 }
 
 fn is_listed(registries: &[Text], registry: &str) -> bool

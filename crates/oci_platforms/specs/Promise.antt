@@ -1,5 +1,5 @@
 -- Which image of an index a resolver of platforms may pick.
-use Rattle.std.specs.Prelude.{◌≡◌, ℕ, Bool, false, ◌&&◌, List, Option, Some, bytes_eq}
+use Rattle.std.specs.Prelude.{◌≡◌, ℕ, Bool, false, ◌&&◌, List, Option, Some, None, bytes_eq}
 use Rattle.std.specs.List.{find, list_any, Any as AnyOf}
 use Rattle.std.specs.Option.{option_map, option_map_or}
 use Rattle.oci_manifests.specs.declared.index_entry.ImageIndexEntry.{ImageIndexEntry}
@@ -20,6 +20,12 @@ abbrev pub Promised : ResolverPromise → List ImageIndexEntry → Option (List 
 Promised (FirstMatch os architecture) entries answer = answer ≡ first_for os architecture entries
 Promised (Fixed digest) entries answer = answer ≡ Some digest
 Promised Any entries answer = Unit {0}
+
+-- what a resolver that keeps this promise and asks nobody answers
+abbrev pub resolved : ResolverPromise → List ImageIndexEntry → Option (List ℕ)
+resolved (FirstMatch os architecture) entries = first_for os architecture entries
+resolved (Fixed digest) entries = Some digest
+resolved Any entries = None
 
 -- the promise allows this digest, and an entry has it
 pub record Picks (promise : ResolverPromise) (entries : List ImageIndexEntry) (digest : List ℕ) : Type 0 where

@@ -2,12 +2,10 @@
 //! here.
 #![tactic(auto)]
 
-mod own;
 mod promise;
 mod resolver;
 mod resolvers;
 
-pub use own::Resolves;
 pub use promise::ResolverPromise;
 pub use resolver::PlatformResolver;
 pub use resolvers::{current_platform_resolver, linux_amd64_resolver, windows_amd64_resolver};

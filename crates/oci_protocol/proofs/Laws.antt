@@ -1,11 +1,11 @@
-use Rattle.std.proofs.Common.{◌≡◌, ◌≤◌, inl, inr, ℕ, Bool, true, false, List, [], ◌∷◌, ◌++◌, Option, None, Result, Ok, Err, refl, arith}
+use Rattle.std.proofs.Common.{◌≡◌, ◌≤◌, inl, inr, ℕ, Bool, true, false, List, [], ◌∷◌, ◌++◌, Result, Ok, Err, refl, arith}
 use Rattle.std.specs.Prelude.{MatchBool}
 use Rattle.oci_transport.specs.Link.{Link, IsAtMost, AddsAtMost}
 use Rattle.oci_protocol.proofs.Extending.{Extends-more, Extends-none}
 use Rattle.oci_transport.specs.declared.message.Request.{Request}
 use Rattle.oci_transport.specs.declared.message.AnswerHead.{AnswerHead}
 use Rattle.oci_transport.specs.declared.message.Exchange.{Exchange}
-use Rattle.oci_protocol.specs.Proto.{Reading, Reply, Proto, Done, Ask, Recall, Keep, Consult, bind, unless_refused, ◌>>=◌}
+use Rattle.oci_protocol.specs.Proto.{Reading, Reply, Proto, Done, Ask, Recall, Keep, bind, unless_refused, ◌>>=◌}
 use Rattle.oci_protocol.specs.Runs.{Hears, Runs, Stops, Performs, Breaks, Outcome, Meets}
 
 -- a run of one protocol and a run of the one that its answer gives are a run of both
@@ -17,7 +17,6 @@ Runs-bind (Ask request reading next) f k l j m n o [] d a b r s = absurd r
 Runs-bind (Ask request reading next) f k l j m n o (e ∷ c) d a b r s = (r.0, r.1, r.2, Runs-bind (next r.1) f k l j r.0 n o c d a b r.3 s)
 Runs-bind (Recall next) f k l j m n o c d a b r s = Runs-bind (next k) f k l j m n o c d a b r s
 Runs-bind (Keep kept rest) f k l j m n o c d a b r s = Runs-bind rest f kept l j m n o c d a b r s
-Runs-bind (Consult next) f k l j m n o c d a b r s = (r.0, Runs-bind (next r.0) f k l j m n o c d a b r.1 s)
 
 -- nothing was done yet
 pub Stops-start : {K A : Type 0} (p : Proto K A) (k : K) (m : ℕ) → Stops p k m [] k
@@ -26,7 +25,6 @@ Stops-start (Done x) k m = refl
 Stops-start (Ask request reading next) k m = refl
 Stops-start (Recall next) k m = Stops-start (next k) k m
 Stops-start (Keep kept rest) k m = inl (refl, refl)
-Stops-start (Consult next) k m = (None, Stops-start (next None) k m)
 
 -- a front of the first part is a front of both
 pub Stops-first : {K A B : Type 0} (p : Proto K A) (f : A → Proto K B) (k l : K) (m : ℕ) (c : List Exchange) → Stops p k m c l → Stops (bind p f) k m c l
@@ -39,7 +37,6 @@ Stops-first (Ask request reading next) f k l m (e ∷ c) (inr s) = inr (s.0, s.1
 Stops-first (Recall next) f k l m c s = Stops-first (next k) f k l m c s
 Stops-first (Keep kept rest) f k l m c (inl s) = inl s
 Stops-first (Keep kept rest) f k l m c (inr s) = inr (Stops-first rest f kept l m c s)
-Stops-first (Consult next) f k l m c s = (s.0, Stops-first (next s.0) f k l m c s.1)
 
 -- a run of the first part and a front of what its answer gives are a front of both
 pub Stops-second : {K A B : Type 0} (p : Proto K A) (f : A → Proto K B) (k l j : K) (m n : ℕ) (c d : List Exchange) (a : A) → Runs p k m c n l a → Stops (f a) l n d j → Stops (bind p f) k m (c ++ d) j
@@ -50,7 +47,6 @@ Stops-second (Ask request reading next) f k l j m n [] d a r s = absurd r
 Stops-second (Ask request reading next) f k l j m n (e ∷ c) d a r s = inr (r.0, r.1, r.2, Stops-second (next r.1) f k l j r.0 n c d a r.3 s)
 Stops-second (Recall next) f k l j m n c d a r s = Stops-second (next k) f k l j m n c d a r s
 Stops-second (Keep kept rest) f k l j m n c d a r s = inr (Stops-second rest f kept l j m n c d a r s)
-Stops-second (Consult next) f k l j m n c d a r s = (r.0, Stops-second (next r.0) f k l j m n c d a r.1 s)
 
 -- the count of faults never falls in a run
 pub Runs-count : {K A : Type 0} (p : Proto K A) (k l : K) (m n : ℕ) (c : List Exchange) (a : A) → Runs p k m c n l a → m ≤ n
@@ -61,7 +57,6 @@ Runs-count (Ask request reading next) k l m n [] a r = absurd r
 Runs-count (Ask request reading next) k l m n (e ∷ c) a r = omega (arith, r.2.count, Runs-count (next r.1) k l r.0 n c a r.3)
 Runs-count (Recall next) k l m n c a r = Runs-count (next k) k l m n c a r
 Runs-count (Keep kept rest) k l m n c a r = Runs-count rest kept l m n c a r
-Runs-count (Consult next) k l m n c a r = Runs-count (next r.0) k l m n c a r.1
 
 -- what needs no request
 pub Performs-done : {K A : Type 0} (link : Link) (k : K) (a : A) → Performs (Done a) link link k k a
@@ -152,20 +147,6 @@ performs-keep kept rest h = record { conversation = h.conversation; told = h.tol
 breaks-keep : {K A : Type 0} (kept : K) (rest : Proto K A) {old new : Link} {k l : K} → Breaks rest old new kept l → Breaks (Keep kept rest) old new k l
 unfolding Stops
 breaks-keep kept rest h = record { conversation = h.conversation; told = h.told; stops = inr h.stops; count = h.count }
-
-performs-consult : {K A : Type 0} (next : Option (List ℕ) → Proto K A) (said : Option (List ℕ)) {old new : Link} {k l : K} {x : A} → Performs (next said) old new k l x → Performs (Consult next) old new k l x
-unfolding Runs
-performs-consult next said h = record { conversation = h.conversation; told = h.told; runs = (said, h.runs) }
-
-breaks-consult : {K A : Type 0} (next : Option (List ℕ) → Proto K A) (said : Option (List ℕ)) {old new : Link} {k l : K} → Breaks (next said) old new k l → Breaks (Consult next) old new k l
-unfolding Stops
-breaks-consult next said h = record { conversation = h.conversation; told = h.told; stops = (said, h.stops); count = h.count }
-
--- this was said from outside
-pub Meets-consult : {K A E : Type 0} {of_memory : E → Bool} (next : Option (List ℕ) → Proto K (Result A E)) (said : Option (List ℕ)) {old new : Link} {k l : K} {r : Result A E} → Meets of_memory (next said) old new k l r → Meets of_memory (Consult next) old new k l r
-Meets-consult {of_memory} next said {old} {new} {k} {l} {r} rest = record {
-  outcome = outcome_by of_memory (next said) (Consult next) old old new k k l (λ x h. performs-consult next said h) (λ h. breaks-consult next said h) r rest.outcome;
-}
 
 -- something else is kept
 pub Meets-keep : {K A E : Type 0} {of_memory : E → Bool} (kept : K) (rest : Proto K (Result A E)) {old new : Link} {k l : K} {r : Result A E} → Meets of_memory rest old new kept l r → Meets of_memory (Keep kept rest) old new k l r

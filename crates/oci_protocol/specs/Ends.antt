@@ -1,5 +1,5 @@
-use Rattle.std.specs.Prelude.{ℕ, List, Option, Bool, Result, Ok, Err, MatchBool}
-use Rattle.oci_protocol.specs.Proto.{Reply, Proto, Done, Ask, Recall, Keep, Consult}
+use Rattle.std.specs.Prelude.{Bool, Result, Ok, Err, MatchBool}
+use Rattle.oci_protocol.specs.Proto.{Reply, Proto, Done, Ask, Recall, Keep}
 
 -- this is so of each answer of the protocol, whatever the replies and whatever is kept
 unfoldable pub Ends : {K A : Type 0} → (A → Type 0) → Proto K A → Type 0
@@ -7,7 +7,6 @@ Ends Q (Done a) = Q a
 Ends Q (Ask request reading next) = (reply : Reply) → Ends Q (next reply)
 Ends {K} Q (Recall next) = (k : K) → Ends Q (next k)
 Ends Q (Keep kept rest) = Ends Q rest
-Ends Q (Consult next) = (said : Option (List ℕ)) → Ends Q (next said)
 
 -- this is so of the answer, if there is one
 abbrev pub OnAnswer : {A E : Type 0} → (A → Type 0) → Result A E → Type 0

@@ -1,4 +1,4 @@
-use Rattle.std.specs.Prelude.{◌≡◌, ◌<◌, ◌≤◌, ◌⊎◌, ℕ, Bool, List, [], ◌∷◌, Option, Some, Result, Ok, Err, MatchBool, length}
+use Rattle.std.specs.Prelude.{◌≡◌, ◌<◌, ◌≤◌, ◌⊎◌, ℕ, Bool, List, [], ◌∷◌, Some, Result, Ok, Err, MatchBool, length}
 use Rattle.json_values.specs.Counts.{Rose}
 use Rattle.oci_transport.specs.Link.{Link, Extends, answer_of}
 use Rattle.oci_transport.specs.declared.message.Request.{Request}
@@ -6,7 +6,7 @@ use Rattle.oci_transport.specs.declared.message.Answer.{Answer}
 use Rattle.oci_transport.specs.declared.message.AnswerHead.{AnswerHead}
 use Rattle.oci_transport.specs.declared.message.Exchange.{Exchange}
 use Rattle.oci_protocol.specs.Proto.{Reading, Unread, Piped, limit_of, Reply, Headed, Answered, Failed}
-use Rattle.oci_protocol.specs.Proto.{TooLong, SinkFailed, Proto, Done, Ask, Recall, Keep, Consult}
+use Rattle.oci_protocol.specs.Proto.{TooLong, SinkFailed, Proto, Done, Ask, Recall, Keep}
 
 abbrev pub head_part : Answer → AnswerHead
 head_part answer = record { status = answer.status; headers = answer.headers }
@@ -53,7 +53,6 @@ Runs (Ask request reading next) k m (e ∷ c) n l a = (after : ℕ) × (reply : 
     × Replies request reading m e after reply × Runs (next reply) k after c n l a
 Runs (Recall next) k m c n l a = Runs (next k) k m c n l a
 Runs (Keep kept rest) k m c n l a = Runs rest kept m c n l a
-Runs (Consult next) k m c n l a = (said : Option (List ℕ)) × Runs (next said) k m c n l a
 
 -- The exchanges c are a front of a run, cut off anywhere, also before the last one's answer was
 -- read. Where it was cut off, l was kept.
@@ -65,7 +64,6 @@ Stops (Ask request reading next) k m (e ∷ c) l = ((e.request ≡ request) × (
     ⊎ ((after : ℕ) × (reply : Reply) × Replies request reading m e after reply × Stops (next reply) k after c l)
 Stops (Recall next) k m c l = Stops (next k) k m c l
 Stops (Keep kept rest) k m c l = ((c ≡ []) × (k ≡ l)) ⊎ Stops rest kept m c l
-Stops (Consult next) k m c l = (said : Option (List ℕ)) × Stops (next said) k m c l
 
 -- The protocol ran whole over the transport, from old to new. The conversation is what was told,
 -- where exchanges are told.

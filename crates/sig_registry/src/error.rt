@@ -2,9 +2,9 @@
 ghost use Rattle.std.specs.Prelude.{◌≡◌};
 ghost use Rattle.sig_registry.specs.Errors.{is_memory};
 
-use json_values::Text;
+use json_values::{Copied, Text, copy_all, row};
 use oci_engine::OciDistributionError;
-use std::alloc::{AllocError, AllocFailed};
+use std::alloc::{AllocError, AllocFailed, Global};
 use thiserror::Error;
 
 /// Why a call was refused. `image` is the whole text of the reference that was asked for.
@@ -44,6 +44,30 @@ impl SigstoreError {
         ensures { result ≡ is_memory self.now }
     {
         matches!(self, SigstoreError::WantOfMemory)
+    }
+}
+
+impl Copied for SigstoreError {
+    fn copy(&self, alloc: Global) -> Result<SigstoreError, AllocError> {
+        Ok(match self {
+            SigstoreError::OciReferenceNotValidError { reference } => {
+                let reference = reference.copy(alloc)?;
+                SigstoreError::OciReferenceNotValidError { reference }
+            }
+            SigstoreError::RegistryFetchManifestError { image, error } => {
+                let row!(image, error) = copy_all(alloc, row!(image, error))?;
+                SigstoreError::RegistryFetchManifestError { image, error }
+            }
+            SigstoreError::RegistryPullError { image, error } => {
+                let row!(image, error) = copy_all(alloc, row!(image, error))?;
+                SigstoreError::RegistryPullError { image, error }
+            }
+            SigstoreError::RegistryPullManifestError { image, error } => {
+                let row!(image, error) = copy_all(alloc, row!(image, error))?;
+                SigstoreError::RegistryPullManifestError { image, error }
+            }
+            SigstoreError::WantOfMemory => SigstoreError::WantOfMemory,
+        })
     }
 }
 
