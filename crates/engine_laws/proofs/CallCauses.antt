@@ -37,7 +37,7 @@ use Rattle.engine_laws.proofs.FoundCauses.{FoundLoose, found_any, one_causes}
 use Rattle.engine_laws.proofs.ImageCauses.{RowCause, ConfigRow, image_causes, config_causes, text_causes}
 use Rattle.engine_laws.proofs.FaultCounts.{fault_rose, refusal_both}
 use Rattle.engine_laws.proofs.KeptTokens.{Keeps, keeps_first}
-use Rattle.engine_laws.proofs.ShownTokens.{HeaderCause, Ended}
+use Rattle.engine_laws.proofs.ShownTokens.{Carries, HeaderCause, Ended}
 use Rattle.engine_laws.proofs.HeaderCauses.{digest_sound, raw_sound, manifest_sound, found_sound, one_sound, config_sound, text_sound, image_sound, blob_sound}
 
 -- a cause with the values that could not stand in a header
@@ -91,7 +91,7 @@ faulted P R p {old} {new} {k} {l} {r} fails h met is = fault_rose P R p refusal.
 pub digest_reason : (s : Context) (image : Reference) (a : RegistryAuth) {old new : Link} {k l : Memory} {r : Result (List ℕ) OciDistributionError} → Meets is_memory (fetch_manifest_digest s image a) old new k l r → IfErr r (λ e. Told (λ c. Cause (ManifestUrl s.settings image) (AnswerCause (OwnDigest image)) (BadHeader (pulling k s image (Some a)) s.settings manifest_types) s.settings c new.faults e) old new)
 digest_reason s image a {k = k} met =
     let x = pulling k s image (Some a) in
-    refusal_both (λ m c n digest. Unit {0}) (λ m c n e. Loose (ManifestUrl s.settings image) (AnswerCause (OwnDigest image)) s.settings manifest_types c n e) (Keeps x) (Ended x s.settings manifest_types) (λ c n e. Cause (ManifestUrl s.settings image) (AnswerCause (OwnDigest image)) (BadHeader x s.settings manifest_types) s.settings c n e) (fetch_manifest_digest s image a)
+    refusal_both (Carries x s.settings) (λ m c n digest. Unit {0}) (λ m c n e. Loose (ManifestUrl s.settings image) (AnswerCause (OwnDigest image)) s.settings manifest_types c n e) (Keeps x) (Ended x s.settings manifest_types) (λ c n e. Cause (ManifestUrl s.settings image) (AnswerCause (OwnDigest image)) (BadHeader x s.settings manifest_types) s.settings c n e) (fetch_manifest_digest s image a)
     (λ n c e is. cause_free (ManifestUrl s.settings image) (AnswerCause (OwnDigest image)) (BadHeader x s.settings manifest_types) s.settings n c e is) (λ m n c e h bad. tight (ManifestUrl s.settings image) (AnswerCause (OwnDigest image)) x s.settings manifest_types n c e h bad) (digest_causes s image a) (digest_sound s image a k k [] (keeps_first x)) met
 
 pub digest_fault : (s : Context) (image : Reference) (a : RegistryAuth) {old new : Link} {k l : Memory} {r : Result (List ℕ) OciDistributionError} → Meets is_memory (fetch_manifest_digest s image a) old new k l r → r ≡ Err refusal.TransportFault → Rose old.faults new.faults
@@ -102,7 +102,7 @@ digest_fault s image a met is = faulted (λ m c n digest. Unit {0}) (λ m c n e.
 pub raw_reason : (s : Context) (image : Reference) (a : RegistryAuth) (types : List ℕ) {old new : Link} {k l : Memory} {r : Result (List ℕ × List ℕ) OciDistributionError} → Meets is_memory (pull_manifest_raw s image a types) old new k l r → IfErr r (λ e. Told (λ c. Cause (ManifestUrl s.settings image) (AnswerCause (OwnDigest image)) (BadHeader (pulling k s image (Some a)) s.settings types) s.settings c new.faults e) old new)
 raw_reason s image a types {k = k} met =
     let x = pulling k s image (Some a) in
-    refusal_both (λ m c n found. Accepted c found.0) (λ m c n e. Loose (ManifestUrl s.settings image) (AnswerCause (OwnDigest image)) s.settings types c n e) (Keeps x) (Ended x s.settings types) (λ c n e. Cause (ManifestUrl s.settings image) (AnswerCause (OwnDigest image)) (BadHeader x s.settings types) s.settings c n e) (pull_manifest_raw s image a types)
+    refusal_both (Carries x s.settings) (λ m c n found. Accepted c found.0) (λ m c n e. Loose (ManifestUrl s.settings image) (AnswerCause (OwnDigest image)) s.settings types c n e) (Keeps x) (Ended x s.settings types) (λ c n e. Cause (ManifestUrl s.settings image) (AnswerCause (OwnDigest image)) (BadHeader x s.settings types) s.settings c n e) (pull_manifest_raw s image a types)
     (λ n c e is. cause_free (ManifestUrl s.settings image) (AnswerCause (OwnDigest image)) (BadHeader x s.settings types) s.settings n c e is) (λ m n c e h bad. tight (ManifestUrl s.settings image) (AnswerCause (OwnDigest image)) x s.settings types n c e h bad) (raw_causes s image a types) (raw_sound s image a types k k [] (keeps_first x)) met
 
 pub raw_fault : (s : Context) (image : Reference) (a : RegistryAuth) (types : List ℕ) {old new : Link} {k l : Memory} {r : Result (List ℕ × List ℕ) OciDistributionError} → Meets is_memory (pull_manifest_raw s image a types) old new k l r → r ≡ Err refusal.TransportFault → Rose old.faults new.faults
@@ -117,7 +117,7 @@ listed_reason s image a text types is met = raw_reason s image a types (rw is at
 pub manifest_reason : (s : Context) (image : Reference) (a : RegistryAuth) {old new : Link} {k l : Memory} {r : Result (OciManifest × List ℕ) OciDistributionError} → Meets is_memory (pull_manifest s image a) old new k l r → IfErr r (λ e. Told (λ c. Cause (ManifestUrl s.settings image) (DocumentCause (OwnDigest image)) (BadHeader (pulling k s image (Some a)) s.settings manifest_types) s.settings c new.faults e) old new)
 manifest_reason s image a {k = k} met =
     let x = pulling k s image (Some a) in
-    refusal_both (λ m c n found. ReadLast c found.0) (λ m c n e. Loose (ManifestUrl s.settings image) (DocumentCause (OwnDigest image)) s.settings manifest_types c n e) (Keeps x) (Ended x s.settings manifest_types) (λ c n e. Cause (ManifestUrl s.settings image) (DocumentCause (OwnDigest image)) (BadHeader x s.settings manifest_types) s.settings c n e) (pull_manifest s image a)
+    refusal_both (Carries x s.settings) (λ m c n found. ReadLast c found.0) (λ m c n e. Loose (ManifestUrl s.settings image) (DocumentCause (OwnDigest image)) s.settings manifest_types c n e) (Keeps x) (Ended x s.settings manifest_types) (λ c n e. Cause (ManifestUrl s.settings image) (DocumentCause (OwnDigest image)) (BadHeader x s.settings manifest_types) s.settings c n e) (pull_manifest s image a)
     (λ n c e is. cause_free (ManifestUrl s.settings image) (DocumentCause (OwnDigest image)) (BadHeader x s.settings manifest_types) s.settings n c e is) (λ m n c e h bad. tight (ManifestUrl s.settings image) (DocumentCause (OwnDigest image)) x s.settings manifest_types n c e h bad) (manifest_causes s image a) (manifest_sound s image a k k [] (keeps_first x)) met
 
 pub manifest_fault : (s : Context) (image : Reference) (a : RegistryAuth) {old new : Link} {k l : Memory} {r : Result (OciManifest × List ℕ) OciDistributionError} → Meets is_memory (pull_manifest s image a) old new k l r → r ≡ Err refusal.TransportFault → Rose old.faults new.faults
@@ -128,7 +128,7 @@ manifest_fault s image a met is = faulted (λ m c n found. ReadLast c found.0) (
 pub image_reason : (s : Context) (image : Reference) (a : RegistryAuth) (accepted : List (List ℕ)) {old new : Link} {k l : Memory} {r : Result ImageData OciDistributionError} → Meets is_memory (pull s image a accepted) old new k l r → IfErr r (λ e. Told (λ c. ImageCause (BadHeader (pulling k s image (Some a)) s.settings manifest_types) s.settings image accepted c new.faults e) old new)
 image_reason s image a accepted {k = k} met =
     let x = pulling k s image (Some a) in
-    refusal_both (λ m c n found. Unit {0}) (λ m c n e. RowCause s.settings image accepted c n e) (Keeps x) (Ended x s.settings manifest_types) (λ c n e. ImageCause (BadHeader x s.settings manifest_types) s.settings image accepted c n e) (pull s image a accepted)
+    refusal_both (Carries x s.settings) (λ m c n found. Unit {0}) (λ m c n e. RowCause s.settings image accepted c n e) (Keeps x) (Ended x s.settings manifest_types) (λ c n e. ImageCause (BadHeader x s.settings manifest_types) s.settings image accepted c n e) (pull s image a accepted)
     (λ n c e is. image_free (BadHeader x s.settings manifest_types) s.settings image accepted n c e is) (λ m n c e h bad. tight_image x s.settings image accepted n c e h bad) (image_causes s image a accepted) (image_sound s image a accepted k k [] (keeps_first x)) met
 
 pub image_fault : (s : Context) (image : Reference) (a : RegistryAuth) (accepted : List (List ℕ)) {old new : Link} {k l : Memory} {r : Result ImageData OciDistributionError} → Meets is_memory (pull s image a accepted) old new k l r → r ≡ Err refusal.TransportFault → Rose old.faults new.faults
@@ -139,7 +139,7 @@ image_fault s image a accepted met is = faulted (λ m c n found. Unit {0}) (λ m
 pub found_reason : (s : Context) (image : Reference) (a : RegistryAuth) {old new : Link} {k l : Memory} {r : Result (OciImageManifest × List ℕ × Option (List ℕ)) OciDistributionError} → Meets is_memory (pull_image_manifest_and_list_digest s image a) old new k l r → IfErr r (λ e. Told (λ c. FoundCause (BadHeader (pulling k s image (Some a)) s.settings manifest_types) s.settings image c new.faults e) old new)
 found_reason s image a {k = k} met =
     let x = pulling k s image (Some a) in
-    refusal_both (λ m c n found. Unit {0}) (λ m c n e. FoundLoose s.settings image c n e) (Keeps x) (Ended x s.settings manifest_types) (λ c n e. FoundCause (BadHeader x s.settings manifest_types) s.settings image c n e) (pull_image_manifest_and_list_digest s image a)
+    refusal_both (Carries x s.settings) (λ m c n found. Unit {0}) (λ m c n e. FoundLoose s.settings image c n e) (Keeps x) (Ended x s.settings manifest_types) (λ c n e. FoundCause (BadHeader x s.settings manifest_types) s.settings image c n e) (pull_image_manifest_and_list_digest s image a)
     (λ n c e is. found_free (BadHeader x s.settings manifest_types) s.settings image n c e is) (λ m n c e h bad. tight_found x s.settings image n c e h bad) (found_any s image a) (found_sound s image a k k [] (keeps_first x)) met
 
 pub found_fault : (s : Context) (image : Reference) (a : RegistryAuth) {old new : Link} {k l : Memory} {r : Result (OciImageManifest × List ℕ × Option (List ℕ)) OciDistributionError} → Meets is_memory (pull_image_manifest_and_list_digest s image a) old new k l r → r ≡ Err refusal.TransportFault → Rose old.faults new.faults
@@ -148,7 +148,7 @@ found_fault s image a met is = faulted (λ m c n found. Unit {0}) (λ m c n e. F
 pub one_reason : (s : Context) (image : Reference) (a : RegistryAuth) {old new : Link} {k l : Memory} {r : Result (OciImageManifest × List ℕ) OciDistributionError} → Meets is_memory (pull_image_manifest s image a) old new k l r → IfErr r (λ e. Told (λ c. FoundCause (BadHeader (pulling k s image (Some a)) s.settings manifest_types) s.settings image c new.faults e) old new)
 one_reason s image a {k = k} met =
     let x = pulling k s image (Some a) in
-    refusal_both (λ m c n found. Unit {0}) (λ m c n e. FoundLoose s.settings image c n e) (Keeps x) (Ended x s.settings manifest_types) (λ c n e. FoundCause (BadHeader x s.settings manifest_types) s.settings image c n e) (pull_image_manifest s image a)
+    refusal_both (Carries x s.settings) (λ m c n found. Unit {0}) (λ m c n e. FoundLoose s.settings image c n e) (Keeps x) (Ended x s.settings manifest_types) (λ c n e. FoundCause (BadHeader x s.settings manifest_types) s.settings image c n e) (pull_image_manifest s image a)
     (λ n c e is. found_free (BadHeader x s.settings manifest_types) s.settings image n c e is) (λ m n c e h bad. tight_found x s.settings image n c e h bad) (one_causes s image a) (one_sound s image a k k [] (keeps_first x)) met
 
 pub one_fault : (s : Context) (image : Reference) (a : RegistryAuth) {old new : Link} {k l : Memory} {r : Result (OciImageManifest × List ℕ) OciDistributionError} → Meets is_memory (pull_image_manifest s image a) old new k l r → r ≡ Err refusal.TransportFault → Rose old.faults new.faults
@@ -157,7 +157,7 @@ one_fault s image a met is = faulted (λ m c n found. Unit {0}) (λ m c n e. Fou
 pub config_reason : (s : Context) (image : Reference) (a : RegistryAuth) {old new : Link} {k l : Memory} {r : Result (OciImageManifest × List ℕ × List ℕ × Option (List ℕ)) OciDistributionError} → Meets is_memory (pull_manifest_and_config_and_list_digest s image a) old new k l r → IfErr r (λ e. Told (λ c. ConfigCause (BadHeader (pulling k s image (Some a)) s.settings manifest_types) s.settings image c new.faults e) old new)
 config_reason s image a {k = k} met =
     let x = pulling k s image (Some a) in
-    refusal_both (λ m c n found. Unit {0}) (λ m c n e. ConfigRow s.settings image c n e) (Keeps x) (Ended x s.settings manifest_types) (λ c n e. ConfigCause (BadHeader x s.settings manifest_types) s.settings image c n e) (pull_manifest_and_config_and_list_digest s image a)
+    refusal_both (Carries x s.settings) (λ m c n found. Unit {0}) (λ m c n e. ConfigRow s.settings image c n e) (Keeps x) (Ended x s.settings manifest_types) (λ c n e. ConfigCause (BadHeader x s.settings manifest_types) s.settings image c n e) (pull_manifest_and_config_and_list_digest s image a)
     (λ n c e is. config_free (BadHeader x s.settings manifest_types) s.settings image n c e is) (λ m n c e h bad. tight_config x s.settings image n c e h bad) (config_causes s image a) (config_sound s image a k k [] (keeps_first x)) met
 
 pub config_fault : (s : Context) (image : Reference) (a : RegistryAuth) {old new : Link} {k l : Memory} {r : Result (OciImageManifest × List ℕ × List ℕ × Option (List ℕ)) OciDistributionError} → Meets is_memory (pull_manifest_and_config_and_list_digest s image a) old new k l r → r ≡ Err refusal.TransportFault → Rose old.faults new.faults
@@ -166,7 +166,7 @@ config_fault s image a met is = faulted (λ m c n found. Unit {0}) (λ m c n e. 
 pub text_reason : (s : Context) (image : Reference) (a : RegistryAuth) {old new : Link} {k l : Memory} {r : Result (OciImageManifest × List ℕ × List ℕ) OciDistributionError} → Meets is_memory (pull_manifest_and_config s image a) old new k l r → IfErr r (λ e. Told (λ c. ConfigCause (BadHeader (pulling k s image (Some a)) s.settings manifest_types) s.settings image c new.faults e) old new)
 text_reason s image a {k = k} met =
     let x = pulling k s image (Some a) in
-    refusal_both (λ m c n found. Unit {0}) (λ m c n e. ConfigRow s.settings image c n e) (Keeps x) (Ended x s.settings manifest_types) (λ c n e. ConfigCause (BadHeader x s.settings manifest_types) s.settings image c n e) (pull_manifest_and_config s image a)
+    refusal_both (Carries x s.settings) (λ m c n found. Unit {0}) (λ m c n e. ConfigRow s.settings image c n e) (Keeps x) (Ended x s.settings manifest_types) (λ c n e. ConfigCause (BadHeader x s.settings manifest_types) s.settings image c n e) (pull_manifest_and_config s image a)
     (λ n c e is. config_free (BadHeader x s.settings manifest_types) s.settings image n c e is) (λ m n c e h bad. tight_config x s.settings image n c e h bad) (text_causes s image a) (text_sound s image a k k [] (keeps_first x)) met
 
 pub text_fault : (s : Context) (image : Reference) (a : RegistryAuth) {old new : Link} {k l : Memory} {r : Result (OciImageManifest × List ℕ × List ℕ) OciDistributionError} → Meets is_memory (pull_manifest_and_config s image a) old new k l r → r ≡ Err refusal.TransportFault → Rose old.faults new.faults
@@ -177,7 +177,7 @@ text_fault s image a met is = faulted (λ m c n found. Unit {0}) (λ m c n e. Co
 pub blob_reason : (to : Destination) (s : Context) (image : Reference) (digest : List ℕ) {old new : Link} {k l : Memory} {r : Result (List ℕ) OciDistributionError} → Meets is_memory (blob_to to s image digest) old new k l r → IfErr r (λ e. Told (λ c. BlobCause (BlobUrl s.settings image digest) to (BadHeader (pulling k s image None) s.settings manifest_types) s.settings digest c new.faults e) old new)
 blob_reason to s image digest {k = k} met =
     let x = pulling k s image None in
-    refusal_both (λ m c n bytes. Unit {0}) (λ m c n e. LooseBlob (BlobUrl s.settings image digest) to s.settings digest c n e) (Keeps x) (Ended x s.settings manifest_types) (λ c n e. BlobCause (BlobUrl s.settings image digest) to (BadHeader x s.settings manifest_types) s.settings digest c n e) (blob_to to s image digest)
+    refusal_both (Carries x s.settings) (λ m c n bytes. Unit {0}) (λ m c n e. LooseBlob (BlobUrl s.settings image digest) to s.settings digest c n e) (Keeps x) (Ended x s.settings manifest_types) (λ c n e. BlobCause (BlobUrl s.settings image digest) to (BadHeader x s.settings manifest_types) s.settings digest c n e) (blob_to to s image digest)
     (λ n c e is. blob_free (BlobUrl s.settings image digest) to (BadHeader x s.settings manifest_types) s.settings digest n c e is) (λ m n c e h bad. tight_blob (BlobUrl s.settings image digest) to x s.settings digest n c e h bad) (blob_causes to s image digest) (blob_sound to s image digest k None k [] (keeps_first x)) met
 
 pub blob_fault : (to : Destination) (s : Context) (image : Reference) (digest : List ℕ) {old new : Link} {k l : Memory} {r : Result (List ℕ) OciDistributionError} → Meets is_memory (blob_to to s image digest) old new k l r → r ≡ Err refusal.TransportFault → Rose old.faults new.faults

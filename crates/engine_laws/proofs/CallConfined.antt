@@ -77,14 +77,15 @@ text_safe x s l c (Ok None) is h = tt
 text_safe x s l c (Ok (Some token)) is h = (keeps_kept x l c token h.1 h.0, tt)
 text_safe x s l c (Err e) is h = tt
 
+safe_any : (x : Entry) (s : Context) (l : Memory) (c : List Exchange) (e : OciDistributionError) → Safe (Carries x s.settings) (Keeps x) (Any x {A = Result (Option (List ℕ)) OciDistributionError}) l c (Done (Err e))
+unfolding Safe Any
+safe_any x s l c e = tt
+
 step_text : (k : Memory) (s : Context) (image : Reference) (a : RegistryAuth) (op : RegistryOperation) (l : Memory) (c : List Exchange) (r : Result (Unit {0}) OciDistributionError) → Ended (asking k s image op (Some a)) s.settings manifest_types l c r
     → Safe (Carries (asking k s image op (Some a)) s.settings) (Keeps (asking k s image op (Some a))) (Any (asking k s image op (Some a))) l c (unless_refused (λ u. token_step s.settings image a op >>= kept_text s.moment (key_of image op)) r)
 step_text k s image a op l c (Ok u) keeps = let x = asking k s image op (Some a) in
     Safe-bind (Carries x s.settings) (Keeps x) (Asked x) (Any x) (token_step s.settings image a op) (unless_refused (kept_text s.moment (key_of image op))) l c (step_safe x s.settings a l c (inr refl) keeps) (λ l c r h. text_safe x s l c r refl h)
-step_text k s image a op l c (Err e) h = safe_any (asking k s image op (Some a)) s l c e where
-  safe_any : (x : Entry) (s : Context) (l : Memory) (c : List Exchange) (e : OciDistributionError) → Safe (Carries x s.settings) (Keeps x) (Any x) l c (Done (Err e))
-  unfolding Safe Any
-  safe_any x s l c e = tt
+step_text k s image a op l c (Err e) h = safe_any (asking k s image op (Some a)) s l c e
 
 given_safe : (k : Memory) (s : Context) (image : Reference) (a : RegistryAuth) (op : RegistryOperation) → Safe (Carries (asking k s image op (Some a)) s.settings) (Keeps (asking k s image op (Some a))) (Any (asking k s image op (Some a))) k [] (token_given s image a op)
 unfolding token_given

@@ -3,6 +3,7 @@ use Rattle.std.proofs.Common.{◌≡◌, ◌≤◌, ℕ, Bool, true, false, List
 use Rattle.std.specs.Prelude.{MatchBool}
 use Rattle.json_values.specs.Counts.{Rose}
 use Rattle.oci_transport.specs.Link.{Link}
+use Rattle.oci_transport.specs.declared.message.Request.{Request}
 use Rattle.oci_transport.specs.declared.message.Exchange.{Exchange}
 use Rattle.oci_protocol.specs.Proto.{Proto, Done, Ask, Recall, Keep}
 use Rattle.oci_protocol.specs.Runs.{Runs, Performs, Breaks, Outcome, Meets, Told}
@@ -74,15 +75,15 @@ refusal_told {K} {A} {E} {of_memory} P R p {old} {new} {k} {l} {r} free h met = 
   by_result (Err e) run = by_memory (of_memory e) e refl run
 
 -- so it is where the cause comes of what the protocol shows and of what it keeps to
-pub refusal_both : {K A E : Type 0} {of_memory : E → Bool} (P : ℕ → List Exchange → ℕ → A → Type 0) (R : ℕ → List Exchange → ℕ → E → Type 0) (I : K → List Exchange → Type 0) (Q : K → List Exchange → Result A E → Type 0) (T : List Exchange → ℕ → E → Type 0) (p : Proto K (Result A E)) {old new : Link} {k l : K} {r : Result A E}
-    → ((n : ℕ) (c : List Exchange) (e : E) → of_memory e ≡ true → T c n e) → ((m n : ℕ) (c : List Exchange) (e : E) → R m c n e → Q l c (Err e) → T c n e) → Shows (ByAnswer P R) p → Safe (λ k c request. Unit {0}) I Q k [] p → Meets of_memory p old new k l r → IfErr r (λ e. Told (λ c. T c new.faults e) old new)
-refusal_both {K} {A} {E} {of_memory} P R I Q T p {old} {new} {k} {l} {r} free both h safe met = by_result r met.outcome where
+pub refusal_both : {K A E : Type 0} {of_memory : E → Bool} (W : K → List Exchange → Request → Type 0) (P : ℕ → List Exchange → ℕ → A → Type 0) (R : ℕ → List Exchange → ℕ → E → Type 0) (I : K → List Exchange → Type 0) (Q : K → List Exchange → Result A E → Type 0) (T : List Exchange → ℕ → E → Type 0) (p : Proto K (Result A E)) {old new : Link} {k l : K} {r : Result A E}
+    → ((n : ℕ) (c : List Exchange) (e : E) → of_memory e ≡ true → T c n e) → ((m n : ℕ) (c : List Exchange) (e : E) → R m c n e → Q l c (Err e) → T c n e) → Shows (ByAnswer P R) p → Safe W I Q k [] p → Meets of_memory p old new k l r → IfErr r (λ e. Told (λ c. T c new.faults e) old new)
+refusal_both {K} {A} {E} {of_memory} W P R I Q T p {old} {new} {k} {l} {r} free both h safe met = by_result r met.outcome where
   by_memory : (b : Bool) (e : E) → of_memory e ≡ b → MatchBool b (Breaks p old new k l) (Performs p old new k l (Err e)) → Told (λ c. T c new.faults e) old new
   by_memory true e is run = record { conversation = run.conversation; told = run.told; holds = free new.faults run.conversation e is }
   by_memory false e is run = record {
     conversation = run.conversation;
     told = run.told;
-    holds = both old.faults new.faults run.conversation e (h.shows k l old.faults new.faults run.conversation (Err e) run.runs) (Runs-ends-safe (λ k c request. Unit {0}) I Q p k l old.faults new.faults [] run.conversation (Err e) safe run.runs);
+    holds = both old.faults new.faults run.conversation e (h.shows k l old.faults new.faults run.conversation (Err e) run.runs) (Runs-ends-safe W I Q p k l old.faults new.faults [] run.conversation (Err e) safe run.runs);
   }
 
   by_result : (r : Result A E) → Outcome of_memory p old new k l r → IfErr r (λ e. Told (λ c. T c new.faults e) old new)

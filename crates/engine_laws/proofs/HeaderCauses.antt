@@ -62,11 +62,11 @@ whole_sound : (x : Entry) (s : Settings) (types : List ℕ) (n : ℕ) (request :
 unfolding whole
 whole_sound x s types n request limit l c sent keeps = safe_follow x s (Ended x s types) n request (read_within limit) whole_reply l c sent keeps (λ last d e before after other reply h replies. by_reply last reply (d ++ e ∷ []) h) where
   by_reply : (last : Request) (reply : Reply) (d : List Exchange) → Keeps x l d → Sound x s types l d (whole_reply last reply)
-  by_reply last (Headed head) d h = safe_done x (Ended x s types) l d _ h
-  by_reply last (Answered answer) d h = safe_done x (Ended x s types) l d _ h
-  by_reply last Failed d h = safe_done x (Ended x s types) l d (Err refusal.TransportFault) tt
-  by_reply last TooLong d h = safe_done x (Ended x s types) l d (Err refusal.BodyTooLong) tt
-  by_reply last SinkFailed d h = safe_done x (Ended x s types) l d (Err refusal.SinkFault) tt
+  by_reply last (Headed head) d h = safe_done x s (Ended x s types) l d _ h
+  by_reply last (Answered answer) d h = safe_done x s (Ended x s types) l d _ h
+  by_reply last Failed d h = safe_done x s (Ended x s types) l d (Err refusal.TransportFault) tt
+  by_reply last TooLong d h = safe_done x s (Ended x s types) l d (Err refusal.BodyTooLong) tt
+  by_reply last SinkFailed d h = safe_done x s (Ended x s types) l d (Err refusal.SinkFault) tt
 
 unread_plain : (d : Result (Option (List ℕ)) OciDistributionError) → Plain d → Plain (unread_named d)
 unread_plain (Ok digest) plain = tt
@@ -83,9 +83,9 @@ named_sound x s types n request limit l c sent keeps = safe_follow x s (Ended x 
   by_reply : (last : Request) (reply : Reply) (d : List Exchange) → Keeps x l d → Sound x s types l d (named_reply last reply)
   by_reply last (Headed head) d h = plain_last x s types (unread_named (header_digest head.headers)) l d (unread_plain (header_digest head.headers) (digest_plain _)) h
   by_reply last (Answered answer) d h = plain_last x s types (read_named (record { url = last.url; answer = answer }) (header_digest answer.headers)) l d (read_plain (record { url = last.url; answer = answer }) (header_digest answer.headers) (digest_plain _)) h
-  by_reply last Failed d h = safe_done x (Ended x s types) l d (Err refusal.TransportFault) tt
-  by_reply last TooLong d h = safe_done x (Ended x s types) l d (Err refusal.BodyTooLong) tt
-  by_reply last SinkFailed d h = safe_done x (Ended x s types) l d (Err refusal.SinkFault) tt
+  by_reply last Failed d h = safe_done x s (Ended x s types) l d (Err refusal.TransportFault) tt
+  by_reply last TooLong d h = safe_done x s (Ended x s types) l d (Err refusal.BodyTooLong) tt
+  by_reply last SinkFailed d h = safe_done x s (Ended x s types) l d (Err refusal.SinkFault) tt
 
 compared_plain : (x : Expected) (body : List ℕ) → Plain (compared x body)
 compared_plain x body = by_test (bytes_eq x.text (digest_text x.algorithm body)) where
@@ -113,9 +113,9 @@ attempt_sound to x s types limit digest request l c sent keeps = safe_follow x s
   by_reply : (last : Request) (reply : Reply) (d : List Exchange) → Keeps x l d → Sound x s types l d (blob_reply digest last reply)
   by_reply last (Headed head) d h = plain_last x s types (unread_by (plan_of digest head)) l d (unread_blob (plan_of digest head)) h
   by_reply last (Answered answer) d h = plain_last x s types (read_by last.url answer (plan_of digest (head_part answer))) l d (read_blob last.url answer (plan_of digest (head_part answer))) h
-  by_reply last Failed d h = safe_done x (Ended x s types) l d (Err refusal.TransportFault) tt
-  by_reply last TooLong d h = safe_done x (Ended x s types) l d (Err refusal.BodyTooLong) tt
-  by_reply last SinkFailed d h = safe_done x (Ended x s types) l d (Err refusal.SinkFault) tt
+  by_reply last Failed d h = safe_done x s (Ended x s types) l d (Err refusal.TransportFault) tt
+  by_reply last TooLong d h = safe_done x s (Ended x s types) l d (Err refusal.BodyTooLong) tt
+  by_reply last SinkFailed d h = safe_done x s (Ended x s types) l d (Err refusal.SinkFault) tt
 
 -- ---- calls
 

@@ -220,14 +220,17 @@ content_where : (s : Settings) (image : Reference) (manifest : OciImageManifest)
 content_where s image manifest m start o c d (Ok bytes) read h = last_body_after c h.2
 content_where s image manifest m start o c d (Err e) read h = blob_config s image c d manifest.config.digest o e (record { manifest = manifest; read = read_before d read; digest = inl refl }) h
 
+abbrev AnyText : ℕ → List Exchange → ℕ → OciImageManifest × List ℕ × List ℕ × Option (List ℕ) → Type 0
+AnyText m c n x = Unit {0}
+
 content_part : (s : Context) (image : Reference) (found : OciImageManifest × List ℕ × Option (List ℕ)) (m : ℕ) (c : List Exchange) → ManifestRead c found.0
-    → Shows (λ start d o r. ByAnswer (λ m c n x. Unit {0}) (ConfigRefused s.settings image) m (c ++ d) o r) (held_blob s image found.0.config.digest >>= λ content. Done (config_text content) >>= λ config. Done (Ok (found.0, found.1, config, found.2)))
-content_part s image found m c read = Shows-each (λ start d o bytes. LastBody (c ++ d) bytes) (λ start d o x. Unit {0}) (λ start d o e. ConfigRefused s.settings image m (c ++ d) o e) (held_blob s image found.0.config.digest) (λ content. Done (config_text content) >>= λ config. Done (Ok (found.0, found.1, config, found.2)))
+    → Shows (λ start d o r. ByAnswer AnyText (ConfigRefused s.settings image) m (c ++ d) o r) (held_blob s image found.0.config.digest >>= λ content. Done (config_text content) >>= λ config. Done (Ok (found.0, found.1, config, found.2)))
+content_part s image found m c read = Shows-each (λ start d o bytes. LastBody (c ++ d) bytes) AnyText (λ start d o e. ConfigRefused s.settings image m (c ++ d) o e) (held_blob s image found.0.config.digest) (λ content. Done (config_text content) >>= λ config. Done (Ok (found.0, found.1, config, found.2)))
     (Shows-more (ByAnswer (λ m c n bytes. Blob found.0.config.digest c bytes) (λ m c n e. LooseBlob (BlobUrl s.settings image found.0.config.digest) IntoMemory s.settings found.0.config.digest c n e)) (ByAnswer (λ start d o bytes. LastBody (c ++ d) bytes) (λ start d o e. ConfigRefused s.settings image m (c ++ d) o e)) (held_blob s image found.0.config.digest)
     (shows_both (λ m c n bytes. Blob found.0.config.digest c bytes) (λ m c n e. LooseBlob (BlobUrl s.settings image found.0.config.digest) IntoMemory s.settings found.0.config.digest c n e) (held_blob s image found.0.config.digest) (blob_shows IntoMemory s image found.0.config.digest) (blob_causes IntoMemory s image found.0.config.digest))
     (λ start o d r h. content_where s.settings image found.0 m start o c d r read h))
-    (λ start n d content last. Shows-step (λ st f o r. ByAnswer (λ start d o x. Unit {0}) (λ start d o e. ConfigRefused s.settings image m (c ++ d) o e) start (d ++ f) o r) (config_text content) (λ config. Done (Ok (found.0, found.1, config, found.2)))
-    (λ config is. Shows-done (λ st f o r. ByAnswer (λ start d o x. Unit {0}) (λ start d o e. ConfigRefused s.settings image m (c ++ d) o e) start (d ++ f) o r) (Ok (found.0, found.1, config, found.2)) (λ o. tt))
+    (λ start n d content last. Shows-step (λ st f o r. ByAnswer AnyText (λ start d o e. ConfigRefused s.settings image m (c ++ d) o e) start (d ++ f) o r) (config_text content) (λ config. Done (Ok (found.0, found.1, config, found.2)))
+    (λ config is. Shows-done (λ st f o r. ByAnswer AnyText (λ start d o e. ConfigRefused s.settings image m (c ++ d) o e) start (d ++ f) o r) (Ok (found.0, found.1, config, found.2)) (λ o. tt))
     (λ e is o. subst (λ x. ConfigRefused s.settings image m (c ++ x) o e) (sym (append-nil d)) (text_refused s.settings image o (c ++ d) content e (is_utf8 content) refl last is)))
 
 first_config : (s : Settings) (image : Reference) (m n : ℕ) (c : List Exchange) (r : Result (OciImageManifest × List ℕ × Option (List ℕ)) OciDistributionError) → ByAnswer (λ m c n found. ManifestRead c found.0) (FoundRefused s image) m c n r → ByAnswer (λ m c n found. ManifestRead c found.0) (ConfigRefused s image) m c n r
@@ -236,7 +239,7 @@ first_config s image m n c (Err e) h = found_config s image c n e h
 
 pub config_causes : (s : Context) (image : Reference) (a : RegistryAuth) → Shows (ByAnswer (λ m c n found. Unit {0}) (λ m c n e. ConfigRow s.settings image c n e)) (pull_manifest_and_config_and_list_digest s image a)
 unfolding pull_manifest_and_config_and_list_digest
-config_causes s image a = Shows-each (λ m c n found. ManifestRead c found.0) (λ m c n x. Unit {0}) (ConfigRefused s.settings image) (pull_image_manifest_and_list_digest s image a) (λ found. held_blob s image found.0.config.digest >>= λ content. Done (config_text content) >>= λ config. Done (Ok (found.0, found.1, config, found.2)))
+config_causes s image a = Shows-each (λ m c n found. ManifestRead c found.0) AnyText (ConfigRefused s.settings image) (pull_image_manifest_and_list_digest s image a) (λ found. held_blob s image found.0.config.digest >>= λ content. Done (config_text content) >>= λ config. Done (Ok (found.0, found.1, config, found.2)))
     (Shows-more (ByAnswer (λ m c n found. ManifestRead c found.0) (FoundRefused s.settings image)) (ByAnswer (λ m c n found. ManifestRead c found.0) (ConfigRefused s.settings image)) (pull_image_manifest_and_list_digest s image a) (found_causes s image a) (λ m n c r h. first_config s.settings image m n c r h))
     (λ m n c found read. content_part s image found m c read)
 

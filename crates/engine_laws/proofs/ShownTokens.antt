@@ -1,5 +1,5 @@
 -- Which values could not stand in a header: the user agent, the types, or a token that the call may show.
-use Rattle.std.proofs.Common.{◌≡◌, ◌⊎◌, inl, inr, ℕ, Bool, true, false, List, [], ◌∷◌, ◌++◌, Option, Some, None, Result, Ok, Err, codes, length, unwrap_or, refl, sym, ap, ◌∙◌}
+use Rattle.std.proofs.Common.{◌≡◌, ◌⊎◌, inl, inr, ℕ, Bool, true, false, List, [], ◌∷◌, ◌++◌, Option, Some, None, Result, Ok, Err, codes, length, unwrap_or, refl, sym, ap, subst, ◌∙◌}
 use Rattle.std.specs.Prelude.{◌&&◌, nat_lt, sum_by, if◌then◌else◌}
 use Rattle.std.proofs.lemmas.List.{nil_from_length}
 use Rattle.std.specs.FinMap as map
@@ -169,9 +169,9 @@ pub ended_plain : {A : Type 0} (x : Entry) (s : Settings) (types : List ℕ) (l 
 ended_plain x s types l c (Ok a) keeps plain = keeps
 ended_plain x s types l c (Err e) keeps plain = plain_cause x s types c e plain
 
-pub safe_done : {A : Type 0} {s : Settings} (x : Entry) (Q : Memory → List Exchange → A → Type 0) (l : Memory) (c : List Exchange) (a : A) → Q l c a → Safe (Carries x s) (Keeps x) Q l c (Done a)
+pub safe_done : {A : Type 0} (x : Entry) (s : Settings) (Q : Memory → List Exchange → A → Type 0) (l : Memory) (c : List Exchange) (a : A) → Q l c a → Safe (Carries x s) (Keeps x) Q l c (Done a)
 unfolding Safe
-safe_done {s = s} x Q l c a h = h
+safe_done x s Q l c a h = h
 
 unless_safe : {A B : Type 0} (x : Entry) (s : Settings) (types : List ℕ) (f : A → Row B) → ((l : Memory) (c : List Exchange) (a : A) → Keeps x l c → Safe (Carries x s) (Keeps x) (Ended x s types) l c (f a)) → (l : Memory) (c : List Exchange) (r : Result A OciDistributionError) → Ended x s types l c r → Safe (Carries x s) (Keeps x) (Ended x s types) l c (unless_refused f r)
 unfolding Safe
@@ -203,11 +203,11 @@ head_last : (x : Entry) (s : Settings) (request : Request) (l : Memory) (c : Lis
 unfolding head_after
 head_last x s request l c may keeps = safe_once x s (LastHead x request) request read_none head_reply l c may keeps by_reply where
   by_reply : (e : Exchange) (before after : ℕ) (reply : Reply) → Keeps x l (c ++ e ∷ []) → Replies request read_none before e after reply → Safe (Carries x s) (Keeps x) (LastHead x request) l (c ++ e ∷ []) (head_reply request reply)
-  by_reply e before after (Headed head) h replies = safe_done x (LastHead x request) l (c ++ e ∷ []) _ (h, c, e, answer_of head replies.reply_is.0, refl, replies.request_is, replies.reply_is.1, refl)
-  by_reply e before after (Answered answer) h replies = safe_done x (LastHead x request) l (c ++ e ∷ []) _ h
-  by_reply e before after Failed h replies = safe_done x (LastHead x request) l (c ++ e ∷ []) _ h
-  by_reply e before after TooLong h replies = safe_done x (LastHead x request) l (c ++ e ∷ []) _ h
-  by_reply e before after SinkFailed h replies = safe_done x (LastHead x request) l (c ++ e ∷ []) _ h
+  by_reply e before after (Headed head) h replies = safe_done x s (LastHead x request) l (c ++ e ∷ []) _ (h, c, e, answer_of head replies.reply_is.0, refl, replies.request_is, replies.reply_is.1, refl)
+  by_reply e before after (Answered answer) h replies = safe_done x s (LastHead x request) l (c ++ e ∷ []) _ h
+  by_reply e before after Failed h replies = safe_done x s (LastHead x request) l (c ++ e ∷ []) _ h
+  by_reply e before after TooLong h replies = safe_done x s (LastHead x request) l (c ++ e ∷ []) _ h
+  by_reply e before after SinkFailed h replies = safe_done x s (LastHead x request) l (c ++ e ∷ []) _ h
 
 -- the answer of a realm, as one of the conversation
 abbrev Answers : Entry → Memory → List Exchange → Result Got OciDistributionError → Type 0
@@ -223,16 +223,16 @@ unfolding whole
 realm_answers x s request limit l c may keeps = safe_once x s (Answers x) request (read_within limit) whole_reply l c may keeps by_reply where
   by_reply : (e : Exchange) (before after : ℕ) (reply : Reply) → Keeps x l (c ++ e ∷ []) → Replies request (read_within limit) before e after reply → Safe (Carries x s) (Keeps x) (Answers x) l (c ++ e ∷ []) (whole_reply request reply)
   by_reply e before after (Headed head) h replies = absurd (unread_never limit head replies.reply_is.2)
-  by_reply e before after (Answered answer) h replies = safe_done x (Answers x) l (c ++ e ∷ []) _ (h, λ token is. record { before = c; exchange = e; after = []; split = refl; answer = answer; answered = replies.reply_is.1; read = is })
-  by_reply e before after Failed h replies = safe_done x (Answers x) l (c ++ e ∷ []) _ h
-  by_reply e before after TooLong h replies = safe_done x (Answers x) l (c ++ e ∷ []) _ h
-  by_reply e before after SinkFailed h replies = safe_done x (Answers x) l (c ++ e ∷ []) _ h
+  by_reply e before after (Answered answer) h replies = safe_done x s (Answers x) l (c ++ e ∷ []) _ (h, λ token is. record { before = c; exchange = e; after = []; split = refl; answer = answer; answered = replies.reply_is.1; read = is })
+  by_reply e before after Failed h replies = safe_done x s (Answers x) l (c ++ e ∷ []) _ h
+  by_reply e before after TooLong h replies = safe_done x s (Answers x) l (c ++ e ∷ []) _ h
+  by_reply e before after SinkFailed h replies = safe_done x s (Answers x) l (c ++ e ∷ []) _ h
 
 -- a step with no request, after which as much is kept
-kept_step : {A B : Type 0} {s : Settings} (x : Entry) (Q : Memory → List Exchange → Result B OciDistributionError → Type 0) (r : Result A OciDistributionError) (f : A → Row B) (l : Memory) (c : List Exchange) → ((e : OciDistributionError) → Q l c (Err e)) → ((a : A) → r ≡ Ok a → Safe (Carries x s) (Keeps x) Q l c (f a)) → Safe (Carries x s) (Keeps x) Q l c (Done r >>= f)
+kept_step : {A B : Type 0} (x : Entry) (s : Settings) (Q : Memory → List Exchange → Result B OciDistributionError → Type 0) (r : Result A OciDistributionError) (f : A → Row B) (l : Memory) (c : List Exchange) → ((e : OciDistributionError) → Q l c (Err e)) → ((a : A) → r ≡ Ok a → Safe (Carries x s) (Keeps x) Q l c (f a)) → Safe (Carries x s) (Keeps x) Q l c (Done r >>= f)
 unfolding bind
-kept_step x Q (Ok a) f l c bad each = each a refl
-kept_step x Q (Err e) f l c bad each = safe_done x Q l c (Err e) (bad e)
+kept_step x s Q (Ok a) f l c bad each = each a refl
+kept_step x s Q (Err e) f l c bad each = safe_done x s Q l c (Err e) (bad e)
 
 -- a token that a realm's answer holds
 read_asked : (x : Entry) (l : Memory) (c : List Exchange) (got : Got) → Keeps x l c → ((token : RegistryTokenType) → token_read got.answer ≡ Ok (Some token) → GivenIn c token) → (r : Result (Option RegistryTokenType) OciDistributionError) → token_read got.answer ≡ r → Asked x l c r
@@ -241,8 +241,8 @@ read_asked x l c got keeps given (Ok (Some token)) is = (keeps, inr (inr (given 
 read_asked x l c got keeps given (Err e) is = keeps
 
 realm_unless : (x : Entry) (s : Settings) (l : Memory) (c : List Exchange) (r : Result Got OciDistributionError) → Answers x l c r → Safe (Carries x s) (Keeps x) (Asked x) l c (unless_refused (λ got. Done (token_read got.answer)) r)
-realm_unless x s l c (Ok got) h = safe_done x (Asked x) l c _ (read_asked x l c got h.0 h.1 (token_read got.answer) refl)
-realm_unless x s l c (Err e) h = safe_done x (Asked x) l c _ h
+realm_unless x s l c (Ok got) h = safe_done x s (Asked x) l c _ (read_asked x l c got h.0 h.1 (token_read got.answer) refl)
+realm_unless x s l c (Err e) h = safe_done x s (Asked x) l c _ h
 
 -- the URL that a text was read as
 read_is : (text : List ℕ) (o : Option Parts) (url : Parts) → request_url text ≡ o → url_or text o ≡ Ok url → request_url text ≡ Some url
@@ -266,7 +266,7 @@ realm_confined x s a challenge url c request known named url_is is =
 
 realm_safe : (x : Entry) (s : Settings) (a : RegistryAuth) (challenge : BearerChallenge) (l : Memory) (c : List Exchange) → IsAuth x a → Named x s challenge c → Keeps x l c → Safe (Carries x s) (Keeps x) (Asked x) l c (realm_asked s x.image a x.operation challenge)
 unfolding realm_asked
-realm_safe x s a challenge l c known named keeps = kept_step x (Asked x) (url_read challenge.realm) _ l c (λ e. keeps) (λ url is. kept_step x (Asked x) (realm_request s x.image a x.operation challenge.service url) _ l c (λ e. keeps) (λ request made.
+realm_safe x s a challenge l c known named keeps = kept_step x s (Asked x) (url_read challenge.realm) _ l c (λ e. keeps) (λ url is. kept_step x s (Asked x) (realm_request s x.image a x.operation challenge.service url) _ l c (λ e. keeps) (λ request made.
     Safe-bind (Carries x s) (Keeps x) (Answers x) (Asked x) (whole 0 request s.max_body_bytes) (unless_refused (λ got. Done (token_read got.answer))) l c
     (realm_answers x s request s.max_body_bytes l c (realm_confined x s a challenge url c request known named (read_is challenge.realm (request_url challenge.realm) url refl is) made) keeps) (realm_unless x s)))
 
@@ -276,8 +276,8 @@ own_shown x c a None known is = tt
 own_shown x c a (Some token) known is = inl (a, known, is)
 
 fetched_safe : (x : Entry) (s : Settings) (a : RegistryAuth) (w : Wanted) (l : Memory) (c : List Exchange) → IsAuth x a → ((challenge : BearerChallenge) → w ≡ wants.Token challenge → Named x s challenge c) → Keeps x l c → Safe (Carries x s) (Keeps x) (Asked x) l c (fetched s x.image a x.operation w)
-fetched_safe x s a wants.Nothing l c known named keeps = safe_done x (Asked x) l c _ (keeps, tt)
-fetched_safe x s a wants.Credentials l c known named keeps = safe_done x (Asked x) l c _ (keeps, own_shown x c a (own_token a) known refl)
+fetched_safe x s a wants.Nothing l c known named keeps = safe_done x s (Asked x) l c _ (keeps, tt)
+fetched_safe x s a wants.Credentials l c known named keeps = safe_done x s (Asked x) l c _ (keeps, own_shown x c a (own_token a) known refl)
 fetched_safe x s a (wants.Token challenge) l c known named keeps = realm_safe x s a challenge l c known (named challenge refl) keeps
 
 head_unless : (x : Entry) (s : Settings) (a : RegistryAuth) (base : Parts) (request : Request) → IsAuth x a → request_url (base_text s x.image) ≡ Some base → request.method ≡ Get → request.url ≡ serialize base → (l : Memory) (c : List Exchange) (r : Result AnswerHead OciDistributionError) → LastHead x request l c r → Safe (Carries x s) (Keeps x) (Asked x) l c (unless_refused (λ head. fetched s x.image a x.operation (wanted head)) r)
@@ -298,17 +298,17 @@ head_unless x s a base request known base_is method_is address_is l c (Ok head) 
   by_get = by_get;
   asks = asks;
 }) h.0
-head_unless x s a base request known base_is method_is address_is l c (Err e) keeps = safe_done x (Asked x) l c _ keeps
+head_unless x s a base request known base_is method_is address_is l c (Err e) keeps = safe_done x s (Asked x) l c _ keeps
 
 registry_safe : (x : Entry) (s : Settings) (a : RegistryAuth) (l : Memory) (c : List Exchange) → IsAuth x a → Keeps x l c → Safe (Carries x s) (Keeps x) (Asked x) l c (registry_asked s x.image a x.operation)
 unfolding registry_asked
-registry_safe x s a l c known keeps = kept_step x (Asked x) (url_read (base_text s x.image)) _ l c (λ e. keeps) (λ url is. kept_step x (Asked x) (request_of s Get url None None) _ l c (λ e. keeps) (λ request made.
+registry_safe x s a l c known keeps = kept_step x s (Asked x) (url_read (base_text s x.image)) _ l c (λ e. keeps) (λ url is. kept_step x s (Asked x) (request_of s Get url None None) _ l c (λ e. keeps) (λ request made.
     Safe-bind (Carries x s) (Keeps x) (LastHead x request) (Asked x) (head_after 0 request) (unless_refused (λ head. fetched s x.image a x.operation (wanted head))) l c
     (head_last x s request l c (subst (Each (MayCarry x s c request)) (sym (request_values s Get url None None request made)) tt) keeps)
     (head_unless x s a url request known (read_is (base_text s x.image) (request_url (base_text s x.image)) url refl is) (request_method_is s Get url None None request made) (request_url_is s Get url None None request made))))
 
 pub step_safe : (x : Entry) (s : Settings) (a : RegistryAuth) (l : Memory) (c : List Exchange) → IsAuth x a → Keeps x l c → Safe (Carries x s) (Keeps x) (Asked x) l c (token_step s x.image a x.operation)
-step_safe x s (credentials.Bearer token) l c known keeps = safe_done x (Asked x) l c _ (keeps, own_shown x c (credentials.Bearer token) (own_token (credentials.Bearer token)) known refl)
+step_safe x s (credentials.Bearer token) l c known keeps = safe_done x s (Asked x) l c _ (keeps, own_shown x c (credentials.Bearer token) (own_token (credentials.Bearer token)) known refl)
 step_safe x s (credentials.Basic user password) l c known keeps = registry_safe x s (credentials.Basic user password) l c known keeps
 step_safe x s credentials.Anonymous l c known keeps = registry_safe x s credentials.Anonymous l c known keeps
 
@@ -329,11 +329,11 @@ unfolding token_asked
 asked_safe x s types a l c known keeps = Safe-bind (Carries x s) (Keeps x) (Asked x) (Authorized x s types) (token_step s x.image a x.operation) (taken x.moment (key_of x.image x.operation)) l c (step_safe x s a l c known keeps) (taken_safe x s types)
 
 by_kept : (x : Entry) (s : Settings) (types : List ℕ) (a : RegistryAuth) (kept : Option RegistryTokenType) (l : Memory) (c : List Exchange) → IsAuth x a → Keeps x l c → MayShow x c kept → Safe (Carries x s) (Keeps x) (Authorized x s types) l c (kept_or_asked (within s x.moment) x.image x.operation a kept)
-by_kept x s types a (Some token) l c known keeps shown = safe_done x (Authorized x s types) l c _ (keeps, shown)
+by_kept x s types a (Some token) l c known keeps shown = safe_done x s (Authorized x s types) l c _ (keeps, shown)
 by_kept x s types a None l c known keeps shown = asked_safe x s types a l c known keeps
 
 by_auth : (x : Entry) (s : Settings) (types : List ℕ) (a : Option RegistryAuth) (kept : Option RegistryTokenType) (l : Memory) (c : List Exchange) → map.get l.credentials (resolved_registry x.image) ≡ a → Keeps x l c → MayShow x c kept → Safe (Carries x s) (Keeps x) (Authorized x s types) l c (token_by (within s x.moment) x.image x.operation a kept)
-by_auth x s types None kept l c is keeps shown = safe_done x (Authorized x s types) l c _ (keeps, tt)
+by_auth x s types None kept l c is keeps shown = safe_done x s (Authorized x s types) l c _ (keeps, tt)
 by_auth x s types (Some a) kept l c is keeps shown = by_kept x s types a kept l c (keeps.credentials a is) keeps shown
 
 kept_shown : (x : Entry) (l : Memory) (c : List Exchange) (token : Option RegistryTokenType) → Keeps x l c → token_at l.tokens (key_of x.image x.operation) x.moment ≡ token → MayShow x c token
@@ -371,12 +371,12 @@ where_goes x s types url registry (Some to) l c registry_is url_is goes keeps = 
 
 where_safe : (x : Entry) (s : Settings) (types : List ℕ) (url registry : Parts) (b : Bool) (l : Memory) (c : List Exchange) → request_url (registry_text s x.image) ≡ Some registry → goes_to (request_url (serialize url)) registry ≡ b → Keeps x l c → Safe (Carries x s) (Keeps x) (AuthorizedAt x s types url) l c (token_where (within s x.moment) x.image x.operation b)
 where_safe x s types url registry true l c registry_is goes keeps = where_goes x s types url registry (request_url (serialize url)) l c registry_is refl goes keeps
-where_safe x s types url registry false l c registry_is goes keeps = safe_done x (AuthorizedAt x s types url) l c _ (keeps, tt)
+where_safe x s types url registry false l c registry_is goes keeps = safe_done x s (AuthorizedAt x s types url) l c _ (keeps, tt)
 
 url_safe : {B : Type 0} (x : Entry) (s : Settings) (Q : Memory → List Exchange → Result B OciDistributionError → Type 0) (text : List ℕ) (f : Parts → Row B) (l : Memory) (c : List Exchange) (o : Option Parts) → request_url text ≡ o → Q l c (Err (refusal.UrlParseError text)) → ((url : Parts) → request_url text ≡ Some url → Safe (Carries x s) (Keeps x) Q l c (f url)) → Safe (Carries x s) (Keeps x) Q l c (Done (url_or text o) >>= f)
 unfolding bind
 url_safe x s Q text f l c (Some url) is bad each = each url is
-url_safe x s Q text f l c None is bad each = safe_done x Q l c _ bad
+url_safe x s Q text f l c None is bad each = safe_done x s Q l c _ bad
 
 authorized_safe : (x : Entry) (s : Settings) (types : List ℕ) (url : Parts) (l : Memory) (c : List Exchange) → Keeps x l c → Safe (Carries x s) (Keeps x) (AuthorizedAt x s types url) l c (authorized (within s x.moment) x.image x.operation url)
 unfolding authorized
@@ -403,8 +403,8 @@ request_ready x s method url types token l c keeps shown (Err e) is = by_cause e
   by_cause _ bad = tt
 
 token_unless : (x : Entry) (s : Settings) (method : Method) (url : Parts) (types : List ℕ) (l : Memory) (c : List Exchange) (r : Result (Option RegistryTokenType) OciDistributionError) → AuthorizedAt x s types url l c r → Safe (Carries x s) (Keeps x) (Ready x s types) l c (unless_refused (λ token. Done (request_of s method url (Some types) token)) r)
-token_unless x s method url types l c (Ok token) h = safe_done x (Ready x s types) l c _ (request_ready x s method url types token l c h.0 h.1 (request_of s method url (Some types) token) refl)
-token_unless x s method url types l c (Err e) h = safe_done x (Ready x s types) l c _ h
+token_unless x s method url types l c (Ok token) h = safe_done x s (Ready x s types) l c _ (request_ready x s method url types token l c h.0 h.1 (request_of s method url (Some types) token) refl)
+token_unless x s method url types l c (Err e) h = safe_done x s (Ready x s types) l c _ h
 
 pub prepared_safe : (x : Entry) (s : Settings) (method : Method) (url : Parts) (types : List ℕ) (l : Memory) (c : List Exchange) → Keeps x l c → Safe (Carries x s) (Keeps x) (Ready x s types) l c (prepared (within s x.moment) x.image x.operation method url types)
 unfolding prepared
@@ -412,7 +412,7 @@ prepared_safe x s method url types l c keeps = Safe-bind (Carries x s) (Keeps x)
 
 ready_unless : {B : Type 0} (x : Entry) (s : Settings) (types : List ℕ) (f : Request → Row B) → ((l : Memory) (c : List Exchange) (request : Request) → Keeps x l c → Sent x s c request → Safe (Carries x s) (Keeps x) (Ended x s types) l c (f request)) → (l : Memory) (c : List Exchange) (r : Result Request OciDistributionError) → Ready x s types l c r → Safe (Carries x s) (Keeps x) (Ended x s types) l c (unless_refused f r)
 ready_unless x s types f each l c (Ok request) h = each l c request h.0 h.1
-ready_unless x s types f each l c (Err e) h = safe_done x (Ended x s types) l c _ h
+ready_unless x s types f each l c (Err e) h = safe_done x s (Ended x s types) l c _ h
 
 -- a request that is made ready, and what it leads to
 pub safe_ready : {B : Type 0} (x : Entry) (s : Settings) (types : List ℕ) (p : Row Request) (f : Request → Row B) (l : Memory) (c : List Exchange) → Safe (Carries x s) (Keeps x) (Ready x s types) l c p → ((l : Memory) (c : List Exchange) (request : Request) → Keeps x l c → Sent x s c request → Safe (Carries x s) (Keeps x) (Ended x s types) l c (f request)) → Safe (Carries x s) (Keeps x) (Ended x s types) l c (p >>= f)
@@ -427,10 +427,10 @@ store_safe x s types a l c handed keeps = let kept = keeps_stored x l c (resolve
 pub plain_step : {A B : Type 0} (x : Entry) (s : Settings) (types : List ℕ) (r : Result A OciDistributionError) (f : A → Row B) (l : Memory) (c : List Exchange) → Plain r → ((a : A) → r ≡ Ok a → Safe (Carries x s) (Keeps x) (Ended x s types) l c (f a)) → Safe (Carries x s) (Keeps x) (Ended x s types) l c (Done r >>= f)
 unfolding bind
 plain_step x s types (Ok a) f l c plain each = each a refl
-plain_step x s types (Err e) f l c plain each = safe_done x (Ended x s types) l c (Err e) (plain_cause x s types c e plain)
+plain_step x s types (Err e) f l c plain each = safe_done x s (Ended x s types) l c (Err e) (plain_cause x s types c e plain)
 
 pub plain_last : {A : Type 0} (x : Entry) (s : Settings) (types : List ℕ) (r : Result A OciDistributionError) (l : Memory) (c : List Exchange) → Plain r → Keeps x l c → Safe (Carries x s) (Keeps x) (Ended x s types) l c (Done r)
-plain_last x s types r l c plain keeps = safe_done x (Ended x s types) l c r (ended_plain x s types l c r keeps plain)
+plain_last x s types r l c plain keeps = safe_done x s (Ended x s types) l c r (ended_plain x s types l c r keeps plain)
 
 pub url_first : {B : Type 0} (x : Entry) (s : Settings) (types text : List ℕ) (f : Parts → Row B) (l : Memory) (c : List Exchange) → ((url : Parts) → Safe (Carries x s) (Keeps x) (Ended x s types) l c (f url)) → Safe (Carries x s) (Keeps x) (Ended x s types) l c (Done (url_read text) >>= f)
 url_first x s types text f l c each = url_safe x s (Ended x s types) text f l c (request_url text) refl tt (λ url is. each url)
