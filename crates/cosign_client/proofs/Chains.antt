@@ -57,7 +57,7 @@ use Rattle.cosign_client.specs.declared.found.TrustedLayers.{TrustedLayers}
 use Rattle.cosign_client.specs.declared.pull.Pulled.{Pulled}
 use Rattle.cosign_client.specs.declared.refusal.PullRefusal.{PullRefusal}
 use Rattle.cosign_client.specs.declared.verified.Standing.{Standing}
-use Rattle.cosign_client.proofs.Images.{Seen, digest_call_shows, next_seen, step_seen, done_seen, Links, image_shows}
+use Rattle.cosign_client.proofs.Images.{Seen, digest_call_shows, next_seen, step_seen, done_seen, bodies_after, Links, image_shows}
 
 -- ---- an answered digest stays one as more is asked
 
@@ -200,10 +200,6 @@ first_fits trust p d (l ∷ layers) layer fit is = by_test (p l) refl is (λ lat
   by_test true so is later = let same : l ≡ layer = cc is in rw (← same) (fit.0, so)
   by_test false so is later = later is
 
-bodies_after : (c d : List Exchange) (layers : List ImageLayer) → EachBody d layers → EachBody (c ++ d) layers
-bodies_after c d [] h = tt
-bodies_after c d (layer ∷ layers) h = (body_after c h.0, bodies_after c d layers h.1)
-
 -- what a part shows, it shows as a part of the whole
 whole_seen : {A : Type 0} (P : List Exchange → A → Type 0) (m n o : ℕ) (c : List Exchange) (r : Result A SigstoreError) → Seen P m c n r → Seen P m (c ++ []) o (as_whole r)
 whole_seen P m n o c (Ok a) h = rw append-nil h
@@ -222,7 +218,7 @@ module _ {V : Type 0} {H : V → Type 0} (s : Context) (meaning : Meaning V H) (
     chain = record {
       named = links.named;
       asked = links.asked;
-      manifest = record { reads = links.reads; bytes = refl; digest = refl; no_list = refl };
+      manifest = record { reads = links.reads; bytes = links.same; digest = refl; no_list = refl };
       config = links.config;
       some = links.some;
       layers = links.layers;
@@ -231,7 +227,7 @@ module _ {V : Type 0} {H : V → Type 0} (s : Context) (meaning : Meaning V H) (
     backed = record {
       answered = answered_before s.settings image c d stood.digest answered;
       first = body_after c links.first_body;
-      manifest = body_after c links.first_body;
+      manifest = rw links.same (body_after c links.first_body);
       config = body_after c links.config_body;
       layers = bodies_after c d pulled.layers links.layer_bodies;
     };
