@@ -1,2 +1,3 @@
 mod ReadBack
 mod RoundTrip
+mod Steps

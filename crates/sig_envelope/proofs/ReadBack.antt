@@ -11,7 +11,7 @@ use Rattle.json.specs.Print.{print, print_from, escape_byte, ArePrintable}
 use Rattle.json.specs.Print as json_print
 use Rattle.json.specs.Word.{after_number}
 use Rattle.json.proofs.Printed.Tokens.{tokens-print}
-use Rattle.serde_json.specs.Data as data
+use Rattle.serde_json.specs.Data as json_data
 use Rattle.serde_json.specs.Data.{Data}
 use Rattle.serde_json.specs.Read.{read, of_json, max_depth}
 use Rattle.serde_json.proofs.OnLiterals.{serde_json_on_literals}
@@ -43,19 +43,19 @@ tokens_of s n c =
 
 -- the data that they say: the members in the order of their names
 abbrev data_of : List ℕ → List ℕ → List ℕ → Data
-data_of s n c = data.object
-    (data.member (codes "cipher") (data.object
-      (data.member (codes "name") (data.string (codes "nacl/secretbox"))
-      (data.member (codes "nonce") (data.string n) data.no_members)))
-    (data.member (codes "ciphertext") (data.string c)
-    (data.member (codes "kdf") (data.object
-      (data.member (codes "name") (data.string (codes "scrypt"))
-      (data.member (codes "params") (data.object
-        (data.member (codes "N") (data.number (data.unsigned 32768))
-        (data.member (codes "p") (data.number (data.unsigned 1))
-        (data.member (codes "r") (data.number (data.unsigned 8)) data.no_members))))
-      (data.member (codes "salt") (data.string s) data.no_members))))
-    data.no_members)))
+data_of s n c = json_data.object
+    (json_data.member (codes "cipher") (json_data.object
+    (json_data.member (codes "name") (json_data.string (codes "nacl/secretbox"))
+    (json_data.member (codes "nonce") (json_data.string n) json_data.no_members)))
+    (json_data.member (codes "ciphertext") (json_data.string c)
+    (json_data.member (codes "kdf") (json_data.object
+    (json_data.member (codes "name") (json_data.string (codes "scrypt"))
+    (json_data.member (codes "params") (json_data.object
+    (json_data.member (codes "N") (json_data.number (json_data.unsigned 32768))
+    (json_data.member (codes "p") (json_data.number (json_data.unsigned 1))
+    (json_data.member (codes "r") (json_data.number (json_data.unsigned 8)) json_data.no_members))))
+    (json_data.member (codes "salt") (json_data.string s) json_data.no_members))))
+    json_data.no_members)))
 
 printed : (s n c : List ℕ) → print (tokens_of s n c) ≡ text_of json_print.quoted s n c
 unfolding print_from escape_byte
@@ -98,5 +98,5 @@ read_back salt nonce ciphertext utf8 hs hn hc =
     let n = encode_of standard nonce in
     let c = encode_of standard ciphertext in
     let plain : json_of (envelope_text salt nonce ciphertext) ≡ Some (data_of s n c) =
-        json_of-read (envelope_text salt nonce ciphertext) (data_of s n c) utf8 (reads s n c) in
+    json_of-read (envelope_text salt nonce ciphertext) (data_of s n c) utf8 (reads s n c) in
     rw plain (tabled salt nonce ciphertext s n c hs hn hc)

@@ -9,6 +9,7 @@ use json_values::{Text, write_quoted};
 use std::alloc::{AllocError, Global};
 
 /// A JSON string of the base64 of these bytes, which decodes to them.
+#[tactic(auto, unfolding(base64::specs::GeneralPurpose::decoded_of))]
 pub fn write_base64(alloc: Global, bytes: &[u8]) -> Result<Text, AllocError>
     ensures text { IfOk result (λ text. text ≡ base64_string bytes.now) }
     ensures back { OnOk result (decoded_of standard (encode_of standard bytes.now) ≡ Some bytes.now) }

@@ -59,8 +59,8 @@ pub fn decrypt<B: KeyBox>(
     password: &[u8],
     keybox: &B,
 ) -> Result<Blob, KdfError>
-    ensures { Says is_memory (decrypted (B.derived keybox.now) (B.opened keybox.now)
-        ciphertext.now password.now) result }
+    ensures { Says is_memory result
+        (decrypted (B.derived keybox.now) (B.opened keybox.now) ciphertext.now password.now) }
 {
     let Some(envelope) = read_plain::<Envelope>(alloc, ciphertext)? else {
         return Err(KdfError::EnvelopeUnreadable);
@@ -80,7 +80,7 @@ fn refused(cause: DecryptCause) -> KdfError
 
 // Whether the envelope is one that cosign writes.
 fn check(alloc: Global, envelope: &Envelope) -> Result<(), KdfError>
-    ensures { Says is_memory (checked envelope.now) result }
+    ensures { Says is_memory result (checked envelope.now) }
 {
     let cipher = envelope.cipher.name.as_str();
     if cipher != NAME_SECRET_BOX {

@@ -61,7 +61,7 @@ impl SigStoreKeyPair {
         alloc: Global,
         scheme: SigningScheme,
     ) -> Result<SigStoreSigner, KeyError>
-        ensures { Says is_memory (signer_under self.now scheme) result }
+        ensures { Says is_memory result (signer_under self.now scheme) }
     {
         let key = self.kind();
         if !scheme.fits(key) {
