@@ -1,3 +1,4 @@
 mod ReadBack
 mod RoundTrip
 mod Steps
+mod Unescaped

@@ -2,7 +2,6 @@
 use Rattle.std.specs.Prelude.{ℕ, List, ◌++◌, Option, Some, codes}
 use Rattle.base64.specs.Engines.{standard}
 use Rattle.base64.specs.GeneralPurpose.{encode_of}
-use Rattle.json_values.specs.Canon.{quoted_text}
 use Rattle.serde_json.specs.Data.{Data}
 use Rattle.json_tables.specs.Bytes.{base64_of}
 use Rattle.json_tables.specs.Reading.{◌>>=◌, required, text_of}
@@ -43,17 +42,13 @@ envelope_with salt nonce ciphertext = record {
   ciphertext = ciphertext;
 }
 
--- bytes as a JSON string of their padded base64 (RFC 4648, 4)
-abbrev pub base64_string : List ℕ → List ℕ
-base64_string bytes = quoted_text (encode_of standard bytes)
-
--- the envelope of a salt, a nonce and a ciphertext, with its members in this order
+-- the envelope of a salt, a nonce and a ciphertext, each in padded base64 (RFC 4648, 4), with its members in this order
 abbrev pub envelope_text : List ℕ → List ℕ → List ℕ → List ℕ
 envelope_text salt nonce ciphertext =
-    codes "{\"kdf\":{\"name\":\"scrypt\",\"params\":{\"N\":32768,\"r\":8,\"p\":1},\"salt\":"
-    ++ base64_string salt
-    ++ codes "},\"cipher\":{\"name\":\"nacl/secretbox\",\"nonce\":"
-    ++ base64_string nonce
-    ++ codes "},\"ciphertext\":"
-    ++ base64_string ciphertext
-    ++ codes "}"
+    codes "{\"kdf\":{\"name\":\"scrypt\",\"params\":{\"N\":32768,\"r\":8,\"p\":1},\"salt\":\""
+    ++ encode_of standard salt
+    ++ codes "\"},\"cipher\":{\"name\":\"nacl/secretbox\",\"nonce\":\""
+    ++ encode_of standard nonce
+    ++ codes "\"},\"ciphertext\":\""
+    ++ encode_of standard ciphertext
+    ++ codes "\"}"

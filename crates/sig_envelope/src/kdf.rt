@@ -19,11 +19,11 @@ use std::alloc::{AllocError, Global};
 
 // What stands before the salt, the nonce and the ciphertext.
 const TO_SALT: &'static str =
-    "{\"kdf\":{\"name\":\"scrypt\",\"params\":{\"N\":32768,\"r\":8,\"p\":1},\"salt\":";
+    "{\"kdf\":{\"name\":\"scrypt\",\"params\":{\"N\":32768,\"r\":8,\"p\":1},\"salt\":\"";
 
-const TO_NONCE: &'static str = "},\"cipher\":{\"name\":\"nacl/secretbox\",\"nonce\":";
+const TO_NONCE: &'static str = "\"},\"cipher\":{\"name\":\"nacl/secretbox\",\"nonce\":\"";
 
-const TO_CIPHERTEXT: &'static str = "},\"ciphertext\":";
+const TO_CIPHERTEXT: &'static str = "\"},\"ciphertext\":\"";
 
 /// Encrypts a private key under a password, with log N 15, r 8 and p 1 for scrypt. The answer is JSON whose members
 /// stand in the order in which cosign writes them. Salt and nonce are to be drawn anew for each envelope.
@@ -133,7 +133,7 @@ fn write_envelope(
     text.push_str(write_base64(alloc, nonce)?.as_str())?;
     text.push_str(TO_CIPHERTEXT)?;
     text.push_str(write_base64(alloc, ciphertext)?.as_str())?;
-    text.push_str("}")?;
+    text.push_str("\"}")?;
     let bytes = Blob::new(alloc, text.as_str().as_bytes())?;
     Ok(bytes)
 }

@@ -52,7 +52,7 @@ pub trait KeyBox {
         alloc: Global,
         key: &Blob,
         nonce: &[u8],
-        sealed: &[u8],
+        ciphertext: &[u8],
     ) -> Result<Option<Blob>, AllocError>
-        ensures { IfOk result (λ plain. plain ≡ opened self.now key.now nonce.now sealed.now) };
+        ensures { IfOk result (λ plain. plain ≡ opened self.now key.now nonce.now ciphertext.now) };
 }
