@@ -83,7 +83,7 @@ printed_as_is s n c hs hn hc =
     let last = quoted_as_is c (codes "}") hc in
     let middle = quoted_as_is n (to_ciphertext ++ (quoted c ++ codes "}")) hn ∙ ap (λ l. 34 ∷ (n ++ 34 ∷ (to_ciphertext ++ l))) last in
     let first = quoted_as_is s (to_nonce ++ (quoted n ++ (to_ciphertext ++ (quoted c ++ codes "}")))) hs ∙ ap (λ l. 34 ∷ (s ++ 34 ∷ (to_nonce ++ l))) middle in
-    printed s n c ∙ ap (λ l. to_salt ++ l) first ∙ sym (joined _ s _ n _ c _)
+    printed s n c ∙ ap (λ l. to_salt ++ l) first ∙ sym (joined (to_salt ++ codes "\"") s (codes "\"" ++ to_nonce ++ codes "\"") n (codes "\"" ++ to_ciphertext ++ codes "\"") c (codes "\"}"))
 
 printable : (s n c : List ℕ) → ArePrintable (tokens_of s n c)
 unfolding ArePrintable after_number

@@ -8,7 +8,7 @@ ghost use Rattle.sig_envelope.specs.Envelope.{envelope_of, envelope_text, envelo
 ghost use Rattle.sig_envelope.specs.Refusals.{is_memory};
 ghost use Rattle.sig_envelope.specs.declared.error.KdfError.TheVariants.{PrivateKeyDecryptError};
 
-use crate::base64_text::write_base64;
+use crate::base64_text::push_base64;
 use crate::envelope::Envelope;
 use crate::error::{DecryptCause, KdfError};
 use crate::key_box::{BOX_NONCE_SIZE, KeyBox, NAME_SECRET_BOX};
@@ -128,11 +128,11 @@ fn write_envelope(
         ≡ Some (envelope_with salt.now nonce.now ciphertext.now)) }
 {
     let mut text = Text::new(alloc, TO_SALT)?;
-    text.push_str(write_base64(alloc, salt)?.as_str())?;
+    push_base64(alloc, &mut text, salt)?;
     text.push_str(TO_NONCE)?;
-    text.push_str(write_base64(alloc, nonce)?.as_str())?;
+    push_base64(alloc, &mut text, nonce)?;
     text.push_str(TO_CIPHERTEXT)?;
-    text.push_str(write_base64(alloc, ciphertext)?.as_str())?;
+    push_base64(alloc, &mut text, ciphertext)?;
     text.push_str("\"}")?;
     let bytes = Blob::new(alloc, text.as_str().as_bytes())?;
     Ok(bytes)
