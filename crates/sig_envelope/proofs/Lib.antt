@@ -1,4 +1,2 @@
 mod ReadBack
-mod RoundTrip
-mod Steps
 mod Unescaped
