@@ -1,0 +1,11 @@
+pub mod AllOf
+pub mod Error
+pub mod Format
+pub mod InactiveShard
+pub mod ModelError
+pub mod Numbers
+pub mod ProposedEntry
+pub mod PublicKey
+pub mod SearchIndex
+pub mod SearchLogQuery
+pub mod Values
