@@ -7,4 +7,4 @@ pub returns-clause-again : goal.returns-clause-again
 returns-clause-again c =
     let x = c.args.self.now in
     let each = c.in_ok-value.ensures.each in
-    error_again x (option_member i32_of x.code each.0) (option_member text_of x.message each.1.0)
+    error_again x (option_member i32_of x.code (rw (← c.whole.ensures) each.0)) (option_member text_of x.message each.1.0)
