@@ -26,7 +26,9 @@ fn first_version(alloc: Global) -> Option<bool> {
     let body =
         r#"{"publicKey":{"algorithm":"ed25519","content":"aGVsbG8gd29ybGQ="},"signedEmailAddress":"c2lnMQ=="}"#;
     let went = asked(&script, Method::Post, url, body);
-    Some(cert.as_ref() == b"cert".as_slice() && went && showed(&script, "authorization", "Bearer t"))
+    Some(
+        cert.as_ref() == b"cert".as_slice() && went && showed(&script, "authorization", "Bearer t"),
+    )
 }
 
 #[test]
@@ -52,7 +54,12 @@ fn second_version(alloc: Global, body: &str, behind: usize, detached: bool) -> O
     let mut script = script(alloc, 200, body.as_bytes()).ok()?;
     let response = answered(alloc, &mut script).ok()?;
     let url = "https://fulcio.sigstore.dev/api/v2/signingCert";
-    let went = asked(&script, Method::Post, url, r#"{"certificateSigningRequest":"Y3Ny"}"#);
+    let went = asked(
+        &script,
+        Method::Post,
+        url,
+        r#"{"certificateSigningRequest":"Y3Ny"}"#,
+    );
     Some(went && is_response(&response, "a", behind, detached))
 }
 
@@ -60,7 +67,8 @@ fn second_version(alloc: Global, body: &str, behind: usize, detached: bool) -> O
 fn a_chain_comes_with_or_without_a_timestamp(rt: HostRuntime) {
     let embedded = r#"{"signedCertificateEmbeddedSct":{"chain":{"certificates":["a","b"]}}}"#;
     assert!(rt; holds(second_version(rt.alloc(), embedded, 1, false)));
-    let detached = r#"{"signedCertificateDetachedSct":{"chain":{"certificates":["a","b","c"]},"signedCertificateTimestamp":"eyJzY3RfdmVyc2lvbiI6MCwiaWQiOiJBQUFBQUFBQUFBQUFBQUFBQUFBQUFBQUFBQUFBQUFBQUFBQUFBQUFBQUFBPSIsInRpbWVzdGFtcCI6MTY1NjQ0ODEzMTAwMCwic2lnbmF0dXJlIjoiQkFNQUFxcTciLCJleHRlbnNpb25zIjoiIn0="}}"#;
+    let detached =
+        r#"{"signedCertificateDetachedSct":{"chain":{"certificates":["a","b","c"]},"signedCertificateTimestamp":"eyJzY3RfdmVyc2lvbiI6MCwiaWQiOiJBQUFBQUFBQUFBQUFBQUFBQUFBQUFBQUFBQUFBQUFBQUFBQUFBQUFBQUFBPSIsInRpbWVzdGFtcCI6MTY1NjQ0ODEzMTAwMCwic2lnbmF0dXJlIjoiQkFNQUFxcTciLCJleHRlbnNpb25zIjoiIn0="}}"#;
     assert!(rt; holds(second_version(rt.alloc(), detached, 2, true)));
 }
 

@@ -123,7 +123,9 @@ fn key_refused(alloc: Global) -> Option<bool> {
     let error = get_public_key(alloc, &mut script, &configuration, Some("5")).err()?;
     let url = "https://rekor.sigstore.dev/api/v1/log/publicKey?treeID=5";
     match error {
-        Error::Json(body) => Some(body.as_slice() == [255].as_slice() && asked(&script, Method::Get, url, "")),
+        Error::Json(body) => Some(
+            body.as_slice() == [255].as_slice() && asked(&script, Method::Get, url, ""),
+        ),
         _ => None,
     }
 }

@@ -38,7 +38,8 @@ fn searches_are_written_as_they_were_read(rt: HostRuntime) {
     assert!(rt; holds(again::<SearchIndexPublicKey>(alloc, key)));
     let index = r#"{"hash":"sha256:c","publicKey":{"format":"minisign","url":"u"}}"#;
     assert!(rt; holds(again::<SearchIndex>(alloc, index)));
-    let query = r#"{"entries":[{"apiVersion":"1","kind":"k","spec":0}],"entryUUIDs":["u"],"logIndexes":[1,-2]}"#;
+    let query =
+        r#"{"entries":[{"apiVersion":"1","kind":"k","spec":0}],"entryUUIDs":["u"],"logIndexes":[1,-2]}"#;
     assert!(rt; holds(again::<SearchLogQuery>(alloc, query)));
     assert!(rt; holds(again::<Format>(alloc, "\"tuf\"")));
 }

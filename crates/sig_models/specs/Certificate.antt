@@ -34,8 +34,10 @@ embedded_of d = do
 -- the one member says which it is
 abbrev pub certificate_named : List ℕ × Data → Option SigningCertificate
 certificate_named (name, d) =
-    if bytes_eq name (codes "signedCertificateDetachedSct") then option_map SignedCertificateDetachedSct (detached_of d)
-    else (if bytes_eq name (codes "signedCertificateEmbeddedSct") then option_map SignedCertificateEmbeddedSct (embedded_of d)
+    if bytes_eq name (codes "signedCertificateDetachedSct")
+    then option_map SignedCertificateDetachedSct (detached_of d)
+    else (if bytes_eq name (codes "signedCertificateEmbeddedSct")
+    then option_map SignedCertificateEmbeddedSct (embedded_of d)
     else None)
 
 unfoldable pub signing_certificate_of : Data → Option SigningCertificate

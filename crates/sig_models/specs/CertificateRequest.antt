@@ -17,8 +17,10 @@ abbrev pub coded : List ℕ → Data
 coded bytes = string (encode_of standard bytes)
 
 abbrev pub public_key_written : KeyAlgorithm → List ℕ → Data
-public_key_written algorithm content =
-    fields ((codes "algorithm", Some (string (algorithm_text algorithm))) ∷ (codes "content", Some (coded content)) ∷ [])
+public_key_written algorithm content = fields (
+    (codes "algorithm", Some (string (algorithm_text algorithm)))
+    ∷ (codes "content", Some (coded content))
+    ∷ [])
 
 -- version 1: a public key, and its signature over the challenge
 abbrev pub request_written : KeyAlgorithm → List ℕ → List ℕ → Data

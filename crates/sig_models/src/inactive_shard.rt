@@ -32,10 +32,10 @@ impl InactiveShardLogInfo {
         tree_id: Text,
     ) -> InactiveShardLogInfo
         ensures { result ≡ record {
-            root_hash = root_hash;
-            tree_size = tree_size;
-            signed_tree_head = signed_tree_head;
-            tree_id = tree_id;
+          root_hash = root_hash;
+          tree_size = tree_size;
+          signed_tree_head = signed_tree_head;
+          tree_id = tree_id;
         } }
     {
         InactiveShardLogInfo {

@@ -1,5 +1,5 @@
-//! What a transparency log (Rekor) and a certificate authority (Fulcio) are asked with and answer: each is read exactly as
-//! its table says, and what is written of it reads back.
+//! What a transparency log (Rekor) and a certificate authority (Fulcio) are asked with and answer: each is read
+//! exactly as its table says, and what is written of it reads back.
 #![tactic(auto)]
 
 mod all_of;
@@ -12,9 +12,9 @@ mod log_entry;
 mod model_error;
 mod proposed_entry;
 mod public_key;
+mod sct;
 mod search_index;
 mod search_log_query;
-mod sct;
 mod single;
 mod whole;
 
@@ -26,9 +26,7 @@ pub use certificate::{
     CertificateChain, SigningCertificate, SigningCertificateDetachedSCT,
     SigningCertificateEmbeddedSCT,
 };
-pub use certificate_request::{
-    CertificateRequest, CreateSigningCertificateRequest, KeyAlgorithm,
-};
+pub use certificate_request::{CertificateRequest, CreateSigningCertificateRequest, KeyAlgorithm};
 pub use error::Error;
 pub use format::Format;
 pub use inactive_shard::InactiveShardLogInfo;
@@ -38,6 +36,6 @@ pub use proposed_entry::{
     Alpine, Hashedrekord, Helm, Intoto, Jar, ProposedEntry, Rekord, Rfc3161, Rpm, Tuf,
 };
 pub use public_key::SearchIndexPublicKey;
+pub use sct::{InnerDetachedSCT, SCTVersion, SctError, read_sct_signature};
 pub use search_index::SearchIndex;
 pub use search_log_query::SearchLogQuery;
-pub use sct::{InnerDetachedSCT, SCTVersion, SctError, read_sct_signature};

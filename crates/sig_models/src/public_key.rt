@@ -49,8 +49,11 @@ impl Reads for SearchIndexPublicKey {
 
     #[tactic(auto, unfolding(crate::specs::PublicKey::public_key_of))]
     fn read_value(alloc: Global, value: &Value) -> Result<SearchIndexPublicKey, ReadError> {
-        let row![format, content, url] =
-            read_row::<Self, _>(alloc, value, &["format", "content", "url"])?;
+        let row![format, content, url] = read_row::<Self, _>(
+            alloc,
+            value,
+            &["format", "content", "url"],
+        )?;
         Ok(SearchIndexPublicKey {
             format,
             content,

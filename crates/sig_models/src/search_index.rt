@@ -48,8 +48,11 @@ impl Reads for SearchIndex {
 
     #[tactic(auto, unfolding(crate::specs::SearchIndex::search_index_of))]
     fn read_value(alloc: Global, value: &Value) -> Result<SearchIndex, ReadError> {
-        let row![email, public_key, hash] =
-            read_row::<Self, _>(alloc, value, &["email", "publicKey", "hash"])?;
+        let row![email, public_key, hash] = read_row::<Self, _>(
+            alloc,
+            value,
+            &["email", "publicKey", "hash"],
+        )?;
         Ok(SearchIndex {
             email,
             public_key,

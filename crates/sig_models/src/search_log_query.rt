@@ -48,8 +48,11 @@ impl Reads for SearchLogQuery {
 
     #[tactic(auto, unfolding(crate::specs::SearchLogQuery::query_of))]
     fn read_value(alloc: Global, value: &Value) -> Result<SearchLogQuery, ReadError> {
-        let row![entry_uuids, log_indexes, entries] =
-            read_row::<Self, _>(alloc, value, &["entryUUIDs", "logIndexes", "entries"])?;
+        let row![entry_uuids, log_indexes, entries] = read_row::<Self, _>(
+            alloc,
+            value,
+            &["entryUUIDs", "logIndexes", "entries"],
+        )?;
         Ok(SearchLogQuery {
             entry_uuids,
             log_indexes,

@@ -1,2 +1,3 @@
+pub mod Causing
 pub mod Exchanges
 pub mod Exits

@@ -51,7 +51,8 @@ abbrev pub IsCompact : List ℕ → Data → Type 0
 IsCompact text d = has_float d ≡ false → text ≡ compact_text d
 
 -- a call that sent the compact text of this data
-pub record Posts {A E : Type 0} (d : Data) (row : List ℕ → Row (Error E) A) (old new : Link) (r : Result A (Error E)) : Type 0 where
+pub record Posts {A E : Type 0}
+    (d : Data) (row : List ℕ → Row (Error E) A) (old new : Link) (r : Result A (Error E)) : Type 0 where
   pub text : List ℕ
   pub compact : IsCompact text d
   pub met : (k : Unit {0}) → Meets is_memory (row text) old new k k r

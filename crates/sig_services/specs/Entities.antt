@@ -34,10 +34,14 @@ abbrev pub create_error : Data → CreateLogEntryError
 create_error d = known_or create.Status400 create.UnknownValue d (error_of d)
 
 abbrev pub by_index_error : Data → GetLogEntryByIndexError
-by_index_error d = if is_empty_list d then by_index.Status404 else known_or by_index.DefaultResponse by_index.UnknownValue d (error_of d)
+by_index_error d =
+    if is_empty_list d then by_index.Status404
+    else known_or by_index.DefaultResponse by_index.UnknownValue d (error_of d)
 
 abbrev pub by_uuid_error : Data → GetLogEntryByUuidError
-by_uuid_error d = if is_empty_list d then by_uuid.Status404 else known_or by_uuid.DefaultResponse by_uuid.UnknownValue d (error_of d)
+by_uuid_error d =
+    if is_empty_list d then by_uuid.Status404
+    else known_or by_uuid.DefaultResponse by_uuid.UnknownValue d (error_of d)
 
 abbrev pub search_log_error : Data → SearchLogQueryError
 search_log_error d = known_or search_log.Status400 search_log.UnknownValue d (error_of d)

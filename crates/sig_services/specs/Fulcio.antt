@@ -115,11 +115,11 @@ asked root path token accept body =
 unfoldable pub request_cert : FulcioClient → KeyAlgorithm → List ℕ → List ℕ → Row FulcioError FulcioCert
 request_cert client algorithm public_key signature = protocol.◌>>=◌
     (asked client.root_url (codes "api/v1/signingCert") (token_of client.token_provider).0 None
-        (compact_text (request_written algorithm public_key signature)))
+    (compact_text (request_written algorithm public_key signature)))
     (λ answer. Done (certificate_in answer.body))
 
 unfoldable pub request_cert_v2 : FulcioClient → List ℕ → List ℕ → Row FulcioError CertificateResponse
 request_cert_v2 client request identity = protocol.◌>>=◌
     (asked client.root_url (codes "api/v2/signingCert") identity
-        (Some (codes "application/pem-certificate-chain")) (compact_text (signing_request_written request)))
+    (Some (codes "application/pem-certificate-chain")) (compact_text (signing_request_written request)))
     (λ answer. Done (response_in answer.body))

@@ -1,6 +1,7 @@
 pub mod Body
 pub mod Call
 pub mod Calls
+pub mod Causes
 pub mod Configuration
 pub mod Entities
 pub mod Error

@@ -46,8 +46,11 @@ abbrev pub headers_read : {E : Type 0} → Option (List ℕ) → Option Fields �
 headers_read agent (Some headers) = Ok headers
 headers_read agent None = Err (Header (agent_text agent))
 
+abbrev pub headers_sent : Option (List ℕ) → Option (List ℕ) → Option Fields
+headers_sent agent content = option.◌>>=◌ (with_type content map.empty) (with_agent agent)
+
 abbrev pub headers_of : {E : Type 0} → Option (List ℕ) → Option (List ℕ) → Result Fields (Error E)
-headers_of agent content = headers_read agent (option.◌>>=◌ (with_type content map.empty) (with_agent agent))
+headers_of agent content = headers_read agent (headers_sent agent content)
 
 abbrev pub body_of : Option (List ℕ) → List ℕ
 body_of content = unwrap_or content []

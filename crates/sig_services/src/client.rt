@@ -302,8 +302,8 @@ impl FulcioClient {
         Ok(cert)
     }
 
-    /// Asks for a certificate for this signing request, PEM text (RFC 2986), and shows this identity token. The answer's
-    /// status is not looked at.
+    /// Asks for a certificate for this signing request, PEM text (RFC 2986), and shows this identity token. The
+    /// answer's status is not looked at.
     #[tactic(none)]
     pub fn request_cert_v2<T: Transport>(
         &self,

@@ -197,10 +197,18 @@ impl Entity for GetLogProofError {
 impl Copied for CreateLogEntryError {
     fn copy(&self, alloc: Global) -> Result<CreateLogEntryError, AllocError> {
         match self {
-            CreateLogEntryError::Status400(error) => Ok(CreateLogEntryError::Status400(error.copy(alloc)?)),
-            CreateLogEntryError::Status409(error) => Ok(CreateLogEntryError::Status409(error.copy(alloc)?)),
-            CreateLogEntryError::DefaultResponse(error) => Ok(CreateLogEntryError::DefaultResponse(error.copy(alloc)?)),
-            CreateLogEntryError::UnknownValue(json) => Ok(CreateLogEntryError::UnknownValue(json.copy(alloc)?)),
+            CreateLogEntryError::Status400(error) => Ok(CreateLogEntryError::Status400(error.copy(
+                alloc,
+            )?)),
+            CreateLogEntryError::Status409(error) => Ok(CreateLogEntryError::Status409(error.copy(
+                alloc,
+            )?)),
+            CreateLogEntryError::DefaultResponse(error) => Ok(CreateLogEntryError::DefaultResponse(
+                error.copy(alloc)?,
+            )),
+            CreateLogEntryError::UnknownValue(json) => Ok(CreateLogEntryError::UnknownValue(
+                json.copy(alloc)?,
+            )),
         }
     }
 }
@@ -209,8 +217,12 @@ impl Copied for GetLogEntryByIndexError {
     fn copy(&self, alloc: Global) -> Result<GetLogEntryByIndexError, AllocError> {
         match self {
             GetLogEntryByIndexError::Status404 => Ok(GetLogEntryByIndexError::Status404),
-            GetLogEntryByIndexError::DefaultResponse(error) => Ok(GetLogEntryByIndexError::DefaultResponse(error.copy(alloc)?)),
-            GetLogEntryByIndexError::UnknownValue(json) => Ok(GetLogEntryByIndexError::UnknownValue(json.copy(alloc)?)),
+            GetLogEntryByIndexError::DefaultResponse(error) => Ok(
+                GetLogEntryByIndexError::DefaultResponse(error.copy(alloc)?),
+            ),
+            GetLogEntryByIndexError::UnknownValue(json) => Ok(GetLogEntryByIndexError::UnknownValue(
+                json.copy(alloc)?,
+            )),
         }
     }
 }
@@ -219,8 +231,12 @@ impl Copied for GetLogEntryByUuidError {
     fn copy(&self, alloc: Global) -> Result<GetLogEntryByUuidError, AllocError> {
         match self {
             GetLogEntryByUuidError::Status404 => Ok(GetLogEntryByUuidError::Status404),
-            GetLogEntryByUuidError::DefaultResponse(error) => Ok(GetLogEntryByUuidError::DefaultResponse(error.copy(alloc)?)),
-            GetLogEntryByUuidError::UnknownValue(json) => Ok(GetLogEntryByUuidError::UnknownValue(json.copy(alloc)?)),
+            GetLogEntryByUuidError::DefaultResponse(error) => Ok(
+                GetLogEntryByUuidError::DefaultResponse(error.copy(alloc)?),
+            ),
+            GetLogEntryByUuidError::UnknownValue(json) => Ok(GetLogEntryByUuidError::UnknownValue(
+                json.copy(alloc)?,
+            )),
         }
     }
 }
@@ -228,9 +244,15 @@ impl Copied for GetLogEntryByUuidError {
 impl Copied for SearchLogQueryError {
     fn copy(&self, alloc: Global) -> Result<SearchLogQueryError, AllocError> {
         match self {
-            SearchLogQueryError::Status400(error) => Ok(SearchLogQueryError::Status400(error.copy(alloc)?)),
-            SearchLogQueryError::DefaultResponse(error) => Ok(SearchLogQueryError::DefaultResponse(error.copy(alloc)?)),
-            SearchLogQueryError::UnknownValue(json) => Ok(SearchLogQueryError::UnknownValue(json.copy(alloc)?)),
+            SearchLogQueryError::Status400(error) => Ok(SearchLogQueryError::Status400(error.copy(
+                alloc,
+            )?)),
+            SearchLogQueryError::DefaultResponse(error) => Ok(SearchLogQueryError::DefaultResponse(
+                error.copy(alloc)?,
+            )),
+            SearchLogQueryError::UnknownValue(json) => Ok(SearchLogQueryError::UnknownValue(
+                json.copy(alloc)?,
+            )),
         }
     }
 }
@@ -238,9 +260,15 @@ impl Copied for SearchLogQueryError {
 impl Copied for SearchIndexError {
     fn copy(&self, alloc: Global) -> Result<SearchIndexError, AllocError> {
         match self {
-            SearchIndexError::Status400(error) => Ok(SearchIndexError::Status400(error.copy(alloc)?)),
-            SearchIndexError::DefaultResponse(error) => Ok(SearchIndexError::DefaultResponse(error.copy(alloc)?)),
-            SearchIndexError::UnknownValue(json) => Ok(SearchIndexError::UnknownValue(json.copy(alloc)?)),
+            SearchIndexError::Status400(error) => Ok(SearchIndexError::Status400(error.copy(
+                alloc,
+            )?)),
+            SearchIndexError::DefaultResponse(error) => Ok(SearchIndexError::DefaultResponse(
+                error.copy(alloc)?,
+            )),
+            SearchIndexError::UnknownValue(json) => Ok(SearchIndexError::UnknownValue(json.copy(
+                alloc,
+            )?)),
         }
     }
 }
@@ -248,8 +276,12 @@ impl Copied for SearchIndexError {
 impl Copied for GetPublicKeyError {
     fn copy(&self, alloc: Global) -> Result<GetPublicKeyError, AllocError> {
         match self {
-            GetPublicKeyError::DefaultResponse(error) => Ok(GetPublicKeyError::DefaultResponse(error.copy(alloc)?)),
-            GetPublicKeyError::UnknownValue(json) => Ok(GetPublicKeyError::UnknownValue(json.copy(alloc)?)),
+            GetPublicKeyError::DefaultResponse(error) => Ok(GetPublicKeyError::DefaultResponse(
+                error.copy(alloc)?,
+            )),
+            GetPublicKeyError::UnknownValue(json) => Ok(GetPublicKeyError::UnknownValue(json.copy(
+                alloc,
+            )?)),
         }
     }
 }
@@ -257,8 +289,12 @@ impl Copied for GetPublicKeyError {
 impl Copied for GetLogInfoError {
     fn copy(&self, alloc: Global) -> Result<GetLogInfoError, AllocError> {
         match self {
-            GetLogInfoError::DefaultResponse(error) => Ok(GetLogInfoError::DefaultResponse(error.copy(alloc)?)),
-            GetLogInfoError::UnknownValue(json) => Ok(GetLogInfoError::UnknownValue(json.copy(alloc)?)),
+            GetLogInfoError::DefaultResponse(error) => Ok(GetLogInfoError::DefaultResponse(
+                error.copy(alloc)?,
+            )),
+            GetLogInfoError::UnknownValue(json) => Ok(GetLogInfoError::UnknownValue(json.copy(
+                alloc,
+            )?)),
         }
     }
 }
@@ -266,9 +302,15 @@ impl Copied for GetLogInfoError {
 impl Copied for GetLogProofError {
     fn copy(&self, alloc: Global) -> Result<GetLogProofError, AllocError> {
         match self {
-            GetLogProofError::Status400(error) => Ok(GetLogProofError::Status400(error.copy(alloc)?)),
-            GetLogProofError::DefaultResponse(error) => Ok(GetLogProofError::DefaultResponse(error.copy(alloc)?)),
-            GetLogProofError::UnknownValue(json) => Ok(GetLogProofError::UnknownValue(json.copy(alloc)?)),
+            GetLogProofError::Status400(error) => Ok(GetLogProofError::Status400(error.copy(
+                alloc,
+            )?)),
+            GetLogProofError::DefaultResponse(error) => Ok(GetLogProofError::DefaultResponse(
+                error.copy(alloc)?,
+            )),
+            GetLogProofError::UnknownValue(json) => Ok(GetLogProofError::UnknownValue(json.copy(
+                alloc,
+            )?)),
         }
     }
 }

@@ -1,5 +1,5 @@
 //! Entries of the log.
-ghost use Rattle.std.specs.Prelude.{◌≡◌, ◌++◌, IfOk, IsErrOf, Some, None};
+ghost use Rattle.std.specs.Prelude.{◌≡◌, IfOk, IsErrOf, Some, None, codes};
 ghost use Rattle.json_tables.specs.Plain.{read_plain};
 ghost use Rattle.oci_protocol.specs.Runs.{Meets};
 ghost use Rattle.sig_models.specs.LogEntry.{log_entry_of};
@@ -7,7 +7,10 @@ ghost use Rattle.sig_models.specs.ProposedEntry.{proposed_entry_written};
 ghost use Rattle.sig_models.specs.SearchLogQuery.{query_written};
 ghost use Rattle.sig_services.specs.Error.{is_memory};
 ghost use Rattle.sig_services.specs.Call.{Posts};
+ghost use Rattle.sig_services.specs.Body.{text_body};
 ghost use Rattle.sig_services.specs.Calls.{index_path, uuid_path};
+ghost use Rattle.sig_services.specs.Causes.{RefusedFor};
+ghost use Rattle.sig_services.specs.Entities.{create_error, by_index_error, by_uuid_error, search_log_error};
 ghost use Rattle.sig_services.specs.Calls as row;
 ghost use Rattle.sig_services.specs.declared.entries.ParseResponseError.TheVariants.{WantOfMemory as out_of_memory};
 
@@ -64,14 +67,17 @@ pub fn parse_response(alloc: Global, content: &str) -> Result<LogEntry, ParseRes
 }
 
 /// Gives the log an entry to take, and answers it as the log took it.
+#[tactic(none)]
 pub fn create_log_entry<T: Transport>(
     alloc: Global,
     transport: &mut T,
     configuration: &Configuration,
     proposed_entry: &ProposedEntry,
 ) -> Result<LogEntry, Error<CreateLogEntryError>>
-    ensures { Posts (proposed_entry_written proposed_entry.now)
+    ensures run { Posts (proposed_entry_written proposed_entry.now)
         (row.create_log_entry configuration.now)
+        (T.state transport.old) (T.state transport.new) result }
+    ensures causes { RefusedFor (read_plain log_entry_of) create_error configuration.now (codes "/log/entries")
         (T.state transport.old) (T.state transport.new) result }
 {
     let value = proposed_entry.to_value(alloc)?;
@@ -98,15 +104,18 @@ fn index_path(alloc: Global, log_index: i32) -> Result<Text, AllocError>
 }
 
 /// The entry at this index of the log.
+#[tactic(none)]
 pub fn get_log_entry_by_index<T: Transport>(
     alloc: Global,
     transport: &mut T,
     configuration: &Configuration,
     log_index: i32,
 ) -> Result<LogEntry, Error<GetLogEntryByIndexError>>
-    ensures { (k : Unit {0}) → Meets is_memory
+    ensures run { (k : Unit {0}) → Meets is_memory
         (row.get_log_entry_by_index configuration.now log_index)
         (T.state transport.old) (T.state transport.new) k k result }
+    ensures causes { RefusedFor (read_plain log_entry_of) by_index_error configuration.now (index_path log_index)
+        (T.state transport.old) (T.state transport.new) result }
 {
     let path = index_path(alloc, log_index)?;
     call(
@@ -129,15 +138,18 @@ fn uuid_path(alloc: Global, entry_uuid: &str) -> Result<Text, AllocError>
 }
 
 /// The entry of this name.
+#[tactic(none)]
 pub fn get_log_entry_by_uuid<T: Transport>(
     alloc: Global,
     transport: &mut T,
     configuration: &Configuration,
     entry_uuid: &str,
 ) -> Result<LogEntry, Error<GetLogEntryByUuidError>>
-    ensures { (k : Unit {0}) → Meets is_memory
+    ensures run { (k : Unit {0}) → Meets is_memory
         (row.get_log_entry_by_uuid configuration.now entry_uuid.now)
         (T.state transport.old) (T.state transport.new) k k result }
+    ensures causes { RefusedFor (read_plain log_entry_of) by_uuid_error configuration.now (uuid_path entry_uuid.now)
+        (T.state transport.old) (T.state transport.new) result }
 {
     let path = uuid_path(alloc, entry_uuid)?;
     call(
@@ -151,13 +163,16 @@ pub fn get_log_entry_by_uuid<T: Transport>(
 }
 
 /// The text of the log's answer to a query.
+#[tactic(none)]
 pub fn search_log_query<T: Transport>(
     alloc: Global,
     transport: &mut T,
     configuration: &Configuration,
     entry: &SearchLogQuery,
 ) -> Result<Text, Error<SearchLogQueryError>>
-    ensures { Posts (query_written entry.now) (row.search_log_query configuration.now)
+    ensures run { Posts (query_written entry.now) (row.search_log_query configuration.now)
+        (T.state transport.old) (T.state transport.new) result }
+    ensures causes { RefusedFor text_body search_log_error configuration.now (codes "/log/entries/retrieve")
         (T.state transport.old) (T.state transport.new) result }
 {
     let value = entry.to_value(alloc)?;

@@ -51,7 +51,7 @@ fn whole_answer(head: AnswerHead, body: Blob) -> Answer
 }
 
 /// The answer to this request, whatever its status; a redirect is not followed.
-#[tactic(auto, using(crate::proofs::Exchanges::answered, crate::proofs::Exchanges::long, crate::proofs::Exchanges::failed, crate::proofs::Exchanges::wanting_body, crate::proofs::Exchanges::missed_it, crate::proofs::Exchanges::wanting_send))]
+#[tactic(none)]
 pub(crate) fn exchange<T: Transport, F: Refusal>(
     alloc: Global,
     transport: &mut T,

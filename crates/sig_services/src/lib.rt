@@ -17,8 +17,10 @@ pub mod models;
 mod request;
 mod token;
 
-pub use client::{CertificateResponse, FulcioCert, FulcioClient};
-pub use client::{FULCIO_ROOT, SIGNING_CERT_PATH, SIGNING_CERT_V2_PATH};
+pub use client::{
+    CertificateResponse, FULCIO_ROOT, FulcioCert, FulcioClient, SIGNING_CERT_PATH,
+    SIGNING_CERT_V2_PATH,
+};
 pub use configuration::{ApiKey, BasicAuth, Configuration};
 pub use entities::{
     CreateLogEntryError, GetLogEntryByIndexError, GetLogEntryByUuidError, GetLogInfoError,

@@ -1,10 +1,13 @@
 //! The log itself: its key, its state, a proof of its growth.
-ghost use Rattle.std.specs.Prelude.{◌≡◌, ◌++◌, ◌∷◌, [], IfOk, OnOk, option_copied};
+ghost use Rattle.std.specs.Prelude.{◌≡◌, IfOk, OnOk, option_copied, codes};
 ghost use Rattle.form_urlencoded.specs.Form.{extend_pairs};
 ghost use Rattle.oci_protocol.specs.Runs.{Meets};
 ghost use Rattle.sig_services.specs.Error.{is_memory};
 ghost use Rattle.sig_services.specs.Calls.{field, key_path, proof_path};
 ghost use Rattle.sig_services.specs.Calls as row;
+ghost use Rattle.sig_services.specs.Body.{text_body, json_body};
+ghost use Rattle.sig_services.specs.Causes.{RefusedFor};
+ghost use Rattle.sig_services.specs.Entities.{public_key_error, log_info_error, log_proof_error};
 
 use crate::call::call;
 use crate::configuration::Configuration;
@@ -16,11 +19,7 @@ use oci_transport::{Method, Transport};
 use std::alloc::{AllocError, Global};
 
 // A field of a form, where its value is given.
-fn append_field(
-    form: &mut Serializer,
-    name: &str,
-    value: Option<&str>,
-) -> Result<(), AllocError>
+fn append_field(form: &mut Serializer, name: &str, value: Option<&str>) -> Result<(), AllocError>
     ensures { OnOk result (form.new ≡ record form.old
         { form = extend_pairs form.old.form (field name.now (option_copied value.entry)) }) }
 {
@@ -63,15 +62,18 @@ fn proof_path(
 }
 
 /// The public key of the log, or of one of its trees, as PEM text.
+#[tactic(none)]
 pub fn get_public_key<T: Transport>(
     alloc: Global,
     transport: &mut T,
     configuration: &Configuration,
     tree_id: Option<&str>,
 ) -> Result<Text, Error<GetPublicKeyError>>
-    ensures { (k : Unit {0}) → Meets is_memory
+    ensures run { (k : Unit {0}) → Meets is_memory
         (row.get_public_key configuration.now (option_copied tree_id.entry))
         (T.state transport.old) (T.state transport.new) k k result }
+    ensures causes { RefusedFor text_body public_key_error configuration.now (key_path (option_copied tree_id.entry))
+        (T.state transport.old) (T.state transport.new) result }
 {
     let path = key_path(alloc, tree_id)?;
     call(
@@ -85,18 +87,22 @@ pub fn get_public_key<T: Transport>(
 }
 
 /// The state of the log.
+#[tactic(none)]
 pub fn get_log_info<T: Transport>(
     alloc: Global,
     transport: &mut T,
     configuration: &Configuration,
 ) -> Result<Json, Error<GetLogInfoError>>
-    ensures { (k : Unit {0}) → Meets is_memory (row.get_log_info configuration.now)
+    ensures run { (k : Unit {0}) → Meets is_memory (row.get_log_info configuration.now)
         (T.state transport.old) (T.state transport.new) k k result }
+    ensures causes { RefusedFor json_body log_info_error configuration.now (codes "/log")
+        (T.state transport.old) (T.state transport.new) result }
 {
     call(alloc, transport, configuration, Method::Get, "/log", None)
 }
 
 /// A proof that the log of one size grew out of that of another.
+#[tactic(none)]
 pub fn get_log_proof<T: Transport>(
     alloc: Global,
     transport: &mut T,
@@ -105,9 +111,12 @@ pub fn get_log_proof<T: Transport>(
     first_size: Option<&str>,
     tree_id: Option<&str>,
 ) -> Result<Json, Error<GetLogProofError>>
-    ensures { (k : Unit {0}) → Meets is_memory (row.get_log_proof configuration.now last_size
+    ensures run { (k : Unit {0}) → Meets is_memory (row.get_log_proof configuration.now last_size
         (option_copied first_size.entry) (option_copied tree_id.entry))
         (T.state transport.old) (T.state transport.new) k k result }
+    ensures causes { RefusedFor json_body log_proof_error configuration.now
+        (proof_path last_size (option_copied first_size.entry) (option_copied tree_id.entry))
+        (T.state transport.old) (T.state transport.new) result }
 {
     let path = proof_path(alloc, last_size, first_size, tree_id)?;
     call(

@@ -2,7 +2,8 @@
 ghost use Rattle.std.specs.Prelude.{◌≡◌, ◌++◌, IfOk, option_copied};
 ghost use Rattle.form_urlencoded.specs.Form.{byte_serialize};
 ghost use Rattle.sig_services.specs.Error.{Says};
-ghost use Rattle.sig_services.specs.Request.{address, agent_text, with_agent, with_type, headers_of, request_of, body_of, url_of};
+ghost use Rattle.sig_services.specs.Request.{address, agent_text, with_agent, with_type};
+ghost use Rattle.sig_services.specs.Request.{headers_of, request_of, body_of, url_of};
 
 use crate::configuration::Configuration;
 use crate::error::Error;
