@@ -1,5 +1,5 @@
 -- Lists of one member, as objects.
-use Rattle.std.proofs.Common.{◌≡◌, ◌≢◌, ℕ, List, [], ◌∷◌, length, slice_get, Option, Some, None, refl, arith, string_bytes, String, Global}
+use Rattle.std.proofs.Common.{◌≡◌, ◌≢◌, List, [], ◌∷◌, length, slice_get, Some, None, refl, arith, string_bytes, String, Global}
 use Rattle.serde_json.specs.declared.value.Value.{Value}
 use Rattle.serde_json.specs.View.{view, members_view}
 use Rattle.sig_models.specs.Single.{single}

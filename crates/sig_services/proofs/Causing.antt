@@ -1,11 +1,10 @@
 -- Each refusal of a call to the log has its cause.
-use Rattle.std.proofs.Common.{◌≡◌, ◌<◌, ◌≤◌, ℕ, List, [], ◌∷◌, ◌++◌, length, Bool, true, false, ◌&&◌, nat_lt, Option, Some, None, Result, Ok, Err, IfErr, refl, sym, ap, subst, ◌∙◌, arith}
+use Rattle.std.proofs.Common.{◌≡◌, ◌≤◌, ℕ, List, [], ◌∷◌, Bool, true, false, ◌&&◌, nat_lt, Option, Some, None, Result, Ok, Err, IfErr, refl, arith}
 use Rattle.std.specs.Prelude.{codes, MatchBool, if◌then◌else◌}
 use Rattle.std.specs.FinMap as map
 use Rattle.serde_json.specs.Data.{Data}
 use Rattle.url.specs.Parts.{Parts, serialize}
 use Rattle.json_values.specs.Refusals as Refusals
-use Rattle.json_values.specs.Counts.{Rose}
 use Rattle.oci_transport.specs.Headers.{Fields, added, held, is_header_value}
 use Rattle.oci_transport.specs.Link.{Link}
 use Rattle.oci_transport.specs.Urls.{request_url}
@@ -15,15 +14,15 @@ use Rattle.oci_transport.specs.declared.message.Exchange.{Exchange}
 use Rattle.oci_transport.specs.declared.message.Method.{Method}
 use Rattle.oci_protocol.specs.Proto.{Reply, Headed, Answered, Failed, TooLong, SinkFailed, read_within, Done, bind, unless_refused, ◌>>=◌}
 use Rattle.oci_protocol.specs.Follow.{follow}
-use Rattle.oci_protocol.specs.Runs.{Replies, Runs, Performs, Breaks, Outcome, Meets, Told}
+use Rattle.oci_protocol.specs.Runs.{Replies, Runs, Performs, Breaks, Meets, Told}
 use Rattle.oci_protocol.proofs.Parts.{Runs-done}
 use Rattle.oci_protocol.proofs.Laws.{Runs-count}
 use Rattle.sig_services.specs.Headers.{with_header}
 use Rattle.sig_services.specs.Request.{address, url_read, headers_sent, headers_read, headers_of, request_of, body_of}
-use Rattle.sig_services.specs.Exchange.{Row, whole, whole_reply}
+use Rattle.sig_services.specs.Exchange.{whole, whole_reply}
 use Rattle.sig_services.specs.Error.{is_memory}
 use Rattle.sig_services.specs.Call.{is_refusal, entity_in, read_or_json, judged, call}
-use Rattle.sig_services.specs.Causes.{IsAnswer, Why, RefusedFor}
+use Rattle.sig_services.specs.Causes.{Why, RefusedFor}
 use Rattle.sig_services.specs.declared.configuration.Configuration.{Configuration}
 use Rattle.sig_services.specs.declared.error.Error.{Error}
 use Rattle.sig_services.specs.declared.error.Error.TheVariants.{Link as Broken, BodyTooLong, Url, Header, Json, ResponseError, WantOfMemory}

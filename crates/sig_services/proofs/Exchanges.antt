@@ -1,5 +1,5 @@
 -- One request and its whole answer, each outcome of it.
-use Rattle.std.proofs.Common.{◌≡◌, ◌≤◌, ◌<◌, ℕ, Bool, true, false, List, Some, Result, Ok, Err, length, refl}
+use Rattle.std.proofs.Common.{◌≡◌, ◌≤◌, ◌<◌, ℕ, Bool, true, false, List, Some, Ok, Err, length, refl}
 use Rattle.oci_transport.specs.Link.{Link, Steady, answer_of}
 use Rattle.json_values.specs.Counts.{Rose}
 use Rattle.oci_transport.specs.declared.message.Request.{Request}

@@ -6,7 +6,7 @@ use Rattle.json_values.specs.JsonText.{plain_json_of}
 use Rattle.oci_transport.specs.declared.message.Answer.{Answer}
 use Rattle.oci_transport.specs.declared.message.Method.{Method}
 use Rattle.oci_transport.specs.Link.{Link}
-use Rattle.oci_protocol.specs.Proto.{Proto, Done, ◌>>=◌}
+use Rattle.oci_protocol.specs.Proto.{Done, ◌>>=◌}
 use Rattle.oci_protocol.specs.Runs.{Meets}
 use Rattle.sig_services.specs.Exchange.{Row, whole}
 use Rattle.sig_services.specs.Error.{is_memory}

@@ -1,5 +1,5 @@
 -- Why a call to the log was refused.
-use Rattle.std.specs.Prelude.{◌≡◌, ◌<◌, ℕ, List, [], ◌∷◌, length, Bool, true, false, Option, Some, None, Result, Err, IfErr}
+use Rattle.std.specs.Prelude.{◌≡◌, ◌<◌, ℕ, List, [], ◌∷◌, length, true, false, Option, Some, None, Result, IfErr}
 use Rattle.serde_json.specs.Data.{Data}
 use Rattle.json_values.specs.Counts.{Rose}
 use Rattle.oci_transport.specs.Headers.{is_header_value}

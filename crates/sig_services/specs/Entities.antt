@@ -1,5 +1,5 @@
 -- What the bodies of refusals read as (Rekor's API): the first variant that reads.
-use Rattle.std.specs.Prelude.{Bool, true, false, List, Option, Some, None, if◌then◌else◌}
+use Rattle.std.specs.Prelude.{Bool, true, false, Option, Some, None, if◌then◌else◌}
 use Rattle.serde_json.specs.Data.{Data, array, no_items}
 use Rattle.sig_models.specs.declared.error.Error.{Error}
 use Rattle.sig_models.specs.Error.{error_of}

@@ -1,13 +1,11 @@
 //! What the bodies of answers read as.
 ghost use Rattle.std.specs.Prelude.{◌≡◌, ℕ, List, Option, IfOk};
-ghost use Rattle.serde_json.specs.View.{view};
-ghost use Rattle.json_tables.specs.Outcomes.{Gives};
 ghost use Rattle.json_tables.specs.Plain.{read_plain};
 ghost use Rattle.json_tables.specs.Reading.{list_of, text_of};
 ghost use Rattle.sig_models.specs.LogEntry.{log_entry_of};
-ghost use Rattle.sig_services.specs.Body.{text_body, json_body, is_object_json};
+ghost use Rattle.sig_services.specs.Body.{text_body, json_body};
 
-use json_tables::{holds_float, read_plain, read_plain_json};
+use json_tables::{read_plain, read_plain_json};
 use json_values::{Json, List, Text};
 use sig_models::LogEntry;
 use std::alloc::{AllocError, Global};

@@ -1,5 +1,5 @@
 // A call to the log: a request, and what its answer says.
-ghost use Rattle.std.specs.Prelude.{◌≡◌, IfOk, ◌^◌};
+ghost use Rattle.std.specs.Prelude.{◌≡◌, IfOk};
 ghost use Rattle.serde_json.specs.View.{view};
 ghost use Rattle.oci_protocol.specs.Runs.{Meets};
 ghost use Rattle.sig_services.specs.Error.{is_memory, Says};

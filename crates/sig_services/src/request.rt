@@ -1,5 +1,5 @@
 // Requests to the log.
-ghost use Rattle.std.specs.Prelude.{◌≡◌, ◌++◌, IfOk, option_copied};
+ghost use Rattle.std.specs.Prelude.{◌≡◌, IfOk};
 ghost use Rattle.form_urlencoded.specs.Form.{byte_serialize};
 ghost use Rattle.sig_services.specs.Error.{Says};
 ghost use Rattle.sig_services.specs.Request.{address, agent_text, with_agent, with_type};
