@@ -134,29 +134,51 @@ impl Copied for OciDistributionError {
             Self::AmbiguousManifest(body) => Ok(Self::AmbiguousManifest(body.copy(alloc)?)),
             Self::AuthenticationFailure(body) => Ok(Self::AuthenticationFailure(body.copy(alloc)?)),
             Self::BodyTooLong => Ok(Self::BodyTooLong),
-            Self::ConfigConversionError(content) => Ok(Self::ConfigConversionError(content.copy(alloc)?)),
+            Self::ConfigConversionError(content) => Ok(Self::ConfigConversionError(content.copy(
+                alloc,
+            )?)),
             Self::DigestError(error) => Ok(Self::DigestError(error.copy(alloc)?)),
             Self::GenericError(cause) => Ok(Self::GenericError(*cause)),
-            Self::ImageIndexParsingNoPlatformResolverError => Ok(Self::ImageIndexParsingNoPlatformResolverError),
-            Self::ImageManifestNotFoundError(digest) => Ok(Self::ImageManifestNotFoundError(digest.copy(alloc)?)),
-            Self::IncompatibleLayerMediaTypeError(kind) => Ok(Self::IncompatibleLayerMediaTypeError(kind.copy(alloc)?)),
+            Self::ImageIndexParsingNoPlatformResolverError => Ok(
+                Self::ImageIndexParsingNoPlatformResolverError,
+            ),
+            Self::ImageManifestNotFoundError(digest) => Ok(Self::ImageManifestNotFoundError(
+                digest.copy(alloc)?,
+            )),
+            Self::IncompatibleLayerMediaTypeError(kind) => Ok(Self::IncompatibleLayerMediaTypeError(
+                kind.copy(alloc)?,
+            )),
             Self::ManifestParsingError(body) => Ok(Self::ManifestParsingError(body.copy(alloc)?)),
             Self::PullNoLayersError => Ok(Self::PullNoLayersError),
             Self::RegistryError { envelope, url } => {
                 let row![envelope, url] = copy_all(alloc, row![envelope, url])?;
                 Ok(Self::RegistryError { envelope, url })
             }
-            Self::RegistryTokenDecodeError(body) => Ok(Self::RegistryTokenDecodeError(body.copy(alloc)?)),
+            Self::RegistryTokenDecodeError(body) => Ok(Self::RegistryTokenDecodeError(body.copy(
+                alloc,
+            )?)),
             Self::ServerError { code, url, message } => {
                 let row![url, message] = copy_all(alloc, row![url, message])?;
-                Ok(Self::ServerError { code: *code, url, message })
+                Ok(Self::ServerError {
+                    code: *code,
+                    url,
+                    message,
+                })
             }
             Self::SinkFault => Ok(Self::SinkFault),
-            Self::SpecViolationError(violation) => Ok(Self::SpecViolationError(violation.copy(alloc)?)),
+            Self::SpecViolationError(violation) => Ok(Self::SpecViolationError(violation.copy(
+                alloc,
+            )?)),
             Self::TransportFault => Ok(Self::TransportFault),
-            Self::UnauthorizedError { url } => Ok(Self::UnauthorizedError { url: url.copy(alloc)? }),
-            Self::UnsupportedMediaTypeError(kind) => Ok(Self::UnsupportedMediaTypeError(kind.copy(alloc)?)),
-            Self::UnsupportedSchemaVersionError(version) => Ok(Self::UnsupportedSchemaVersionError(*version)),
+            Self::UnauthorizedError { url } => Ok(Self::UnauthorizedError {
+                url: url.copy(alloc)?,
+            }),
+            Self::UnsupportedMediaTypeError(kind) => Ok(Self::UnsupportedMediaTypeError(kind.copy(
+                alloc,
+            )?)),
+            Self::UnsupportedSchemaVersionError(version) => Ok(Self::UnsupportedSchemaVersionError(
+                *version,
+            )),
             Self::UrlParseError(text) => Ok(Self::UrlParseError(text.copy(alloc)?)),
             Self::VersionedParsingError(body) => Ok(Self::VersionedParsingError(body.copy(alloc)?)),
             Self::WantOfMemory => Ok(Self::WantOfMemory),
