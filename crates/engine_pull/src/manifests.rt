@@ -84,8 +84,8 @@ fn manifest_by<T: Transport>(
     Ok(found)
 }
 
-/// The manifest of an image with its digest, and the digest of the index that led to it, where one did. The entry of an index
-/// is found as the settings say. Where none is found, or the entry is an index again, it is
+/// The manifest of an image with its digest, and the digest of the index that led to it, where one did. The entry of
+/// an index is found as the settings say. Where none is found, or the entry is an index again, it is
 /// `ImageManifestNotFoundError`.
 pub fn pull_image_manifest_and_list_digest<T: Transport>(
     alloc: Global,
@@ -119,8 +119,8 @@ pub fn pull_image_manifest<T: Transport>(
     Ok((manifest, digest))
 }
 
-/// The manifest of an image with its digest, its configuration as text, and the digest of the index that led to it, where
-/// one did.
+/// The manifest of an image with its digest, its configuration as text, and the digest of the index that led to it,
+/// where one did.
 pub fn pull_manifest_and_config_and_list_digest<T: Transport>(
     alloc: Global,
     transport: &mut T,
