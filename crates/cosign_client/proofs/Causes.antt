@@ -6,6 +6,7 @@ use Rattle.oci_names.specs.References.{whole_text, reads_back}
 use Rattle.oci_auth.specs.declared.auth.RegistryAuth.{RegistryAuth}
 use Rattle.oci_manifests.specs.declared.descriptor.OciDescriptor.{OciDescriptor}
 use Rattle.oci_manifests.specs.declared.blob.ImageLayer.{ImageLayer}
+use Rattle.oci_manifests.specs.declared.manifest.OciImageManifest.{OciImageManifest}
 use Rattle.oci_transport.specs.Link.{Link}
 use Rattle.oci_transport.specs.declared.message.Exchange.{Exchange}
 use Rattle.oci_protocol.specs.Proto.{Proto, Done, unless_refused, ◌>>=◌}
@@ -33,7 +34,7 @@ use Rattle.cosign_layers.specs.Trust.{Trust}
 use Rattle.cosign_layers.specs.declared.layer.SignatureLayer.{SignatureLayer}
 use Rattle.cosign_chain.specs.declared.image.VerifiedImage.{VerifiedImage}
 use Rattle.cosign_client.specs.Causes.{SearchCause, Found, NoneStands, PullCause}
-use Rattle.cosign_client.specs.Image.{manifest_in, layers_row, image_row}
+use Rattle.cosign_client.specs.Image.{manifest_in, layers_row, blobs_row, image_row}
 use Rattle.cosign_client.specs.Part.{skipping}
 use Rattle.cosign_client.specs.Points.{Point, point, Ran}
 use Rattle.cosign_client.specs.References.{tag_reference, digest_reference, or_not_valid, reading_back}
@@ -118,15 +119,21 @@ unfolding layers_row
 layers_own s source [] layers = done_own (IsOwn Pull) (Ok layers) tt
 layers_own s source (x ∷ xs) layers = next_own (IsOwn Pull) (blob_call s source x.digest) (λ content. layers_row s source xs (layers ++ layer_of x content ∷ [])) (blob_own s source x.digest) (λ content. layers_own s source xs (layers ++ layer_of x content ∷ []))
 
+blobs_own : (s : Context) (source : Reference) (accepted : List (List ℕ)) (manifest : OciImageManifest) → Ends (OnRefusal (IsOwn Pull)) (blobs_row s source accepted manifest)
+unfolding blobs_row
+blobs_own s source accepted manifest =
+    next_own (IsOwn Pull) (blob_call s source manifest.config.digest) _ (blob_own s source manifest.config.digest) (λ content.
+    next_own (IsOwn Pull) (Done (worded Pull (whole_text source) (layers_accepted accepted manifest.layers))) _ (done_own (IsOwn Pull) _ (worded_own Pull (whole_text source) (layers_accepted accepted manifest.layers))) (λ u.
+    next_own (IsOwn Pull) (layers_row s source manifest.layers []) _ (layers_own s source manifest.layers []) (λ layers.
+    done_own (IsOwn Pull) (Ok _) tt)))
+
 image_own : (s : Context) (image source : Reference) (a : RegistryAuth) (accepted : List (List ℕ)) → Ends (OnRefusal (IsOwn Pull)) (image_row s image source a accepted)
 unfolding image_row
 image_own s image source a accepted =
     next_own (IsOwn Pull) (document_call s source a manifest_types) _ (document_own s source a manifest_types) (λ found.
     next_own (IsOwn Pull) (Done (worded Pull (whole_text source) (manifest_in image found.0))) _ (done_own (IsOwn Pull) _ (worded_own Pull (whole_text source) (manifest_in image found.0))) (λ manifest.
-    next_own (IsOwn Pull) (blob_call s source manifest.config.digest) _ (blob_own s source manifest.config.digest) (λ config.
-    next_own (IsOwn Pull) (Done (worded Pull (whole_text source) (layers_accepted accepted manifest.layers))) _ (done_own (IsOwn Pull) _ (worded_own Pull (whole_text source) (layers_accepted accepted manifest.layers))) (λ u.
-    next_own (IsOwn Pull) (layers_row s source manifest.layers []) _ (layers_own s source manifest.layers []) (λ layers.
-    done_own (IsOwn Pull) (Ok _) tt)))))
+    next_own (IsOwn Pull) (blobs_row s source accepted manifest) _ (blobs_own s source accepted manifest) (λ blobs.
+    done_own (IsOwn Pull) (Ok _) tt)))
 
 -- ---- a source is skipped, unless memory was wanting
 

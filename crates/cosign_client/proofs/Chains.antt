@@ -22,7 +22,7 @@ use Rattle.engine_requests.specs.Contexts.{Context}
 use Rattle.engine_requests.specs.declared.settings.Settings.{Settings}
 use Rattle.engine_pull.specs.declared.image.ImageData.{ImageData}
 use Rattle.oci_engine.specs.Answered.{FirstAsked, Answered}
-use Rattle.oci_engine.proofs.Documents.{body_after}
+use Rattle.engine_laws.proofs.DocumentAnswers.{body_after}
 use Rattle.sig_registry.specs.declared.error.SigstoreError.{SigstoreError}
 use Rattle.sig_registry.specs.Errors.{is_memory}
 use Rattle.sig_registry.specs.Clients.{Kept, Row}
@@ -57,7 +57,7 @@ use Rattle.cosign_client.specs.declared.found.TrustedLayers.{TrustedLayers}
 use Rattle.cosign_client.specs.declared.pull.Pulled.{Pulled}
 use Rattle.cosign_client.specs.declared.refusal.PullRefusal.{PullRefusal}
 use Rattle.cosign_client.specs.declared.verified.Standing.{Standing}
-use Rattle.cosign_client.proofs.Images.{Seen, digest_call_shows, next_seen, step_seen, done_seen, Links, image_shows}
+use Rattle.cosign_client.proofs.Images.{Seen, digest_call_shows, next_seen, step_seen, done_seen, bodies_after, Links, image_shows}
 
 -- ---- an answered digest stays one as more is asked
 
@@ -200,10 +200,6 @@ first_fits trust p d (l ∷ layers) layer fit is = by_test (p l) refl is (λ lat
   by_test true so is later = let same : l ≡ layer = cc is in rw (← same) (fit.0, so)
   by_test false so is later = later is
 
-bodies_after : (c d : List Exchange) (layers : List ImageLayer) → EachBody d layers → EachBody (c ++ d) layers
-bodies_after c d [] h = tt
-bodies_after c d (layer ∷ layers) h = (body_after c h.0, bodies_after c d layers h.1)
-
 -- what a part shows, it shows as a part of the whole
 whole_seen : {A : Type 0} (P : List Exchange → A → Type 0) (m n o : ℕ) (c : List Exchange) (r : Result A SigstoreError) → Seen P m c n r → Seen P m (c ++ []) o (as_whole r)
 whole_seen P m n o c (Ok a) h = rw append-nil h
@@ -222,7 +218,7 @@ module _ {V : Type 0} {H : V → Type 0} (s : Context) (meaning : Meaning V H) (
     chain = record {
       named = links.named;
       asked = links.asked;
-      manifest = record { reads = links.reads; bytes = refl; digest = refl; no_list = refl };
+      manifest = record { reads = links.reads; bytes = links.same; digest = refl; no_list = refl };
       config = links.config;
       some = links.some;
       layers = links.layers;
@@ -231,7 +227,7 @@ module _ {V : Type 0} {H : V → Type 0} (s : Context) (meaning : Meaning V H) (
     backed = record {
       answered = answered_before s.settings image c d stood.digest answered;
       first = body_after c links.first_body;
-      manifest = body_after c links.first_body;
+      manifest = rw links.same (body_after c links.first_body);
       config = body_after c links.config_body;
       layers = bodies_after c d pulled.layers links.layer_bodies;
     };
@@ -271,7 +267,7 @@ module _ {V : Type 0} {H : V → Type 0} (s : Context) (meaning : Meaning V H) (
   told_sound met = Meets-shows-ok (λ m c n v. IsSound c v) verified_shows met
 
   -- the chain of what a pull answers
-  pub chain_of : {old new : Link} {k l : Kept} (r : Result VerifiedImage PullRefusal) → Meets of_refusal (verified meaning s image a accepted) old new k l r → IfOk r (λ v. Chain meaning image accepted v)
+  pub chain_of : {old new : Link} {k l : Kept} (r : Result VerifiedImage PullRefusal) → Meets of_refusal (verified meaning s image a accepted) old new k l r → IfOk r (λ v. Chain meaning image accepted None v)
   chain_of (Ok v) met = (told_sound met).holds.chain
   chain_of (Err e) met = tt
 

@@ -1,10 +1,10 @@
 -- The exits of a call that is a row of other calls.
-use Rattle.std.proofs.Common.{◌≡◌, Bool, true, false, ℕ, List, Result, Ok, Err, refl, sym, ap, ◌∙◌}
+use Rattle.std.proofs.Common.{◌≡◌, Bool, true, false, ℕ, List, Result, Ok, Err, refl, sym, ap, subst, ◌∙◌}
 use Rattle.std.specs.Prelude.{MatchBool}
 use Rattle.std.specs.Result.{IsErrAnd}
 use Rattle.std.proofs.lemmas.Result.{err_from_is_err_and}
 use Rattle.oci_transport.specs.Link.{Link}
-use Rattle.oci_protocol.specs.Proto.{Proto, Done, bind, ◌>>=◌}
+use Rattle.oci_protocol.specs.Proto.{Proto, Done, bind, unless_refused, ◌>>=◌}
 use Rattle.oci_protocol.specs.Runs.{Meets, Breaks, Performs}
 use Rattle.oci_protocol.proofs.Laws.{Meets-next, Meets-refused, Meets-ok, Meets-err, Meets-memory, Meets-caught, Breaks-first, Breaks-start, Performs-done}
 use Rattle.engine_requests.specs.declared.settings.Settings.{Settings}
@@ -15,7 +15,10 @@ use Rattle.engine_requests.specs.Errors.{is_memory as engine_is_memory, Says as 
 use Rattle.sig_registry.specs.declared.wording.Called.{Called}
 use Rattle.cosign_client.specs.declared.refusal.PullRefusal.{PullRefusal}
 use Rattle.cosign_client.specs.Refusal.{is_memory as of_refusal, refused_as, Says as SaysWhole}
-use Rattle.cosign_client.specs.Verified.{as_whole, constrained, part_of, readable_by}
+use Rattle.cosign_chain.specs.declared.image.VerifiedImage.{VerifiedImage}
+use Rattle.cosign_client.specs.Verified.{as_whole, constrained, part_of, readable_by, stood_image, verified_image}
+use Rattle.cosign_client.specs.declared.pull.Pulled.{Pulled}
+use Rattle.cosign_client.specs.declared.verified.Standing.{Standing}
 use Rattle.cosign_client.specs.declared.refusal.PullRefusal.TheVariants as refusal
 use Rattle.oci_names.specs.declared.reference.Reference.{Reference}
 use Rattle.sig_registry.specs.Errors.{is_memory, Says, worded}
@@ -104,6 +107,12 @@ pub said_of : {A B : Type 0} {s : Settings} {p : Proto Kept (Result A SigstoreEr
 said_of f (Ok a) {t = t} stays first says = caught (λ x. Done (f x)) first (said t says)
 said_of f (Err e) stays first says = said_refusal (λ x. Done (f x)) refl (stays e) first says
 
+-- the same, where the row goes on with an answer alone
+pub said_next : {A B : Type 0} {s : Settings} {p : Proto Kept (Result A SigstoreError)} (f : A → B) (g : Result A SigstoreError → Result B SigstoreError) {c d : Client} {old new : Link} (r : Result A SigstoreError) {t : Result B SigstoreError}
+    → ((a : A) → g (Ok a) ≡ Ok (f a)) → ((e : SigstoreError) → g (Err e) ≡ Err e) → Made is_memory s p c d old new r → Says t (g r) → Made is_memory s (p >>= (λ a. Done (Ok (f a)))) c d old new t
+said_next f g (Ok a) {t = t} works stays first says = caught (unless_refused (λ a. Done (Ok (f a)))) first (said t (subst (Says t) (works a) says))
+said_next f g (Err e) {t = t} works stays first says = said_refusal (unless_refused (λ a. Done (Ok (f a)))) refl (λ is. refl) first (subst (Says t) (stays e) says)
+
 -- a step of the whole with no call
 pub said_whole : {A : Type 0} {s : Settings} (r : Result A PullRefusal) {w : Result A PullRefusal} {c : Client} {link : Link} → SaysWhole r w → Made of_refusal s (Done w) c c link link r
 said_whole (Ok a) h = rw h done
@@ -165,6 +174,12 @@ part_answered first = caught (λ r. Done (as_whole r)) first done
 pub part_refused : {A : Type 0} {s : Settings} {p : Proto Kept (Result A SigstoreError)} {c d : Client} {old new : Link} {x : SigstoreError} → Made is_memory s p c d old new (Err x) → Made of_refusal s (part_of p) c d old new (Err (refused_as x))
 unfolding part_of
 part_refused first = refused_whole (λ r. Done (as_whole r)) refl first
+
+-- the image that was pulled, or its refusal, as the answer of the whole
+pub stood_then : {s : Settings} {p : Proto Kept (Result Pulled SigstoreError)} (stood : Standing) {c d : Client} {old new : Link} (r : Result Pulled SigstoreError) {t : Result VerifiedImage PullRefusal}
+    → Made is_memory s p c d old new r → t ≡ stood_image stood r → Made of_refusal s (part_of p >>= (λ pulled. Done (Ok (verified_image stood pulled)))) c d old new t
+stood_then stood (Ok pulled) first is = rw is (and_then _ (part_answered first) done)
+stood_then stood (Err e) first is = rw is (record { made = λ at. let one = (part_refused first).made at in (one.0, Meets-refused _ one.1) })
 
 -- a step that answers just so
 pub says_same : {A : Type 0} (r w : Result A PullRefusal) → r ≡ w → SaysWhole r w

@@ -14,6 +14,7 @@ use Rattle.oci_digests.specs.declared.error.DigestError.{DigestError}
 use Rattle.oci_digests.specs.declared.error.DigestError.TheVariants as digest_refusal
 use Rattle.oci_manifests.specs.declared.manifest.OciImageManifest.{OciImageManifest}
 use Rattle.oci_manifests.specs.declared.descriptor.OciDescriptor.{OciDescriptor}
+use Rattle.oci_manifests.specs.declared.blob.Config.{Config}
 use Rattle.oci_manifests.specs.declared.blob.ImageLayer.{ImageLayer}
 use Rattle.oci_transport.specs.declared.message.Exchange.{Exchange}
 use Rattle.oci_protocol.specs.Proto.{Proto, Done, ◌>>=◌}
@@ -31,9 +32,9 @@ use Rattle.engine_steps.specs.Rows.{Row as Engine}
 use Rattle.engine_pull.specs.Pulls.{fetch_manifest_digest, pull_manifest_raw, held_blob}
 use Rattle.engine_pull.specs.Images.{image_manifest, is_accepted, all_accepted, layers_accepted, layer_of, config_of}
 use Rattle.oci_engine.specs.Answered.{Answered, Body, Document, LastBody}
-use Rattle.oci_engine.proofs.Documents.{body_before, body_after, raw_shows}
-use Rattle.oci_engine.proofs.Blobs.{blob_shows}
-use Rattle.oci_engine.proofs.Digests.{digest_shows}
+use Rattle.engine_laws.proofs.DocumentAnswers.{body_before, body_after, raw_shows}
+use Rattle.engine_laws.proofs.BlobAnswers.{blob_shows}
+use Rattle.engine_laws.proofs.DigestAnswers.{digest_shows}
 use Rattle.sig_registry.specs.declared.error.SigstoreError.{SigstoreError}
 use Rattle.sig_registry.specs.declared.error.SigstoreError.TheVariants as sigstore
 use Rattle.sig_registry.specs.declared.wording.Called.{Called}
@@ -42,7 +43,7 @@ use Rattle.sig_registry.specs.Errors.{worded, refusal}
 use Rattle.sig_registry.specs.Clients.{Kept, Row}
 use Rattle.sig_registry.specs.Calls.{in_words, digest_call, document_call, blob_call}
 use Rattle.cosign_client.specs.declared.pull.Pulled.{Pulled}
-use Rattle.cosign_client.specs.Image.{named_by_reference, manifest_in, layers_row, image_row}
+use Rattle.cosign_client.specs.Image.{named_by_reference, manifest_in, layers_row, blobs_row, image_row}
 use Rattle.cosign_chain.specs.Chain.{ReadsAs, ConfigLinks, LayersLink}
 use Rattle.cosign_client.specs.Sound.{EachBody}
 use Rattle.cosign_client.proofs.Reading.{both, reads_as}
@@ -207,10 +208,46 @@ asked_names (Some own) bytes u is digest so =
     let parts = both (or_digest_error (checked bytes own)) (λ t. Ok tt) u is in
     rw (← same) (by_algorithm own bytes parts.0 (named_algorithm own) (digest_ok (checked bytes own) parts.0 parts.1))
 
+-- ---- the blobs of a manifest
+
+record HasBlobs (accepted : List (List ℕ)) (manifest : OciImageManifest) (c : List Exchange) (blobs : Config × List ImageLayer) : Type 0 where
+  config : ConfigLinks manifest blobs.0
+  some : 0 < length blobs.1
+  layers : LayersLink accepted manifest.layers blobs.1
+  config_body : Body c (blobs.0).content
+  layer_bodies : EachBody c blobs.1
+
+has_blobs : (accepted : List (List ℕ)) (manifest : OciImageManifest) (c d : List Exchange) (content : List ℕ) (layers : List ImageLayer) (u : Unit) → IsBlob manifest.config.digest c content → layers_accepted accepted manifest.layers ≡ Ok u → Behind manifest.layers [] d layers → HasBlobs accepted manifest (c ++ (d ++ [])) (config_of manifest content, layers)
+has_blobs accepted manifest c d content layers u blob allowed behind =
+    let some = some_layers accepted d manifest.layers behind.more u allowed behind.layers in
+    let same : layers ≡ behind.more = behind.is in
+    record {
+      config = record { named = blob.1; media_type = refl; annotations = refl };
+      some = rw same some.0;
+      layers = rw same some.1;
+      config_body = body_before (d ++ []) blob.0;
+      layer_bodies = rw same (bodies_of (c ++ (d ++ [])) manifest.layers behind.more (layers_after c (d ++ []) manifest.layers behind.more (rw append-nil behind.layers)));
+    }
+
+blobs_show : (s : Context) (source : Reference) (accepted : List (List ℕ)) (manifest : OciImageManifest) → Shows (Seen (HasBlobs accepted manifest)) (blobs_row s source accepted manifest)
+unfolding blobs_row
+blobs_show s source accepted manifest =
+    next_seen (IsBlob manifest.config.digest) (HasBlobs accepted manifest) (blob_call s source manifest.config.digest) _ (blob_call_shows s source manifest.config.digest) (λ c content blob.
+    step_seen (λ d b. HasBlobs accepted manifest (c ++ d) b) (worded Pull (whole_text source) (layers_accepted accepted manifest.layers)) _ (λ u allowed.
+    next_seen (Behind manifest.layers []) (λ d b. HasBlobs accepted manifest (c ++ d) b) (layers_row s source manifest.layers []) _ (layers_show s source manifest.layers []) (λ d layers behind.
+    done_seen (λ e b. HasBlobs accepted manifest (c ++ (d ++ e)) b) (config_of manifest content, layers)
+    (has_blobs accepted manifest c d content layers u blob (worded_ok Pull (whole_text source) (layers_accepted accepted manifest.layers) u allowed) behind))))
+
+-- in a longer conversation, too
+pub bodies_after : (c d : List Exchange) (layers : List ImageLayer) → EachBody d layers → EachBody (c ++ d) layers
+bodies_after c d [] h = tt
+bodies_after c d (layer ∷ layers) h = (body_after c h.0, bodies_after c d layers h.1)
+
 -- an image whose parts hang together
 pub record Links (image : Reference) (digest : List ℕ) (accepted : List (List ℕ)) (c : List Exchange) (p : Pulled) : Type 0 where
   pub named : Names digest p.first
   pub asked : (own : List ℕ) → digest_of image ≡ Some own → Names own p.first
+  pub same : p.manifest_bytes ≡ p.first
   pub reads : ReadsAs p.first p.manifest
   pub config : ConfigLinks p.manifest p.config
   pub some : 0 < length p.layers
@@ -223,26 +260,23 @@ pub image_shows : (s : Context) (image source : Reference) (digest : List ℕ) (
 unfolding image_row
 image_shows s image source digest a accepted is = next_seen (IsDocument source) (Links image digest accepted) (document_call s source a manifest_types) _ (document_call_shows s source a manifest_types) (λ c found document.
     step_seen (λ d p. Links image digest accepted (c ++ d) p) (worded Pull (whole_text source) (manifest_in image found.0)) _ (λ manifest read.
-    next_seen (IsBlob manifest.config.digest) (λ d p. Links image digest accepted (c ++ d) p) (blob_call s source manifest.config.digest) _ (blob_call_shows s source manifest.config.digest) (λ d config blob.
-    step_seen (λ e p. Links image digest accepted (c ++ (d ++ e)) p) (worded Pull (whole_text source) (layers_accepted accepted manifest.layers)) _ (λ u allowed.
-    next_seen (Behind manifest.layers []) (λ e p. Links image digest accepted (c ++ (d ++ e)) p) (layers_row s source manifest.layers []) _ (layers_show s source manifest.layers []) (λ e layers behind.
-    done_seen (λ f p. Links image digest accepted (c ++ (d ++ (e ++ f))) p) (record { first = found.0; manifest = manifest; config = config_of manifest config; layers = layers })
-    (linked s c d e found.0 manifest config layers u document.body (document.named digest is) (worded_ok Pull (whole_text source) (manifest_in image found.0) manifest read) blob (worded_ok Pull (whole_text source) (layers_accepted accepted manifest.layers) u allowed) behind)))))) where
-      linked : (s : Context) (c d e : List Exchange) (first : List ℕ) (manifest : OciImageManifest) (config : List ℕ) (layers : List ImageLayer) (u : Unit) → Body c first → Names digest first → manifest_in image first ≡ Ok manifest → IsBlob manifest.config.digest d config → layers_accepted accepted manifest.layers ≡ Ok u → Behind manifest.layers [] e layers
-          → Links image digest accepted (c ++ (d ++ (e ++ []))) (record { first = first; manifest = manifest; config = config_of manifest config; layers = layers })
-      linked s c d e first manifest config layers u body named read blob allowed behind =
+    next_seen (HasBlobs accepted manifest) (λ d p. Links image digest accepted (c ++ d) p) (blobs_row s source accepted manifest) _ (blobs_show s source accepted manifest) (λ d blobs has.
+    done_seen (λ e p. Links image digest accepted (c ++ (d ++ e)) p) (record { first = found.0; manifest_bytes = found.0; manifest = manifest; config = blobs.0; layers = blobs.1 })
+    (linked c d found.0 manifest blobs document.body (document.named digest is) (worded_ok Pull (whole_text source) (manifest_in image found.0) manifest read) has)))) where
+      linked : (c d : List Exchange) (first : List ℕ) (manifest : OciImageManifest) (blobs : Config × List ImageLayer) → Body c first → Names digest first → manifest_in image first ≡ Ok manifest → HasBlobs accepted manifest d blobs
+          → Links image digest accepted (c ++ (d ++ [])) (record { first = first; manifest_bytes = first; manifest = manifest; config = blobs.0; layers = blobs.1 })
+      linked c d first manifest blobs body named read has =
           let asked = both (named_by_reference (digest_of image) first) (λ u. document_read first before image_manifest) manifest read in
           let found = both (document_read first) image_manifest manifest asked.2 in
-          let some = some_layers accepted e manifest.layers behind.more u allowed behind.layers in
-          let same : layers ≡ behind.more = behind.is in
           record {
             named = named;
             asked = asked_names (digest_of image) first asked.0 asked.1;
+            same = refl;
             reads = reads_as first found.0 manifest found.1 found.2;
-            config = record { named = blob.1; media_type = refl; annotations = refl };
-            some = rw same some.0;
-            layers = rw same some.1;
-            first_body = body_before (d ++ (e ++ [])) body;
-            config_body = body_after c (body_before (e ++ []) blob.0);
-            layer_bodies = rw same (bodies_of (c ++ (d ++ (e ++ []))) manifest.layers behind.more (layers_after c (d ++ (e ++ [])) manifest.layers behind.more (layers_after d (e ++ []) manifest.layers behind.more (rw append-nil behind.layers))));
+            config = has.config;
+            some = has.some;
+            layers = has.layers;
+            first_body = body_before (d ++ []) body;
+            config_body = body_after c (body_before [] has.config_body);
+            layer_bodies = bodies_after c (d ++ []) blobs.1 (rw append-nil has.layer_bodies);
           }

@@ -20,6 +20,7 @@ use Rattle.oci_manifests.specs.declared.document.OciManifest.{OciManifest}
 use Rattle.oci_manifests.specs.declared.document.OciManifest.TheVariants.{Image, ImageIndex}
 use Rattle.oci_manifests.specs.declared.descriptor.OciDescriptor.{OciDescriptor}
 use Rattle.oci_manifests.specs.declared.blob.ImageLayer.{ImageLayer}
+use Rattle.oci_manifests.specs.declared.manifest.OciImageManifest.{OciImageManifest}
 use Rattle.oci_transport.specs.Link.{Link}
 use Rattle.oci_transport.specs.declared.message.Exchange.{Exchange}
 use Rattle.oci_protocol.specs.Proto.{Proto, Done, bind, unless_refused, ◌>>=◌, ◌>>◌}
@@ -39,11 +40,11 @@ use Rattle.engine_steps.specs.Rows.{Row as Engine}
 use Rattle.engine_pull.specs.Pulls.{fetch_manifest_digest, pull_manifest_raw, held_blob}
 use Rattle.engine_pull.specs.Images.{image_manifest, is_accepted, all_accepted, layers_accepted, layer_of, config_of}
 use Rattle.oci_engine.specs.Causes.{AnswerCause, BlobUrl, ManifestUrl, OwnDigest}
-use Rattle.oci_engine.proofs.BlobRefused.{blob_causes}
-use Rattle.oci_engine.proofs.Causing.{Accepted, OwnCause, raw_causes}
-use Rattle.oci_engine.proofs.Early.{Loose, LooseBlob}
-use Rattle.oci_engine.proofs.Reasons.{digest_fault, raw_fault, blob_fault}
-use Rattle.oci_engine.proofs.Refused.{digest_causes}
+use Rattle.engine_laws.proofs.BlobCauses.{blob_causes}
+use Rattle.engine_laws.proofs.DocumentCauses.{Accepted, OwnCause, raw_causes}
+use Rattle.engine_laws.proofs.EarlyCauses.{Loose, LooseBlob}
+use Rattle.engine_laws.proofs.CallCauses.{digest_fault, raw_fault, blob_fault}
+use Rattle.engine_laws.proofs.DigestCauses.{digest_causes}
 use Rattle.sig_registry.specs.declared.error.SigstoreError.{SigstoreError}
 use Rattle.sig_registry.specs.declared.error.SigstoreError.TheVariants as sigstore
 use Rattle.sig_registry.specs.declared.wording.Called.TheVariants.{FetchManifest, Pull}
@@ -54,7 +55,7 @@ use Rattle.cosign_layers.specs.Standing.{Meaning}
 use Rattle.cosign_layers.specs.Trust.{Trust}
 use Rattle.cosign_layers.specs.declared.layer.SignatureLayer.{SignatureLayer}
 use Rattle.cosign_chain.specs.declared.image.VerifiedImage.{VerifiedImage}
-use Rattle.cosign_client.specs.Image.{named_by_reference, manifest_in, layers_row, image_row}
+use Rattle.cosign_client.specs.Image.{named_by_reference, manifest_in, layers_row, blobs_row, image_row}
 use Rattle.cosign_client.specs.Part.{skipping}
 use Rattle.cosign_client.specs.References.{tag_reference, digest_reference, or_not_valid, reading_back}
 use Rattle.cosign_client.specs.Refusal.{is_memory as of_refusal, refused_as, client_refusal, FaultCounted, NoSinkFault}
@@ -243,15 +244,21 @@ unfolding layers_row
 layers_counts s source [] layers = answered layers
 layers_counts s source (x ∷ xs) layers = next (blob_call s source x.digest) (λ content. layers_row s source xs (layers ++ layer_of x content ∷ [])) (blob_call_counts s source x.digest) (λ content. layers_counts s source xs (layers ++ layer_of x content ∷ []))
 
+blobs_counts : (s : Context) (source : Reference) (accepted : List (List ℕ)) (manifest : OciImageManifest) → Counts CallCounts (blobs_row s source accepted manifest)
+unfolding blobs_row
+blobs_counts s source accepted manifest =
+    next (blob_call s source manifest.config.digest) _ (blob_call_counts s source manifest.config.digest) (λ content.
+    next (Done (worded Pull (whole_text source) (layers_accepted accepted manifest.layers))) _ (said (whole_text source) (layers_accepted accepted manifest.layers) (layers_bytes accepted manifest.layers)) (λ u.
+    next (layers_row s source manifest.layers []) _ (layers_counts s source manifest.layers []) (λ layers.
+    answered _)))
+
 image_row_counts : (s : Context) (image source : Reference) (a : RegistryAuth) (accepted : List (List ℕ)) → Counts CallCounts (image_row s image source a accepted)
 unfolding image_row
 image_row_counts s image source a accepted =
     next (document_call s source a manifest_types) _ (document_call_counts s source a manifest_types) (λ found.
     next (Done (worded Pull (whole_text source) (manifest_in image found.0))) _ (said (whole_text source) (manifest_in image found.0) (manifest_bytes image found.0)) (λ manifest.
-    next (blob_call s source manifest.config.digest) _ (blob_call_counts s source manifest.config.digest) (λ config.
-    next (Done (worded Pull (whole_text source) (layers_accepted accepted manifest.layers))) _ (said (whole_text source) (layers_accepted accepted manifest.layers) (layers_bytes accepted manifest.layers)) (λ u.
-    next (layers_row s source manifest.layers []) _ (layers_counts s source manifest.layers []) (λ layers.
-    answered _)))))
+    next (blobs_row s source accepted manifest) _ (blobs_counts s source accepted manifest) (λ blobs.
+    answered _)))
 
 -- ---- the search
 

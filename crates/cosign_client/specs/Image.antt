@@ -6,6 +6,7 @@ use Rattle.oci_auth.specs.declared.auth.RegistryAuth.{RegistryAuth}
 use Rattle.oci_digests.specs.Checks.{checked}
 use Rattle.oci_manifests.specs.declared.manifest.OciImageManifest.{OciImageManifest}
 use Rattle.oci_manifests.specs.declared.descriptor.OciDescriptor.{OciDescriptor}
+use Rattle.oci_manifests.specs.declared.blob.Config.{Config}
 use Rattle.oci_manifests.specs.declared.blob.ImageLayer.{ImageLayer}
 use Rattle.oci_protocol.specs.Proto.{Done, ◌>>=◌, ◌>>◌}
 use Rattle.engine_requests.specs.Contexts.{Context}
@@ -37,12 +38,29 @@ layers_row s source (x ∷ xs) layers = do
   content ← blob_call s source x.digest
   layers_row s source xs (layers ++ layer_of x content ∷ [])
 
+-- the configuration and the layers that a manifest names, where their types are accepted
+unfoldable pub blobs_row : Context → Reference → List (List ℕ) → OciImageManifest → Row (Config × List ImageLayer)
+blobs_row s source accepted manifest = do
+  content ← blob_call s source manifest.config.digest
+  Done (worded Pull (whole_text source) (layers_accepted accepted manifest.layers))
+  layers ← layers_row s source manifest.layers []
+  Done (Ok (config_of manifest content, layers))
+
+-- the manifest in a document, and its blobs
+abbrev pub after_document : Context → Reference → Reference → List (List ℕ) → List ℕ → Row Pulled
+after_document s image source accepted first = do
+  manifest ← Done (worded Pull (whole_text source) (manifest_in image first))
+  blobs ← blobs_row s source accepted manifest
+  Done (Ok (record {
+    first = first;
+    manifest_bytes = first;
+    manifest = manifest;
+    config = blobs.0;
+    layers = blobs.1;
+  }))
+
 -- the document of the source's digest, which is a manifest, and its blobs
 unfoldable pub image_row : Context → Reference → Reference → RegistryAuth → List (List ℕ) → Row Pulled
 image_row s image source a accepted = do
   found ← document_call s source a manifest_types
-  manifest ← Done (worded Pull (whole_text source) (manifest_in image found.0))
-  config ← blob_call s source manifest.config.digest
-  Done (worded Pull (whole_text source) (layers_accepted accepted manifest.layers))
-  layers ← layers_row s source manifest.layers []
-  Done (Ok (record { first = found.0; manifest = manifest; config = config_of manifest config; layers = layers }))
+  after_document s image source accepted found.0

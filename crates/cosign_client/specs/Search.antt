@@ -32,6 +32,11 @@ abbrev pub document_part : Trust → List ℕ → OciManifest → ImageData → 
 document_part trust d (ImageIndex index) image = skipping (Source Tag FoundIndex)
 document_part trust d (Image manifest) image = descriptors_part trust d image.layers manifest.layers
 
+-- the same, where the image was pulled
+abbrev pub pulled_part : Trust → List ℕ → OciManifest → Result ImageData SigstoreError → Result Part SigstoreError
+pulled_part trust d document (Ok image) = Ok (document_part trust d document image)
+pulled_part trust d document (Err e) = Err e
+
 -- the manifest under the tag is asked for, and then the image that it is
 unfoldable pub tag_layers : Trust → List ℕ → Context → Reference → RegistryAuth → Row Part
 tag_layers trust d s tag a = do

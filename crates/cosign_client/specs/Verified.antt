@@ -68,7 +68,7 @@ abbrev pub verified_image : Standing → Pulled → VerifiedImage
 verified_image standing pulled = record {
   digest = standing.digest;
   first = pulled.first;
-  manifest_bytes = pulled.first;
+  manifest_bytes = pulled.manifest_bytes;
   manifest = pulled.manifest;
   manifest_digest = standing.digest;
   list_digest = None;
@@ -76,6 +76,11 @@ verified_image standing pulled = record {
   layers = pulled.layers;
   signature = standing.signature;
 }
+
+-- the image of what was pulled, or the refusal of that
+abbrev pub stood_image : Standing → Result Pulled SigstoreError → Result VerifiedImage PullRefusal
+stood_image standing (Ok pulled) = Ok (verified_image standing pulled)
+stood_image standing (Err e) = Err (refused_as e)
 
 -- the image of a digest for which a layer stands
 abbrev pub after_standing : Context → Reference → RegistryAuth → List (List ℕ) → Standing → Whole VerifiedImage

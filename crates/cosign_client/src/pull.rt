@@ -7,7 +7,8 @@ ghost use Rattle.engine_requests.specs.Errors.{Says as SaysEngine};
 ghost use Rattle.engine_requests.specs.Requests.{listed, manifest_types};
 ghost use Rattle.sig_registry.specs.Errors.{is_memory};
 ghost use Rattle.sig_registry.specs.Clients.{Made};
-ghost use Rattle.cosign_client.specs.Image.{named_by_reference, manifest_in, layers_row, image_row};
+ghost use Rattle.cosign_client.specs.Image.{named_by_reference, manifest_in, layers_row, blobs_row};
+ghost use Rattle.cosign_client.specs.Image.{after_document, image_row};
 
 use crate::terms::Asked;
 use engine_pull::{config_of, image_manifest, layer_of, layers_accepted};
@@ -28,7 +29,9 @@ use std::alloc::{AllocError, Global};
 /// A manifest with its bytes, its configuration and its layers.
 #[derive(Drop)]
 pub(crate) struct Pulled {
+    /// The document of the digest.
     pub first: Blob,
+    pub manifest_bytes: Blob,
     pub manifest: OciImageManifest,
     pub config: Config,
     /// In the manifest's order.
@@ -100,6 +103,68 @@ fn pull_layers<C: ClientCapabilities, T: Transport>(
     Ok(layers)
 }
 
+// The configuration and the layers that a manifest names.
+fn pull_blobs<C: ClientCapabilities, T: Transport>(
+    alloc: Global,
+    client: &mut C,
+    transport: &mut T,
+    moment: u64,
+    source: &Reference,
+    accepted: &[Text],
+    manifest: &OciImageManifest,
+) -> Result<(Config, List<ImageLayer>), SigstoreError>
+    ensures { (s : Settings) → Made is_memory s
+        (blobs_row (within s moment) source.now accepted.now manifest.now)
+        (C.state client.old) (C.state client.new) (T.state transport.old) (T.state transport.new) result }
+{
+    let content = client.pull_blob(alloc, transport, moment, source, &manifest.config)?;
+    let descriptors = manifest.layers.as_slice();
+    let checked = layers_accepted(alloc, accepted, descriptors);
+    worded(alloc, Called::Pull, source, checked)?;
+    let layers = pull_layers(
+        alloc,
+        client,
+        transport,
+        moment,
+        source,
+        descriptors,
+        List::new(alloc),
+    )?;
+    let config = config_of(alloc, manifest, content)?;
+    Ok((config, layers))
+}
+
+// The manifest in a document, and its blobs.
+fn after_document<C: ClientCapabilities, T: Transport>(
+    alloc: Global,
+    client: &mut C,
+    transport: &mut T,
+    asked: &Asked<'_>,
+    source: &Reference,
+    accepted: &[Text],
+    first: Blob,
+) -> Result<Pulled, SigstoreError>
+    ensures { (s : Settings) → Made is_memory s
+        (after_document (within s asked.now.moment) asked.now.image.now source.now accepted.now first)
+        (C.state client.old) (C.state client.new) (T.state transport.old) (T.state transport.new) result }
+{
+    let manifest_bytes = first.copy(alloc)?;
+    let read = manifest_in(alloc, asked.image, &first);
+    let manifest = worded(alloc, Called::Pull, source, read)?;
+    let moment = asked.moment;
+    let blobs = pull_blobs(
+        alloc, client, transport, moment, source, accepted, &manifest,
+    )?;
+    let (config, layers) = blobs;
+    Ok(Pulled {
+        first,
+        manifest_bytes,
+        manifest,
+        config,
+        layers,
+    })
+}
+
 /// The document of the source's digest, which is a manifest, and its blobs. `asked` has the reference that was asked
 /// for.
 pub(crate) fn pull_image<C: ClientCapabilities, T: Transport>(
@@ -124,26 +189,5 @@ pub(crate) fn pull_image<C: ClientCapabilities, T: Transport>(
         types.as_slice(),
     )?;
     let (first, _) = found;
-    let read = manifest_in(alloc, asked.image, &first);
-    let manifest = worded(alloc, Called::Pull, source, read)?;
-    let content = client.pull_blob(alloc, transport, asked.moment, source, &manifest.config)?;
-    let config = config_of(alloc, &manifest, content)?;
-    let checked = layers_accepted(alloc, accepted, manifest.layers.as_slice());
-    worded(alloc, Called::Pull, source, checked)?;
-    let descriptors = manifest.layers.as_slice();
-    let layers = pull_layers(
-        alloc,
-        client,
-        transport,
-        asked.moment,
-        source,
-        descriptors,
-        List::new(alloc),
-    )?;
-    Ok(Pulled {
-        first,
-        manifest,
-        config,
-        layers,
-    })
+    after_document(alloc, client, transport, asked, source, accepted, first)
 }

@@ -1,11 +1,13 @@
 //! The search for the signatures of an image.
-ghost use Rattle.std.specs.Prelude.{◌≡◌, IfOk};
+ghost use Rattle.std.specs.Prelude.{◌≡◌, [], ◌∷◌, IfOk};
+ghost use Rattle.oci_names.specs.References.{reads_back};
 ghost use Rattle.engine_requests.specs.Contexts.{within};
 ghost use Rattle.engine_requests.specs.declared.settings.Settings.{Settings};
 ghost use Rattle.cosign_layers.specs.Trust.{trust_of};
 ghost use Rattle.sig_registry.specs.Errors.{is_memory, Says};
 ghost use Rattle.sig_registry.specs.Clients.{Made};
-ghost use Rattle.cosign_client.specs.Search.{document_part, or_skipped, searched, tag_layers, tag_source};
+ghost use Rattle.cosign_client.specs.Search.{document_part, pulled_part, payload_type, or_skipped};
+ghost use Rattle.cosign_client.specs.Search.{searched, tag_by, tag_layers, tag_source};
 
 use crate::found::{Part, SkipCause, Skipped, SourceKind, TrustedLayers};
 use crate::part::{descriptors_part, skipping};
@@ -48,6 +50,30 @@ fn document_part<V: SignatureVerifier, O: Offline>(
     }
 }
 
+// The same, where the image was pulled.
+fn pulled_part<V: SignatureVerifier, O: Offline>(
+    alloc: Global,
+    trusted: &Trusted<'_, V, O>,
+    digest: &str,
+    document: &OciManifest,
+    image: Result<ImageData, SigstoreError>,
+) -> Result<Part, SigstoreError>
+    ensures { Says result (pulled_part (trust_of V.valid O.vouched trusted.now) digest.now document.now image) }
+{
+    let image = image?;
+    let part = document_part(alloc, trusted, digest, document, &image)?;
+    Ok(part)
+}
+
+// The media type of the layers that cosign signs.
+fn payload_types(alloc: Global) -> Result<List<Text>, AllocError>
+    ensures { IfOk result (λ types. types ≡ payload_type ∷ []) }
+{
+    let mut types = List::new(alloc);
+    types.push(Text::new(alloc, PAYLOAD_TYPE)?)?;
+    Ok(types)
+}
+
 // The manifest under the signature tag, and then the image that it is.
 fn tag_layers<C: ClientCapabilities, T: Transport, V: SignatureVerifier, O: Offline>(
     alloc: Global,
@@ -61,20 +87,17 @@ fn tag_layers<C: ClientCapabilities, T: Transport, V: SignatureVerifier, O: Offl
         digest.now (within s tag.now.moment) tag.now.image.now tag.now.auth.now)
         (C.state client.old) (C.state client.new) (T.state transport.old) (T.state transport.new) result }
 {
-    let mut accepted = List::new(alloc);
-    accepted.push(Text::new(alloc, PAYLOAD_TYPE)?)?;
+    let types = payload_types(alloc)?;
     let document = client.pull_manifest(alloc, transport, tag.moment, tag.image, tag.auth)?;
-    let (document, _) = document;
     let image = client.pull(
         alloc,
         transport,
         tag.moment,
         tag.image,
         tag.auth,
-        accepted.as_slice(),
-    )?;
-    let part = document_part(alloc, trusted, digest, &document, &image)?;
-    Ok(part)
+        types.as_slice(),
+    );
+    pulled_part(alloc, trusted, digest, &document.0, image)
 }
 
 // A refused source is skipped.
@@ -98,6 +121,30 @@ fn or_skipped(
     }
 }
 
+// The signature tag of a digest as a source, where its reference reads back.
+fn tag_by<C: ClientCapabilities, T: Transport, V: SignatureVerifier, O: Offline>(
+    alloc: Global,
+    client: &mut C,
+    transport: &mut T,
+    tag: &Asked<'_>,
+    trusted: &Trusted<'_, V, O>,
+    digest: &str,
+) -> Result<Part, SigstoreError>
+    ensures { (s : Settings) → Made is_memory s (tag_by (trust_of V.valid O.vouched trusted.now)
+        digest.now (within s tag.now.moment) tag.now.image.now tag.now.auth.now (reads_back tag.now.image.now))
+        (C.state client.old) (C.state client.new) (T.state transport.old) (T.state transport.new) result }
+{
+    let reads_back = tag.image.reads_back(alloc)?;
+    if reads_back {
+        let part = tag_layers(alloc, client, transport, tag, trusted, digest);
+        return or_skipped(alloc, SourceKind::Tag, part);
+    }
+    let text = tag.image.whole(alloc)?;
+    let cause = Skipped::Source(SourceKind::Tag, SkipCause::NotAReference(text));
+    let part = skipping(alloc, cause)?;
+    Ok(part)
+}
+
 // The signature tag of a digest as a source.
 fn tag_source<C: ClientCapabilities, T: Transport, V: SignatureVerifier, O: Offline>(
     alloc: Global,
@@ -112,20 +159,12 @@ fn tag_source<C: ClientCapabilities, T: Transport, V: SignatureVerifier, O: Offl
         (C.state client.old) (C.state client.new) (T.state transport.old) (T.state transport.new) result }
 {
     let tag = tag_reference(alloc, asked.image, digest)?;
-    let reads_back = tag.reads_back(alloc)?;
-    if reads_back {
-        let of_tag = Asked {
-            moment: asked.moment,
-            image: &tag,
-            auth: asked.auth,
-        };
-        let part = tag_layers(alloc, client, transport, &of_tag, trusted, digest);
-        return or_skipped(alloc, SourceKind::Tag, part);
-    }
-    let text = tag.whole(alloc)?;
-    let cause = Skipped::Source(SourceKind::Tag, SkipCause::NotAReference(text));
-    let part = skipping(alloc, cause)?;
-    Ok(part)
+    let of_tag = Asked {
+        moment: asked.moment,
+        image: &tag,
+        auth: asked.auth,
+    };
+    tag_by(alloc, client, transport, &of_tag, trusted, digest)
 }
 
 /// The digest of an image, and what the search for its signatures found.

@@ -9,7 +9,8 @@ ghost use Rattle.cosign_layers.specs.Standing.{stands};
 ghost use Rattle.cosign_client.specs.Refusal.{is_memory, Says};
 ghost use Rattle.cosign_client.specs.Terms.{meaning_of};
 ghost use Rattle.cosign_client.specs.Verified.{after_search, after_standing, constrained, is_unconstrained};
-ghost use Rattle.cosign_client.specs.Verified.{readable, standing_by, verified, verified_image};
+ghost use Rattle.cosign_client.specs.References.{digest_reference};
+ghost use Rattle.cosign_client.specs.Verified.{readable, standing_by, stood_image, verified, verified_image};
 
 use crate::found::TrustedLayers;
 use crate::pull::{Pulled, pull_image};
@@ -19,10 +20,10 @@ use crate::search::search;
 use crate::terms::{Asked, Terms};
 use cosign_chain::VerifiedImage;
 use cosign_layers::{Offline, PullPolicy, SignatureLayer, SignatureVerifier, first_standing};
-use json_values::{Blob, Copied, Text};
+use json_values::{Copied, Text};
 use oci_names::Reference;
 use oci_transport::Transport;
-use sig_registry::{Auth, ClientCapabilities};
+use sig_registry::{Auth, ClientCapabilities, SigstoreError};
 use std::alloc::{AllocError, Global};
 
 /// A digest, and the signature layer that stands for it.
@@ -71,21 +72,15 @@ fn standing_by(found: TrustedLayers, first: Option<SignatureLayer>) -> Result<St
     }
 }
 
-// The image of the digest, with the signature layer that stands for it, of copies that were made before.
-fn verified_image(
-    standing: Standing,
-    pulled: Pulled,
-    manifest_digest: Text,
-    manifest_bytes: Blob,
-) -> VerifiedImage
-    requires digest { manifest_digest ≡ standing.digest }
-    requires bytes { manifest_bytes ≡ pulled.first }
+// The image of the digest, with the signature layer that stands for it. The digest's copy was made before.
+fn verified_image(standing: Standing, pulled: Pulled, manifest_digest: Text) -> VerifiedImage
+    requires { manifest_digest ≡ standing.digest }
     ensures { result ≡ verified_image standing pulled }
 {
     VerifiedImage {
         digest: standing.digest,
         first: pulled.first,
-        manifest_bytes,
+        manifest_bytes: pulled.manifest_bytes,
         manifest: pulled.manifest,
         manifest_digest,
         list_digest: None,
@@ -95,17 +90,32 @@ fn verified_image(
     }
 }
 
-fn copied_image(
-    alloc: Global,
+fn stood_image(
     standing: Standing,
-    pulled: Pulled,
-) -> Result<VerifiedImage, AllocError>
-    ensures { IfOk result (λ image. image ≡ verified_image standing pulled) }
+    manifest_digest: Text,
+    pulled: Result<Pulled, SigstoreError>,
+) -> Result<VerifiedImage, PullRefusal>
+    requires { manifest_digest ≡ standing.digest }
+    ensures { result ≡ stood_image standing pulled }
 {
-    let manifest_digest = standing.digest.copy(alloc)?;
-    let manifest_bytes = pulled.first.copy(alloc)?;
-    let image = verified_image(standing, pulled, manifest_digest, manifest_bytes);
-    Ok(image)
+    match pulled {
+        Ok(pulled) => Ok(verified_image(standing, pulled, manifest_digest)),
+        Err(error) => Err(PullRefusal::from(error)),
+    }
+}
+
+// The reference of the digest in the image's repository, and the digest once more.
+fn named_source(
+    alloc: Global,
+    image: &Reference,
+    digest: &Text,
+) -> Result<(Reference, Text), AllocError>
+    ensures { IfOk result (λ named. (named.0 ≡ digest_reference image.now digest.now)
+        × (named.1 ≡ digest.now)) }
+{
+    let source = digest_reference(alloc, image, digest.as_str())?;
+    let copy = digest.copy(alloc)?;
+    Ok((source, copy))
 }
 
 // The image of a digest for which a layer stands.
@@ -121,10 +131,10 @@ fn pull_stood<C: ClientCapabilities, T: Transport>(
         (after_standing (within s asked.now.moment) asked.now.image.now asked.now.auth.now accepted.now standing)
         (C.state client.old) (C.state client.new) (T.state transport.old) (T.state transport.new) result }
 {
-    let source = digest_reference(alloc, asked.image, standing.digest.as_str())?;
-    let pulled = pull_image(alloc, client, transport, asked, &source, accepted)?;
-    let image = copied_image(alloc, standing, pulled)?;
-    Ok(image)
+    let named = named_source(alloc, asked.image, &standing.digest)?;
+    let (source, manifest_digest) = named;
+    let pulled = pull_image(alloc, client, transport, asked, &source, accepted);
+    stood_image(standing, manifest_digest, pulled)
 }
 
 // The image for which a layer stands.

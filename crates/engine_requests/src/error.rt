@@ -10,9 +10,11 @@ use std::alloc::{AllocError, AllocFailed, Global};
 use std::error::Error;
 use std::fmt::{self, Display, Formatter};
 
-/// What a request could not be made of.
+/// What a request could not be made of, or an answer could not be made into.
 #[derive(Clone, Copy, Debug, PartialEq, Eq)]
 pub enum GenericCause {
+    /// A configuration that is no text in UTF-8.
+    ConfigNotText,
     /// A value that cannot stand in a header: the user agent, an accepted type or a token.
     HeaderText,
 }
@@ -34,11 +36,16 @@ pub enum OciDistributionError {
     AuthenticationFailure(TokenBody),
     /// A body with more bytes than the settings allow.
     BodyTooLong,
+    /// A configuration that does not read as a configuration file.
+    ConfigConversionError(Blob),
     /// A digest in a header, a reference or a descriptor that is none, or that does not name the body.
     DigestError(DigestError),
     GenericError(GenericCause),
     /// An index was read, and the client has no resolver of platforms.
     ImageIndexParsingNoPlatformResolverError,
+    /// An index was read in which the image is not found: the resolver answered a digest of no entry, or of an index
+    /// again, which is told here, or none, which is the empty text.
+    ImageManifestNotFoundError(Text),
     /// A layer of a media type that is not accepted.
     IncompatibleLayerMediaTypeError(Text),
     /// A document that reads neither as a manifest nor as an index.
@@ -72,7 +79,7 @@ impl OciDistributionError {
     pub fn is_memory(&self) -> bool
         ensures { result ≡ is_memory self.now }
     {
-        matches!(self, OciDistributionError::WantOfMemory)
+        matches!(self, Self::WantOfMemory)
     }
 
     /// The name of the variant.
@@ -80,53 +87,32 @@ impl OciDistributionError {
         ensures { result.now ≡ name_of self.now }
     {
         match self {
-            OciDistributionError::AmbiguousManifest(_) => "AmbiguousManifest",
-            OciDistributionError::AuthenticationFailure(_) => "AuthenticationFailure",
-            OciDistributionError::BodyTooLong => "BodyTooLong",
-            OciDistributionError::DigestError(_) => "DigestError",
-            OciDistributionError::GenericError(_) => "GenericError",
-            OciDistributionError::ImageIndexParsingNoPlatformResolverError => {
+            Self::AmbiguousManifest(_) => "AmbiguousManifest",
+            Self::AuthenticationFailure(_) => "AuthenticationFailure",
+            Self::BodyTooLong => "BodyTooLong",
+            Self::ConfigConversionError(_) => "ConfigConversionError",
+            Self::DigestError(_) => "DigestError",
+            Self::GenericError(_) => "GenericError",
+            Self::ImageIndexParsingNoPlatformResolverError => {
                 "ImageIndexParsingNoPlatformResolverError"
             }
-            OciDistributionError::IncompatibleLayerMediaTypeError(_) => {
-                "IncompatibleLayerMediaTypeError"
-            }
-            OciDistributionError::ManifestParsingError(_) => "ManifestParsingError",
-            OciDistributionError::PullNoLayersError => "PullNoLayersError",
-            OciDistributionError::RegistryError { .. } => "RegistryError",
-            OciDistributionError::RegistryTokenDecodeError(_) => "RegistryTokenDecodeError",
-            OciDistributionError::ServerError { .. } => "ServerError",
-            OciDistributionError::SinkFault => "SinkFault",
-            OciDistributionError::SpecViolationError(_) => "SpecViolationError",
-            OciDistributionError::TransportFault => "TransportFault",
-            OciDistributionError::UnauthorizedError { .. } => "UnauthorizedError",
-            OciDistributionError::UnsupportedMediaTypeError(_) => "UnsupportedMediaTypeError",
-            OciDistributionError::UnsupportedSchemaVersionError(_) => {
-                "UnsupportedSchemaVersionError"
-            }
-            OciDistributionError::UrlParseError(_) => "UrlParseError",
-            OciDistributionError::VersionedParsingError(_) => "VersionedParsingError",
-            OciDistributionError::WantOfMemory => "WantOfMemory",
+            Self::ImageManifestNotFoundError(_) => "ImageManifestNotFoundError",
+            Self::IncompatibleLayerMediaTypeError(_) => "IncompatibleLayerMediaTypeError",
+            Self::ManifestParsingError(_) => "ManifestParsingError",
+            Self::PullNoLayersError => "PullNoLayersError",
+            Self::RegistryError { .. } => "RegistryError",
+            Self::RegistryTokenDecodeError(_) => "RegistryTokenDecodeError",
+            Self::ServerError { .. } => "ServerError",
+            Self::SinkFault => "SinkFault",
+            Self::SpecViolationError(_) => "SpecViolationError",
+            Self::TransportFault => "TransportFault",
+            Self::UnauthorizedError { .. } => "UnauthorizedError",
+            Self::UnsupportedMediaTypeError(_) => "UnsupportedMediaTypeError",
+            Self::UnsupportedSchemaVersionError(_) => "UnsupportedSchemaVersionError",
+            Self::UrlParseError(_) => "UrlParseError",
+            Self::VersionedParsingError(_) => "VersionedParsingError",
+            Self::WantOfMemory => "WantOfMemory",
         }
-    }
-}
-
-impl Display for OciDistributionError {
-    ghost use Rattle.std.specs.Prelude.{Some};
-
-    ghost output = { λ e. Some (name_of e) };
-
-    fn fmt<W: fmt::Write>(&self, f: &mut Formatter<W>) -> fmt::Result {
-        let name = self.name();
-        write!(f, "{name}")
-    }
-}
-
-impl Error for OciDistributionError {}
-
-impl Copied for GenericCause {
-    fn copy(&self, _alloc: Global) -> Result<GenericCause, AllocError> {
-        Ok(*self)
     }
 }
 
@@ -144,64 +130,74 @@ impl Copied for SpecViolation {
 
 impl Copied for OciDistributionError {
     fn copy(&self, alloc: Global) -> Result<OciDistributionError, AllocError> {
-        Ok(match self {
-            OciDistributionError::AmbiguousManifest(body) => {
-                OciDistributionError::AmbiguousManifest(body.copy(alloc)?)
+        match self {
+            Self::AmbiguousManifest(body) => Ok(Self::AmbiguousManifest(body.copy(alloc)?)),
+            Self::AuthenticationFailure(body) => Ok(Self::AuthenticationFailure(body.copy(alloc)?)),
+            Self::BodyTooLong => Ok(Self::BodyTooLong),
+            Self::ConfigConversionError(content) => Ok(Self::ConfigConversionError(content.copy(
+                alloc,
+            )?)),
+            Self::DigestError(error) => Ok(Self::DigestError(error.copy(alloc)?)),
+            Self::GenericError(cause) => Ok(Self::GenericError(*cause)),
+            Self::ImageIndexParsingNoPlatformResolverError => Ok(
+                Self::ImageIndexParsingNoPlatformResolverError,
+            ),
+            Self::ImageManifestNotFoundError(digest) => Ok(Self::ImageManifestNotFoundError(
+                digest.copy(alloc)?,
+            )),
+            Self::IncompatibleLayerMediaTypeError(kind) => Ok(Self::IncompatibleLayerMediaTypeError(
+                kind.copy(alloc)?,
+            )),
+            Self::ManifestParsingError(body) => Ok(Self::ManifestParsingError(body.copy(alloc)?)),
+            Self::PullNoLayersError => Ok(Self::PullNoLayersError),
+            Self::RegistryError { envelope, url } => {
+                let row![envelope, url] = copy_all(alloc, row![envelope, url])?;
+                Ok(Self::RegistryError { envelope, url })
             }
-            OciDistributionError::AuthenticationFailure(body) => {
-                OciDistributionError::AuthenticationFailure(body.copy(alloc)?)
+            Self::RegistryTokenDecodeError(body) => Ok(Self::RegistryTokenDecodeError(body.copy(
+                alloc,
+            )?)),
+            Self::ServerError { code, url, message } => {
+                let row![url, message] = copy_all(alloc, row![url, message])?;
+                Ok(Self::ServerError {
+                    code: *code,
+                    url,
+                    message,
+                })
             }
-            OciDistributionError::BodyTooLong => OciDistributionError::BodyTooLong,
-            OciDistributionError::DigestError(error) => {
-                OciDistributionError::DigestError(error.copy(alloc)?)
-            }
-            OciDistributionError::GenericError(cause) => OciDistributionError::GenericError(*cause),
-            OciDistributionError::ImageIndexParsingNoPlatformResolverError => {
-                OciDistributionError::ImageIndexParsingNoPlatformResolverError
-            }
-            OciDistributionError::IncompatibleLayerMediaTypeError(media_type) => {
-                OciDistributionError::IncompatibleLayerMediaTypeError(media_type.copy(alloc)?)
-            }
-            OciDistributionError::ManifestParsingError(body) => {
-                OciDistributionError::ManifestParsingError(body.copy(alloc)?)
-            }
-            OciDistributionError::PullNoLayersError => OciDistributionError::PullNoLayersError,
-            OciDistributionError::RegistryError { envelope, url } => {
-                let row!(envelope, url) = copy_all(alloc, row!(envelope, url))?;
-                OciDistributionError::RegistryError { envelope, url }
-            }
-            OciDistributionError::RegistryTokenDecodeError(body) => {
-                OciDistributionError::RegistryTokenDecodeError(body.copy(alloc)?)
-            }
-            OciDistributionError::ServerError { code, url, message } => {
-                let row!(code, url, message) = copy_all(alloc, row!(code, url, message))?;
-                OciDistributionError::ServerError { code, url, message }
-            }
-            OciDistributionError::SinkFault => OciDistributionError::SinkFault,
-            OciDistributionError::SpecViolationError(violation) => {
-                OciDistributionError::SpecViolationError(violation.copy(alloc)?)
-            }
-            OciDistributionError::TransportFault => OciDistributionError::TransportFault,
-            OciDistributionError::UnauthorizedError { url } => {
-                let url = url.copy(alloc)?;
-                OciDistributionError::UnauthorizedError { url }
-            }
-            OciDistributionError::UnsupportedMediaTypeError(media_type) => {
-                OciDistributionError::UnsupportedMediaTypeError(media_type.copy(alloc)?)
-            }
-            OciDistributionError::UnsupportedSchemaVersionError(version) => {
-                OciDistributionError::UnsupportedSchemaVersionError(*version)
-            }
-            OciDistributionError::UrlParseError(text) => {
-                OciDistributionError::UrlParseError(text.copy(alloc)?)
-            }
-            OciDistributionError::VersionedParsingError(body) => {
-                OciDistributionError::VersionedParsingError(body.copy(alloc)?)
-            }
-            OciDistributionError::WantOfMemory => OciDistributionError::WantOfMemory,
-        })
+            Self::SinkFault => Ok(Self::SinkFault),
+            Self::SpecViolationError(violation) => Ok(Self::SpecViolationError(violation.copy(
+                alloc,
+            )?)),
+            Self::TransportFault => Ok(Self::TransportFault),
+            Self::UnauthorizedError { url } => Ok(Self::UnauthorizedError {
+                url: url.copy(alloc)?,
+            }),
+            Self::UnsupportedMediaTypeError(kind) => Ok(Self::UnsupportedMediaTypeError(kind.copy(
+                alloc,
+            )?)),
+            Self::UnsupportedSchemaVersionError(version) => Ok(Self::UnsupportedSchemaVersionError(
+                *version,
+            )),
+            Self::UrlParseError(text) => Ok(Self::UrlParseError(text.copy(alloc)?)),
+            Self::VersionedParsingError(body) => Ok(Self::VersionedParsingError(body.copy(alloc)?)),
+            Self::WantOfMemory => Ok(Self::WantOfMemory),
+        }
     }
 }
+
+impl Display for OciDistributionError {
+    ghost use Rattle.std.specs.Prelude.{Some};
+
+    ghost output = { λ e. Some (name_of e) };
+
+    fn fmt<W: fmt::Write>(&self, f: &mut Formatter<W>) -> fmt::Result {
+        let name = self.name();
+        write!(f, "{name}")
+    }
+}
+
+impl Error for OciDistributionError {}
 
 impl From<AllocError> for OciDistributionError {
     ghost use Rattle.engine_requests.specs.declared.error.OciDistributionError.TheVariants.{WantOfMemory};
