@@ -4,6 +4,8 @@
 #[cfg(test)]
 mod calls;
 #[cfg(test)]
+mod indexes;
+#[cfg(test)]
 mod recorded;
 #[cfg(test)]
 mod references;
