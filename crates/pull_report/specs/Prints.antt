@@ -57,8 +57,8 @@ distribution_print (distribution.AmbiguousManifest document) =
 distribution_print (distribution.AuthenticationFailure body) =
     spaced (codes "AuthenticationFailure" ∷ bytes_print body ∷ [])
 distribution_print distribution.BodyTooLong = codes "BodyTooLong"
-distribution_print (distribution.ConfigConversionError document) =
-    spaced (codes "ConfigConversionError" ∷ bytes_print document ∷ [])
+distribution_print (distribution.ConfigConversionError content) =
+    spaced (codes "ConfigConversionError" ∷ bytes_print content ∷ [])
 distribution_print (distribution.DigestError error) = spaced (codes "DigestError" ∷ digest_print error ∷ [])
 distribution_print (distribution.GenericError cause) = spaced (codes "GenericError" ∷ cause_print cause ∷ [])
 distribution_print distribution.ImageIndexParsingNoPlatformResolverError =

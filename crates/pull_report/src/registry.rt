@@ -64,8 +64,8 @@ impl Printed for OciDistributionError {
                 body.bytes(),
             ),
             Self::BodyTooLong => word(out, "BodyTooLong"),
-            Self::ConfigConversionError(document) => {
-                print1(alloc, out, "ConfigConversionError", document)
+            Self::ConfigConversionError(content) => {
+                print1(alloc, out, "ConfigConversionError", content)
             }
             Self::DigestError(error) => print1(alloc, out, "DigestError", error),
             Self::GenericError(cause) => print1(alloc, out, "GenericError", cause),
