@@ -1,9 +1,9 @@
 // The envelope of private keys.
 ghost use Rattle.std.specs.Prelude.{Some, replicate};
 
-use json_values::Blob;
-use sig_envelope::kdf::{decrypt, encrypt};
-use sig_envelope::{DecryptCause, KdfError, KeyBox};
+use json_values::{Blob, Text};
+use sig_keys::kdf::{decrypt, encrypt};
+use sig_keys::{DecryptCause, KdfError, KeyBox};
 use std::alloc::{AllocError, Global};
 
 /// Derives 32 zero bytes, seals bytes as they are, and opens them as they are.
@@ -44,9 +44,9 @@ impl KeyBox for OpenBox {
         alloc: Global,
         _key: &Blob,
         _nonce: &[u8],
-        sealed: &[u8],
+        ciphertext: &[u8],
     ) -> Result<Option<Blob>, AllocError> {
-        let plain = Blob::new(alloc, sealed)?;
+        let plain = Blob::new(alloc, ciphertext)?;
         Ok(Some(plain))
     }
 }
@@ -77,7 +77,7 @@ fn an_envelope_has_its_members_in_this_order(rt: HostRuntime) {
 #[test]
 fn what_was_encrypted_is_decrypted(rt: HostRuntime) {
     let is_opened = match decrypt(rt.alloc(), ENVELOPE.as_bytes(), b"pw", &OpenBox) {
-        Ok(plain) => plain.as_slice() == b"hello world",
+        Ok(plain) => plain.as_slice() == b"hello world".as_slice(),
         Err(_) => false,
     };
     assert!(rt; is_opened);
@@ -99,8 +99,23 @@ fn cause(refusal: &KdfError) -> &'static str {
     }
 }
 
-fn is_refused(alloc: Global, envelope: &str, want: &str) -> bool {
-    match decrypt(alloc, envelope.as_bytes(), b"pw", &OpenBox) {
+// An envelope of this cipher, this key derivation and this N, with one byte in the place of the others.
+fn envelope(alloc: Global, cipher: &str, derivation: &str, n: &str) -> Result<Text, AllocError> {
+    let mut text = Text::new(alloc, "{\"kdf\":{\"name\":\"")?;
+    text.push_str(derivation)?;
+    text.push_str("\",\"params\":{\"N\":")?;
+    text.push_str(n)?;
+    text.push_str(",\"r\":8,\"p\":1},\"salt\":\"AA==\"},\"cipher\":{\"name\":\"")?;
+    text.push_str(cipher)?;
+    text.push_str("\",\"nonce\":\"AA==\"},\"ciphertext\":\"AA==\"}")?;
+    Ok(text)
+}
+
+fn is_refused(alloc: Global, envelope: Result<Text, AllocError>, want: &str) -> bool {
+    let Ok(envelope) = envelope else {
+        return false;
+    };
+    match decrypt(alloc, envelope.as_str().as_bytes(), b"pw", &OpenBox) {
         Ok(_) => false,
         Err(refusal) => cause(&refusal) == want,
     }
@@ -108,25 +123,18 @@ fn is_refused(alloc: Global, envelope: &str, want: &str) -> bool {
 
 #[test]
 fn an_envelope_is_refused_by_its_first_cause(rt: HostRuntime) {
-    for (envelope, want) in [
-        ("{}", "unreadable"),
-        (
-            r#"{"kdf":{"name":"y","params":{"N":1,"r":8,"p":1},"salt":"AA=="},"cipher":{"name":"x","nonce":"AA=="},"ciphertext":"AA=="}"#,
-            "cipher x",
-        ),
-        (
-            r#"{"kdf":{"name":"y","params":{"N":1,"r":8,"p":1},"salt":"AA=="},"cipher":{"name":"nacl/secretbox","nonce":"AA=="},"ciphertext":"AA=="}"#,
-            "kdf y",
-        ),
-        (
-            r#"{"kdf":{"name":"scrypt","params":{"N":32767,"r":8,"p":1},"salt":"AA=="},"cipher":{"name":"nacl/secretbox","nonce":"AA=="},"ciphertext":"AA=="}"#,
-            "parameters",
-        ),
-        (
-            r#"{"kdf":{"name":"scrypt","params":{"N":65536,"r":8,"p":1},"salt":"AA=="},"cipher":{"name":"nacl/secretbox","nonce":"AA=="},"ciphertext":"AA=="}"#,
-            "nonce",
-        ),
+    let alloc = rt.alloc();
+    assert!(rt; is_refused(alloc, Text::new(alloc, "{}"), "unreadable"));
+    for (cipher, derivation, n, want) in [
+        ("x", "y", "1.5", "unreadable"),
+        ("x", "y", "1", "cipher x"),
+        ("nacl/secretbox", "y", "1", "kdf y"),
+        ("nacl/secretbox", "scrypt", "32767", "parameters"),
+        ("nacl/secretbox", "scrypt", "65536", "nonce"),
     ] {
-        assert!(rt; is_refused(rt.alloc(), envelope, want), "{want}");
+        assert!(rt;
+            is_refused(alloc, envelope(alloc, cipher, derivation, n), want),
+            "{want}"
+        );
     }
 }

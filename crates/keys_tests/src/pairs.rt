@@ -10,7 +10,7 @@ use std::alloc::{AllocError, Global};
 use std::fmt;
 
 // Whether these are the bytes of the answer.
-pub fn is_bytes(answer: Result<Blob, AllocError>, want: &[u8]) -> bool {
+pub(crate) fn is_bytes(answer: Result<Blob, AllocError>, want: &[u8]) -> bool {
     match answer {
         Ok(bytes) => bytes.as_slice() == want,
         Err(_) => false,
@@ -18,7 +18,7 @@ pub fn is_bytes(answer: Result<Blob, AllocError>, want: &[u8]) -> bool {
 }
 
 // Whether the pair holds the private key `sk` and the public key `pk`.
-pub fn holds_both<P: KeyPair>(alloc: Global, pair: &P) -> bool {
+pub(crate) fn holds_both<P: KeyPair>(alloc: Global, pair: &P) -> bool {
     is_bytes(pair.private_key_to_der(alloc), b"sk")
         && is_bytes(pair.public_key_to_der(alloc), b"pk")
 }
@@ -95,7 +95,7 @@ fn is_read_as(alloc: Global, kind: KeyKind, want: &str) -> bool {
 }
 
 // Whether the value is printed so.
-pub fn is_printed<T: fmt::Display>(alloc: Global, value: &T, want: &str) -> bool {
+pub(crate) fn is_printed<T: fmt::Display>(alloc: Global, value: &T, want: &str) -> bool {
     match format!(in alloc; "{value}") {
         Ok(text) => text.as_str() == want,
         Err(_) => false,

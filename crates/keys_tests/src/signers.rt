@@ -98,7 +98,7 @@ fn a_pair_is_refused_under_other_schemes(rt: HostRuntime) {
 // Whether the verification key is `pk` under this scheme.
 fn is_key(answer: Result<CosignVerificationKey, AllocError>, scheme: SigningScheme) -> bool {
     match answer {
-        Ok(key) => key.scheme == scheme && key.key.as_slice() == b"pk",
+        Ok(key) => key.scheme == scheme && key.key.as_slice() == b"pk".as_slice(),
         Err(_) => false,
     }
 }
@@ -106,7 +106,7 @@ fn is_key(answer: Result<CosignVerificationKey, AllocError>, scheme: SigningSche
 // Whether the signature is `sig1`.
 fn is_signature(answer: Result<Blob, KeyError>) -> bool {
     match answer {
-        Ok(signature) => signature.as_slice() == b"sig1",
+        Ok(signature) => signature.as_slice() == b"sig1".as_slice(),
         Err(_) => false,
     }
 }

@@ -1,12 +1,12 @@
 -- RSA keys.
 use Rattle.std.specs.Prelude.{ℕ, List, Option, option_map}
-use Rattle.sig_keys.specs.KeyPair.{Public}
+use Rattle.sig_schemes.specs.KeyPair.{Public}
 use Rattle.sig_keys.specs.declared.rsa.RSAKeys.{RSAKeys}
 use Rattle.sig_keys.specs.declared.rsa.RSASigner.{RSASigner}
-use Rattle.sig_keys.specs.declared.scheme.DigestAlgorithm.{DigestAlgorithm}
-use Rattle.sig_keys.specs.declared.scheme.KeyKind.{KeyKind}
-use Rattle.sig_keys.specs.declared.scheme.KeyKind.TheVariants as kind
-use Rattle.sig_keys.specs.declared.scheme.PaddingScheme.{PaddingScheme}
+use Rattle.sig_schemes.specs.declared.scheme.DigestAlgorithm.{DigestAlgorithm}
+use Rattle.sig_schemes.specs.declared.scheme.KeyKind.{KeyKind}
+use Rattle.sig_schemes.specs.declared.scheme.KeyKind.TheVariants as kind
+use Rattle.sig_schemes.specs.declared.scheme.PaddingScheme.{PaddingScheme}
 
 -- the keys, where the bytes are a private key of RSA
 abbrev pub rsa_keys_of : Public → List ℕ → Option RSAKeys

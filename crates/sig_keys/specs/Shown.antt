@@ -6,15 +6,9 @@ use Rattle.sig_keys.specs.declared.ecdsa.ECDSAKeys.{ECDSAKeys as AnyCurveKeys}
 use Rattle.sig_keys.specs.declared.ecdsa.ECDSAKeys.TheVariants as on
 use Rattle.sig_keys.specs.declared.pair.SigStoreKeyPair.{SigStoreKeyPair}
 use Rattle.sig_keys.specs.declared.pair.SigStoreKeyPair.TheVariants as pair
-use Rattle.sig_keys.specs.declared.scheme.EllipticCurve.{EllipticCurve}
-use Rattle.sig_keys.specs.declared.scheme.EllipticCurve.TheVariants.{P256, P384, P521}
 use Rattle.sig_keys.specs.declared.store_signer.SigStoreSigner.{SigStoreSigner}
 use Rattle.sig_keys.specs.declared.store_signer.SigStoreSigner.TheVariants as signer
-
-abbrev pub curve_name : EllipticCurve → List ℕ
-curve_name P256 = codes "P256"
-curve_name P384 = codes "P384"
-curve_name P521 = codes "P521"
+use Rattle.sig_schemes.specs.Shown.{curve_name}
 
 abbrev pub printed_keys : AnyCurveKeys → List ℕ
 printed_keys keys = codes "ECDSA " ++ curve_name (inner_of keys).curve

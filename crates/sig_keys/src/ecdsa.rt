@@ -2,19 +2,18 @@
 ghost use Rattle.std.specs.Prelude.{◌≡◌, IfOk};
 ghost use Rattle.sig_keys.specs.Ec.{ecdsa_signer};
 ghost use Rattle.sig_keys.specs.Ecdsa.{wrapped, inner_of, curve_keys_of, MadeOnCurve};
-ghost use Rattle.sig_keys.specs.Outcomes.{Makes, Parses};
-ghost use Rattle.sig_keys.specs.Scheme.{kind_of};
+ghost use Rattle.sig_schemes.specs.Outcomes.{Makes, Parses};
+ghost use Rattle.sig_schemes.specs.Scheme.{kind_of};
 ghost use Rattle.sig_keys.specs.declared.store_signer.SigStoreSigner.TheVariants.{ECDSA as ecdsa_store_signer};
 
 pub mod ec;
 
-use crate::error::KeyError;
-use crate::key_pair::{CosignVerificationKey, KeyPair};
-use crate::maker::KeyMaker;
-use crate::scheme::{EllipticCurve, SigningScheme};
 use crate::store_signer::SigStoreSigner;
 use ec::EcdsaKeys as CurveKeys;
 use json_values::{Blob, Copied};
+use sig_schemes::{
+    CosignVerificationKey, EllipticCurve, KeyError, KeyMaker, KeyPair, SigningScheme,
+};
 use std::alloc::{AllocError, Global};
 use std::fmt;
 

@@ -1,21 +1,21 @@
-//! Keys for signatures: pairs, signers, and the schemes that they sign under.
+//! Keys for signatures: pairs of each kind, and the signers that they make.
 #![tactic(auto)]
 
 pub mod ecdsa;
 pub mod ed25519;
-mod error;
-mod key_pair;
-mod maker;
 mod pair;
 pub mod rsa;
-mod scheme;
 mod signer;
 mod store_signer;
 
-pub use error::KeyError;
-pub use key_pair::{CosignVerificationKey, KeyPair};
-pub use maker::KeyMaker;
 pub use pair::SigStoreKeyPair;
-pub use scheme::{DigestAlgorithm, EllipticCurve, KeyKind, PaddingScheme, SigningScheme};
+pub use sig_envelope::{
+    BOX_KEY_SIZE, BOX_NONCE_SIZE, DecryptCause, KdfError, KeyBox, NAME_SCRYPT, NAME_SECRET_BOX,
+    SALT_SIZE, SCRYPT_N_HIGH, SCRYPT_N_LOW, SCRYPT_P, SCRYPT_R, ScryptParams, kdf,
+};
+pub use sig_schemes::{
+    CosignVerificationKey, DigestAlgorithm, EllipticCurve, KeyError, KeyKind, KeyMaker, KeyPair,
+    PaddingScheme, SigningScheme,
+};
 pub use signer::Signer;
 pub use store_signer::SigStoreSigner;

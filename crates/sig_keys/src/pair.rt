@@ -1,19 +1,18 @@
 //! Keys of any kind.
 ghost use Rattle.std.specs.Prelude.{◌≡◌, IfOk};
 ghost use Rattle.json_values.specs.Refusals.{Says};
-ghost use Rattle.sig_keys.specs.Outcomes.{Parses, is_memory};
+ghost use Rattle.sig_schemes.specs.Outcomes.{Parses, is_memory};
 ghost use Rattle.sig_keys.specs.Pair.{pair_read, pair_kind, pair_public, pair_private, pair_scheme, signer_under};
 
 use crate::ecdsa::ECDSAKeys;
 use crate::ecdsa::ec::EcdsaKeys as CurveKeys;
 use crate::ed25519::Ed25519Keys;
-use crate::error::KeyError;
-use crate::key_pair::{CosignVerificationKey, KeyPair};
-use crate::maker::KeyMaker;
 use crate::rsa::RSAKeys;
-use crate::scheme::{DigestAlgorithm, KeyKind, SigningScheme};
 use crate::store_signer::SigStoreSigner;
 use json_values::{Blob, Copied};
+use sig_schemes::{
+    CosignVerificationKey, DigestAlgorithm, KeyError, KeyKind, KeyMaker, KeyPair, SigningScheme,
+};
 use std::alloc::{AllocError, Global};
 use std::fmt;
 

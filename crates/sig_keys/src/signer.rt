@@ -1,12 +1,10 @@
 //! What all signers do.
 ghost use Rattle.std.specs.Prelude.{◌≡◌};
-ghost use Rattle.sig_keys.specs.Outcomes.{SignsBy};
-ghost use Rattle.sig_keys.specs.declared.scheme.SigningScheme.{SigningScheme};
+ghost use Rattle.sig_schemes.specs.Outcomes.{SignsBy};
+ghost use Rattle.sig_schemes.specs.declared.scheme.SigningScheme.{SigningScheme};
 
-use crate::error::KeyError;
-use crate::key_pair::KeyPair;
-use crate::maker::KeyMaker;
 use json_values::Blob;
+use sig_schemes::{KeyError, KeyMaker, KeyPair};
 use std::alloc::Global;
 
 /// Signs messages with its keys under its scheme.

@@ -1,19 +1,16 @@
 //! Signers of any kind.
 ghost use Rattle.std.specs.Prelude.{◌≡◌, IfOk};
-ghost use Rattle.sig_keys.specs.KeyPair.{verification_key};
-ghost use Rattle.sig_keys.specs.Outcomes.{SignsBy};
+ghost use Rattle.sig_schemes.specs.KeyPair.{verification_key};
+ghost use Rattle.sig_schemes.specs.Outcomes.{SignsBy};
 ghost use Rattle.sig_keys.specs.StoreSigner.{signer_scheme, signer_private, signer_public, pair_of};
 
 use crate::ecdsa::ec::EcdsaSigner;
 use crate::ed25519::Ed25519Signer;
-use crate::error::KeyError;
-use crate::key_pair::{CosignVerificationKey, KeyPair};
-use crate::maker::KeyMaker;
 use crate::pair::SigStoreKeyPair;
 use crate::rsa::RSASigner;
-use crate::scheme::SigningScheme;
 use crate::signer::Signer;
 use json_values::{Blob, Copied};
+use sig_schemes::{CosignVerificationKey, KeyError, KeyMaker, KeyPair, SigningScheme};
 use std::alloc::{AllocError, Global};
 use std::fmt;
 

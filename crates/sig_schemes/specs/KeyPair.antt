@@ -1,8 +1,8 @@
 -- Verification keys, and how public keys are found.
 use Rattle.std.specs.Prelude.{ℕ, List, Option}
-use Rattle.sig_keys.specs.declared.key_pair.CosignVerificationKey.{CosignVerificationKey}
-use Rattle.sig_keys.specs.declared.scheme.KeyKind.{KeyKind}
-use Rattle.sig_keys.specs.declared.scheme.SigningScheme.{SigningScheme}
+use Rattle.sig_schemes.specs.declared.key_pair.CosignVerificationKey.{CosignVerificationKey}
+use Rattle.sig_schemes.specs.declared.scheme.KeyKind.{KeyKind}
+use Rattle.sig_schemes.specs.declared.scheme.SigningScheme.{SigningScheme}
 
 -- a public key under a scheme
 abbrev pub verification_key : SigningScheme → List ℕ → CosignVerificationKey

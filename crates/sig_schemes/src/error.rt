@@ -1,6 +1,6 @@
 //! Why a call on keys is refused.
 ghost use Rattle.std.specs.Prelude.{◌≡◌};
-ghost use Rattle.sig_keys.specs.Outcomes.{is_memory};
+ghost use Rattle.sig_schemes.specs.Outcomes.{is_memory};
 
 use crate::scheme::{KeyKind, SigningScheme};
 use json_values::Copied;
@@ -36,7 +36,7 @@ impl KeyError {
 }
 
 impl From<AllocError> for KeyError {
-    ghost use Rattle.sig_keys.specs.declared.error.KeyError.TheVariants.{WantOfMemory};
+    ghost use Rattle.sig_schemes.specs.declared.error.KeyError.TheVariants.{WantOfMemory};
 
     ghost from_gives = { λ _ e. e ≡ WantOfMemory };
 

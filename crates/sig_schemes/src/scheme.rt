@@ -1,6 +1,6 @@
 //! Kinds of keys, and the schemes that they sign under.
 ghost use Rattle.std.specs.Prelude.{◌≡◌};
-ghost use Rattle.sig_keys.specs.Scheme.{kind_of, curve_scheme, padding_scheme, padding_under, fits};
+ghost use Rattle.sig_schemes.specs.Scheme.{kind_of, curve_scheme, padding_scheme, padding_under, fits};
 
 use json_values::Copied;
 use std::alloc::{AllocError, Global};
@@ -55,7 +55,7 @@ pub enum SigningScheme {
 
 impl EllipticCurve {
     /// The kind of the curve's keys.
-    pub(crate) fn kind(&self) -> KeyKind
+    pub fn kind(&self) -> KeyKind
         ensures { result ≡ kind_of self.now }
     {
         match self {
@@ -66,7 +66,7 @@ impl EllipticCurve {
     }
 
     /// The scheme that the curve's keys sign under.
-    pub(crate) fn scheme(&self) -> SigningScheme
+    pub fn scheme(&self) -> SigningScheme
         ensures { result ≡ curve_scheme self.now }
     {
         match self {
@@ -79,7 +79,7 @@ impl EllipticCurve {
 
 impl PaddingScheme {
     /// The scheme that an RSA signer with this padding signs under, with number 0.
-    pub(crate) fn scheme(&self) -> SigningScheme
+    pub fn scheme(&self) -> SigningScheme
         ensures { result ≡ padding_scheme self.now }
     {
         match self {
@@ -91,7 +91,7 @@ impl PaddingScheme {
 
 impl SigningScheme {
     /// Whether keys of this kind sign under the scheme.
-    pub(crate) fn fits(&self, key: KeyKind) -> bool
+    pub fn fits(&self, key: KeyKind) -> bool
         ensures { result ≡ fits key self.now }
     {
         match self {
@@ -105,7 +105,7 @@ impl SigningScheme {
     }
 
     /// The padding of an RSA scheme.
-    pub(crate) fn padding(&self) -> PaddingScheme
+    pub fn padding(&self) -> PaddingScheme
         ensures { result ≡ padding_under self.now }
     {
         match self {
@@ -118,7 +118,7 @@ impl SigningScheme {
 impl fmt::Display for EllipticCurve {
     ghost use Rattle.std.specs.Prelude.{Some};
     ghost use Rattle.std.specs.Fmt.{DisplaysOnOk, WritesStyledOnOk};
-    ghost use Rattle.sig_keys.specs.Shown.{curve_name};
+    ghost use Rattle.sig_schemes.specs.Shown.{curve_name};
 
     ghost output = { λ curve. Some (curve_name curve) };
 

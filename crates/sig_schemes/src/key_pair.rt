@@ -1,7 +1,7 @@
 //! What all pairs of keys give.
 ghost use Rattle.std.specs.Prelude.{◌≡◌, ℕ, List, IfOk};
-ghost use Rattle.sig_keys.specs.KeyPair.{verification_key};
-ghost use Rattle.sig_keys.specs.declared.scheme.SigningScheme.{SigningScheme};
+ghost use Rattle.sig_schemes.specs.KeyPair.{verification_key};
+ghost use Rattle.sig_schemes.specs.declared.scheme.SigningScheme.{SigningScheme};
 
 use crate::scheme::SigningScheme;
 use json_values::{Blob, Copied, copied};

@@ -1,8 +1,8 @@
 -- What calls on keys answer. Only want of memory is free.
 use Rattle.std.specs.Prelude.{◌≡◌, ℕ, List, Bool, true, false, Option, Some, None, Result, Ok, Err, ⊤, MatchBool}
-use Rattle.sig_keys.specs.declared.error.KeyError.{KeyError}
-use Rattle.sig_keys.specs.declared.error.KeyError.TheVariants.{KeyParseError, KeyGenerationError, SigningError, UnmatchedKeyAndSigningScheme, WantOfMemory}
-use Rattle.sig_keys.specs.declared.scheme.SigningScheme.{SigningScheme}
+use Rattle.sig_schemes.specs.declared.error.KeyError.{KeyError}
+use Rattle.sig_schemes.specs.declared.error.KeyError.TheVariants.{KeyParseError, KeyGenerationError, SigningError, UnmatchedKeyAndSigningScheme, WantOfMemory}
+use Rattle.sig_schemes.specs.declared.scheme.SigningScheme.{SigningScheme}
 
 abbrev pub is_memory : KeyError → Bool
 is_memory KeyParseError = false

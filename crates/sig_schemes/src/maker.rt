@@ -1,8 +1,8 @@
 //! Who makes keys and signs with them.
 ghost use Rattle.std.specs.Prelude.{◌≡◌, ℕ, List, Bool, Option, IfOk};
-ghost use Rattle.sig_keys.specs.Outcomes.{GivesIf};
-ghost use Rattle.sig_keys.specs.declared.scheme.KeyKind.{KeyKind};
-ghost use Rattle.sig_keys.specs.declared.scheme.SigningScheme.{SigningScheme};
+ghost use Rattle.sig_schemes.specs.Outcomes.{GivesIf};
+ghost use Rattle.sig_schemes.specs.declared.scheme.KeyKind.{KeyKind};
+ghost use Rattle.sig_schemes.specs.declared.scheme.SigningScheme.{SigningScheme};
 
 use crate::scheme::{KeyKind, SigningScheme};
 use json_values::Blob;

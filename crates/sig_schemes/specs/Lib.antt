@@ -1,0 +1,4 @@
+pub mod KeyPair
+pub mod Outcomes
+pub mod Scheme
+pub mod Shown
