@@ -63,6 +63,7 @@ module _ (V W : Type 0) (H : V → Type 0) (I : W → Type 0) (own : Owns V H) (
 
 stands_same : (V W : Type 0) (H : V → Type 0) (I : W → Type 0) (own : Owns V H) (other : Owns W I) (keys : List (List ℕ)) (verifiers : List WrittenConstraint) (valid : Valid) (layer : SignatureLayer)
     → stands {V = V} {H = H} valid (record { keys = keys; constraints = constraints_by verifiers }) own layer ≡ stands {V = W} {H = I} valid (record { keys = keys; constraints = constraints_by verifiers }) other layer
+unfolding stands
 stands_same V W H I own other keys verifiers valid layer = ap (λ (b : Bool). is_signed {V = V} {H = H} valid (record { keys = keys; constraints = constraints_by verifiers }) layer && b) (all_same V W H I own other layer verifiers)
 
 policy_is : {V : Type 0} {H : V → Type 0} (policy : PullPolicy V H) (case : Case) → policy.keys ≡ case.keys → policy.constraints ≡ constraints_by case.constraints → policy ≡ record { keys = case.keys; constraints = constraints_by case.constraints }
@@ -79,7 +80,7 @@ by_parts s image a accepted none fits trusted = do
   Done (Ok (verified_image stood pulled))
 
 is_by_parts : {V : Type 0} {H : V → Type 0} (m : Meaning V H) (s : Context) (image : Reference) (a : RegistryAuth) (accepted : List (List ℕ)) → verified m s image a accepted ≡ by_parts s image a accepted (is_unconstrained m.policy) (stands_by m) m.trust
-unfolding verified after_search
+unfolding verified after_search by_parts
 is_by_parts m s image a accepted = refl
 
 -- the row of a policy that a case gives is the case's
