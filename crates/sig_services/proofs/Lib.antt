@@ -1,3 +1,4 @@
 pub mod Causing
 pub mod Exchanges
 pub mod Exits
+pub mod Values

@@ -62,8 +62,8 @@ headers_read token None = Err (Header token)
 -- the token (RFC 6750, 2.1), what the body is, and what is accepted
 abbrev pub headers_with : List ℕ → Option (List ℕ) → Option Fields
 headers_with token accept = option.◌>>=◌
-    (option.◌>>=◌ (with_header map.empty (codes "authorization") (codes "Bearer " ++ token)) with_type)
-    (with_accept accept)
+    (with_header map.empty (codes "authorization") (codes "Bearer " ++ token))
+    (λ headers. option.◌>>=◌ (with_type headers) (with_accept accept))
 
 abbrev pub headers_of : List ℕ → Option (List ℕ) → Result Fields FulcioError
 headers_of token accept = headers_read token (headers_with token accept)
