@@ -1,6 +1,6 @@
 -- Each refusal of a call to the log has its cause.
-use Rattle.std.proofs.Common.{◌≡◌, ◌≤◌, ℕ, List, [], ◌∷◌, Bool, true, false, ◌&&◌, nat_lt, Option, Some, None, Result, Ok, Err, IfErr, refl, arith}
-use Rattle.std.specs.Prelude.{codes, MatchBool, if◌then◌else◌}
+use Rattle.std.proofs.Common.{◌≡◌, ◌≤◌, ℕ, List, [], ◌∷◌, Bool, true, false, Option, Some, None, Result, Ok, Err, IfErr, refl, arith}
+use Rattle.std.specs.Prelude.{MatchBool, if◌then◌else◌}
 use Rattle.serde_json.specs.Data.{Data}
 use Rattle.url.specs.Parts.{Parts, serialize}
 use Rattle.json_values.specs.Refusals as Refusals

@@ -1,4 +1,4 @@
-use Rattle.std.proofs.Common.{refl, None, option_copied}
+use Rattle.std.proofs.Common.{refl, None}
 use Rattle.json_tables.specs.Plain.{read_plain}
 use Rattle.sig_models.specs.LogEntry.{log_entry_of}
 use Rattle.sig_services.specs.Calls.{uuid_path}
