@@ -32,7 +32,7 @@ module _ {A E : Type 0} (read : List ℕ → Option A) (entity : Data → E) (s 
   -- ---- the request
 
   headers_why : (content : Option (List ℕ)) (url : Parts) (method : Method) (e : Error E) (m n : ℕ) (o : Option Fields) → headers_sent s.user_agent content ≡ o
-      → Refusals.◌>>=◌ (headers_read {E = E} s.user_agent o) (λ headers. Ok (record { method = method; url = serialize url; headers = headers; body = body_of content })) ≡ Err e → Why read entity s path m [] n e
+      → Refusals.◌>>=◌ {B = Request} (headers_read {E = E} s.user_agent o) (λ headers. Ok (record { method = method; url = serialize url; headers = headers; body = body_of content })) ≡ Err e → Why read entity s path m [] n e
   headers_why content url method e m n (Some headers) is h = absurd (cc h)
   headers_why content url method e m n None is h = let at : Header (agent_text s.user_agent) ≡ e = cc in rw (← at) (refl, refl, content, is)
 
@@ -40,7 +40,7 @@ module _ {A E : Type 0} (read : List ℕ → Option A) (entity : Data → E) (s 
   unfolding request_of
   request_why method content e m n h = by_url (request_url (address s.base_path path)) refl h where
     by_url : (o : Option Parts) → request_url (address s.base_path path) ≡ o
-        → Refusals.◌>>=◌ (url_read {E = E} (address s.base_path path) o) (λ url. Refusals.◌>>=◌ (headers_of s.user_agent content) (λ headers. Ok (record { method = method; url = serialize url; headers = headers; body = body_of content }))) ≡ Err e → Why read entity s path m [] n e
+        → Refusals.◌>>=◌ {B = Request} (url_read {E = E} (address s.base_path path) o) (λ url. Refusals.◌>>=◌ {B = Request} (headers_of s.user_agent content) (λ headers. Ok (record { method = method; url = serialize url; headers = headers; body = body_of content }))) ≡ Err e → Why read entity s path m [] n e
     by_url None is h = let at : Url (address s.base_path path) ≡ e = cc in rw (← at) (refl, refl, is)
     by_url (Some url) is h = headers_why content url method e m n (headers_sent s.user_agent content) refl h
 

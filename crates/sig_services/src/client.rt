@@ -104,27 +104,30 @@ fn with_accept(headers: Headers, accept: Option<&str>) -> Result<Option<Headers>
     }
 }
 
+#[tactic(auto, unfolding(crate::specs::Fulcio::headers_with))]
 fn headers_with(
     alloc: Global,
-    token: &str,
+    credentials: &str,
     accept: Option<&str>,
 ) -> Result<Option<Headers>, AllocError>
-    ensures { IfOk result (λ headers. headers ≡ row.headers_with token.now (option_copied accept.entry)) }
+    ensures { IfOk result (λ headers. headers
+        ≡ row.headers_with credentials.now (option_copied accept.entry)) }
 {
-    let value = bearer(alloc, token)?;
-    let Some(headers) = with_header(Headers::new(alloc), "authorization", value.as_str())? else {
+    let Some(headers) = with_header(Headers::new(alloc), "authorization", credentials)? else {
         return Ok(None);
     };
     let Some(headers) = with_header(headers, "content-type", "application/json")? else {
         return Ok(None);
     };
-    with_accept(headers, accept)
+    let headers = with_accept(headers, accept)?;
+    Ok(headers)
 }
 
 fn headers_of(alloc: Global, token: &str, accept: Option<&str>) -> Result<Headers, FulcioError>
     ensures { Says result (headers_of token.now (option_copied accept.entry)) }
 {
-    match headers_with(alloc, token, accept)? {
+    let credentials = bearer(alloc, token)?;
+    match headers_with(alloc, credentials.as_str(), accept)? {
         Some(headers) => Ok(headers),
         None => Err(FulcioError::Header(Text::new(alloc, token)?)),
     }
