@@ -37,5 +37,5 @@ module _ {E : Type 0} {of_memory : E → Bool} where
   passed_on {r} h is = let at = err_from_is_err_and r is in rw (at.1, at.2) h
 
   -- memory was wanting between two requests
-  pub wanting : {A : Type 0} {p : Row E A} {link : Link} {k : Unit {0}} {e : E} {r : Result A E} → of_memory e ≡ true → IsErrAnd r (λ x. x ≡ e) → Meets of_memory p link link k k r
-  wanting {p} {link} {k} {e} {r} memory is = let at = err_from_is_err_and r is in rw (at.1, at.2) (Meets-memory of_memory p link k e memory)
+  pub wanting : {A : Type 0} {p : Row E A} {link : Link} {k : Unit {0}} (e : E) {r : Result A E} → of_memory e ≡ true → IsErrAnd r (λ x. x ≡ e) → Meets of_memory p link link k k r
+  wanting {p} {link} {k} e {r} memory is = let at = err_from_is_err_and r is in rw (at.1, at.2) (Meets-memory of_memory p link k e memory)

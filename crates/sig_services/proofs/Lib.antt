@@ -1,3 +1,5 @@
 pub mod Causing
 pub mod Exchanges
 pub mod Exits
+pub mod Showing
+pub mod Values

@@ -2,14 +2,13 @@
 use Rattle.std.specs.Prelude.{◌≡◌, ◌<◌, ℕ, List, [], ◌∷◌, length, true, false, Option, Some, None, Result, IfErr}
 use Rattle.serde_json.specs.Data.{Data}
 use Rattle.json_values.specs.Counts.{Rose}
-use Rattle.oci_transport.specs.Headers.{is_header_value}
 use Rattle.oci_transport.specs.Link.{Link}
 use Rattle.oci_transport.specs.Urls.{request_url}
 use Rattle.oci_transport.specs.declared.message.Answer.{Answer}
 use Rattle.oci_transport.specs.declared.message.Exchange.{Exchange}
 use Rattle.oci_protocol.specs.Runs.{Told}
 use Rattle.sig_services.specs.Call.{is_refusal, entity_in}
-use Rattle.sig_services.specs.Request.{address}
+use Rattle.sig_services.specs.Request.{address, agent_text, headers_sent}
 use Rattle.sig_services.specs.declared.configuration.Configuration.{Configuration}
 use Rattle.sig_services.specs.declared.error.Error.{Error}
 use Rattle.sig_services.specs.declared.error.Error.TheVariants.{Link as Broken, BodyTooLong, Url, Header, Json, ResponseError, WantOfMemory}
@@ -27,7 +26,7 @@ Why read entity s path before c after BodyTooLong =
 Why read entity s path before c after (Url text) =
     (c ≡ []) × (text ≡ address s.base_path path) × (request_url text ≡ None)
 Why read entity s path before c after (Header text) =
-    (c ≡ []) × (s.user_agent ≡ Some text) × (is_header_value text ≡ false)
+    (c ≡ []) × (text ≡ agent_text s.user_agent) × (content : Option (List ℕ)) × (headers_sent s.user_agent content ≡ None)
 Why read entity s path before c after (Json body) = (answer : Answer) × IsAnswer c answer
     × (is_refusal answer.status ≡ false) × (body ≡ answer.body) × (read body ≡ None)
 Why read entity s path before c after (ResponseError x) = (answer : Answer) × IsAnswer c answer

@@ -1,6 +1,7 @@
 -- What the bodies of refusals read as (Rekor's API): the first variant that reads.
-use Rattle.std.specs.Prelude.{Bool, true, false, Option, Some, None, if◌then◌else◌}
-use Rattle.serde_json.specs.Data.{Data, array, no_items}
+use Rattle.std.specs.Prelude.{Bool, true, false, option_map, unwrap_or, Option, Some, None, if◌then◌else◌}
+use Rattle.serde_json.specs.Data.{Data, Items, no_items, item}
+use Rattle.serde_json.specs.Find.{as_array}
 use Rattle.sig_models.specs.declared.error.Error.{Error}
 use Rattle.sig_models.specs.Error.{error_of}
 use Rattle.sig_services.specs.declared.entities.CreateLogEntryError.{CreateLogEntryError}
@@ -21,9 +22,12 @@ use Rattle.sig_services.specs.declared.entities.GetLogProofError.{GetLogProofErr
 use Rattle.sig_services.specs.declared.entities.GetLogProofError.TheVariants as log_proof
 
 -- the list of nothing
+abbrev pub no_items_in : Items → Bool
+no_items_in no_items = true
+no_items_in (item d ds) = false
+
 abbrev pub is_empty_list : Data → Bool
-is_empty_list (array no_items) = true
-is_empty_list d = false
+is_empty_list d = unwrap_or (option_map no_items_in (as_array d)) false
 
 -- an error of the API, or any other value
 abbrev pub known_or : {E : Type 0} → (Error → E) → (Data → E) → Data → Option Error → E

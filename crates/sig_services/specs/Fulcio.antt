@@ -59,14 +59,15 @@ abbrev pub headers_read : List ℕ → Option Fields → Result Fields FulcioErr
 headers_read token (Some headers) = Ok headers
 headers_read token None = Err (Header token)
 
--- the token (RFC 6750, 2.1), what the body is, and what is accepted
-abbrev pub headers_with : List ℕ → Option (List ℕ) → Option Fields
-headers_with token accept = option.◌>>=◌
-    (option.◌>>=◌ (with_header map.empty (codes "authorization") (codes "Bearer " ++ token)) with_type)
-    (with_accept accept)
+-- credentials, what the body is, and what is accepted
+unfoldable pub headers_with : List ℕ → Option (List ℕ) → Option Fields
+headers_with credentials accept = option.◌>>=◌
+    (with_header map.empty (codes "authorization") credentials)
+    (λ headers. option.◌>>=◌ (with_type headers) (with_accept accept))
 
+-- the token as RFC 6750, 2.1, has it
 abbrev pub headers_of : List ℕ → Option (List ℕ) → Result Fields FulcioError
-headers_of token accept = headers_read token (headers_with token accept)
+headers_of token accept = headers_read token (headers_with (codes "Bearer " ++ token) accept)
 
 unfoldable pub request_of : Parts → List ℕ → List ℕ → Option (List ℕ) → List ℕ → Result Request FulcioError
 request_of root path token accept body = do

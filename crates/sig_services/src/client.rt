@@ -6,6 +6,7 @@ ghost use Rattle.sig_models.specs.CertificateRequest.{request_written, signing_r
 ghost use Rattle.sig_services.specs.Fulcio.{Says, is_memory, asked, certificate_in, headers_of, joined};
 ghost use Rattle.sig_services.specs.Fulcio.{parted, request_of, response_in, response_of};
 ghost use Rattle.sig_services.specs.Fulcio as row;
+ghost use Rattle.sig_services.specs.Token.{token_of};
 
 use crate::body::Body;
 use crate::call::compact;
@@ -103,19 +104,33 @@ fn with_accept(headers: Headers, accept: Option<&str>) -> Result<Option<Headers>
     }
 }
 
+#[tactic(auto, unfolding(crate::specs::Fulcio::headers_with))]
+fn headers_with(
+    alloc: Global,
+    credentials: &str,
+    accept: Option<&str>,
+) -> Result<Option<Headers>, AllocError>
+    ensures { IfOk result (λ headers. headers
+        ≡ row.headers_with credentials.now (option_copied accept.entry)) }
+{
+    let Some(headers) = with_header(Headers::new(alloc), "authorization", credentials)? else {
+        return Ok(None);
+    };
+    let Some(headers) = with_header(headers, "content-type", "application/json")? else {
+        return Ok(None);
+    };
+    let headers = with_accept(headers, accept)?;
+    Ok(headers)
+}
+
 fn headers_of(alloc: Global, token: &str, accept: Option<&str>) -> Result<Headers, FulcioError>
     ensures { Says result (headers_of token.now (option_copied accept.entry)) }
 {
-    let value = bearer(alloc, token)?;
-    if let Some(headers) = with_header(Headers::new(alloc), "authorization", value.as_str())? {
-        if let Some(headers) = with_header(headers, "content-type", "application/json")? {
-            if let Some(headers) = with_accept(headers, accept)? {
-                return Ok(headers);
-            }
-        }
+    let credentials = bearer(alloc, token)?;
+    match headers_with(alloc, credentials.as_str(), accept)? {
+        Some(headers) => Ok(headers),
+        None => Err(FulcioError::Header(Text::new(alloc, token)?)),
     }
-    let token = Text::new(alloc, token)?;
-    Err(FulcioError::Header(token))
 }
 
 #[tactic(auto, unfolding(crate::specs::Fulcio::request_of))]
@@ -261,6 +276,15 @@ fn signing_request_text(alloc: Global, request: &[u8]) -> Result<Blob, AllocErro
     Ok(text)
 }
 
+// The token alone.
+fn shown_token(provider: &TokenProvider) -> &str
+    ensures { result.now ≡ (token_of provider.now).0 }
+{
+    match provider {
+        TokenProvider::Static(token, _challenge) => token.as_str(),
+    }
+}
+
 impl FulcioClient {
     /// A client of the certificate authority at this URL, as `FULCIO_ROOT`.
     pub fn new(root_url: Url, token_provider: TokenProvider) -> FulcioClient
@@ -287,14 +311,14 @@ impl FulcioClient {
             (row.request_cert self.now algorithm public_key.now signature.now)
             (T.state transport.old) (T.state transport.new) k k result }
     {
-        let TokenProvider::Static(token, _challenge) = &self.token_provider;
+        let token = shown_token(&self.token_provider);
         let body = request_text(alloc, algorithm, public_key, signature)?;
         let answer = asked(
             alloc,
             transport,
             &self.root_url,
             SIGNING_CERT_PATH,
-            token.as_str(),
+            token,
             None,
             body,
         )?;

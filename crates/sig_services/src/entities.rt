@@ -1,11 +1,13 @@
 //! What the bodies of refusals read as.
 ghost use Rattle.std.specs.Prelude.{◌≡◌, IfOk};
 ghost use Rattle.serde_json.specs.Data.{Data};
+ghost use Rattle.serde_json.specs.View.{items_view};
 ghost use Rattle.sig_models.specs.Error.{error_of};
 ghost use Rattle.sig_services.specs.Entities as spec;
 
 use json_tables::read_or_none;
 use json_values::{Copied, Json};
+use serde_json::Value;
 use sig_models as models;
 use std::alloc::{AllocError, Global};
 
@@ -91,11 +93,18 @@ fn known(alloc: Global, json: &Json) -> Result<Option<models::Error>, AllocError
     read_or_none(alloc, json.value())
 }
 
+#[tactic(auto, using(crate::proofs::Values::none_in))]
+fn has_none(items: &Vec<Value>) -> bool
+    ensures { result ≡ spec.no_items_in (items_view items.now.items) }
+{
+    items.is_empty()
+}
+
 fn is_empty_list(json: &Json) -> bool
     ensures { result ≡ spec.is_empty_list json.now }
 {
     match json.value().as_array() {
-        Some(items) => items.is_empty(),
+        Some(items) => has_none(items),
         None => false,
     }
 }

@@ -3,7 +3,7 @@ ghost use Rattle.std.specs.Prelude.{◌≡◌, IfOk};
 ghost use Rattle.form_urlencoded.specs.Form.{byte_serialize};
 ghost use Rattle.sig_services.specs.Error.{Says};
 ghost use Rattle.sig_services.specs.Request.{address, agent_text, with_agent, with_type};
-ghost use Rattle.sig_services.specs.Request.{headers_of, request_of, body_of, url_of};
+ghost use Rattle.sig_services.specs.Request.{headers_sent, headers_of, request_of, body_of, url_of};
 
 use crate::configuration::Configuration;
 use crate::error::Error;
@@ -70,6 +70,19 @@ fn agent_text(alloc: Global, agent: &Option<Text>) -> Result<Text, AllocError>
     }
 }
 
+fn headers_sent(
+    alloc: Global,
+    agent: &Option<Text>,
+    content: &Option<Blob>,
+) -> Result<Option<Headers>, AllocError>
+    ensures { IfOk result (λ headers. headers ≡ headers_sent agent.now content.now) }
+{
+    let Some(headers) = with_type(Headers::new(alloc), content)? else {
+        return Ok(None);
+    };
+    with_agent(headers, agent)
+}
+
 fn headers_of<E>(
     alloc: Global,
     agent: &Option<Text>,
@@ -77,13 +90,10 @@ fn headers_of<E>(
 ) -> Result<Headers, Error<E>>
     ensures { Says result (headers_of agent.now content.now) }
 {
-    if let Some(headers) = with_type(Headers::new(alloc), content)? {
-        if let Some(headers) = with_agent(headers, agent)? {
-            return Ok(headers);
-        }
+    match headers_sent(alloc, agent, content)? {
+        Some(headers) => Ok(headers),
+        None => Err(Error::Header(agent_text(alloc, agent)?)),
     }
-    let agent = agent_text(alloc, agent)?;
-    Err(Error::Header(agent))
 }
 
 fn body_of(alloc: Global, content: Option<Blob>) -> Blob
