@@ -1,5 +1,5 @@
 -- A maker of one kind of keys.
-use Rattle.std.specs.Prelude.{ℕ, List, Bool, nat_eq, if◌then◌else◌, Option, Some, None}
+use Rattle.std.specs.Prelude.{ℕ, List, nat_eq, if◌then◌else◌, Option, Some, None}
 use Rattle.sig_schemes.specs.declared.scheme.KeyKind.{KeyKind}
 use Rattle.sig_schemes.specs.declared.scheme.KeyKind.TheVariants.{P256, P384, P521, Ed25519, Rsa}
 
