@@ -41,6 +41,7 @@ bench: program
 	python3 bench/canon.py
 	python3 bench/documents.py
 	python3 bench/signatures.py
+	python3 bench/bundles.py
 
 # Makes each allocation of the stored run fail in turn.
 allocations: program

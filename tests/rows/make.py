@@ -20,6 +20,8 @@ MANIFEST = "application/vnd.oci.image.manifest.v1+json"
 INDEX = "application/vnd.oci.image.index.v1+json"
 PAYLOAD = "application/vnd.dev.cosign.simplesigning.v1+json"
 SIGNATURE = "dev.cosignproject.cosign/signature"
+ENTRY = "dev.sigstore.cosign/bundle"
+CERTIFICATE = "dev.sigstore.cosign/certificate"
 
 
 def digest(content, algorithm="sha256"):
@@ -59,8 +61,12 @@ def payload(optional=None, image=None):
     return compact({"critical": critical, "optional": optional})
 
 
-def signed(content, signature="sig1"):
-    return descriptor(PAYLOAD, content, {SIGNATURE: base64.b64encode(signature.encode()).decode()})
+def base64_of(text):
+    return base64.b64encode(text.encode()).decode()
+
+
+def signed(content, signature="sig1", **others):
+    return descriptor(PAYLOAD, content, {SIGNATURE: base64_of(signature), **others})
 
 
 def answer(body=None, name=None, status=200, **others):
@@ -200,6 +206,108 @@ def policies():
     answers, asked = search(manifest("{}", [bare]), [signature])
     lines = ["moment 100"] + asked + [unsatisfied, f"skipped Layer Tag {compact(digest(signature))} NoSignature"]
     write("policies/a_payload_without_signature", case(answers, [signature]), lines, 1)
+
+
+# ---- signature layers with log entries and certificates, and the constraints on whom certificates are for
+
+
+def log_body(content, signature="sig1"):
+    """What a log holds of a signature of this content, in base64."""
+    hashed = {"hash": {"algorithm": "sha256", "value": digest(content).partition(":")[2]}}
+    spec = {"data": hashed, "signature": {"content": base64_of(signature)}}
+    return base64_of(compact({"apiVersion": "0.0.1", "kind": "hashedrekord", "spec": spec}))
+
+
+def log_entry(body, timestamp="set1"):
+    """The annotation with the entry, and the texts of its four members as they stand there and in canonical order."""
+    members = {"logIndex": 2, "logID": "ab", "integratedTime": 1, "body": body}
+    note = compact({"SignedEntryTimestamp": base64_of(timestamp), "Payload": members})
+    return note, compact(members), json.dumps(members, separators=(",", ":"), sort_keys=True)
+
+
+def log_signs(text, key="lk", signature="set1"):
+    return {"key": key, "message": digest(text), "signature": signature}
+
+
+def layer_case(notes, lines, signatures, keys=("k1",), constraints=None, **others):
+    """A case with one signature layer with these annotations, its lines and its status."""
+    signature = payload()
+    answers, asked = search(manifest("{}", [signed(signature, **notes)]), [signature])
+    if lines:
+        lines = ["refused Unsatisfied " + compact(digest(IMAGE))] + lines
+    else:
+        image_answers, image_asked = base_run()[:2]
+        answers, asked, lines = answers + image_answers[10:], asked + image_asked[10:], image_lines(signature)
+    stdin = case(answers, keys=list(keys), constraints=constraints, signatures=signatures, **others)
+    return stdin, ["moment 100"] + asked + lines
+
+
+def layers():
+    content = payload()
+    by_key = {"key": "k1", "message": digest(content), "signature": "sig1"}
+    by_certificate = dict(by_key, key="ck")
+    skipped = f"skipped Layer Tag {compact(digest(content))} "
+    collected = "collected " + digest(content)
+
+    def one(title, notes, lines, signatures, **others):
+        write(f"layers/{title}", *layer_case(notes, lines, signatures, **others), 1 if lines else 0)
+
+    note, sent, canonical = log_entry(log_body(content))
+    logged, known = {ENTRY: note}, {"ab": "lk"}
+    one("a_log_entry", logged, [], [by_key, log_signs(canonical)], log_keys=known)
+    one("a_log_entry_signed_as_it_came", logged, [skipped + "BadLogSignature"], [by_key, log_signs(sent)], log_keys=known)
+    one("a_log_entry_of_an_unknown_log", logged, [skipped + 'UnknownLogKey "ab"'], [by_key, log_signs(canonical)], log_keys={"cd": "lk"})
+    one("a_log_entry_where_no_log_is_known", logged, [], [by_key])
+    one("a_log_entry_that_does_not_read", {ENTRY: "x"}, [skipped + "Unreadable LogEntry"], [by_key], log_keys=known)
+    for title, body in [
+        ("of_no_signature", base64_of("{}")),
+        ("of_another_content", log_body(payload({"a": "1"}))),
+        ("of_another_signature", log_body(content, "sig2")),
+    ]:
+        other, _, text = log_entry(body)
+        one(f"a_log_entry_{title}", {ENTRY: other}, [skipped + f"OtherLogEntry {compact(body)}"], [by_key, log_signs(text)], log_keys=known)
+    # What one check finds is told before what the next one would.
+    other, sent, text = log_entry(base64_of("{}"))
+    one("a_log_entry_of_an_unknown_log_before_its_signature", {ENTRY: other}, [skipped + 'UnknownLogKey "ab"'], [by_key], log_keys={"cd": "lk"})
+    one("a_log_entry_without_signature_before_its_body", {ENTRY: other, CERTIFICATE: "CERT"}, [skipped + "BadLogSignature"], [by_key, log_signs(sent)], log_keys=known)
+
+    # Certificates.
+    logged[CERTIFICATE] = "CERT"
+    vouched = {"certificate": "CERT", "key": "ck", "email": "a@b.example"}
+    signs = [by_certificate, log_signs(canonical)]
+    of_anyone = [{"email": "a@b.example", "issuer": None}]
+    whole = {"keys": [], "constraints": of_anyone, "log_keys": known, "vouched": [vouched]}
+    one("a_certificate", logged, [], signs, **whole)
+    one("a_certificate_that_nobody_vouches_for", logged, [skipped + "NotVouched"], signs, **dict(whole, vouched=None))
+    one("a_certificate_where_no_log_is_known", logged, [skipped + "NoLogEntry"], signs, **dict(whole, log_keys=None))
+    one("a_certificate_of_an_unknown_log", logged, [skipped + 'UnknownLogKey "ab"'], signs, **dict(whole, log_keys={"cd": "lk"}))
+    one("a_certificate_without_log_entry", {CERTIFICATE: "CERT"}, [skipped + "NoLogEntry"], signs, **whole)
+    one("a_certificate_beside_a_key_of_the_policy", logged, [collected], [by_key, log_signs(canonical)], **dict(whole, keys=["k1"]))
+
+    # Constraints on whom it is for.
+    of_login = dict(vouched, url="https://ci.example/a", issuer="https://login.example")
+    for title, constraint, stands in [
+        ("an_email_of_its_issuer", {"email": "a@b.example", "issuer": "https://login.example"}, True),
+        ("an_email_of_another_issuer", {"email": "a@b.example", "issuer": "https://other.example"}, False),
+        ("another_email", {"email": "c@b.example", "issuer": None}, False),
+        ("a_url_of_its_issuer", {"url": "https://ci.example/a", "issuer": "https://login.example"}, True),
+        ("a_url_of_another_issuer", {"url": "https://ci.example/a", "issuer": "https://other.example"}, False),
+        ("another_url", {"url": "https://ci.example/", "issuer": "https://login.example"}, False),
+    ]:
+        one(title, logged, [] if stands else [collected], signs, **dict(whole, constraints=[constraint], vouched=[of_login]))
+    one("an_email_of_an_issuer_that_is_not_vouched", logged, [collected], signs, **dict(whole, constraints=[{"email": "a@b.example", "issuer": "i"}]))
+    one("an_email_without_certificate", {}, [collected], [by_key], constraints=of_anyone)
+    # A layer as current tools write it, with more members than are read.
+    identity = {"url": "https://github.com/a/b/.github/workflows/c.yml@refs/heads/main", "issuer": "https://token.actions.githubusercontent.com"}
+    log_id = "c0d23d6ad406973f9559f3ba2d1ca01f84147d8ffc5b8445c224f98b9591801d"
+    pem = "-----BEGIN CERTIFICATE-----\nMIIC\n-----END CERTIFICATE-----\n"
+    body = json.loads(base64.b64decode(log_body(content)))
+    body["spec"]["signature"]["publicKey"] = {"content": base64_of(pem)}
+    members = {"body": base64_of(compact(body)), "integratedTime": 1728000000, "logIndex": 137000000, "logID": log_id}
+    notes = {ENTRY: compact({"SignedEntryTimestamp": base64_of("set1"), "Payload": members}), CERTIFICATE: pem, "dev.sigstore.cosign/chain": pem}
+    text = json.dumps(members, separators=(",", ":"), sort_keys=True)
+    one("a_keyless_signature", notes, [], [by_certificate, log_signs(text)], keys=[], constraints=[identity], log_keys={log_id: "lk"},
+        vouched=[{"certificate": pem, "key": "ck", "email": None, **identity}])
 
 
 # ---- the digest
@@ -414,7 +522,13 @@ def inputs():
         ("a_limit_in_words", {"limit": "5"}),
         ("a_key_that_is_no_base64", {"keys": [{"base64": "a"}]}),
         ("a_constraint_with_another_member", {"constraints": [{"annotations": {}, "at": 1}]}),
+        ("a_constraint_of_two_kinds", {"constraints": [{"annotations": {}, "email": "a", "issuer": None}]}),
+        ("an_email_without_issuer", {"constraints": [{"email": "a"}]}),
+        ("a_url_with_an_issuer_of_null", {"constraints": [{"url": "a", "issuer": None}]}),
         ("a_signature_without_key", {"signatures": [{"message": "m", "signature": "s"}]}),
+        ("a_log_key_that_is_no_bytes", {"log_keys": {"ab": 1}}),
+        ("what_is_vouched_without_key", {"vouched": [{"certificate": "c"}]}),
+        ("what_is_vouched_of_one_certificate_twice", {"vouched": [{"certificate": "c", "key": "k"}, {"certificate": {"base64": "Yw=="}, "key": "l"}]}),
         ("a_status_of_two_digits", {"answers": [{"status": 99}]}),
         ("a_status_of_four_digits", {"answers": [{"status": 1000}]}),
         ("an_empty_piece", {"answers": [{"status": 200, "pieces": [""]}]}),
@@ -425,7 +539,8 @@ def inputs():
     for title, members in others:
         write(f"input/{title}", case(members.pop("answers", []), **members), [], 3)
     null = json.loads(case([]))
-    write("input/a_limit_of_null", compact(dict(null, limit=None)), [], 3)
+    for name in ("limit", "log_keys", "vouched"):
+        write(f"input/{name}_of_null", compact(dict(null, **{name: None})), [], 3)
 
 
 def canonical_texts():
@@ -444,6 +559,7 @@ def canonical_texts():
 TABLES = {
     "pulls": pulls,
     "policies": policies,
+    "layers": layers,
     "digests": digests,
     "signatures": signatures,
     "tokens": tokens,

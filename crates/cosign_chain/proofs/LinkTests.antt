@@ -1,5 +1,5 @@
 -- The tests of the links decide the links, and a chain has its links.
-use Rattle.std.proofs.Common.{◌≡◌, ◌↔◌, ◌&&◌, ◌<◌, ℕ, Bool, true, false, nat_lt, IsTrue, List, [], ◌∷◌, bytes_eq, Option, Some, None, Contains, length, refl, ap, arith}
+use Rattle.std.proofs.Common.{◌≡◌, ◌⊎◌, inl, inr, ◌↔◌, ◌&&◌, ◌<◌, ℕ, Bool, true, false, nat_lt, IsTrue, List, [], ◌∷◌, bytes_eq, Option, Some, None, Contains, length, refl, ap, arith}
 use Rattle.std.specs.Prelude.{◌==◌}
 use Rattle.std.specs.Bool.{Decides}
 use Rattle.std.specs.List.{list_any, list_all, zip}
@@ -19,11 +19,12 @@ use Rattle.oci_manifests.specs.declared.descriptor.OciDescriptor.{OciDescriptor}
 use Rattle.oci_manifests.specs.declared.blob.ImageLayer.{ImageLayer}
 use Rattle.oci_manifests.specs.declared.blob.Config.{Config}
 use Rattle.cosign_layers.specs.Standing.{Meaning}
-use Rattle.cosign_chain.specs.Chain.{ConfigLinks, LayerLinks, LayersLink, Chain}
+use Rattle.oci_platforms.specs.declared.promise.ResolverPromise.{ResolverPromise}
+use Rattle.cosign_chain.specs.Chain.{ConfigLinks, LayerLinks, LayersLink, FirstIsManifest, FirstIsIndex, LeadsToManifest, Chain}
 use Rattle.cosign_chain.specs.Links.{ManifestLinks, Links, named_by, same_annotations, has_manifest, has_config, is_layer_of, has_layers, is_linked}
 use Rattle.cosign_chain.specs.declared.image.VerifiedImage.{VerifiedImage}
 
-both : {P Q : Type 0} (a b : Bool) → Decides a P → Decides b Q → Decides (a && b) (P × Q)
+pub both : {P Q : Type 0} (a b : Bool) → Decides a P → Decides b Q → Decides (a && b) (P × Q)
 both true true p q = (λ h. (p.0 refl, q.0 refl), λ h. refl)
 both true false p q = (λ h. absurd (cc h), λ h. q.1 h.1)
 both false b p q = (λ h. absurd (cc h), λ h. p.1 h.0)
@@ -36,7 +37,7 @@ joined : (a b : Bool) → a ≡ true → b ≡ true → (a && b) ≡ true
 joined true b h i = i
 joined false b h i = absurd (cc h)
 
-more : {P Q : Type 0} {b : Bool} → (P → Q) → (Q → P) → Decides b P → Decides b Q
+pub more : {P Q : Type 0} {b : Bool} → (P → Q) → (Q → P) → Decides b P → Decides b Q
 more to from d = (λ h. to (d.0 h), λ q. d.1 (from q))
 
 -- ---- annotations
@@ -44,10 +45,10 @@ more to from d = (λ h. to (d.0 h), λ q. d.1 (from q))
 entry : (a b : List ℕ × List ℕ) → Decides (bytes_eq a.0 b.0 && bytes_eq a.1 b.1) (a ≡ b)
 entry a b = more (λ h. rw (h.0, h.1) refl) (λ is. (ap (λ p. p.0) is, ap (λ p. p.1) is)) (both (bytes_eq a.0 b.0) (bytes_eq a.1 b.1) (bytes_eq-Decides a.0 b.0) (bytes_eq-Decides a.1 b.1))
 
-some_same : {A : Type 0} (a b : A) → (let o : Option A = Some a in o) ≡ Some b → a ≡ b
+pub some_same : {A : Type 0} (a b : A) → (let o : Option A = Some a in o) ≡ Some b → a ≡ b
 some_same a b is = cc is
 
-annotations : (a b : Option (FinMap by_bytes (List ℕ))) → Decides (same_annotations a b) (a ≡ b)
+pub annotations : (a b : Option (FinMap by_bytes (List ℕ))) → Decides (same_annotations a b) (a ≡ b)
 annotations None None = (λ h. refl, λ h. refl)
 annotations None (Some b) = (λ h. absurd (cc h), λ h. absurd (cc h))
 annotations (Some a) None = (λ h. absurd (cc h), λ h. absurd (cc h))
@@ -108,5 +109,23 @@ linked image accepted v result is = rw is (more to from (both _ _ (both _ _ (bot
 
 -- ---- a chain has its links
 
-pub chain_links : {V : Type 0} {H : V → Type 0} {meaning : Meaning V H} {image : Reference} {accepted : List (List ℕ)} {v : VerifiedImage} → Chain meaning image accepted v → Links image accepted v
-chain_links {v = v} chain = record { named = chain.named; asked = chain.asked; manifest = rw chain.manifest.no_list (chain.manifest.bytes, chain.manifest.digest); config = chain.config; some = chain.some; layers = chain.layers }
+of_manifest : (v : VerifiedImage) → FirstIsManifest v → ManifestLinks v v.list_digest
+of_manifest v first = rw first.no_list (first.bytes, first.digest)
+
+manifest_links : (promise : Option ResolverPromise) (v : VerifiedImage) → LeadsToManifest promise v
+    → ManifestLinks v v.list_digest
+manifest_links None v first = of_manifest v first
+manifest_links (Some promise) v (inl first) = of_manifest v first
+manifest_links (Some promise) v (inr first) = rw first.list (refl, first.named)
+
+pub chain_links : {V : Type 0} {H : V → Type 0} {meaning : Meaning V H} {image : Reference}
+    {accepted : List (List ℕ)} {promise : Option ResolverPromise} {v : VerifiedImage}
+    → Chain meaning image accepted promise v → Links image accepted v
+chain_links {promise = promise} {v = v} chain = record {
+  named = chain.named;
+  asked = chain.asked;
+  manifest = manifest_links promise v chain.manifest;
+  config = chain.config;
+  some = chain.some;
+  layers = chain.layers;
+}

@@ -1,9 +1,15 @@
-//! A chain of digests from a reference to an image with the signature that stands for it, and its check: with nothing else,
-//! since no client and no request is known here.
+//! A chain of digests from a reference to an image with the signature that stands for it, and its check: with nothing
+//! else, since no client and no request is known here.
 #![tactic(auto)]
 
+mod chain;
+mod documents;
 mod image;
 mod links;
+mod same;
+mod same_layer;
+mod same_manifest;
 
+pub use chain::check_chain;
 pub use image::VerifiedImage;
 pub use links::check_links;

@@ -2,7 +2,8 @@
 ghost use Rattle.std.specs.Prelude.{◌≡◌, ◌↔◌, IsTrue, bytes_eq, option_copied};
 ghost use Rattle.std.specs.List.{list_all, list_any, zip};
 ghost use Rattle.oci_names.specs.References.{digest_of};
-ghost use Rattle.cosign_chain.specs.Links.{Links, named_by, same_annotations, has_manifest, has_config, is_layer_of, has_layers, is_linked};
+ghost use Rattle.cosign_chain.specs.Links.{Links, named_by, same_annotations, has_manifest, has_config};
+ghost use Rattle.cosign_chain.specs.Links.{is_layer_of, has_layers, is_linked};
 
 use crate::image::VerifiedImage;
 use json_values::{Annotations, Text};
@@ -14,8 +15,8 @@ use oci_names::Reference;
 /// Whether the parts of an image hang together by their digests, without a look into any document: no JSON is read, no
 /// signature is checked, and no memory is taken.
 ///
-/// The digest names the first document, as the reference's digest does where it has one. Without an index, the manifest is
-/// that document; with one, the manifest's digest names its bytes, and the digest is the index's. The manifest's
+/// The digest names the first document, as the reference's digest does where it has one. Without an index, the manifest
+/// is that document; with one, the manifest's digest names its bytes, and the digest is the index's. The manifest's
 /// descriptors name the configuration and the layers, of which there is at least one, in their order. Media types and
 /// annotations are the descriptors' (the configuration has the manifest's annotations), and each layer's media type is
 /// accepted.
@@ -109,7 +110,7 @@ fn is_accepted(accepted: &[Text], kind: &str) -> bool
     accepted.iter().any(|allowed| kind == allowed.as_str())
 }
 
-fn same_annotations(a: &Option<Annotations>, b: &Option<Annotations>) -> bool
+pub(crate) fn same_annotations(a: &Option<Annotations>, b: &Option<Annotations>) -> bool
     ensures { result ≡ same_annotations a.now b.now }
 {
     match (a, b) {

@@ -267,7 +267,7 @@ module _ {V : Type 0} {H : V → Type 0} (s : Context) (meaning : Meaning V H) (
   told_sound met = Meets-shows-ok (λ m c n v. IsSound c v) verified_shows met
 
   -- the chain of what a pull answers
-  pub chain_of : {old new : Link} {k l : Kept} (r : Result VerifiedImage PullRefusal) → Meets of_refusal (verified meaning s image a accepted) old new k l r → IfOk r (λ v. Chain meaning image accepted v)
+  pub chain_of : {old new : Link} {k l : Kept} (r : Result VerifiedImage PullRefusal) → Meets of_refusal (verified meaning s image a accepted) old new k l r → IfOk r (λ v. Chain meaning image accepted None v)
   chain_of (Ok v) met = (told_sound met).holds.chain
   chain_of (Err e) met = tt
 

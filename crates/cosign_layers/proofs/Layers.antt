@@ -1,11 +1,11 @@
 -- Each input gives one layer or fails one check first.
-use Rattle.std.proofs.Common.{◌≡◌, ◌⊎◌, inl, inr, ℕ, Bool, true, false, IsTrue, List, Option, Some, None, IsSomeAnd, Result, Ok, Err, IfOk, IfErr, refl, sym, ap, ◌∙◌, subst}
+use Rattle.std.proofs.Common.{◌≡◌, ◌⊎◌, inl, inr, ℕ, Bool, true, false, IsTrue, List, Option, IsSomeAnd, Result, Ok, Err, IfOk, IfErr, refl, sym, ap, ◌∙◌, subst}
 use Rattle.std.specs.Prelude.{MatchBool}
 use Rattle.cosign_layers.specs.Checks.{Input, Spelled, content_checked, signature_checked, entry_checked, certificate_checked, layer_with, layer_read}
 use Rattle.cosign_layers.specs.Layer.{IsSignature, IsEntry, IsCertificate, LayerOf, Named}
-use Rattle.cosign_layers.specs.Read.{HasContent, IsAbout, ContentRejected, SignatureRejected, EntryRejected, CertificateRejected, Rejected, RejectedUnlessMemory, input_of, Gives, HasOneOutcome}
-use Rattle.cosign_layers.specs.Rejection.{◌>>=◌, Says, is_memory}
-use Rattle.cosign_layers.specs.Shown.{shown, is_about}
+use Rattle.cosign_layers.specs.Read.{IsAbout, ContentRejected, SignatureRejected, EntryRejected, CertificateRejected, Rejected, RejectedUnlessMemory, input_of, Gives, HasOneOutcome}
+use Rattle.cosign_layers.specs.Rejection.{Says, is_memory}
+use Rattle.cosign_layers.specs.Shown.{is_about}
 use Rattle.cosign_layers.specs.Trust.{Trust, knows_no_log}
 use Rattle.cosign_layers.specs.declared.certificate.CertificateSignature.{CertificateSignature}
 use Rattle.cosign_layers.specs.declared.layer.SignatureLayer.{SignatureLayer}

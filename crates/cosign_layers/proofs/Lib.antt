@@ -4,6 +4,7 @@ pub mod Loops
 pub mod Outcomes
 pub mod Ranges
 pub mod Reading
+pub mod Rows
 pub mod Shows
 pub mod Steps
 pub mod Supports

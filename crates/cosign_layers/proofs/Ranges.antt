@@ -1,5 +1,5 @@
 -- The time and the index of an entry that is read are in the log's range.
-use Rattle.std.proofs.Common.{◌≡◌, ◌⊎◌, inl, inr, ℕ, ℤ, pos, List, Bool, true, false, Option, Some, None, refl, sym, subst, codes}
+use Rattle.std.proofs.Common.{◌≡◌, inl, inr, ℕ, ℤ, pos, List, Bool, true, false, Option, Some, None, refl, sym, subst, codes}
 use Rattle.std.specs.Prelude.{if◌then◌else◌, int_lt}
 use Rattle.std.specs.Str.Parse.{digits_value}
 use Rattle.json_tables.specs.Reading.{◌>>=◌, i64_of, text_of, required}

@@ -1,21 +1,18 @@
 -- A layer that is read is what its bytes say, and a rejection is of the first check that fails.
-use Rattle.std.proofs.Common.{◌≡◌, ◌⊎◌, inl, inr, ℕ, Bool, true, false, IsTrue, List, Option, Some, None, ok_or, IsSomeAnd, if◌then◌else◌, Result, Ok, Err, refl, sym, ap, ◌∙◌, subst}
+use Rattle.std.proofs.Common.{◌≡◌, ◌⊎◌, inl, inr, ℕ, Bool, true, false, List, Option, Some, None, ok_or, if◌then◌else◌, Result, Ok, Err, refl, sym, ap, ◌∙◌, subst}
 use Rattle.std.specs.FinMap.{get}
 use Rattle.base64.specs.Engines.{standard}
 use Rattle.base64.specs.GeneralPurpose.{decoded_of}
 use Rattle.oci_digests.specs.Names.{Names, names}
 use Rattle.oci_digests.proofs.Equal.{named}
-use Rattle.cosign_layers.specs.Checks.{Input, Spelled, unless, content_checked, signature_checked, entry_verified, entry_found, entry_checked, certificate_signature, certificate_vouched, certificate_checked, layer_with, layer_read}
-use Rattle.cosign_layers.specs.Layer.{IsSignature, IsLogged, IsEntry, IsCertificate, LayerOf, Named, is_logged, evidence}
+use Rattle.cosign_layers.specs.Checks.{Input, Spelled, unless, content_checked, signature_checked, entry_verified, entry_found, entry_checked, certificate_signature, certificate_vouched, certificate_checked}
+use Rattle.cosign_layers.specs.Layer.{IsSignature, IsLogged, IsEntry, IsCertificate, is_logged, evidence}
 use Rattle.cosign_layers.specs.LogEntry.{LogSigned, log_text}
-use Rattle.cosign_layers.specs.Read.{HasContent, IsAbout, NotLogSigned, ContentRejected, SignatureRejected, EntryRejected, CertificateRejected, AfterSignature, AfterContent, Rejected, input_of, Gives}
-use Rattle.cosign_layers.specs.Rejection.{◌>>=◌}
+use Rattle.cosign_layers.specs.Read.{IsAbout, ContentRejected, SignatureRejected, EntryRejected, CertificateRejected}
 use Rattle.cosign_layers.specs.Shown.{shown, is_about}
-use Rattle.cosign_layers.specs.Trust.{Trust, Vouching, knows_no_log}
+use Rattle.cosign_layers.specs.Trust.{Trust, knows_no_log}
 use Rattle.cosign_layers.specs.declared.certificate.CertificateSignature.{CertificateSignature}
 use Rattle.cosign_layers.specs.declared.certificate.Vouched.{Vouched}
-use Rattle.cosign_layers.specs.declared.layer.LayerKind.{LayerKind}
-use Rattle.cosign_layers.specs.declared.layer.SignatureLayer.{SignatureLayer}
 use Rattle.cosign_layers.specs.declared.log_entry.LogEntryBundle.{LogEntryBundle}
 use Rattle.cosign_layers.specs.declared.rejection.LayerPart.TheVariants.{Content, Signature, LogEntry, Certificate}
 use Rattle.cosign_layers.specs.declared.rejection.LayerRejection.{LayerRejection}

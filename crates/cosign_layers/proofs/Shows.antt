@@ -1,5 +1,5 @@
 -- What a payload shows.
-use Rattle.std.proofs.Common.{◌≡◌, ℕ, List, Option, Some, None, sym, ap, ◌∙◌}
+use Rattle.std.proofs.Common.{◌≡◌, ℕ, List, Option, Some, None, ap, ◌∙◌}
 use Rattle.std.specs.Prelude.{option_map}
 use Rattle.cosign_layers.specs.Payload.{content_of}
 use Rattle.cosign_layers.specs.Bundle.{read_or_not}

@@ -1,5 +1,5 @@
 -- What a reader answers after each of its steps.
-use Rattle.std.proofs.Common.{◌≡◌, ℕ, List, Option, Result, Ok, Err, refl, ap}
+use Rattle.std.proofs.Common.{◌≡◌, ℕ, List, Option, Result, Ok, Err, ap}
 use Rattle.std.specs.Prelude.{MatchBool}
 use Rattle.std.specs.Result.{IsErrAnd}
 use Rattle.cosign_layers.specs.Checks.{Input, Spelled, content_checked, signature_checked, entry_checked, certificate_checked, layer_with, layer_read}

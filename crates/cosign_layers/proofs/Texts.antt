@@ -1,16 +1,15 @@
 -- The text that a log signs is the canonical one.
-use Rattle.std.proofs.Common.{◌≡◌, ℕ, ℤ, pos, negsuc, List, [], ◌∷◌, Bool, true, false, ◌&&◌, IsTrue, Some, None, refl, sym, ap, ◌∙◌, ◌++◌, append_assoc, codes}
+use Rattle.std.proofs.Common.{◌≡◌, ℕ, ℤ, pos, negsuc, List, [], ◌∷◌, Bool, true, false, IsTrue, Some, None, refl, sym, ap, ◌∙◌, ◌++◌, append_assoc, codes}
 use Rattle.std.specs.Prelude.{int_lt, if◌then◌else◌}
 use Rattle.std.proofs.lemmas.Bool.{le-leb, ltb-false}
 use Rattle.std.specs.Fmt.{signed_decimal}
 use Rattle.std.specs.List.Sorted.{IsStrictlySortedBy}
 use Rattle.std.specs.Str.{chars}
 use Rattle.std.proofs.lemmas.List.Sorted.{IsPermutation-refl}
-use Rattle.serde_json.specs.Find.{as_integer}
 use Rattle.json_values.specs.Canon.{quoted_text}
 use Rattle.json_events.specs.Canonical.{Canonical, Entry, Rises, in_range, object_text}
-use Rattle.json_events.specs.Units.{units, by_units}
-use Rattle.cosign_layers.specs.LogEntry.{IsInLog, InLog, whole, log_object, log_text, TextsAreCanonical}
+use Rattle.json_events.specs.Units.{units}
+use Rattle.cosign_layers.specs.LogEntry.{IsInLog, whole, log_text, TextsAreCanonical}
 use Rattle.cosign_layers.specs.declared.log_entry.LogEntryBundle.{LogEntryBundle}
 
 abbrev greatest : ℕ

@@ -1,5 +1,5 @@
 -- What a bundle says (sigstore bundle v0.3, in this project's profile).
-use Rattle.std.specs.Prelude.{ℕ, List, [], ◌∷◌, Bool, false, bytes_eq, Option, Some, None, is_some, codes, if◌then◌else◌}
+use Rattle.std.specs.Prelude.{ℕ, List, [], ◌∷◌, Bool, false, Option, Some, None, is_some, codes}
 use Rattle.std.specs.FinMap.{get as digits_by}
 use Rattle.json_tables.specs.Bytes.{base64_of}
 use Rattle.json_tables.specs.Reading.{◌>>=◌, text_at, text_of, required, optional, list_of, map_of, an_object}
@@ -9,7 +9,7 @@ use Rattle.serde_json.specs.Data.{Data, null, Items, no_items, item, array}
 use Rattle.serde_json.specs.Find.{get, as_array}
 use Rattle.cosign_layers.specs.LogEntry.{bundle_entry_of}
 use Rattle.cosign_layers.specs.Payload.{equal_to}
-use Rattle.cosign_layers.specs.declared.bundle.Bundle.{Bundle}
+use Rattle.cosign_layers.specs.declared.bundle.Envelope.{Envelope}
 use Rattle.cosign_layers.specs.declared.log_entry.LogEntryBundle.{LogEntryBundle}
 use Rattle.cosign_layers.specs.declared.shown.Found.{Found}
 use Rattle.cosign_layers.specs.declared.shown.Found.TheVariants.{Absent, Unreadable, Read}
@@ -50,9 +50,9 @@ material_of d = do
   entries ← optional as_array (codes "tlogEntries") material
   Some material
 
--- the envelope of a bundle, with the subjects of its statement
-unfoldable pub bundle_of : Data → Option Bundle
-bundle_of d = do
+-- the envelope of a value that has the form of a bundle
+unfoldable pub envelope_of : Data → Option Envelope
+envelope_of d = do
   media_type ← text_at (codes "mediaType" ∷ []) d
   known ← equal_to (codes "application/vnd.dev.sigstore.bundle.v0.3+json") media_type
   payload_type ← text_at (codes "dsseEnvelope" ∷ codes "payloadType" ∷ []) d
@@ -60,12 +60,15 @@ bundle_of d = do
   material ← material_of d
   encoded ← get (codes "dsseEnvelope") d
   payload ← required base64_of (codes "payload") encoded
-  subjects ← subjects_of payload
-  Some (record { payload_type = payload_type; payload = payload; subjects = subjects })
+  Some (record { payload_type = payload_type; payload = payload })
 
--- the bundle that the bytes spell in JSON without floats
-abbrev pub bundle_in : List ℕ → Option Bundle
-bundle_in bytes = plain_json_of bytes >>= bundle_of
+-- the envelope of the bundle that the bytes spell in JSON without floats
+abbrev pub envelope_in : List ℕ → Option Envelope
+envelope_in bytes = plain_json_of bytes >>= envelope_of
+
+-- the subjects of the statement in a bundle's envelope
+abbrev pub statement_of : Data → Option (List Subject)
+statement_of d = envelope_of d >>= λ envelope. subjects_of envelope.payload
 
 -- the text of the one signature
 abbrev pub signature_at : Data → Option (List ℕ)

@@ -1,9 +1,10 @@
 -- The checks of a layer in their order, each with the rejection that it gives.
-use Rattle.std.specs.Prelude.{◌≡◌, ◌⊎◌, ℕ, List, Bool, true, false, bytes_eq, Option, Some, None, ok_or, Result, Ok, Err, if◌then◌else◌}
+use Rattle.std.specs.Prelude.{ℕ, List, Bool, true, false, Option, Some, None, ok_or, Result}
+use Rattle.std.specs.Prelude.{Ok, Err, if◌then◌else◌}
 use Rattle.std.specs.FinMap.{get}
 use Rattle.base64.specs.Engines.{standard}
 use Rattle.base64.specs.GeneralPurpose.{decoded_of}
-use Rattle.oci_digests.specs.Names.{Names, names}
+use Rattle.oci_digests.specs.Names.{names}
 use Rattle.cosign_layers.specs.Layer.{is_logged, evidence}
 use Rattle.cosign_layers.specs.LogEntry.{log_text}
 use Rattle.cosign_layers.specs.Rejection.{◌>>=◌}

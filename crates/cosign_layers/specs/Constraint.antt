@@ -8,7 +8,6 @@ use Rattle.json_values.specs.Places.{by_bytes}
 use Rattle.serde_json.specs.Data.{Data}
 use Rattle.serde_json.specs.Find.{get, as_str}
 use Rattle.cosign_layers.specs.declared.certificate.CertificateSignature.{CertificateSignature}
-use Rattle.cosign_layers.specs.declared.certificate.Vouched.{Vouched}
 use Rattle.cosign_layers.specs.declared.constraint.Constraint.{Constraint}
 use Rattle.cosign_layers.specs.declared.constraint.Constraint.TheVariants.{Annotations, Email, Url, Own}
 use Rattle.cosign_layers.specs.declared.layer.SignatureLayer.{SignatureLayer}

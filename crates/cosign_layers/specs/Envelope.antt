@@ -1,8 +1,8 @@
 -- The text that a layer's signature signs.
 use Rattle.std.specs.Prelude.{ℕ, List, [], ◌∷◌, ◌++◌, codes, length, Option, Some, None}
 use Rattle.std.specs.Fmt.{decimal}
-use Rattle.cosign_layers.specs.Bundle.{bundle_in}
-use Rattle.cosign_layers.specs.declared.bundle.Bundle.{Bundle}
+use Rattle.cosign_layers.specs.Bundle.{envelope_in}
+use Rattle.cosign_layers.specs.declared.bundle.Envelope.{Envelope}
 use Rattle.cosign_layers.specs.declared.layer.LayerKind.{LayerKind}
 use Rattle.cosign_layers.specs.declared.layer.LayerKind.TheVariants as kinds
 
@@ -11,15 +11,15 @@ abbrev pub counted : List ℕ → List ℕ
 counted bytes = 32 ∷ (decimal (length bytes) ++ 32 ∷ bytes)
 
 -- the pre-authentication encoding of an envelope (DSSE v1)
-abbrev pub pre_authentication : Bundle → List ℕ
-pre_authentication bundle = codes "DSSEv1" ++ counted bundle.payload_type ++ counted bundle.payload
+abbrev pub pre_authentication : Envelope → List ℕ
+pre_authentication envelope = codes "DSSEv1" ++ counted envelope.payload_type ++ counted envelope.payload
 
 -- nothing, of content that is no bundle
-abbrev pub enveloped : Option Bundle → List ℕ
+abbrev pub enveloped : Option Envelope → List ℕ
 enveloped None = []
-enveloped (Some bundle) = pre_authentication bundle
+enveloped (Some envelope) = pre_authentication envelope
 
 -- the content of a payload, and of a bundle its envelope's encoding
 abbrev pub signed_text : LayerKind → List ℕ → List ℕ
 signed_text kinds.Payload content = content
-signed_text kinds.Bundle content = enveloped (bundle_in content)
+signed_text kinds.Bundle content = enveloped (envelope_in content)

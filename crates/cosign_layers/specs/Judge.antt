@@ -1,5 +1,5 @@
 -- What a table vouches for.
-use Rattle.std.specs.Prelude.{ℕ, List, [], ◌∷◌, Bool, false, ◌||◌, bytes_eq, Option, option_map, ◌≡◌}
+use Rattle.std.specs.Prelude.{ℕ, List, [], ◌∷◌, Bool, false, ◌||◌, bytes_eq, Option, option_map}
 use Rattle.std.specs.List.{list_any, find}
 use Rattle.cosign_layers.specs.declared.certificate.Evidence.{Evidence}
 use Rattle.cosign_layers.specs.declared.certificate.Vouched.{Vouched}

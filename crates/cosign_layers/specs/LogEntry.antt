@@ -1,7 +1,8 @@
 -- Entries of a transparency log: how they are read, what the log signs of them, and which signature they log.
-use Rattle.std.specs.Prelude.{◌≡◌, ◌⊎◌, ℕ, ℤ, pos, List, [], ◌∷◌, Bool, ◌&&◌, IsTrue, nat_le, length, Option, Some, None, is_some, Result, Ok, Err, codes, if◌then◌else◌}
+use Rattle.std.specs.Prelude.{◌≡◌, ◌⊎◌, ℕ, ℤ, pos, List, [], ◌∷◌, Bool, ◌&&◌, IsTrue, nat_le, length, Option}
+use Rattle.std.specs.Prelude.{Some, None, is_some, Result, Ok, Err, codes, if◌then◌else◌}
 use Rattle.std.specs.Fmt.{signed_decimal}
-use Rattle.std.specs.FinMap.{FinMap, get as key_of}
+use Rattle.std.specs.FinMap.{get as key_of}
 use Rattle.std.specs.List.{list_all}
 use Rattle.std.specs.Str.Parse.{digits_value}
 use Rattle.base64.specs.Engines.{standard}

@@ -1,5 +1,5 @@
 -- What a reader of layers answers: the one layer that an input gives for an image, or the first check that it fails.
-use Rattle.std.specs.Prelude.{◌≡◌, ◌⊎◌, ℕ, List, Bool, true, false, MatchBool, Option, Some, None, Result, Ok, Err}
+use Rattle.std.specs.Prelude.{◌≡◌, ◌⊎◌, ℕ, List, true, false, MatchBool, Option, Some, None}
 use Rattle.std.specs.FinMap.{get}
 use Rattle.base64.specs.Engines.{standard}
 use Rattle.base64.specs.GeneralPurpose.{decoded_of}

@@ -1,21 +1,20 @@
 -- What the content and annotations of a layer show, before any signature is looked at.
-use Rattle.std.specs.Prelude.{◌≡◌, ℕ, List, [], Bool, IsTrue, bytes_eq, codes, Option, Some, None, option_map}
+use Rattle.std.specs.Prelude.{ℕ, List, [], Bool, bytes_eq, codes, Option, Some, None, option_map}
 use Rattle.std.specs.FinMap.{FinMap, get}
 use Rattle.std.specs.List.{list_any}
 use Rattle.json_tables.specs.Reading.{◌>>=◌}
 use Rattle.json_values.specs.JsonText.{plain_json_of}
 use Rattle.json_values.specs.Places.{by_bytes}
 use Rattle.serde_json.specs.Data.{Data}
-use Rattle.cosign_layers.specs.Bundle.{bundle_of, signature_at, certificate_at, entry_at, read_or_not, has_digest}
+use Rattle.cosign_layers.specs.Bundle.{statement_of, signature_at, certificate_at, entry_at, read_or_not, has_digest}
 use Rattle.cosign_layers.specs.LogEntry.{annotated_entry}
 use Rattle.cosign_layers.specs.Payload.{content_of}
-use Rattle.cosign_layers.specs.declared.bundle.Bundle.{Bundle}
 use Rattle.cosign_layers.specs.declared.layer.LayerKind.{LayerKind}
 use Rattle.cosign_layers.specs.declared.layer.LayerKind.TheVariants as kinds
 use Rattle.cosign_layers.specs.declared.layer.SimpleSigning.{SimpleSigning}
 use Rattle.cosign_layers.specs.declared.log_entry.LogEntryBundle.{LogEntryBundle}
 use Rattle.cosign_layers.specs.declared.shown.Found.{Found}
-use Rattle.cosign_layers.specs.declared.shown.Found.TheVariants.{Absent, Unreadable, Read}
+use Rattle.cosign_layers.specs.declared.shown.Found.TheVariants.{Absent, Read}
 use Rattle.cosign_layers.specs.declared.shown.Shown.{Shown}
 use Rattle.cosign_layers.specs.declared.shown.Subject.{Subject}
 
@@ -42,11 +41,11 @@ payload_shown notes signing = record {
   certificate = noted_certificate (get notes (codes "dev.sigstore.cosign/certificate"));
 }
 
--- a bundle, read from this value
-abbrev pub bundle_shown : Data → Bundle → Shown
-bundle_shown d bundle = record {
+-- a bundle about these subjects, read from this value
+abbrev pub bundle_shown : Data → List Subject → Shown
+bundle_shown d subjects = record {
   signing = None;
-  subjects = bundle.subjects;
+  subjects = subjects;
   signature = signature_at d;
   log_entry = entry_at d;
   certificate = certificate_at d;
@@ -54,7 +53,7 @@ bundle_shown d bundle = record {
 
 -- what a value shows as a bundle
 abbrev pub shown_by_bundle : Data → Option Shown
-shown_by_bundle d = option_map (bundle_shown d) (bundle_of d)
+shown_by_bundle d = option_map (bundle_shown d) (statement_of d)
 
 -- what bytes show as a bundle
 abbrev pub shown_in_bundle : List ℕ → Option Shown

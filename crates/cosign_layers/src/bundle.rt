@@ -1,7 +1,9 @@
 //! The content of a bundle layer (sigstore bundle v0.3, in this project's profile).
 ghost use Rattle.std.specs.Prelude.{◌≡◌, Option, IfOk, option_map, is_some};
 ghost use Rattle.serde_json.specs.View.{view, items_view};
-ghost use Rattle.cosign_layers.specs.Bundle.{bundle_of, certificate_at, certificate_in, entry_at, entry_in, first_item, material_of, object_only, one_object, only_object, promised_entry, signature_at, signature_object, subjects_of};
+ghost use Rattle.cosign_layers.specs.Bundle.{certificate_at, certificate_in, entry_at, entry_in, envelope_of};
+ghost use Rattle.cosign_layers.specs.Bundle.{first_item, material_of, object_only, one_object, only_object};
+ghost use Rattle.cosign_layers.specs.Bundle.{promised_entry, signature_at, signature_object, statement_of, subjects_of};
 
 use crate::log_entry::{LogEntryBundle, bundle_entry};
 use crate::shown::{Found, Subject};
@@ -15,18 +17,17 @@ use std::alloc::{AllocError, Global};
 
 const BUNDLE_TYPE: &str = "application/vnd.dev.sigstore.bundle.v0.3+json";
 
-/// The envelope of a bundle, with the subjects of its statement.
+/// The envelope of a bundle.
 #[derive(Drop)]
-pub(crate) struct Bundle {
+pub(crate) struct Envelope {
     pub payload_type: Text,
     pub payload: Blob,
-    pub subjects: List<Subject>,
 }
 
-/// What a value says as a bundle.
-#[tactic(auto, unfolding(crate::specs::Bundle::bundle_of))]
-pub(crate) fn read_bundle(alloc: Global, value: &Value) -> Result<Option<Bundle>, AllocError>
-    ensures { IfOk result (λ found. found ≡ bundle_of (view value.now)) }
+/// The envelope of a value that has the form of a bundle.
+#[tactic(auto, unfolding(crate::specs::Bundle::envelope_of))]
+pub(crate) fn read_envelope(alloc: Global, value: &Value) -> Result<Option<Envelope>, AllocError>
+    ensures { IfOk result (λ found. found ≡ envelope_of (view value.now)) }
 {
     let Some(media_type) = text_at(value, &["mediaType"]) else {
         return Ok(None);
@@ -49,15 +50,25 @@ pub(crate) fn read_bundle(alloc: Global, value: &Value) -> Result<Option<Bundle>
     let Some(payload) = decode_base64(alloc, payload)? else {
         return Ok(None);
     };
-    let Some(subjects) = subjects(alloc, payload.as_slice())? else {
-        return Ok(None);
-    };
     let payload_type = Text::new(alloc, payload_type)?;
-    Ok(Some(Bundle {
+    Ok(Some(Envelope {
         payload_type,
         payload,
-        subjects,
     }))
+}
+
+/// The subjects of the statement in a bundle's envelope.
+pub(crate) fn read_statement(
+    alloc: Global,
+    value: &Value,
+) -> Result<Option<List<Subject>>, AllocError>
+    ensures { IfOk result (λ found. found ≡ statement_of (view value.now)) }
+{
+    let Some(envelope) = read_envelope(alloc, value)? else {
+        return Ok(None);
+    };
+    let subjects = subjects(alloc, envelope.payload.as_slice())?;
+    Ok(subjects)
 }
 
 // The subjects of the statement that the bytes spell.

@@ -1,6 +1,8 @@
 //! The checks of a layer in their order.
 ghost use Rattle.std.specs.Prelude.{◌≡◌, IfOk};
-ghost use Rattle.cosign_layers.specs.Checks.{came_from, certificate_checked, certificate_vouched, content_checked, entry_checked, entry_found, entry_verified, input_from, layer_read, layer_with, signature_checked};
+ghost use Rattle.cosign_layers.specs.Checks.{came_from, certificate_checked, certificate_vouched};
+ghost use Rattle.cosign_layers.specs.Checks.{content_checked, entry_checked, entry_found, entry_verified};
+ghost use Rattle.cosign_layers.specs.Checks.{input_from, layer_read, layer_with, signature_checked};
 ghost use Rattle.cosign_layers.specs.Layer.{is_logged};
 ghost use Rattle.cosign_layers.specs.Rejection.{Says};
 ghost use Rattle.cosign_layers.specs.Trust.{trust_of};

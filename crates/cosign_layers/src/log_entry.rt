@@ -4,7 +4,9 @@ ghost use Rattle.std.specs.Fmt.{signed_decimal};
 ghost use Rattle.std.specs.List.{list_all};
 ghost use Rattle.hex.specs.Hex.{encode_lower};
 ghost use Rattle.serde_json.specs.View.{view};
-ghost use Rattle.cosign_layers.specs.LogEntry.{annotated_entry, bundle_entry_of, decimal_of, in_log_read, is_decimal, is_digit, log_text, logged, logs, payload_entry_of, text_is, whole_of, whole_or_text_of};
+ghost use Rattle.cosign_layers.specs.LogEntry.{annotated_entry, bundle_entry_of, decimal_of, in_log_read};
+ghost use Rattle.cosign_layers.specs.LogEntry.{is_decimal, is_digit, log_text, logged, logs, payload_entry_of};
+ghost use Rattle.cosign_layers.specs.LogEntry.{text_is, whole_of, whole_or_text_of};
 ghost use Rattle.json_tables.specs.Bytes.{base64_of};
 ghost use Rattle.json_tables.specs.Reading.{required};
 

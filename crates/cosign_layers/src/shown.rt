@@ -5,9 +5,10 @@ ghost use Rattle.std.specs.List.{list_any};
 ghost use Rattle.serde_json.specs.View.{view};
 ghost use Rattle.cosign_layers.specs.Bundle.{has_digest, read_or_not};
 ghost use Rattle.cosign_layers.specs.LogEntry.{annotated_entry};
-ghost use Rattle.cosign_layers.specs.Shown.{is_about, noted_certificate, noted_entry, payload_shown, shown, shown_by_bundle, shown_in_bundle};
+ghost use Rattle.cosign_layers.specs.Shown.{is_about, noted_certificate, noted_entry, payload_shown, shown};
+ghost use Rattle.cosign_layers.specs.Shown.{shown_by_bundle, shown_in_bundle};
 
-use crate::bundle::{Bundle, certificate_at, entry_at, read_bundle, signature_at};
+use crate::bundle::{certificate_at, entry_at, read_statement, signature_at};
 use crate::layer::{LayerKind, SimpleSigning};
 use crate::log_entry::{LogEntryBundle, annotated_entry};
 use crate::payload::read_payload;
@@ -168,14 +169,9 @@ fn show_bundle(alloc: Global, content: &[u8]) -> Result<Option<Shown>, AllocErro
 fn shown_by_bundle(alloc: Global, value: &Value) -> Result<Option<Shown>, AllocError>
     ensures { IfOk result (λ found. found ≡ shown_by_bundle (view value.now)) }
 {
-    let Some(bundle) = read_bundle(alloc, value)? else {
+    let Some(subjects) = read_statement(alloc, value)? else {
         return Ok(None);
     };
-    let Bundle {
-        payload_type: _,
-        payload: _,
-        subjects,
-    } = bundle;
     let log_entry = entry_at(alloc, value)?;
     let certificate = certificate_at(alloc, value)?;
     let signature = copied_text(alloc, signature_at(value))?;

@@ -1,11 +1,14 @@
-//! Reads a manifest from standard input and writes it back: by its table (`documents`), or as plain JSON (`json`).
+//! Reads a manifest from standard input and writes it back: by its table (`documents`), or as plain JSON (`json`). Or
+//! reads a bundle, and writes its signature (`bundle`).
 //!
-//! It ends with 2 for other words, with 3 where the input is no manifest or no JSON, with 4 and 5 where it could not be
-//! read or written, and with 6 where memory was wanting.
+//! It ends with 2 for other words, with 3 where the input is no manifest, no JSON or no bundle, with 4 and 5 where it
+//! could not be read or written, and with 6 where memory was wanting.
 #![tactic(auto)]
 
+mod bundle;
 mod ways;
 
+use bundle::bundle_signature;
 use json_values::{Blob, put_all};
 use pull_edge::{StdSink, StdSource, read_all};
 use std::alloc::{AllocError, Global};
@@ -21,6 +24,7 @@ const MOST_BYTES: u64 = 67108864;
 enum Way {
     Documents,
     Json,
+    Bundle,
 }
 
 // The way that the first word names.
@@ -31,14 +35,16 @@ fn first_word<R: Env + Alloc>(rt: &R) -> io::Result<Option<Way>> {
     Ok(match word.as_str() {
         "documents" => Some(Way::Documents),
         "json" => Some(Way::Json),
+        "bundle" => Some(Way::Bundle),
         _ => None,
     })
 }
 
-fn again(alloc: Global, way: Way, bytes: &[u8]) -> Result<Option<Blob>, AllocError> {
+fn again(alloc: Global, way: Way, bytes: &Blob) -> Result<Option<Blob>, AllocError> {
     match way {
-        Way::Documents => manifest_again(alloc, bytes),
-        Way::Json => json_again(alloc, bytes),
+        Way::Documents => manifest_again(alloc, bytes.as_slice()),
+        Way::Json => json_again(alloc, bytes.as_slice()),
+        Way::Bundle => bundle_signature(alloc, bytes),
     }
 }
 
@@ -52,7 +58,7 @@ fn main(rt: HostRuntime) -> ExitCode {
     let Ok(bytes) = read_all(alloc, &mut StdSource::new(rt.stdin()), MOST_BYTES) else {
         return ExitCode::from(4);
     };
-    let Ok(found) = again(alloc, way, bytes.as_slice()) else {
+    let Ok(found) = again(alloc, way, &bytes) else {
         return ExitCode::from(6);
     };
     let Some(text) = found else {

@@ -1,5 +1,4 @@
 // Manifests, indexes, errors, listings and the text that is pushed.
-use crate::answers::{holds, is_written, json};
 use json_values::{Blob, Copied, Text, ToValue};
 use oci_docs::blob::Config;
 use oci_docs::{
@@ -8,6 +7,7 @@ use oci_docs::{
     Versioned, is_manifest_media_type, manifest_text,
 };
 use std::alloc::{AllocError, Global};
+use test_answers::{holds, is_written, json};
 
 // An image of the configuration `{}` and of the one layer `hello world`.
 const IMAGE: &str =

@@ -1,5 +1,4 @@
 // Each call of the engine's client.
-use crate::recorded::{CONFIG_DIGEST, LAYER_DIGEST, LAYER_TYPE, MANIFEST, MANIFEST_DIGEST, script};
 use json_values::{List, MemorySink, PlainSink, Text};
 use oci_auth::{RegistryAuth, RegistryOperation};
 use oci_engine::{Client, ClientConfig};
@@ -7,6 +6,7 @@ use oci_manifests::OciManifest;
 use oci_names::Reference;
 use oci_transport::Script;
 use std::alloc::{AllocError, Global};
+use test_answers::{CONFIG_DIGEST, LAYER_DIGEST, LAYER_TYPE, MANIFEST, MANIFEST_DIGEST, script};
 
 // A client, and the image that it asks for.
 fn begun(alloc: Global) -> Option<(Client, Reference)> {

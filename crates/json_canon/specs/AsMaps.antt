@@ -20,8 +20,8 @@ put_all no_members found = found
 put_all (member k d ms) found = put_all ms (put k d found)
 
 abbrev mutual
-  -- the value as `serde_json` reads it: the names of each object once, in the order of their bytes, and whole numbers as
-  -- they are read
+  -- the value as `serde_json` reads it: the names of each object once, in the order of their bytes, and whole numbers
+  -- as they are read
   pub as_maps : Data → Data
   as_maps null = null
   as_maps (boolean b) = boolean b

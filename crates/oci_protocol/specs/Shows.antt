@@ -29,7 +29,8 @@ WhereOk P = ByAnswer P (λ m c n e. Unit {0})
 -- The exchanges are those of a request that is followed: its redirects, and the last one, to this
 -- request and with this reply.
 pub record Heard (n : ℕ) (request : Request)
-    (reading : AnswerHead → Reading) (m : ℕ) (c : List Exchange) (after : ℕ) (last : Request) (reply : Reply) : Type 0 where
+    (reading : AnswerHead → Reading) (m : ℕ) (c : List Exchange) (after : ℕ)
+    (last : Request) (reply : Reply) : Type 0 where
   pub redirects : List Exchange
   pub exchange : Exchange
   pub split : c ≡ redirects ++ exchange ∷ []

@@ -15,8 +15,8 @@ Settles left last reply = Unit {0}
 
 -- a run of a request that is followed: its redirects, the last exchange, and after that what the last reply gives
 pub record Trailed {K A : Type 0} (n : ℕ) (request : Request)
-    (reading : AnswerHead → Reading) (next : Request → Reply → Proto K A) (k : K) (m : ℕ) (c : List Exchange) (after : ℕ) (l : K)
-    (a : A) : Type 0 where
+    (reading : AnswerHead → Reading) (next : Request → Reply → Proto K A) (k : K) (m : ℕ) (c : List Exchange)
+    (after : ℕ) (l : K) (a : A) : Type 0 where
   pub redirects : List Exchange
   pub exchange : Exchange
   pub rest : List Exchange

@@ -33,8 +33,8 @@ impl Copied for PourError {
     }
 }
 
-/// Takes the body of the last answer, where it has no more than `limit` bytes, hashes it and puts it into the sink. After
-/// a refusal the sink took a front of the body.
+/// Takes the body of the last answer, where it has no more than `limit` bytes, hashes it and puts it into the sink.
+/// After a refusal the sink took a front of the body.
 pub fn pour<T: Transport, S: Sink>(
     alloc: Global,
     transport: &mut T,

@@ -1,25 +1,22 @@
 -- What holds of each case.
 use Rattle.std.proofs.Common.{◌≡◌, codes, ℕ, ◌<◌, List, Bool, true, nat_lt, if◌then◌else◌, length, Option, Some, None, Result, Ok, Err, IfSome, IsOk, is_ok, refl, arith}
 use Rattle.std.proofs.lemmas.Bool.Decides.{nat_tests}
-use Rattle.std.specs.Prelude.{⊤}
+use Rattle.std.specs.Prelude.{[]}
+use Rattle.std.specs.FinMap.{empty}
 use Rattle.serde_json.specs.Data.{Data}
 use Rattle.serde_json.specs.Find.{get}
 use Rattle.json_tables.specs.Reading.{◌>>=◌, text_of, u64_of, list_of, required, at_name, only}
 use Rattle.json_tables.specs.Bytes.{bytes_of}
-use Rattle.cosign_layers.specs.declared.constraint.AnnotationVerifier.{AnnotationVerifier}
-use Rattle.cosign_layers.specs.declared.verifier.SignedRow.{SignedRow}
-use Rattle.engine_requests.specs.declared.settings.ClientProtocol.{ClientProtocol}
 use Rattle.engine_requests.specs.declared.settings.ClientProtocol.TheVariants.{Https}
-use Rattle.oci_transport.specs.declared.recorded.Recorded.{Recorded}
 use Rattle.oci_names.specs.References.{reference_of}
 use Rattle.pull_case.specs.declared.case.Case.{Case}
 use Rattle.pull_case.specs.Members.{passing, unless_absent, number_of}
 use Rattle.pull_case.specs.Case.{case_of, reference_text_of, protocol_of, moments_of, members}
 use Rattle.pull_case.specs.Answer.{answer_of}
 use Rattle.pull_case.specs.Auth.{auth_of}
-use Rattle.oci_auth.specs.declared.auth.RegistryAuth.{RegistryAuth}
 use Rattle.oci_auth.specs.declared.auth.RegistryAuth.TheVariants.{Anonymous}
-use Rattle.pull_case.specs.Entries.{constraint_of, signature_of}
+use Rattle.pull_case.specs.Constraint.{constraint_of}
+use Rattle.pull_case.specs.Trust.{signature_of, judge_of, judge_by, log_keys_of}
 
 passed_here : {A : Type 0} (test : A → Bool) (b : Bool) (x a : A) → test x ≡ b → (if b then Some x else None) ≡ Some a → test a ≡ true
 passed_here test true x a p q = cc
@@ -45,41 +42,34 @@ has_moments None moments e = cc
 has_moments (Some d) moments e =
     let h = passed (λ ms. nat_lt 0 (length ms)) (list_of u64_of d) moments e in grind (arith, nat_tests)
 
--- the members of a case are what was read for them
-named : (of_known : Option ⊤) (of_reference : Option (List ℕ)) (of_protocol : Option ClientProtocol) (of_auth : Option RegistryAuth) (of_accepted : Option (List (List ℕ))) (of_moments : Option (List ℕ)) (of_limit : Option (Option ℕ)) (of_keys : Option (List (List ℕ))) (of_constraints : Option (List AnnotationVerifier)) (of_signatures : Option (List SignedRow)) (of_answers : Option (List Recorded))
-    → IfSome {T = Case} (do
-      known ← of_known
-      reference ← of_reference
-      protocol ← of_protocol
-      auth ← of_auth
-      accepted ← of_accepted
-      moments ← of_moments
-      limit ← of_limit
-      keys ← of_keys
-      constraints ← of_constraints
-      signatures ← of_signatures
-      answers ← of_answers
-      Some (record { reference = reference; protocol = protocol; auth = auth; accepted = accepted; moments = moments; limit = limit; keys = keys; constraints = constraints; signatures = signatures; answers = answers }))
-    (λ case. (of_reference ≡ Some case.reference) × (of_moments ≡ Some case.moments))
-named None of_reference of_protocol of_auth of_accepted of_moments of_limit of_keys of_constraints of_signatures of_answers = tt
-named (Some known) None of_protocol of_auth of_accepted of_moments of_limit of_keys of_constraints of_signatures of_answers = tt
-named (Some known) (Some reference) None of_auth of_accepted of_moments of_limit of_keys of_constraints of_signatures of_answers = tt
-named (Some known) (Some reference) (Some protocol) None of_accepted of_moments of_limit of_keys of_constraints of_signatures of_answers = tt
-named (Some known) (Some reference) (Some protocol) (Some auth) None of_moments of_limit of_keys of_constraints of_signatures of_answers = tt
-named (Some known) (Some reference) (Some protocol) (Some auth) (Some accepted) None of_limit of_keys of_constraints of_signatures of_answers = tt
-named (Some known) (Some reference) (Some protocol) (Some auth) (Some accepted) (Some moments) None of_keys of_constraints of_signatures of_answers = tt
-named (Some known) (Some reference) (Some protocol) (Some auth) (Some accepted) (Some moments) (Some limit) None of_constraints of_signatures of_answers = tt
-named (Some known) (Some reference) (Some protocol) (Some auth) (Some accepted) (Some moments) (Some limit) (Some keys) None of_signatures of_answers = tt
-named (Some known) (Some reference) (Some protocol) (Some auth) (Some accepted) (Some moments) (Some limit) (Some keys) (Some constraints) None of_answers = tt
-named (Some known) (Some reference) (Some protocol) (Some auth) (Some accepted) (Some moments) (Some limit) (Some keys) (Some constraints) (Some signatures) None = tt
-named (Some known) (Some reference) (Some protocol) (Some auth) (Some accepted) (Some moments) (Some limit) (Some keys) (Some constraints) (Some signatures) (Some answers) = (refl, refl)
+-- what holds of each value behind what was read holds where that is there
+through : {A B : Type 0} (P : B → Type 0) (o : Option A) (k : A → Option B) → ((a : A) → o ≡ Some a → IfSome (k a) P)
+    → IfSome (o >>= k) P
+through P None k h = tt
+through P (Some a) k h = h a refl
 
-members_of : (d : Data) → IfSome (case_of d) (λ case. (required reference_text_of (codes "reference") d ≡ Some case.reference) × (required moments_of (codes "moments") d ≡ Some case.moments))
+abbrev HasRead : Data → Case → Type 0
+HasRead d case =
+    (required reference_text_of (codes "reference") d ≡ Some case.reference)
+    × (required moments_of (codes "moments") d ≡ Some case.moments)
+
+members_of : (d : Data) → IfSome (case_of d) (HasRead d)
 unfolding case_of
 members_of d =
-    named (only members d) (required reference_text_of (codes "reference") d) (at_name (unless_absent Https protocol_of) (codes "protocol") d) (at_name (unless_absent Anonymous auth_of) (codes "auth") d)
-    (required (list_of text_of) (codes "accepted") d) (required moments_of (codes "moments") d) (at_name (unless_absent None number_of) (codes "limit") d) (required (list_of bytes_of) (codes "keys") d)
-    (required (list_of constraint_of) (codes "constraints") d) (required (list_of signature_of) (codes "signatures") d) (required (list_of answer_of) (codes "answers") d)
+    through (HasRead d) (only members d) _ (λ known _.
+    through (HasRead d) (required reference_text_of (codes "reference") d) _ (λ reference is_reference.
+    through (HasRead d) (at_name (unless_absent Https protocol_of) (codes "protocol") d) _ (λ protocol _.
+    through (HasRead d) (at_name (unless_absent Anonymous auth_of) (codes "auth") d) _ (λ auth _.
+    through (HasRead d) (required (list_of text_of) (codes "accepted") d) _ (λ accepted _.
+    through (HasRead d) (required moments_of (codes "moments") d) _ (λ moments are_moments.
+    through (HasRead d) (at_name (unless_absent None number_of) (codes "limit") d) _ (λ limit _.
+    through (HasRead d) (required (list_of bytes_of) (codes "keys") d) _ (λ keys _.
+    through (HasRead d) (required (list_of constraint_of) (codes "constraints") d) _ (λ constraints _.
+    through (HasRead d) (at_name (unless_absent empty log_keys_of) (codes "log_keys") d) _ (λ log_keys _.
+    through (HasRead d) (required (list_of signature_of) (codes "signatures") d) _ (λ signatures _.
+    through (HasRead d) (at_name (unless_absent (judge_by []) judge_of) (codes "vouched") d) _ (λ vouched _.
+    through (HasRead d) (required (list_of answer_of) (codes "answers") d) _ (λ answers _.
+    (is_reference, are_moments))))))))))))))
 
 -- what follows from what holds of a value that is there
 follows : {A : Type 0} (P Q : A → Type 0) (o : Option A) → IfSome o P → ((a : A) → P a → Q a) → IfSome o Q

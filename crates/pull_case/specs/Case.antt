@@ -1,5 +1,6 @@
 -- Recorded cases: what to pull, under which policy, and what the registry answers.
 use Rattle.std.specs.Prelude.{ℕ, nat_lt, List, [], ◌∷◌, Option, Some, None, is_ok, length, if◌then◌else◌, codes}
+use Rattle.std.specs.FinMap.{empty}
 use Rattle.std.specs.Str.{bytes_eq}
 use Rattle.serde_json.specs.Data.{Data}
 use Rattle.json_values.specs.JsonText.{plain_json_of}
@@ -11,8 +12,9 @@ use Rattle.engine_requests.specs.declared.settings.ClientProtocol.{ClientProtoco
 use Rattle.engine_requests.specs.declared.settings.ClientProtocol.TheVariants.{Http, Https}
 use Rattle.pull_case.specs.Answer.{answer_of}
 use Rattle.pull_case.specs.Auth.{auth_of}
-use Rattle.pull_case.specs.Entries.{constraint_of, signature_of}
+use Rattle.pull_case.specs.Constraint.{constraint_of}
 use Rattle.pull_case.specs.Members.{unless_absent, number_of, passing}
+use Rattle.pull_case.specs.Trust.{signature_of, judge_of, judge_by, log_keys_of}
 use Rattle.pull_case.specs.declared.case.Case.{Case}
 
 -- a text that reads as a reference
@@ -43,12 +45,14 @@ members =
     ∷ codes "limit"
     ∷ codes "keys"
     ∷ codes "constraints"
+    ∷ codes "log_keys"
     ∷ codes "signatures"
+    ∷ codes "vouched"
     ∷ codes "answers"
     ∷ []
 
 -- An object with no members but these. The protocol may be absent, which is `https`, the credentials, which are
--- anonymous, and the limit of a body, which is the client's own.
+-- anonymous, the limit of a body, which is the client's own, and the keys of logs and what is vouched, which are none.
 unfoldable pub case_of : Data → Option Case
 case_of d = do
   known ← only members d
@@ -60,7 +64,9 @@ case_of d = do
   limit ← at_name (unless_absent None number_of) (codes "limit") d
   keys ← required (list_of bytes_of) (codes "keys") d
   constraints ← required (list_of constraint_of) (codes "constraints") d
+  log_keys ← at_name (unless_absent empty log_keys_of) (codes "log_keys") d
   signatures ← required (list_of signature_of) (codes "signatures") d
+  vouched ← at_name (unless_absent (judge_by []) judge_of) (codes "vouched") d
   answers ← required (list_of answer_of) (codes "answers") d
   Some (record {
     reference = reference;
@@ -71,7 +77,9 @@ case_of d = do
     limit = limit;
     keys = keys;
     constraints = constraints;
+    log_keys = log_keys;
     signatures = signatures;
+    vouched = vouched;
     answers = answers;
   })
 

@@ -1,6 +1,7 @@
 pub mod Answer
 pub mod Auth
 pub mod Case
-pub mod Entries
+pub mod Constraint
 pub mod Members
 pub mod Policy
+pub mod Trust

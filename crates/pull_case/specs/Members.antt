@@ -1,6 +1,6 @@
 -- Members with a rule of their own.
 use Rattle.std.specs.Prelude.{ℕ, option_map, Bool, if◌then◌else◌, Option, Some, None}
-use Rattle.serde_json.specs.Data.{Data}
+use Rattle.serde_json.specs.Data.{Data, null}
 use Rattle.json_tables.specs.Reading.{u64_of}
 
 -- x where nothing was found, else what f reads, null too
@@ -15,3 +15,8 @@ passing test x = if test x then Some x else None
 -- a whole number, for a member that may be absent
 abbrev pub number_of : Data → Option (Option ℕ)
 number_of d = option_map Some (u64_of d)
+
+-- null is none, else what f reads
+abbrev pub null_or : {X : Type 0} → (Data → Option X) → Data → Option (Option X)
+null_or f null = Some None
+null_or f d = option_map Some (f d)

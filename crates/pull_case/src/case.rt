@@ -2,9 +2,10 @@ ghost use Rattle.std.specs.Prelude.{◌≡◌, ◌<◌, IfOk, IfSome, IsOk, leng
 ghost use Rattle.oci_names.specs.References.{reference_of};
 ghost use Rattle.pull_case.specs.Case.{case_in};
 
+use crate::constraint::WrittenConstraint;
 use crate::entries::{Entries, OrUsual};
 use crate::members::{Moments, ReferenceText};
-use cosign_layers::{AnnotationVerifier, SignedRow};
+use cosign_layers::{LogKeys, SignedRow, TableJudge};
 use engine_requests::ClientProtocol;
 use json_tables::{ReadError, Reads, only, read_plain, read_row};
 use json_values::{Blob, List, Text, row};
@@ -31,10 +32,17 @@ pub struct Case {
     pub limit: Option<u64>,
     /// A list of bytes, the keys of the policy.
     pub keys: List<Blob>,
-    /// A list of `{"annotations": {name: text}}`, the constraints of the policy.
-    pub constraints: List<AnnotationVerifier>,
+    /// The constraints of the policy, a list of `{"annotations": {name: text}}`, `{"email": text, "issuer": text or
+    /// null}` and `{"url": text, "issuer": text}`.
+    pub constraints: List<WrittenConstraint>,
+    /// An object from the ids of transparency logs to bytes, their keys; none where the member is absent.
+    pub log_keys: LogKeys,
     /// A list of `{"key": bytes, "message": text, "signature": bytes}`, the signatures that are valid.
     pub signatures: List<SignedRow>,
+    /// A list of `{"certificate": bytes, "key": bytes, "email": text, "url": text, "issuer": text}` of which the last
+    /// three may be absent or null: what is vouched of certificates, no two of which are equal; nothing where the
+    /// member is absent.
+    pub vouched: TableJudge,
     /// A list of what the registry answers, in order. Each is `"fail"`, a send that fails, or an object with the
     /// member `status` (100 to 999) and perhaps `headers` (a list of pairs of a name and a text, which
     /// `Headers::add` takes), `pieces` (the body, a list of bytes of which none is empty) and `fault` (before how
@@ -51,16 +59,22 @@ const NAMES: &[&str] = &[
     "limit",
     "keys",
     "constraints",
+    "log_keys",
     "signatures",
+    "vouched",
     "answers",
 ];
 
 // The members from each one on, as they stand in `NAMES`.
 type Answers = (Entries<Recorded>, ());
 
-type Signatures = (Entries<SignedRow>, Answers);
+type Judge = (OrUsual<TableJudge>, Answers);
 
-type Constraints = (Entries<AnnotationVerifier>, Signatures);
+type Signatures = (Entries<SignedRow>, Judge);
+
+type Logs = (OrUsual<LogKeys>, Signatures);
+
+type Constraints = (Entries<WrittenConstraint>, Logs);
 
 type Keys = (List<Blob>, Constraints);
 
@@ -93,7 +107,9 @@ impl Reads for Case {
             limit,
             keys,
             constraints,
+            log_keys,
             signatures,
+            vouched,
             answers
         ]: Members = read_row::<Case, _>(alloc, value, NAMES)?;
         Ok(Case {
@@ -105,7 +121,9 @@ impl Reads for Case {
             limit: limit.value,
             keys,
             constraints: constraints.list,
+            log_keys: log_keys.value,
             signatures: signatures.list,
+            vouched: vouched.value,
             answers: answers.list,
         })
     }

@@ -28,7 +28,7 @@ impl Entry for RegistryAuth {
 impl Usual for RegistryAuth {
     ghost usual = { Anonymous };
 
-    fn usual() -> RegistryAuth {
+    fn usual(_alloc: Global) -> RegistryAuth {
         RegistryAuth::Anonymous
     }
 }

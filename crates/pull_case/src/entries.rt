@@ -6,9 +6,8 @@ ghost use Rattle.json_tables.specs.Outcomes.{Gives};
 ghost use Rattle.json_tables.specs.Reading.{items_by, list_of, present};
 ghost use Rattle.pull_case.specs.Members.{unless_absent};
 
-use cosign_layers::{AnnotationVerifier, SignedRow};
-use json_tables::{Member, ReadError, only, read_row, required};
-use json_values::{List, row};
+use json_tables::{Member, ReadError};
+use json_values::List;
 use serde_json::Value;
 use std::alloc::Global;
 use std::marker::Model;
@@ -63,7 +62,7 @@ fn read_entries<T: Entry + Drop>(alloc: Global, items: &[Value]) -> Result<List<
 pub trait Usual: Entry {
     ghost usual: { Self };
 
-    fn usual() -> Self
+    fn usual(alloc: Global) -> Self
         ensures { result ≡ usual };
 }
 
@@ -84,43 +83,11 @@ impl<T: Usual + Drop> Member for OrUsual<T> {
 
     fn read_member(alloc: Global, member: Option<&Value>) -> Result<OrUsual<T>, ReadError> {
         let Some(value) = member else {
-            return Ok(OrUsual { value: T::usual() });
+            return Ok(OrUsual {
+                value: T::usual(alloc),
+            });
         };
         let value = T::read_entry(alloc, value)?;
         Ok(OrUsual { value })
-    }
-}
-
-impl Entry for AnnotationVerifier {
-    ghost use Rattle.pull_case.specs.Entries.{constraint_of};
-
-    ghost entry = { constraint_of };
-
-    #[tactic(auto, unfolding(crate::specs::Entries::constraint_of))]
-    fn read_entry(alloc: Global, value: &Value) -> Result<AnnotationVerifier, ReadError> {
-        only(value, &["annotations"])?;
-        let annotations = required(alloc, value, "annotations")?;
-        Ok(AnnotationVerifier { annotations })
-    }
-}
-
-impl Entry for SignedRow {
-    ghost use Rattle.pull_case.specs.Entries.{signature_of};
-
-    ghost entry = { signature_of };
-
-    #[tactic(auto, unfolding(crate::specs::Entries::signature_of))]
-    fn read_entry(alloc: Global, value: &Value) -> Result<SignedRow, ReadError> {
-        only(value, &["key", "message", "signature"])?;
-        let row![key, message, signature] = read_row::<SignedRow, _>(
-            alloc,
-            value,
-            &["key", "message", "signature"],
-        )?;
-        Ok(SignedRow {
-            key,
-            message,
-            signature,
-        })
     }
 }

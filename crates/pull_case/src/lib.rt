@@ -3,11 +3,14 @@
 
 mod answer;
 mod case;
+mod constraint;
 mod credentials;
 mod entries;
 mod headers;
 mod members;
 mod policy;
+mod trust;
 
 pub use case::{Case, read_case};
+pub use constraint::WrittenConstraint;
 pub use policy::case_policy;

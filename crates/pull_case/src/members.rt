@@ -73,7 +73,7 @@ impl Entry for ClientProtocol {
 impl Usual for ClientProtocol {
     ghost usual = { Https };
 
-    fn usual() -> ClientProtocol {
+    fn usual(_alloc: Global) -> ClientProtocol {
         ClientProtocol::Https
     }
 }
@@ -103,7 +103,7 @@ impl Usual for Option<u64> {
 
     ghost usual = { None };
 
-    fn usual() -> Option<u64> {
+    fn usual(_alloc: Global) -> Option<u64> {
         None
     }
 }

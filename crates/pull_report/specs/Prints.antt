@@ -25,8 +25,8 @@ use Rattle.cosign_client.specs.declared.found.SkipCause.{SkipCause}
 use Rattle.cosign_client.specs.declared.found.SkipCause.TheVariants as skip
 use Rattle.cosign_client.specs.declared.found.Skipped.{Skipped}
 use Rattle.cosign_client.specs.declared.found.Skipped.TheVariants as skipped
-use Rattle.cosign_client.specs.declared.verified.PullRefusal.{PullRefusal}
-use Rattle.cosign_client.specs.declared.verified.PullRefusal.TheVariants as pull
+use Rattle.cosign_client.specs.declared.refusal.PullRefusal.{PullRefusal}
+use Rattle.cosign_client.specs.declared.refusal.PullRefusal.TheVariants as pull
 use Rattle.pull_report.specs.Words.{spaced}
 
 abbrev pub bytes_print : List ℕ → List ℕ
@@ -110,6 +110,7 @@ rejection_print rejection.OtherDigest = codes "OtherDigest"
 rejection_print rejection.NoSignature = codes "NoSignature"
 rejection_print (rejection.UnknownLogKey log) = spaced (codes "UnknownLogKey" ∷ quoted_text log ∷ [])
 rejection_print rejection.BadLogSignature = codes "BadLogSignature"
+rejection_print (rejection.OtherLogEntry body) = spaced (codes "OtherLogEntry" ∷ quoted_text body ∷ [])
 rejection_print rejection.NoLogEntry = codes "NoLogEntry"
 rejection_print rejection.NotVouched = codes "NotVouched"
 rejection_print rejection.LayerNotPulled = codes "LayerNotPulled"

@@ -33,6 +33,7 @@ impl Printed for LayerRejection {
             Self::NoSignature => word(out, "NoSignature"),
             Self::UnknownLogKey(log) => print1(alloc, out, "UnknownLogKey", log),
             Self::BadLogSignature => word(out, "BadLogSignature"),
+            Self::OtherLogEntry(body) => print1(alloc, out, "OtherLogEntry", body),
             Self::NoLogEntry => word(out, "NoLogEntry"),
             Self::NotVouched => word(out, "NotVouched"),
             Self::LayerNotPulled => word(out, "LayerNotPulled"),

@@ -1,5 +1,5 @@
 -- The pulls of a case.
-use Rattle.std.proofs.Common.{◌≡◌, ℕ, Bool, false, ◌&&◌, List, [], ◌∷◌, Result, Ok, Err, refl, ap, ◌∙◌, subst}
+use Rattle.std.proofs.Common.{◌≡◌, ℕ, Bool, false, ◌&&◌, List, [], ◌∷◌, Result, Ok, Err, refl, sym, ap, ◌∙◌, subst}
 use mathlib.Core.Path.{fun_ext}
 use Rattle.std.specs.Prelude.{IfOk}
 use Rattle.std.specs.List.{list_all}
@@ -11,48 +11,86 @@ use Rattle.oci_auth.specs.declared.auth.RegistryAuth.{RegistryAuth}
 use Rattle.engine_requests.specs.Contexts.{within}
 use Rattle.oci_transport.specs.declared.message.Exchange.{Exchange}
 use Rattle.sig_registry.specs.Clients.{Kept, Client}
-use Rattle.cosign_layers.specs.Accepts.{has_no_item, has_annotations, accepts}
-use Rattle.cosign_layers.specs.Rows.{valid_in}
-use Rattle.cosign_layers.specs.Standing.{meaning, is_signed, stands}
-use Rattle.cosign_layers.specs.declared.constraint.AnnotationVerifier.{AnnotationVerifier}
+use Rattle.cosign_layers.specs.Constraint.{has_no_item, accepts}
+use Rattle.cosign_layers.specs.Standing.{Meaning, Owns, meaning, is_signed, stands}
+use Rattle.cosign_layers.specs.Trust.{Trust, Valid}
+use Rattle.cosign_layers.specs.Judge.{vouched_in}
+use Rattle.cosign_layers.specs.Verifier.{valid_in}
+use Rattle.pull_case.specs.declared.constraint.WrittenConstraint.{WrittenConstraint}
+use Rattle.pull_case.specs.declared.constraint.WrittenConstraint.TheVariants.{Annotations, Email, Url}
 use Rattle.cosign_layers.specs.declared.layer.SignatureLayer.{SignatureLayer}
 use Rattle.cosign_layers.specs.declared.policy.PullPolicy.{PullPolicy}
-use Rattle.cosign_client.specs.Verified.{verified}
-use Rattle.cosign_client.specs.declared.verified.VerifiedImage.{VerifiedImage}
-use Rattle.cosign_client.specs.declared.verified.PullRefusal.{PullRefusal}
+use Rattle.oci_protocol.specs.Proto.{Done, ◌>>=◌, ◌>>◌}
+use Rattle.cosign_chain.specs.declared.image.VerifiedImage.{VerifiedImage}
+use Rattle.cosign_client.specs.Image.{image_row}
+use Rattle.cosign_client.specs.References.{digest_reference}
+use Rattle.cosign_client.specs.Search.{searched}
 use Rattle.cosign_client.specs.Sound.{Sound}
-use Rattle.cosign_client.proofs.Showing.{Seen}
-use Rattle.cosign_client.proofs.Whole.{verified_shows}
-use Rattle.pull_case.specs.Policy.{annotation_constraints}
+use Rattle.cosign_client.specs.Verified.{Whole, constrained, is_unconstrained, readable, part_of, stands_by, standing_by, verified_image, after_search, verified}
+use Rattle.cosign_client.specs.declared.refusal.PullRefusal.{PullRefusal}
+use Rattle.cosign_client.proofs.Images.{Seen}
+use Rattle.cosign_client.proofs.Chains.{verified_shows}
+use Rattle.engine_requests.specs.Contexts.{Context}
+use Rattle.std.specs.Prelude.{find, None, Option}
+use Rattle.pull_case.specs.Policy.{constraint_by, constraints_by}
 use Rattle.pull_case.specs.declared.case.Case.{Case}
 use Rattle.pull_run.specs.declared.report.Report.{Report}
-use Rattle.pull_run.specs.Pulls.{Talk, InTurn, policy_of, meaning_of, settings_of, fresh, row_of, SoundResult, EachSound, ReportsCase}
-use Rattle.pull_run.specs.Rounds.{row_by, Played}
+use Rattle.pull_run.specs.Pulls.{Talk, InTurn, policy_of, meaning_of, trust_of, settings_of, fresh, row_of, SoundResult, EachSound, ReportsCase}
+use Rattle.pull_run.specs.Rounds.{row_by, row_for, Played}
+use Rattle.pull_run.specs.declared.pulls.Terms.{Terms}
+use Rattle.sig_registry.specs.Conversions.{registry_auth}
+use Rattle.sig_registry.specs.Direct.{reference_in}
+use Rattle.json_values.specs.Places.{by_bytes}
+use Rattle.std.specs.FinMap.{FinMap}
 
-no_item_same : (V W : Type 0) (H : V → Type 0) (I : W → Type 0) (verifiers : List AnnotationVerifier) → has_no_item (annotation_constraints {V = V} {H = H} verifiers) ≡ has_no_item (annotation_constraints {V = W} {H = I} verifiers)
+no_item_same : (V W : Type 0) (H : V → Type 0) (I : W → Type 0) (verifiers : List WrittenConstraint) → has_no_item (constraints_by {V = V} {H = H} verifiers) ≡ has_no_item (constraints_by {V = W} {H = I} verifiers)
 no_item_same V W H I [] = refl
 no_item_same V W H I (v ∷ verifiers) = refl
 
--- annotations are accepted whatever a box means
-all_same : (V W : Type 0) (H : V → Type 0) (I : W → Type 0) (own : DynBox V Global H → SignatureLayer → Bool) (other : DynBox W Global I → SignatureLayer → Bool) (layer : SignatureLayer) (verifiers : List AnnotationVerifier)
-    → list_all (λ c. accepts {V = V} {H = H} own c layer) (annotation_constraints verifiers) ≡ list_all (λ c. accepts {V = W} {H = I} other c layer) (annotation_constraints verifiers)
-all_same V W H I own other layer [] = refl
-all_same V W H I own other layer (v ∷ verifiers) = ap (λ (b : Bool). has_annotations v.annotations layer.simple_signing && b) (all_same V W H I own other layer verifiers)
+module _ (V W : Type 0) (H : V → Type 0) (I : W → Type 0) (own : Owns V H) (other : Owns W I) (layer : SignatureLayer) where
+  -- what is written accepts whatever a box means
+  accepts_same : (c : WrittenConstraint) → accepts {V = V} {H = H} own (constraint_by c) layer ≡ accepts {V = W} {H = I} other (constraint_by c) layer
+  accepts_same (Annotations asked) = refl
+  accepts_same (Email asked) = refl
+  accepts_same (Url asked) = refl
 
-stands_same : (V W : Type 0) (H : V → Type 0) (I : W → Type 0) (own : DynBox V Global H → SignatureLayer → Bool) (other : DynBox W Global I → SignatureLayer → Bool) (keys : List (List ℕ)) (verifiers : List AnnotationVerifier) (valid : List ℕ → List ℕ → List ℕ → Bool) (layer : SignatureLayer)
-    → stands (meaning {V = V} {H = H} (record { keys = keys; constraints = annotation_constraints verifiers }) valid own) layer ≡ stands (meaning {V = W} {H = I} (record { keys = keys; constraints = annotation_constraints verifiers }) valid other) layer
-stands_same V W H I own other keys verifiers valid layer = ap (λ (b : Bool). is_signed (meaning {V = V} {H = H} (record { keys = keys; constraints = annotation_constraints verifiers }) valid own) layer && b) (all_same V W H I own other layer verifiers)
+  all_same : (written : List WrittenConstraint)
+      → list_all (λ c. accepts {V = V} {H = H} own c layer) (constraints_by written) ≡ list_all (λ c. accepts {V = W} {H = I} other c layer) (constraints_by written)
+  all_same [] = refl
+  all_same (c ∷ written) =
+      ap (λ (b : Bool). b && list_all (λ c. accepts {V = V} {H = H} own c layer) (constraints_by written)) (accepts_same c)
+      ∙ ap (λ (b : Bool). accepts {V = W} {H = I} other (constraint_by c) layer && b) (all_same written)
 
-policy_is : {V : Type 0} {H : V → Type 0} (policy : PullPolicy V H) (case : Case) → policy.keys ≡ case.keys → policy.constraints ≡ annotation_constraints case.constraints → policy ≡ record { keys = case.keys; constraints = annotation_constraints case.constraints }
+stands_same : (V W : Type 0) (H : V → Type 0) (I : W → Type 0) (own : Owns V H) (other : Owns W I) (keys : List (List ℕ)) (verifiers : List WrittenConstraint) (valid : Valid) (layer : SignatureLayer)
+    → stands {V = V} {H = H} valid (record { keys = keys; constraints = constraints_by verifiers }) own layer ≡ stands {V = W} {H = I} valid (record { keys = keys; constraints = constraints_by verifiers }) other layer
+stands_same V W H I own other keys verifiers valid layer = ap (λ (b : Bool). is_signed {V = V} {H = H} valid (record { keys = keys; constraints = constraints_by verifiers }) layer && b) (all_same V W H I own other layer verifiers)
+
+policy_is : {V : Type 0} {H : V → Type 0} (policy : PullPolicy V H) (case : Case) → policy.keys ≡ case.keys → policy.constraints ≡ constraints_by case.constraints → policy ≡ record { keys = case.keys; constraints = constraints_by case.constraints }
 policy_is policy case keys constraints = rw (← keys, ← constraints) refl
 
+-- a pull by whether there is no constraint, by what stands, and by who is trusted
+by_parts : Context → Reference → RegistryAuth → List (List ℕ) → Bool → (SignatureLayer → Bool) → Trust → Whole VerifiedImage
+by_parts s image a accepted none fits trusted = do
+  Done (constrained none)
+  Done (readable image)
+  found ← part_of (searched trusted s image a)
+  stood ← Done (standing_by found (find fits found.collected))
+  pulled ← part_of (image_row s image (digest_reference image stood.digest) a accepted)
+  Done (Ok (verified_image stood pulled))
+
+is_by_parts : {V : Type 0} {H : V → Type 0} (m : Meaning V H) (s : Context) (image : Reference) (a : RegistryAuth) (accepted : List (List ℕ)) → verified m s image a accepted ≡ by_parts s image a accepted (is_unconstrained m.policy) (stands_by m) m.trust
+unfolding verified after_search
+is_by_parts m s image a accepted = refl
+
 -- the row of a policy that a case gives is the case's
-row_same : {V : Type 0} {H : V → Type 0} (policy : PullPolicy V H) (own : DynBox V Global H → SignatureLayer → Bool) (case : Case) (image : Reference) → policy ≡ record { keys = case.keys; constraints = annotation_constraints case.constraints }
-    → row_by (meaning policy (valid_in (record { rows = case.signatures })) own) (settings_of case) image case.auth case.accepted ≡ row_of case image
+row_same : {V : Type 0} {H : V → Type 0} (policy : PullPolicy V H) (own : Owns V H) (case : Case) (image : Reference) → policy ≡ record { keys = case.keys; constraints = constraints_by case.constraints }
+    → row_by (meaning policy own (trust_of case)) (settings_of case) image case.auth case.accepted ≡ row_of case image
 row_same {V} {H} policy own case image is =
-    ap (λ (p : PullPolicy V H). row_by (meaning p (valid_in (record { rows = case.signatures })) own) (settings_of case) image case.auth case.accepted) is
-    ∙ ap (λ (b : Bool). λ (moment : ℕ). verified b (stands (meaning (record { keys = case.keys; constraints = annotation_constraints case.constraints }) (valid_in (record { rows = case.signatures })) own)) (within (settings_of case) moment) image case.auth case.accepted) (no_item_same V ⊥ H (λ v. ⊥) case.constraints)
-    ∙ ap (λ (f : SignatureLayer → Bool). λ (moment : ℕ). verified (has_no_item (policy_of case).constraints) f (within (settings_of case) moment) image case.auth case.accepted) (fun_ext (λ layer. stands_same V ⊥ H (λ v. ⊥) own (λ box layer. false) case.keys case.constraints (valid_in (record { rows = case.signatures })) layer))
+    ap (λ (p : PullPolicy V H). row_by (meaning p own (trust_of case)) (settings_of case) image case.auth case.accepted) is
+    ∙ fun_ext (λ moment. is_by_parts (meaning (record { keys = case.keys; constraints = constraints_by case.constraints }) own (trust_of case)) (within (settings_of case) moment) image case.auth case.accepted
+    ∙ ap (λ (b : Bool). by_parts (within (settings_of case) moment) image case.auth case.accepted b (stands_by (meaning (record { keys = case.keys; constraints = constraints_by case.constraints }) own (trust_of case))) (trust_of case)) (no_item_same V ⊥ H (λ v. ⊥) case.constraints)
+    ∙ ap (λ (f : SignatureLayer → Bool). by_parts (within (settings_of case) moment) image case.auth case.accepted (is_unconstrained (policy_of case)) f (trust_of case)) (fun_ext (λ layer. stands_same V ⊥ H (λ v. ⊥) own (λ box layer. false) case.keys case.constraints (valid_in (record { rows = case.signatures })) layer))
+    ∙ sym (is_by_parts (meaning_of case) (within (settings_of case) moment) image case.auth case.accepted))
 
 sound_result : (case : Case) (image : Reference) (m n : ℕ) (c : List Exchange) (r : Result VerifiedImage PullRefusal) → Seen (Sound (settings_of case) (meaning_of case) image case.accepted) m c n r → SoundResult case image c r
 sound_result case image m n c (Ok v) h = h
@@ -64,8 +102,8 @@ each_sound case image k l m n (talk ∷ talks) h = (sound_result case image m h.
 
 -- what was played of a case is its report
 pub reports_case : {V : Type 0} {H : V → Type 0} (policy : PullPolicy V H) (own : DynBox V Global H → SignatureLayer → Bool) (case : Case) (image : Reference) (l : Kept) (made : Report)
-    → reference_of case.reference ≡ Ok image → policy.keys ≡ case.keys → policy.constraints ≡ annotation_constraints case.constraints
-    → Played (row_by (meaning policy (valid_in (record { rows = case.signatures })) own) (settings_of case) image case.auth case.accepted) case.answers case.moments fresh l made → ReportsCase case made
+    → reference_of case.reference ≡ Ok image → policy.keys ≡ case.keys → policy.constraints ≡ constraints_by case.constraints
+    → Played (row_by (meaning policy own (trust_of case)) (settings_of case) image case.auth case.accepted) case.answers case.moments fresh l made → ReportsCase case made
 reports_case policy own case image l made reads keys constraints played =
     let turn = subst (λ row. InTurn row fresh 0 played.talks l played.faults) (row_same policy own case image (policy_is policy case keys constraints)) played.in_turn in
     record {
@@ -86,11 +124,15 @@ reports_case policy own case image l made reads keys constraints played =
     }
 
 -- the same, of a client that was made fresh
-pub reports_fresh : {V : Type 0} {H : V → Type 0} (policy : PullPolicy V H) (own : DynBox V Global H → SignatureLayer → Bool) (case : Case) (image : Reference) (a : RegistryAuth) (client : Client) (moments : List ℕ) (l : Kept) (made : Report)
-    → client ≡ record { settings = settings_of case; kept = fresh } → moments ≡ case.moments → a ≡ case.auth
-    → reference_of case.reference ≡ Ok image → policy.keys ≡ case.keys → policy.constraints ≡ annotation_constraints case.constraints
-    → Played (row_by (meaning policy (valid_in (record { rows = case.signatures })) own) client.settings image a case.accepted) case.answers moments client.kept l made → ReportsCase case made
-reports_fresh policy own case image a client moments l made is moments_are auth_is reads keys constraints played = reports_case policy own case image l made reads keys constraints (rw (is, moments_are, auth_is) at played)
+pub reports_fresh : {V : Type 0} {H : V → Type 0} (own : Owns V H) (case : Case) (terms : Terms V H) (client : Client) (log_keys : FinMap by_bytes (List ℕ)) (moments : List ℕ) (l : Kept) (made : Report)
+    → client ≡ record { settings = settings_of case; kept = fresh } → log_keys ≡ case.log_keys → moments ≡ case.moments
+    → registry_auth terms.auth ≡ case.auth → terms.accepted ≡ case.accepted
+    → terms.verifier ≡ record { rows = case.signatures } → terms.judge ≡ case.vouched
+    → reference_of case.reference ≡ Ok (reference_in terms.image) → terms.policy.keys ≡ case.keys → terms.policy.constraints ≡ constraints_by case.constraints
+    → Played (row_for own terms client.settings log_keys) case.answers moments client.kept l made → ReportsCase case made
+reports_fresh own case terms client log_keys moments l made is logs_are moments_are auth_is accepted_are verifier_is judge_is reads keys constraints played =
+    reports_case terms.policy own case (reference_in terms.image) l made reads keys constraints
+    (rw (is, logs_are, moments_are, auth_is, accepted_are, verifier_is, judge_is) at played)
 
 pub ok_weaker : {A E : Type 0} {P Q : A → Type 0} (r : Result A E) → ((a : A) → P a → Q a) → IfOk r P → IfOk r Q
 ok_weaker (Ok a) more h = more a h

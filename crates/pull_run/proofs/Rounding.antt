@@ -15,14 +15,19 @@ use Rattle.oci_transport.specs.declared.message.Exchange.{Exchange}
 use Rattle.oci_protocol.specs.Runs.{Runs, Performs, Breaks, Meets}
 use Rattle.oci_protocol.proofs.Extending.{Extends-more}
 use Rattle.sig_registry.specs.Clients.{Kept}
-use Rattle.cosign_client.specs.Refusals.{is_memory}
+use Rattle.cosign_client.specs.Refusal.{is_memory}
 use Rattle.cosign_client.specs.Verified.{Whole}
-use Rattle.cosign_client.specs.declared.verified.VerifiedImage.{VerifiedImage}
-use Rattle.cosign_client.specs.declared.verified.PullRefusal.{PullRefusal}
+use Rattle.cosign_chain.specs.declared.image.VerifiedImage.{VerifiedImage}
+use Rattle.cosign_client.specs.declared.refusal.PullRefusal.{PullRefusal}
 use Rattle.pull_report.specs.Report.{report}
 use Rattle.pull_run.specs.declared.report.Report.{Report}
 use Rattle.pull_run.specs.Pulls.{Talk, moment_of, joined, report_of, reports, is_answered, all_answered, InTurn}
-use Rattle.pull_run.specs.Rounds.{is_wanting, Rounds, Round, IsCalm, Played}
+use Rattle.engine_requests.specs.declared.settings.Settings.{Settings}
+use Rattle.json_values.specs.Places.{by_bytes}
+use Rattle.std.specs.FinMap.{FinMap}
+use Rattle.cosign_layers.specs.Standing.{Owns}
+use Rattle.pull_run.specs.declared.pulls.Terms.{Terms}
+use Rattle.pull_run.specs.Rounds.{row_for, is_wanting, Rounds, Round, IsCalm, Played}
 
 turn_more : (row : ℕ → Whole VerifiedImage) (k l j : Kept) (m n o : ℕ) (talks : List Talk) (talk : Talk) → InTurn row k m talks l n → Runs (row talk.moment) l n talk.conversation o j talk.result → InTurn row k m (talks ++ talk ∷ []) j o
 turn_more row k l j m n o [] talk h run = (j, o, rw (h.0, h.1) run, (refl, refl))
@@ -98,6 +103,11 @@ pub next_round : {row same : ℕ → Whole VerifiedImage} {moments all : List �
     → same ≡ row → all ≡ moments ++ moment ∷ [] → Rounds row moments start mid j k before → Round same moment mid new k l before after → Rounds row all start new j l after
 next_round {row} {same} {moments} {all} {moment} {start} {mid} {new} {j} {k} {l} {before} {after} is more rounds next =
     subst (λ (ms : List ℕ). Rounds row ms start new j l after) (sym more) ((subst (λ (r : ℕ → Whole VerifiedImage). Round r moment mid new k l before after) is next).more moments start j rounds)
+
+-- equal settings and equal keys of logs give one row
+pub row_as : {V : Type 0} {H : V → Type 0} (own : Owns V H) (terms : Terms V H) {s t : Settings} {k l : FinMap by_bytes (List ℕ)} → s ≡ t → k ≡ l → row_for own terms s k ≡ row_for own terms t l
+row_as own terms {s} {t} {k} {l} e f =
+    ap (λ (x : Settings). row_for own terms x k) e ∙ ap (λ (x : FinMap by_bytes (List ℕ)). row_for own terms t x) f
 
 -- all pulls over the answers of a new script
 pub played : {row : ℕ → Whole VerifiedImage} {moments : List ℕ} {k l : Kept} {made : Report} (answers : List Recorded) (first last : Script)

@@ -12,15 +12,16 @@ use Rattle.engine_requests.specs.Contexts.{within}
 use Rattle.engine_requests.specs.declared.settings.ClientProtocol.{ClientProtocol}
 use Rattle.engine_requests.specs.declared.settings.Settings.{Settings}
 use Rattle.sig_registry.specs.Clients.{Kept}
-use Rattle.cosign_layers.specs.Accepts.{has_no_item}
-use Rattle.cosign_layers.specs.Standing.{Meaning, meaning, stands}
-use Rattle.cosign_layers.specs.Rows.{valid_in}
+use Rattle.cosign_layers.specs.Judge.{vouched_in}
+use Rattle.cosign_layers.specs.Standing.{Meaning, meaning}
+use Rattle.cosign_layers.specs.Trust.{Trust, trust}
+use Rattle.cosign_layers.specs.Verifier.{valid_in}
 use Rattle.cosign_layers.specs.declared.policy.PullPolicy.{PullPolicy}
 use Rattle.cosign_client.specs.Sound.{Sound}
 use Rattle.cosign_client.specs.Verified.{Whole, verified}
-use Rattle.cosign_client.specs.declared.verified.VerifiedImage.{VerifiedImage}
-use Rattle.cosign_client.specs.declared.verified.PullRefusal.{PullRefusal}
-use Rattle.pull_case.specs.Policy.{annotation_constraints}
+use Rattle.cosign_chain.specs.declared.image.VerifiedImage.{VerifiedImage}
+use Rattle.cosign_client.specs.declared.refusal.PullRefusal.{PullRefusal}
+use Rattle.pull_case.specs.Policy.{constraints_by}
 use Rattle.pull_case.specs.declared.case.Case.{Case}
 use Rattle.pull_report.specs.Report.{report}
 use Rattle.pull_run.specs.declared.report.Report.{Report}
@@ -65,13 +66,16 @@ InTurn row k m (talk ∷ talks) l n =
     × Runs (row talk.moment) k m talk.conversation count kept talk.result
     × InTurn row kept count talks l n
 
--- the policy of a case, and what it takes as valid; no box of a caller stands in it
+-- the policy of a case; no box of a caller stands in it
 abbrev pub policy_of : Case → PullPolicy ⊥ (λ v. ⊥)
-policy_of case = record { keys = case.keys; constraints = annotation_constraints case.constraints }
+policy_of case = record { keys = case.keys; constraints = constraints_by case.constraints }
+
+-- whom a case trusts: the signatures that are valid, what is vouched of certificates, and the keys of logs
+abbrev pub trust_of : Case → Trust
+trust_of case = trust (valid_in (record { rows = case.signatures })) (vouched_in case.vouched) case.log_keys
 
 abbrev pub meaning_of : Case → Meaning ⊥ (λ v. ⊥)
-meaning_of case =
-    meaning (policy_of case) (valid_in (record { rows = case.signatures })) (λ box layer. false)
+meaning_of case = meaning (policy_of case) (λ box layer. false) (trust_of case)
 
 -- the limit of a body that is held, or the usual one
 abbrev pub limit_by : Option ℕ → ℕ
@@ -93,8 +97,7 @@ fresh = nothing_kept 60
 -- the pull of a case's image at a moment
 abbrev pub row_of : Case → Reference → ℕ → Whole VerifiedImage
 row_of case image moment =
-    verified (has_no_item (policy_of case).constraints) (stands (meaning_of case))
-    (within (settings_of case) moment) image case.auth case.accepted
+    verified (meaning_of case) (within (settings_of case) moment) image case.auth case.accepted
 
 -- each image that was answered has a chain that holds, and comes of its conversation
 abbrev pub SoundResult : Case → Reference → List Exchange → Result VerifiedImage PullRefusal → Type 0

@@ -1,5 +1,6 @@
 -- The pulls so far, and what the client and the script came to.
 use Rattle.std.specs.Prelude.{◌≡◌, ℕ, Bool, not, IsTrue, List, ◌∷◌, [], ◌++◌, map, Some, Result, Ok, Err, false}
+use Rattle.std.specs.FinMap.{FinMap}
 use Rattle.oci_transport.specs.Link.{Link, Extends, AnsweredBy}
 use Rattle.oci_transport.specs.Calm.{calm}
 use Rattle.oci_transport.specs.Playback.{answering}
@@ -12,20 +13,32 @@ use Rattle.oci_auth.specs.declared.auth.RegistryAuth.{RegistryAuth}
 use Rattle.engine_requests.specs.Contexts.{within}
 use Rattle.engine_requests.specs.declared.settings.Settings.{Settings}
 use Rattle.sig_registry.specs.Clients.{Kept}
-use Rattle.cosign_layers.specs.Accepts.{has_no_item}
-use Rattle.cosign_layers.specs.Standing.{Meaning, stands}
-use Rattle.cosign_client.specs.Refusals.{is_memory}
+use Rattle.sig_registry.specs.Conversions.{registry_auth}
+use Rattle.sig_registry.specs.Direct.{reference_in}
+use Rattle.json_values.specs.Places.{by_bytes}
+use Rattle.cosign_layers.specs.Judge.{vouched_in}
+use Rattle.cosign_layers.specs.Standing.{Meaning, Owns, meaning}
+use Rattle.cosign_layers.specs.Trust.{trust}
+use Rattle.cosign_layers.specs.Verifier.{valid_in}
+use Rattle.cosign_client.specs.Refusal.{is_memory}
 use Rattle.cosign_client.specs.Verified.{Whole, verified}
-use Rattle.cosign_client.specs.declared.verified.VerifiedImage.{VerifiedImage}
-use Rattle.cosign_client.specs.declared.verified.PullRefusal.{PullRefusal}
+use Rattle.cosign_chain.specs.declared.image.VerifiedImage.{VerifiedImage}
+use Rattle.cosign_client.specs.declared.refusal.PullRefusal.{PullRefusal}
+use Rattle.pull_run.specs.declared.pulls.Terms.{Terms}
 use Rattle.pull_run.specs.declared.report.Report.{Report}
 use Rattle.pull_run.specs.Pulls.{Talk, moment_of, joined, reports, all_answered, InTurn}
 
 -- the pull of an image at a moment, by these settings, credentials and this policy
 abbrev pub row_by : {V : Type 0} {H : V → Type 0}
     → Meaning V H → Settings → Reference → RegistryAuth → List (List ℕ) → ℕ → Whole VerifiedImage
-row_by meaning s image a accepted moment =
-    verified (has_no_item meaning.policy.constraints) (stands meaning) (within s moment) image a accepted
+row_by meaning s image a accepted moment = verified meaning (within s moment) image a accepted
+
+-- the pull at a moment that these terms ask for, by a client of these settings that knows these logs
+abbrev pub row_for : {V : Type 0} {H : V → Type 0}
+    → Owns V H → Terms V H → Settings → FinMap by_bytes (List ℕ) → ℕ → Whole VerifiedImage
+row_for own terms settings log_keys =
+    row_by (meaning terms.policy own (trust (valid_in terms.verifier) (vouched_in terms.judge) log_keys))
+    settings (reference_in terms.image) (registry_auth terms.auth) terms.accepted
 
 -- whether memory was wanting
 abbrev pub is_wanting : Result VerifiedImage PullRefusal → Bool

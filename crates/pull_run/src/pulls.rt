@@ -2,20 +2,17 @@
 ghost use Rattle.std.specs.Prelude.{◌≡◌, ◌++◌, ◌||◌, false, not, Ok, IsOk, IfOk, IfSome, OnOk};
 ghost use Rattle.oci_transport.specs.Script.{state_of};
 ghost use Rattle.oci_names.specs.References.{reference_of};
-ghost use Rattle.sig_registry.specs.Conversions.{registry_auth};
 ghost use Rattle.sig_registry.specs.Direct.{reference_in};
-ghost use Rattle.cosign_layers.specs.Rows.{valid_in};
-ghost use Rattle.cosign_layers.specs.Standing.{meaning};
 ghost use Rattle.cosign_client.specs.State.{client_state};
 ghost use Rattle.pull_case.specs.Case.{case_in};
 ghost use Rattle.pull_report.specs.Report.{report as lines_of};
 ghost use Rattle.pull_run.specs.Pulls.{is_answered, settings_by, fresh, ReportsCase};
-ghost use Rattle.pull_run.specs.Rounds.{row_by, is_wanting, Round, IsCalm, Played};
+ghost use Rattle.pull_run.specs.Rounds.{row_for, is_wanting, Round, IsCalm, Played};
 
 use crate::report::Report;
 use crate::task::Task;
 use cosign_client::{Client, PullRefusal, VerifiedImage};
-use cosign_layers::{NoCertificates, PullPolicy, TableVerifier};
+use cosign_layers::{LogKeys, PullPolicy, TableJudge, TableVerifier};
 use json_values::{Blob, List, Text};
 use oci_engine::{ClientConfig, ClientProtocol};
 use oci_transport::{Exchange, Recorded, Script};
@@ -64,6 +61,7 @@ struct Terms {
     accepted: List<Text>,
     policy: PullPolicy,
     verifier: TableVerifier,
+    judge: TableJudge,
 }
 
 // One pull, whose report goes behind those that are there.
@@ -75,13 +73,12 @@ fn pull_at(
     moment: u64,
     report: &mut Report,
 ) -> Result<(), AllocError>
-    ensures round { OnOk result (Round (row_by
-        (meaning terms.now.policy (valid_in terms.now.verifier) (λ b. accepts (b.vtable, b.value)))
-        (client_state client.old).settings
-        (reference_in terms.now.image) (registry_auth terms.now.auth) terms.now.accepted)
+    ensures round { OnOk result (Round (row_for (λ b. accepts (b.vtable, b.value)) terms.now
+        (client_state client.old).settings client.old.rekor_pub_keys)
         moment (state_of script.old) (state_of script.new)
         (client_state client.old).kept (client_state client.new).kept report.old report.new) }
     ensures settings { (client_state client.new).settings ≡ (client_state client.old).settings }
+    ensures log_keys { client.new.rekor_pub_keys ≡ client.old.rekor_pub_keys }
     ensures calm { OnOk result (IsCalm script.new) }
 {
     let before = script.conversation().as_slice().len();
@@ -94,7 +91,7 @@ fn pull_at(
         terms.accepted.as_slice(),
         &terms.policy,
         &terms.verifier,
-        &NoCertificates,
+        &terms.judge,
     );
     let conversation = script.conversation().as_slice();
     add_report(alloc, report, moment, &conversation[before..], &outcome)
@@ -108,10 +105,8 @@ fn pull_each(
     terms: &Terms,
     moments: &[u64],
 ) -> Result<Report, AllocError>
-    ensures { IfOk result (Played (row_by
-        (meaning terms.now.policy (valid_in terms.now.verifier) (λ b. accepts (b.vtable, b.value)))
-        (client_state client.old).settings
-        (reference_in terms.now.image) (registry_auth terms.now.auth) terms.now.accepted)
+    ensures { IfOk result (Played (row_for (λ b. accepts (b.vtable, b.value)) terms.now
+        (client_state client.old).settings client.old.rekor_pub_keys)
         answers moments.now (client_state client.old).kept (client_state client.new).kept) }
 {
     let mut script = Script::new(alloc, answers);
@@ -125,20 +120,23 @@ fn pull_each(
     Ok(report)
 }
 
-// A client that keeps nothing yet.
+// A client that knows these logs and keeps nothing yet.
 fn fresh_client(
     alloc: Global,
     protocol: ClientProtocol,
     limit: Option<u64>,
+    rekor_pub_keys: LogKeys,
 ) -> Result<Client, AllocError>
-    ensures { IfOk result (λ client.
+    ensures state { IfOk result (λ client.
         client_state client ≡ record { settings = settings_by protocol limit; kept = fresh }) }
+    ensures log_keys { IfOk result (λ client. client.rekor_pub_keys ≡ rekor_pub_keys) }
 {
     let mut config = ClientConfig::default(alloc)?;
     config.protocol = protocol;
     config.max_body_bytes = limit.unwrap_or(config.max_body_bytes);
     Ok(Client {
         registry_client: OciClient::new(oci_engine::Client::new(alloc, config)),
+        rekor_pub_keys,
     })
 }
 
@@ -187,8 +185,9 @@ pub fn pull_case(alloc: Global, case: Case) -> Result<Report, AllocError>
         verifier: TableVerifier {
             rows: case.signatures,
         },
+        judge: case.vouched,
     };
-    let mut client = fresh_client(alloc, case.protocol, case.limit)?;
+    let mut client = fresh_client(alloc, case.protocol, case.limit, case.log_keys)?;
     pull_each(
         alloc,
         &mut client,

@@ -4,6 +4,4 @@
 #[cfg(test)]
 mod pulls;
 #[cfg(test)]
-mod recorded;
-#[cfg(test)]
 mod refusals;

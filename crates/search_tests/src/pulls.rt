@@ -1,5 +1,4 @@
 // The search for signatures, and the verified pull.
-use crate::recorded::{CONFIG_DIGEST, LAYER_DIGEST, LAYER_TYPE, MANIFEST, MANIFEST_DIGEST, script};
 use cosign_client::{Client, PullRefusal, VerifiedImage, check_links};
 use cosign_layers::{
     AnnotationVerifier, Constraint, LogKeys, NoCertificates, PullPolicy, SignedRow, TableVerifier,
@@ -9,6 +8,7 @@ use oci_engine::ClientConfig;
 use oci_transport::Script;
 use sig_registry::{Auth, OciClient, OciReference};
 use std::alloc::{AllocError, Global};
+use test_answers::{CONFIG_DIGEST, LAYER_DIGEST, LAYER_TYPE, MANIFEST, MANIFEST_DIGEST, script};
 
 const IMAGE: &str = "localhost:5000/app:v1";
 

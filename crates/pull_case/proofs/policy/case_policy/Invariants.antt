@@ -1,6 +1,6 @@
 use Rattle.std.proofs.Common.{◌≡◌, take}
-use Rattle.pull_case.specs.Policy.{annotation_constraints}
+use Rattle.pull_case.specs.Policy.{constraints_by}
 use Rattle.pull_case.proofs.policy.case_policy.Given as goal
 
-abbrev pub invariant-loop-verifier : goal.invariant-loop-verifier
-invariant-loop-verifier g l = l.constraints ≡ annotation_constraints (take l.verifier-index l.verifiers)
+abbrev pub invariant-loop-constraint : goal.invariant-loop-constraint
+invariant-loop-constraint g l = l.constraints ≡ constraints_by (take l.constraint-index l.written)

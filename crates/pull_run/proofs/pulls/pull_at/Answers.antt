@@ -1,10 +1,6 @@
 use Rattle.oci_transport.specs.Script.{state_of}
-use Rattle.sig_registry.specs.Conversions.{registry_auth}
-use Rattle.sig_registry.specs.Direct.{reference_in}
-use Rattle.cosign_layers.specs.Rows.{valid_in}
-use Rattle.cosign_layers.specs.Standing.{meaning}
 use Rattle.cosign_client.specs.State.{client_state}
-use Rattle.pull_run.specs.Rounds.{row_by}
+use Rattle.pull_run.specs.Rounds.{row_for}
 use Rattle.pull_run.proofs.Rounding.{told_round, told_is_calm, no_shorter, from_ok, always}
 use Rattle.pull_run.proofs.pulls.pull_at.Goals as goal
 
@@ -16,12 +12,15 @@ slice_bounds-add_report-start g c = rw (c.as_slice-before.ensures, c.as_slice-co
 
 pub returns-clause-round : goal.returns-clause-round
 returns-clause-round g c = from_ok c.add_report.result c.add_report.ensures.bytes c.add_report.ensures.refused c.add_report.ensures.whole (λ bytes refused whole. told_round
-    {row = row_by (meaning c.args.terms.now.policy (valid_in c.args.terms.now.verifier) (λ b. (goal.VerificationConstraint-dyn g (b.vtable, b.value)).accepts b.value)) (client_state c.args.client.now).settings (reference_in c.args.terms.now.image) (registry_auth c.args.terms.now.auth) c.args.terms.now.accepted}
+    {row = row_for (λ b. (goal.VerificationConstraint-dyn g (b.vtable, b.value)).accepts b.value) c.args.terms.now (client_state c.args.client.now).settings c.args.client.now.rekor_pub_keys}
     {moment = c.args.moment} {mid = state_of c.args.script.now} {new = state_of c.verified_pull-outcome.new.transport} {k = (client_state c.args.client.now).kept} {l = (client_state c.verified_pull-outcome.new.self).kept} {before = c.args.report.now} {after = c.add_report.new.report}
     c.verified_pull-outcome.result c.conversation.result.now c.conversation-2.result.now c.conversation.ensures.told c.conversation-2.ensures.told whole (rw c.as_slice.ensures at c.verified_pull-outcome.ensures.run) (rw (c.as_slice-before.ensures, c.as_slice-conversation.ensures) at bytes) refused)
 
 pub returns-clause-settings : goal.returns-clause-settings
 returns-clause-settings g c = c.verified_pull-outcome.ensures.settings
+
+pub returns-clause-log_keys : goal.returns-clause-log_keys
+returns-clause-log_keys g c = c.verified_pull-outcome.ensures.keys
 
 pub returns-clause-calm : goal.returns-clause-calm
 returns-clause-calm g c = always c.add_report.result (told_is_calm c.verified_pull-outcome.new.transport c.conversation-2.result.now c.conversation-2.ensures.told c.conversation-2.ensures.calm)

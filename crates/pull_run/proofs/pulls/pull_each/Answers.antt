@@ -1,20 +1,21 @@
 use Rattle.std.proofs.Common.{refl, ap, ◌∙◌}
 use Rattle.std.proofs.lemmas.List.{take_all}
-use Rattle.sig_registry.specs.Conversions.{registry_auth}
-use Rattle.sig_registry.specs.Direct.{reference_in}
-use Rattle.engine_requests.specs.declared.settings.Settings.{Settings}
-use Rattle.cosign_layers.specs.Rows.{valid_in}
-use Rattle.cosign_layers.specs.Standing.{meaning}
 use Rattle.oci_protocol.proofs.Extending.{Extends-none}
-use Rattle.pull_run.specs.Rounds.{row_by}
-use Rattle.pull_run.proofs.Rounding.{none_yet, next_round, played, take_more, new_is_calm}
+use Rattle.pull_run.proofs.Rounding.{none_yet, next_round, played, take_more, new_is_calm, row_as}
 use Rattle.pull_run.proofs.pulls.pull_each.Goals as goal
 
 pub loop-moment-init : goal.loop-moment-init
-loop-moment-init g c = (none_yet _ (Extends-none _) c.empty.ensures refl, refl, new_is_calm c.new-script.result c.new-script.ensures.told)
+loop-moment-init g c = (none_yet _ (Extends-none _) c.empty.ensures refl, refl, refl, new_is_calm c.new-script.result c.new-script.ensures.told)
 
 pub loop-moment-preserved : goal.loop-moment-preserved
-loop-moment-preserved g c = (next_round (ap (λ (s : Settings). row_by (meaning c.args.terms.now.policy (valid_in c.args.terms.now.verifier) (λ b. (goal.VerificationConstraint-dyn g (b.vtable, b.value)).accepts b.value)) s (reference_in c.args.terms.now.image) (registry_auth c.args.terms.now.auth) c.args.terms.now.accepted) c.loop-moment.invariant.1) (take_more c.args.moments.now c.loop-moment.moment-index c.loop-moment-test.true) c.loop-moment.invariant.0 c.in_ok-pull_at.ensures.round, c.in_ok-pull_at.ensures.settings ∙ c.loop-moment.invariant.1, c.in_ok-pull_at.ensures.calm)
+loop-moment-preserved g c = (
+  next_round
+      (row_as (λ b. (goal.VerificationConstraint-dyn g (b.vtable, b.value)).accepts b.value) c.args.terms.now c.loop-moment.invariant.1 c.loop-moment.invariant.2)
+      (take_more c.args.moments.now c.loop-moment.moment-index c.loop-moment-test.true) c.loop-moment.invariant.0 c.in_ok-pull_at.ensures.round,
+  c.in_ok-pull_at.ensures.settings ∙ c.loop-moment.invariant.1,
+  c.in_ok-pull_at.ensures.log_keys ∙ c.loop-moment.invariant.2,
+  c.in_ok-pull_at.ensures.calm,
+)
 
 pub returns : goal.returns
-returns g c = played c.args.answers c.new-script.result c.loop-moment.script c.new-script.ensures.told c.new-script.ensures.faults c.new-script.ensures.table (rw (take_all _ _ c.loop-moment-test.false) at c.loop-moment.invariant.0) c.loop-moment.invariant.2
+returns g c = played c.args.answers c.new-script.result c.loop-moment.script c.new-script.ensures.told c.new-script.ensures.faults c.new-script.ensures.table (rw (take_all _ _ c.loop-moment-test.false) at c.loop-moment.invariant.0) c.loop-moment.invariant.3

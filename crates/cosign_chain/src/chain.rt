@@ -1,0 +1,136 @@
+//! The whole chain, checked again.
+ghost use Rattle.std.specs.Prelude.{◌≡◌, ◌↔◌, IfOk, IfErr, IsTrue, option_copied};
+ghost use Rattle.cosign_layers.specs.Read.{Gives, HasOneOutcome, RejectedUnlessMemory, input_of};
+ghost use Rattle.cosign_layers.specs.Standing.{StandsFor, meaning};
+ghost use Rattle.cosign_layers.specs.Trust.{trust};
+ghost use Rattle.cosign_chain.specs.Chain.{Chain};
+
+use crate::documents::leads_to_manifest;
+use crate::image::VerifiedImage;
+use crate::links::check_links;
+use crate::same_layer::same_reading;
+use cosign_layers::{
+    LayerKind, LayerRejection, LogKeys, Offline, PullPolicy, SignatureLayer, SignatureVerifier,
+    read_bundle_layer, read_payload_layer, stands,
+};
+use json_values::Text;
+use oci_names::Reference;
+use oci_platforms::ResolverPromise;
+use std::alloc::{AllocError, Global};
+
+/// Whether the whole chain of an image holds, with no client and no request in sight.
+///
+/// The links hold (`check_links`). The first document reads as the manifest, or under a promise as an index of which
+/// the promise picks the manifest's digest. The signature layer is what its bytes and annotations say, is about the
+/// digest, is signed under its certificate's key or one of the policy's, and is accepted by each constraint of a policy
+/// that has one.
+pub fn check_chain<V: SignatureVerifier, O: Offline>(
+    alloc: Global,
+    image: &Reference,
+    accepted_media_types: &[Text],
+    promise: Option<&ResolverPromise>,
+    policy: &PullPolicy,
+    log_keys: &LogKeys,
+    verifier: &V,
+    judge: &O,
+    found: &VerifiedImage,
+) -> Result<bool, AllocError>
+    ensures { IfOk result (λ holds. IsTrue holds ↔ Chain (meaning policy.now (λ b. accepts (b.vtable, b.value))
+        (trust (V.valid verifier.now) (O.vouched judge.now) log_keys.now))
+        image.now accepted_media_types.now (option_copied promise.entry) found.now) }
+{
+    if !check_links(image, accepted_media_types, found) {
+        return Ok(false);
+    }
+    let led = leads_to_manifest(alloc, promise, found)?;
+    if !led {
+        return Ok(false);
+    }
+    let (digest, layer) = (found.digest.as_str(), &found.signature);
+    let stood = stands_for(alloc, policy, log_keys, verifier, judge, digest, layer)?;
+    Ok(stood)
+}
+
+// Whether the layer stands for the image of this digest.
+#[tactic(auto, using(crate::proofs::Standing::unconstrained, crate::proofs::Standing::another, crate::proofs::Standing::supported, crate::proofs::Standing::rejected))]
+fn stands_for<V: SignatureVerifier, O: Offline>(
+    alloc: Global,
+    policy: &PullPolicy,
+    log_keys: &LogKeys,
+    verifier: &V,
+    judge: &O,
+    digest: &str,
+    layer: &SignatureLayer,
+) -> Result<bool, AllocError>
+    ensures { IfOk result (λ stood. IsTrue stood ↔ StandsFor (meaning policy.now (λ b. accepts (b.vtable, b.value))
+        (trust (V.valid verifier.now) (O.vouched judge.now) log_keys.now))
+        digest.now layer.now) }
+{
+    match read_again(alloc, log_keys, verifier, judge, digest, layer) {
+        Ok(again) => {
+            if policy.constraints.as_slice().is_empty() {
+                return Ok(false);
+            }
+            if !same_reading(&again, layer) {
+                return Ok(false);
+            }
+            let stood = stands(alloc, verifier, policy, layer)?;
+            Ok(stood)
+        }
+        Err(rejection) => {
+            if rejection.is_memory() {
+                return Err(AllocError);
+            }
+            Ok(false)
+        }
+    }
+}
+
+// What the layer's bytes and annotations say.
+fn read_again<V: SignatureVerifier, O: Offline>(
+    alloc: Global,
+    log_keys: &LogKeys,
+    verifier: &V,
+    judge: &O,
+    digest: &str,
+    layer: &SignatureLayer,
+) -> Result<SignatureLayer, LayerRejection>
+    ensures gives { IfOk result (Gives
+        (trust (V.valid verifier.now) (O.vouched judge.now) log_keys.now) digest.now (input_of layer.now)) }
+    ensures rejects { IfErr result (RejectedUnlessMemory
+        (trust (V.valid verifier.now) (O.vouched judge.now) log_keys.now) digest.now (input_of layer.now)) }
+    ensures law { HasOneOutcome
+        (trust (V.valid verifier.now) (O.vouched judge.now) log_keys.now) digest.now (input_of layer.now) }
+{
+    let (content, named, annotations) = (
+        &layer.content,
+        layer.oci_digest.as_str(),
+        &layer.annotations,
+    );
+    match layer.kind {
+        LayerKind::Payload => {
+            read_payload_layer(
+                alloc,
+                content,
+                named,
+                annotations,
+                digest,
+                log_keys,
+                verifier,
+                judge,
+            )
+        }
+        LayerKind::Bundle => {
+            read_bundle_layer(
+                alloc,
+                content,
+                named,
+                annotations,
+                digest,
+                log_keys,
+                verifier,
+                judge,
+            )
+        }
+    }
+}

@@ -1,0 +1,11 @@
+//! Tests of signature layers: the check that each fails first, what signs them, and whom a policy accepts.
+#![tactic(auto)]
+
+#[cfg(test)]
+mod causes;
+#[cfg(test)]
+mod layers;
+#[cfg(test)]
+mod trusted;
+#[cfg(test)]
+mod written;
