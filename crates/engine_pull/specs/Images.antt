@@ -14,9 +14,10 @@ use Rattle.engine_requests.specs.declared.error.OciDistributionError.{OciDistrib
 use Rattle.engine_requests.specs.declared.error.OciDistributionError.TheVariants as refusal
 use Rattle.engine_steps.specs.Rows.{Row}
 use Rattle.engine_pull.specs.declared.image.ImageData.{ImageData}
-use Rattle.engine_pull.specs.Pulls.{pull_manifest, held_blob}
+use Rattle.engine_pull.specs.Manifests.{pull_image_manifest_and_list_digest}
+use Rattle.engine_pull.specs.Pulls.{held_blob}
 
--- the manifest of an image; an index has none without a resolver of platforms
+-- the manifest of an image, where no index is taken
 abbrev pub image_manifest : OciManifest → Result OciImageManifest OciDistributionError
 image_manifest (Image manifest) = Ok manifest
 image_manifest (ImageIndex index) = Err refusal.ImageIndexParsingNoPlatformResolverError
@@ -59,15 +60,14 @@ pull_layers s image (x ∷ xs) layers = do
 -- an image whose layers are of these types
 unfoldable pub pull : Context → Reference → RegistryAuth → List (List ℕ) → Row ImageData
 pull s image a accepted = do
-  found ← pull_manifest s image a
-  manifest ← Done (image_manifest found.0)
-  config ← held_blob s image manifest.config.digest
-  Done (layers_accepted accepted manifest.layers)
-  layers ← pull_layers s image manifest.layers []
+  found ← pull_image_manifest_and_list_digest s image a
+  config ← held_blob s image found.0.config.digest
+  Done (layers_accepted accepted found.0.layers)
+  layers ← pull_layers s image found.0.layers []
   Done (Ok (record {
     layers = layers;
     digest = Some found.1;
-    config = config_of manifest config;
+    config = config_of found.0 config;
     manifest =
-        Some manifest;
+        Some found.0;
   }))

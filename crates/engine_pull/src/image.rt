@@ -8,9 +8,9 @@ ghost use Rattle.engine_pull.specs.Images.{image_manifest, is_accepted, all_acce
 ghost use Rattle.engine_pull.specs.Images.{layers_accepted, layer_of, config_of, pull_layers, pull};
 
 use crate::blobs::pulled_blob;
-use crate::documents::pull_manifest;
+use crate::manifests::pull_image_manifest_and_list_digest;
 use engine_requests::{Call, OciDistributionError};
-use json_values::{Blob, Copied, List, Text, copy_all, row};
+use json_values::{Blob, Copied, List, Text, copied, copy_all, row};
 use oci_auth::{Memory, RegistryAuth};
 use oci_manifests::blob::Config;
 use oci_manifests::{ImageLayer, OciDescriptor, OciImageManifest, OciManifest};
@@ -28,7 +28,22 @@ pub struct ImageData {
     pub manifest: Option<OciImageManifest>,
 }
 
-/// The manifest of an image. An index has none without a resolver of platforms.
+impl Copied for ImageData {
+    fn copy(&self, alloc: Global) -> Result<ImageData, AllocError> {
+        copied!(
+            alloc,
+            self,
+            ImageData {
+                layers,
+                digest,
+                config,
+                manifest
+            }
+        )
+    }
+}
+
+/// The manifest of an image, where no index is taken.
 pub fn image_manifest(document: OciManifest) -> Result<OciImageManifest, OciDistributionError>
     ensures { Says result (image_manifest document) }
 {
@@ -152,9 +167,8 @@ pub fn pull<T: Transport>(
     ensures { Meets is_memory (pull (context_of call.now) call.now.image.now auth.now accepted.now)
         (T.state transport.old) (T.state transport.new) memory.old memory.new result }
 {
-    let found = pull_manifest(alloc, transport, memory, call, auth)?;
-    let (document, digest) = found;
-    let manifest = image_manifest(document)?;
+    let found = pull_image_manifest_and_list_digest(alloc, transport, memory, call, auth)?;
+    let (manifest, digest, _) = found;
     let content = pulled_blob(
         alloc,
         transport,

@@ -4,7 +4,12 @@
 mod blobs;
 mod documents;
 mod image;
+mod manifests;
 
 pub use blobs::{pull_blob, pulled_blob};
 pub use documents::{fetch_manifest_digest, manifest_document, pull_manifest, pull_manifest_raw};
 pub use image::{ImageData, config_of, image_manifest, layer_of, layers_accepted, pull};
+pub use manifests::{
+    pull_image_manifest, pull_image_manifest_and_list_digest, pull_manifest_and_config,
+    pull_manifest_and_config_and_list_digest,
+};

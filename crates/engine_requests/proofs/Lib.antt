@@ -1,2 +1,3 @@
+pub mod ConfigTexts
 pub mod Handing
 pub mod Tables

@@ -4,5 +4,6 @@ pub mod Blobs
 pub mod Contexts
 pub mod Documents
 pub mod Errors
+pub mod Index
 pub mod Requests
 pub mod Tokens

@@ -10,9 +10,11 @@ use std::alloc::{AllocError, AllocFailed, Global};
 use std::error::Error;
 use std::fmt::{self, Display, Formatter};
 
-/// What a request could not be made of.
+/// What a request could not be made of, or an answer could not be made into.
 #[derive(Clone, Copy, Debug, PartialEq, Eq)]
 pub enum GenericCause {
+    /// A configuration that is no text in UTF-8.
+    ConfigNotText,
     /// A value that cannot stand in a header: the user agent, an accepted type or a token.
     HeaderText,
 }
@@ -34,11 +36,16 @@ pub enum OciDistributionError {
     AuthenticationFailure(TokenBody),
     /// A body with more bytes than the settings allow.
     BodyTooLong,
+    /// A configuration that does not read as a configuration file.
+    ConfigConversionError(Blob),
     /// A digest in a header, a reference or a descriptor that is none, or that does not name the body.
     DigestError(DigestError),
     GenericError(GenericCause),
     /// An index was read, and the client has no resolver of platforms.
     ImageIndexParsingNoPlatformResolverError,
+    /// An index was read in which the image is not found: the resolver answered a digest of no entry, or of an index
+    /// again, which is told here, or none, which is the empty text.
+    ImageManifestNotFoundError(Text),
     /// A layer of a media type that is not accepted.
     IncompatibleLayerMediaTypeError(Text),
     /// A document that reads neither as a manifest nor as an index.
@@ -72,7 +79,7 @@ impl OciDistributionError {
     pub fn is_memory(&self) -> bool
         ensures { result ≡ is_memory self.now }
     {
-        matches!(self, OciDistributionError::WantOfMemory)
+        matches!(self, Self::WantOfMemory)
     }
 
     /// The name of the variant.
@@ -80,33 +87,79 @@ impl OciDistributionError {
         ensures { result.now ≡ name_of self.now }
     {
         match self {
-            OciDistributionError::AmbiguousManifest(_) => "AmbiguousManifest",
-            OciDistributionError::AuthenticationFailure(_) => "AuthenticationFailure",
-            OciDistributionError::BodyTooLong => "BodyTooLong",
-            OciDistributionError::DigestError(_) => "DigestError",
-            OciDistributionError::GenericError(_) => "GenericError",
-            OciDistributionError::ImageIndexParsingNoPlatformResolverError => {
+            Self::AmbiguousManifest(_) => "AmbiguousManifest",
+            Self::AuthenticationFailure(_) => "AuthenticationFailure",
+            Self::BodyTooLong => "BodyTooLong",
+            Self::ConfigConversionError(_) => "ConfigConversionError",
+            Self::DigestError(_) => "DigestError",
+            Self::GenericError(_) => "GenericError",
+            Self::ImageIndexParsingNoPlatformResolverError => {
                 "ImageIndexParsingNoPlatformResolverError"
             }
-            OciDistributionError::IncompatibleLayerMediaTypeError(_) => {
-                "IncompatibleLayerMediaTypeError"
+            Self::ImageManifestNotFoundError(_) => "ImageManifestNotFoundError",
+            Self::IncompatibleLayerMediaTypeError(_) => "IncompatibleLayerMediaTypeError",
+            Self::ManifestParsingError(_) => "ManifestParsingError",
+            Self::PullNoLayersError => "PullNoLayersError",
+            Self::RegistryError { .. } => "RegistryError",
+            Self::RegistryTokenDecodeError(_) => "RegistryTokenDecodeError",
+            Self::ServerError { .. } => "ServerError",
+            Self::SinkFault => "SinkFault",
+            Self::SpecViolationError(_) => "SpecViolationError",
+            Self::TransportFault => "TransportFault",
+            Self::UnauthorizedError { .. } => "UnauthorizedError",
+            Self::UnsupportedMediaTypeError(_) => "UnsupportedMediaTypeError",
+            Self::UnsupportedSchemaVersionError(_) => "UnsupportedSchemaVersionError",
+            Self::UrlParseError(_) => "UrlParseError",
+            Self::VersionedParsingError(_) => "VersionedParsingError",
+            Self::WantOfMemory => "WantOfMemory",
+        }
+    }
+}
+
+impl Copied for SpecViolation {
+    fn copy(&self, alloc: Global) -> Result<SpecViolation, AllocError> {
+        let SpecViolation::Status { expected, got, url } = self;
+        let url = url.copy(alloc)?;
+        Ok(SpecViolation::Status {
+            expected: *expected,
+            got: *got,
+            url,
+        })
+    }
+}
+
+impl Copied for OciDistributionError {
+    fn copy(&self, alloc: Global) -> Result<OciDistributionError, AllocError> {
+        match self {
+            Self::AmbiguousManifest(body) => Ok(Self::AmbiguousManifest(body.copy(alloc)?)),
+            Self::AuthenticationFailure(body) => Ok(Self::AuthenticationFailure(body.copy(alloc)?)),
+            Self::BodyTooLong => Ok(Self::BodyTooLong),
+            Self::ConfigConversionError(content) => Ok(Self::ConfigConversionError(content.copy(alloc)?)),
+            Self::DigestError(error) => Ok(Self::DigestError(error.copy(alloc)?)),
+            Self::GenericError(cause) => Ok(Self::GenericError(*cause)),
+            Self::ImageIndexParsingNoPlatformResolverError => Ok(Self::ImageIndexParsingNoPlatformResolverError),
+            Self::ImageManifestNotFoundError(digest) => Ok(Self::ImageManifestNotFoundError(digest.copy(alloc)?)),
+            Self::IncompatibleLayerMediaTypeError(kind) => Ok(Self::IncompatibleLayerMediaTypeError(kind.copy(alloc)?)),
+            Self::ManifestParsingError(body) => Ok(Self::ManifestParsingError(body.copy(alloc)?)),
+            Self::PullNoLayersError => Ok(Self::PullNoLayersError),
+            Self::RegistryError { envelope, url } => {
+                let row![envelope, url] = copy_all(alloc, row![envelope, url])?;
+                Ok(Self::RegistryError { envelope, url })
             }
-            OciDistributionError::ManifestParsingError(_) => "ManifestParsingError",
-            OciDistributionError::PullNoLayersError => "PullNoLayersError",
-            OciDistributionError::RegistryError { .. } => "RegistryError",
-            OciDistributionError::RegistryTokenDecodeError(_) => "RegistryTokenDecodeError",
-            OciDistributionError::ServerError { .. } => "ServerError",
-            OciDistributionError::SinkFault => "SinkFault",
-            OciDistributionError::SpecViolationError(_) => "SpecViolationError",
-            OciDistributionError::TransportFault => "TransportFault",
-            OciDistributionError::UnauthorizedError { .. } => "UnauthorizedError",
-            OciDistributionError::UnsupportedMediaTypeError(_) => "UnsupportedMediaTypeError",
-            OciDistributionError::UnsupportedSchemaVersionError(_) => {
-                "UnsupportedSchemaVersionError"
+            Self::RegistryTokenDecodeError(body) => Ok(Self::RegistryTokenDecodeError(body.copy(alloc)?)),
+            Self::ServerError { code, url, message } => {
+                let row![url, message] = copy_all(alloc, row![url, message])?;
+                Ok(Self::ServerError { code: *code, url, message })
             }
-            OciDistributionError::UrlParseError(_) => "UrlParseError",
-            OciDistributionError::VersionedParsingError(_) => "VersionedParsingError",
-            OciDistributionError::WantOfMemory => "WantOfMemory",
+            Self::SinkFault => Ok(Self::SinkFault),
+            Self::SpecViolationError(violation) => Ok(Self::SpecViolationError(violation.copy(alloc)?)),
+            Self::TransportFault => Ok(Self::TransportFault),
+            Self::UnauthorizedError { url } => Ok(Self::UnauthorizedError { url: url.copy(alloc)? }),
+            Self::UnsupportedMediaTypeError(kind) => Ok(Self::UnsupportedMediaTypeError(kind.copy(alloc)?)),
+            Self::UnsupportedSchemaVersionError(version) => Ok(Self::UnsupportedSchemaVersionError(*version)),
+            Self::UrlParseError(text) => Ok(Self::UrlParseError(text.copy(alloc)?)),
+            Self::VersionedParsingError(body) => Ok(Self::VersionedParsingError(body.copy(alloc)?)),
+            Self::WantOfMemory => Ok(Self::WantOfMemory),
         }
     }
 }

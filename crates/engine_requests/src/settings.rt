@@ -1,8 +1,10 @@
 // What stays the same over a client's calls.
 ghost use Rattle.std.specs.Prelude.{◌≡◌};
 ghost use Rattle.engine_requests.specs.Addresses.{is_listed, scheme_for};
+ghost use Rattle.engine_requests.specs.declared.settings.ClientProtocol.TheVariants.{Https as https_alone};
 
 use json_values::{List, Text};
+use oci_platforms::PlatformResolver;
 
 /// The scheme of a registry's URLs.
 #[derive(Debug, Drop)]
@@ -21,6 +23,8 @@ pub struct Settings {
     pub user_agent: Text,
     /// How many bytes one body may have.
     pub max_body_bytes: u64,
+    /// Which image of an index is meant. Where nothing is said of it, an index is refused.
+    pub platform_resolver: Option<PlatformResolver>,
 }
 
 fn is_listed(registries: &[Text], registry: &str) -> bool
@@ -35,6 +39,13 @@ fn is_listed(registries: &[Text], registry: &str) -> bool
 }
 
 impl ClientProtocol {
+    /// `https` for all registries.
+    pub fn default() -> ClientProtocol
+        ensures { result ≡ https_alone }
+    {
+        ClientProtocol::Https
+    }
+
     /// `http` or `https`, for this registry.
     pub fn scheme_for(&self, registry: &str) -> &'static str
         ensures { result.now ≡ scheme_for self.now registry.now }

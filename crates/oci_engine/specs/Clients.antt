@@ -1,5 +1,5 @@
 -- What a client is made of.
-use Rattle.std.specs.Prelude.{codes}
+use Rattle.std.specs.Prelude.{false, None, codes}
 use Rattle.engine_requests.specs.declared.settings.ClientProtocol.TheVariants.{Https}
 use Rattle.engine_requests.specs.declared.settings.Settings.{Settings}
 use Rattle.oci_engine.specs.declared.config.ClientConfig.{ClientConfig}
@@ -8,14 +8,18 @@ abbrev pub settings_of : ClientConfig → Settings
 settings_of config = record {
   protocol = config.protocol;
   user_agent = config.user_agent;
-  max_body_bytes =
-      config.max_body_bytes;
+  max_body_bytes = config.max_body_bytes;
+  platform_resolver = config.platform_resolver;
 }
 
 -- what a client is made of where nothing else is said
 abbrev pub default_config : ClientConfig
 default_config = record {
   protocol = Https;
+  use_monolithic_push = false;
+  platform_resolver = None;
+  max_concurrent_upload = 16;
+  max_concurrent_download = 16;
   default_token_expiration_secs = 60;
   user_agent = codes "oci-client/0.18.0";
   max_body_bytes = 4294967295;

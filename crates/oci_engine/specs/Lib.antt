@@ -1,6 +1,9 @@
-pub mod Answered
-pub mod Causes
 pub mod Clients
-pub mod Held
+pub mod ConfigFiles
+pub mod Confinement
 pub mod Refusals
-pub mod TokenCauses
+pub use Rattle.engine_laws.specs.Answered
+pub use Rattle.engine_laws.specs.Causes
+pub use Rattle.engine_laws.specs.Confined
+pub use Rattle.engine_laws.specs.Held
+pub use Rattle.engine_laws.specs.TokenCauses

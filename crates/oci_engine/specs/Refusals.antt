@@ -13,9 +13,9 @@ use Rattle.engine_requests.specs.declared.error.OciDistributionError.{OciDistrib
 use Rattle.engine_requests.specs.declared.error.OciDistributionError.TheVariants as refusal
 use Rattle.engine_steps.specs.Blobs.{Destination}
 use Rattle.oci_engine.specs.declared.client.Client.{Client}
-use Rattle.oci_engine.specs.Held.{Entry, pulling}
-use Rattle.oci_engine.specs.Causes.{Cause, AnswerCause, DocumentCause, BadHeader, OwnDigest, ManifestUrl}
-use Rattle.oci_engine.specs.Causes.{BlobUrl, BlobCause, ImageCause, IsRefusedAs}
+use Rattle.engine_laws.specs.Held.{Entry, pulling}
+use Rattle.engine_laws.specs.Causes.{Cause, AnswerCause, DocumentCause, BadHeader, OwnDigest, ManifestUrl}
+use Rattle.engine_laws.specs.Causes.{BlobUrl, BlobCause, FoundCause, ConfigCause, ImageCause, IsRefusedAs}
 
 -- what was told between two states of a transport has the cause of the refusal, if the call was refused
 abbrev pub RefusedFor : {A : Type 0} → (List Exchange → ℕ → OciDistributionError → Type 0) → Link → Link
@@ -59,6 +59,18 @@ abbrev pub ManifestRefused : Client → ℕ → Reference → RegistryAuth → L
 ManifestRefused client moment image a c now e =
     Cause (ManifestUrl client.settings image) (DocumentCause (OwnDigest image))
     (BadHeaderOf client moment image (Some a) manifest_types) client.settings c now e
+
+-- of the manifest of the image, to which an index may lead
+abbrev pub FoundRefused : Client → ℕ → Reference → RegistryAuth → List Exchange → ℕ
+    → OciDistributionError → Type 0
+FoundRefused client moment image a c now e =
+    FoundCause (BadHeaderOf client moment image (Some a) manifest_types) client.settings image c now e
+
+-- of it with its configuration as text
+abbrev pub ConfigRefused : Client → ℕ → Reference → RegistryAuth → List Exchange → ℕ
+    → OciDistributionError → Type 0
+ConfigRefused client moment image a c now e =
+    ConfigCause (BadHeaderOf client moment image (Some a) manifest_types) client.settings image c now e
 
 -- of the whole image
 abbrev pub PullRefused : Client → ℕ → Reference → RegistryAuth → List (List ℕ) → List Exchange → ℕ

@@ -1,5 +1,5 @@
 // The calls that users make.
-ghost use Rattle.std.specs.Prelude.{◌≡◌, ℕ, List, Some, OnOk, OnErr, Err, IfOk};
+ghost use Rattle.std.specs.Prelude.{◌≡◌, ℕ, List, Some, None, OnOk, OnErr, Err, IfOk, option_copied};
 ghost use Rattle.json_values.specs.Counts.{Rose};
 ghost use Rattle.oci_digests.specs.Names.{Names};
 ghost use Rattle.oci_names.specs.References.{digest_of};
@@ -13,21 +13,24 @@ ghost use Rattle.oci_auth.specs.Memory.{fresh, stored};
 ghost use Rattle.engine_pull.specs.Pulls.{fetch_manifest_digest, pull_manifest, pull_manifest_raw};
 ghost use Rattle.engine_pull.specs.Pulls.{pull_blob, held_blob};
 ghost use Rattle.engine_pull.specs.Images.{pull};
-ghost use Rattle.oci_engine.specs.Answered.{Answered, Body, LastBody, TookBlob};
-ghost use Rattle.oci_engine.specs.Causes.{HasBadHeader, IsEarly};
-ghost use Rattle.oci_engine.specs.Clients.{settings_of};
+ghost use Rattle.engine_laws.specs.Answered.{Answered, Body, LastBody, TookBlob};
+ghost use Rattle.engine_laws.specs.Causes.{HasBadHeader, IsEarly};
+ghost use Rattle.oci_engine.specs.Clients.{settings_of, default_config};
+ghost use Rattle.oci_engine.specs.Confinement.{Stays, StaysFor};
 ghost use Rattle.oci_engine.specs.Refusals.{RefusedFor, FaultCounted, UrlRefused, at_moment};
 ghost use Rattle.oci_engine.specs.Refusals.{DigestRefused, DocumentRefused, ManifestRefused};
 ghost use Rattle.oci_engine.specs.Refusals.{PullRefused, BlobRefused};
-ghost use Rattle.oci_engine.specs.TokenCauses.{TokenCause};
+ghost use Rattle.engine_laws.specs.TokenCauses.{TokenCause};
 
 use crate::config::ClientConfig;
+use crate::source::ClientConfigSource;
 use engine_pull::ImageData;
 use engine_requests::{Call, OciDistributionError, Settings};
 use json_values::{Blob, Sink, Text};
 use oci_auth::{Memory, RegistryAuth, RegistryOperation};
 use oci_manifests::OciManifest;
 use oci_names::Reference;
+use oci_platforms::PlatformResolver;
 use oci_transport::Transport;
 use std::alloc::{AllocError, Global};
 
@@ -46,18 +49,50 @@ impl Client {
     {
         let ClientConfig {
             protocol,
+            platform_resolver,
             default_token_expiration_secs,
             user_agent,
             max_body_bytes,
+            ..
         } = config;
         Client {
             settings: Settings {
                 protocol,
                 user_agent,
                 max_body_bytes,
+                platform_resolver,
             },
             memory: Memory::new(alloc, default_token_expiration_secs),
         }
+    }
+
+    /// The client of the configuration that the source gives.
+    pub fn from_source<S: ClientConfigSource>(
+        alloc: Global,
+        source: &S,
+    ) -> Result<Client, AllocError>
+        ensures settings { IfOk result (λ client. client.settings ≡ settings_of (S.configured source.now)) }
+        ensures fresh { IfOk result
+            (λ client. client.memory ≡ fresh (S.configured source.now).default_token_expiration_secs) }
+    {
+        let config = source.client_config(alloc)?;
+        Ok(Client::new(alloc, config))
+    }
+
+    /// The client of the default configuration.
+    pub fn default(alloc: Global) -> Result<Client, AllocError>
+        ensures settings { IfOk result (λ client. client.settings ≡ settings_of default_config) }
+        ensures fresh { IfOk result (λ client. client.memory ≡ fresh 60) }
+    {
+        let config = ClientConfig::default(alloc)?;
+        Ok(Client::new(alloc, config))
+    }
+
+    /// Which image of an index is meant, where the configuration says so.
+    pub fn platform_resolver(&self) -> Option<&PlatformResolver>
+        ensures { option_copied result ≡ self.now.settings.platform_resolver }
+    {
+        self.settings.platform_resolver.as_ref()
     }
 
     /// Stores credentials for a registry. Those that are stored already are never replaced.
@@ -87,6 +122,8 @@ impl Client {
         ensures run { Meets is_memory (token_given (at_moment self.old moment) image.now authentication.now operation)
             (T.state transport.old) (T.state transport.new) self.old.memory self.new.memory result }
         ensures settings { self.new.settings ≡ self.old.settings }
+        ensures confined { StaysFor operation self.old moment image.now (Some authentication.now)
+            (T.state transport.old) (T.state transport.new) }
         ensures causes { RefusedFor (TokenCause self.old.settings image.now authentication.now)
             (T.state transport.old) (T.state transport.new) result }
         ensures fault { FaultCounted (T.state transport.old) (T.state transport.new) result }
@@ -118,6 +155,8 @@ impl Client {
         ensures run { Meets is_memory (fetch_manifest_digest (at_moment self.old moment) image.now auth.now)
             (T.state transport.old) (T.state transport.new) self.old.memory self.new.memory result }
         ensures settings { self.new.settings ≡ self.old.settings }
+        ensures confined { Stays self.old moment image.now (Some auth.now)
+            (T.state transport.old) (T.state transport.new) }
         ensures answered { IfOk result (λ d. Told (λ c. Answered self.old.settings image.now c d)
             (T.state transport.old) (T.state transport.new)) }
         ensures causes { RefusedFor (DigestRefused self.old moment image.now auth.now)
@@ -147,6 +186,8 @@ impl Client {
         ensures run { Meets is_memory (pull_manifest_raw (at_moment self.old moment) image.now auth.now (listed accepted_media_types.now))
             (T.state transport.old) (T.state transport.new) self.old.memory self.new.memory result }
         ensures settings { self.new.settings ≡ self.old.settings }
+        ensures confined { Stays self.old moment image.now (Some auth.now)
+            (T.state transport.old) (T.state transport.new) }
         ensures body { IfOk result (λ found. Told (λ c. Body c found.0)
             (T.state transport.old) (T.state transport.new)) }
         ensures named { IfOk result (λ found. Names found.1 found.0) }
@@ -187,6 +228,8 @@ impl Client {
         ensures run { Meets is_memory (pull_manifest (at_moment self.old moment) image.now auth.now)
             (T.state transport.old) (T.state transport.new) self.old.memory self.new.memory result }
         ensures settings { self.new.settings ≡ self.old.settings }
+        ensures confined { Stays self.old moment image.now (Some auth.now)
+            (T.state transport.old) (T.state transport.new) }
         ensures causes { RefusedFor (ManifestRefused self.old moment image.now auth.now)
             (T.state transport.old) (T.state transport.new) result }
         ensures fault { FaultCounted (T.state transport.old) (T.state transport.new) result }
@@ -214,6 +257,8 @@ impl Client {
         ensures run { Meets is_memory (pull (at_moment self.old moment) image.now auth.now accepted_media_types.now)
             (T.state transport.old) (T.state transport.new) self.old.memory self.new.memory result }
         ensures settings { self.new.settings ≡ self.old.settings }
+        ensures confined { Stays self.old moment image.now (Some auth.now)
+            (T.state transport.old) (T.state transport.new) }
         ensures causes { RefusedFor
             (PullRefused self.old moment image.now auth.now accepted_media_types.now)
             (T.state transport.old) (T.state transport.new) result }
@@ -250,6 +295,8 @@ impl Client {
             (T.state transport.old) (T.state transport.new) self.old.memory self.new.memory
             (K.state out.old) (K.state out.new) result }
         ensures settings { self.new.settings ≡ self.old.settings }
+        ensures confined { Stays self.old moment image.now None
+            (T.state transport.old) (T.state transport.new) }
         ensures took { IfOk result (λ u. TookBlob digest.now
             (T.state transport.old) (T.state transport.new) (K.state out.old) (K.state out.new)) }
         ensures causes { RefusedFor (BlobRefused IntoSink self.old moment image.now digest.now)
@@ -280,6 +327,8 @@ impl Client {
         ensures run { Meets is_memory (held_blob (at_moment self.old moment) image.now digest.now)
             (T.state transport.old) (T.state transport.new) self.old.memory self.new.memory result }
         ensures settings { self.new.settings ≡ self.old.settings }
+        ensures confined { Stays self.old moment image.now None
+            (T.state transport.old) (T.state transport.new) }
         ensures body { IfOk result (λ bytes. Told (λ c. Body c bytes)
             (T.state transport.old) (T.state transport.new)) }
         ensures last { IfOk result (λ bytes. Told (λ c. LastBody c bytes)

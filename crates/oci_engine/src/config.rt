@@ -4,6 +4,7 @@ ghost use Rattle.oci_engine.specs.Clients.{default_config};
 
 use engine_requests::ClientProtocol;
 use json_values::Text;
+use oci_platforms::PlatformResolver;
 use std::alloc::{AllocError, Global};
 
 /// How many uploads a client may have under way at once.
@@ -19,6 +20,14 @@ pub const DEFAULT_TOKEN_EXPIRATION_SECS: u64 = 60;
 #[derive(Debug, Drop)]
 pub struct ClientConfig {
     pub protocol: ClientProtocol,
+    /// For pushes alone.
+    pub use_monolithic_push: bool,
+    /// Which image of an index is meant. Where nothing is said of it, an index is refused.
+    pub platform_resolver: Option<PlatformResolver>,
+    /// It has no effect: one request is under way at once.
+    pub max_concurrent_upload: usize,
+    /// It has no effect: one request is under way at once.
+    pub max_concurrent_download: usize,
     /// For how many seconds a token is kept that does not say when it expires.
     pub default_token_expiration_secs: u64,
     /// The value of the header `user-agent`.
@@ -28,13 +37,18 @@ pub struct ClientConfig {
 }
 
 impl ClientConfig {
-    /// `https`, tokens that are kept for a minute, `oci-client/0.18.0`, and bodies of less than 4 GiB.
+    /// `https`, no resolver of platforms, tokens that are kept for a minute, `oci-client/0.18.0`, and bodies of less
+    /// than 4 GiB.
     pub fn default(alloc: Global) -> Result<ClientConfig, AllocError>
         ensures { IfOk result (λ config. config ≡ default_config) }
     {
         let user_agent = Text::new(alloc, "oci-client/0.18.0")?;
         Ok(ClientConfig {
             protocol: ClientProtocol::Https,
+            use_monolithic_push: false,
+            platform_resolver: None,
+            max_concurrent_upload: DEFAULT_MAX_CONCURRENT_UPLOAD,
+            max_concurrent_download: DEFAULT_MAX_CONCURRENT_DOWNLOAD,
             default_token_expiration_secs: DEFAULT_TOKEN_EXPIRATION_SECS,
             user_agent,
             max_body_bytes: 4294967295,

@@ -8,6 +8,8 @@ use Rattle.engine_requests.specs.declared.settings.Settings.{Settings}
 use Rattle.oci_engine.specs.declared.client.Client.{Client as Engine}
 use Rattle.sig_registry.specs.declared.error.SigstoreError.{SigstoreError}
 use Rattle.sig_registry.specs.declared.plain.OciClient.{OciClient}
+use Rattle.sig_registry.specs.declared.registry_client.RegistryClient.{RegistryClient}
+use Rattle.sig_registry.specs.declared.registry_client.RegistryClient.TheVariants.{Plain}
 
 -- what a client keeps between its calls
 abbrev pub Kept : Type 0
@@ -25,6 +27,9 @@ engine_state c = record { settings = c.settings; kept = c.memory }
 
 abbrev pub plain_state : OciClient → Client
 plain_state c = engine_state c.client
+
+abbrev pub state_of : RegistryClient → Client
+state_of (Plain c) = plain_state c
 
 -- a client with these settings still has them, and its call is this protocol
 pub record Made {A E : Type 0} (of_memory : E → Bool) (s : Settings) (p : Proto Kept (Result A E))

@@ -1,5 +1,7 @@
 pub mod Calls
 pub mod Clients
+pub mod Config
+pub mod Confinement
 pub mod Conversions
 pub mod Direct
 pub mod Errors

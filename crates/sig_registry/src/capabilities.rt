@@ -1,16 +1,17 @@
 // What the search asks of a client.
-ghost use Rattle.std.specs.Prelude.{◌≡◌};
+ghost use Rattle.std.specs.Prelude.{◌≡◌, Some, None, option_copied};
 ghost use Rattle.engine_requests.specs.declared.settings.Settings.{Settings};
 ghost use Rattle.engine_requests.specs.Contexts.{within};
 ghost use Rattle.engine_requests.specs.Requests.{listed};
 ghost use Rattle.sig_registry.specs.Errors.{is_memory, FaultCounted, NoSinkFault};
 ghost use Rattle.sig_registry.specs.Clients.{Client, Made};
+ghost use Rattle.sig_registry.specs.Confinement.{Stays};
 ghost use Rattle.sig_registry.specs.Calls.{digest_call, manifest_call, image_call, document_call, blob_call};
 
 use crate::error::SigstoreError;
 use json_values::{Blob, Text};
 use oci_auth::RegistryAuth;
-use oci_engine::ImageData;
+use oci_engine::{ImageData, PlatformResolver};
 use oci_manifests::{OciDescriptor, OciManifest};
 use oci_names::Reference;
 use oci_transport::Transport;
@@ -33,7 +34,9 @@ pub trait ClientCapabilities {
         ensures run { (s : Settings) → Made is_memory s (digest_call (within s moment) image.now auth.now)
             (state self.old) (state self.new) (T.state transport.old) (T.state transport.new) result }
         ensures fault { FaultCounted (T.state transport.old) (T.state transport.new) result }
-        ensures no_sink { NoSinkFault result };
+        ensures no_sink { NoSinkFault result }
+        ensures confined { Stays (state self.old) moment image.now (Some auth.now)
+            (T.state transport.old) (T.state transport.new) };
 
     /// The image with its blobs; a refusal is `RegistryPullError`.
     fn pull<T: Transport>(
@@ -49,7 +52,9 @@ pub trait ClientCapabilities {
             → Made is_memory s (image_call (within s moment) image.now auth.now accepted_media_types.now)
             (state self.old) (state self.new) (T.state transport.old) (T.state transport.new) result }
         ensures fault { FaultCounted (T.state transport.old) (T.state transport.new) result }
-        ensures no_sink { NoSinkFault result };
+        ensures no_sink { NoSinkFault result }
+        ensures confined { Stays (state self.old) moment image.now (Some auth.now)
+            (T.state transport.old) (T.state transport.new) };
 
     /// The image's manifest or index with its digest; a refusal is `RegistryPullManifestError`.
     fn pull_manifest<T: Transport>(
@@ -63,7 +68,9 @@ pub trait ClientCapabilities {
         ensures run { (s : Settings) → Made is_memory s (manifest_call (within s moment) image.now auth.now)
             (state self.old) (state self.new) (T.state transport.old) (T.state transport.new) result }
         ensures fault { FaultCounted (T.state transport.old) (T.state transport.new) result }
-        ensures no_sink { NoSinkFault result };
+        ensures no_sink { NoSinkFault result }
+        ensures confined { Stays (state self.old) moment image.now (Some auth.now)
+            (T.state transport.old) (T.state transport.new) };
 
     /// The bytes of the image's manifest or index with their digest; a refusal is `RegistryPullError`.
     fn pull_manifest_raw<T: Transport>(
@@ -79,7 +86,9 @@ pub trait ClientCapabilities {
             → Made is_memory s (document_call (within s moment) image.now auth.now (listed accepted_media_types.now))
             (state self.old) (state self.new) (T.state transport.old) (T.state transport.new) result }
         ensures fault { FaultCounted (T.state transport.old) (T.state transport.new) result }
-        ensures no_sink { NoSinkFault result };
+        ensures no_sink { NoSinkFault result }
+        ensures confined { Stays (state self.old) moment image.now (Some auth.now)
+            (T.state transport.old) (T.state transport.new) };
 
     /// The bytes of a blob of the image's repository; a refusal is `RegistryPullError`.
     fn pull_blob<T: Transport>(
@@ -93,5 +102,11 @@ pub trait ClientCapabilities {
         ensures run { (s : Settings) → Made is_memory s (blob_call (within s moment) image.now layer.now.digest)
             (state self.old) (state self.new) (T.state transport.old) (T.state transport.new) result }
         ensures fault { FaultCounted (T.state transport.old) (T.state transport.new) result }
-        ensures no_sink { NoSinkFault result };
+        ensures no_sink { NoSinkFault result }
+        ensures confined { Stays (state self.old) moment image.now None
+            (T.state transport.old) (T.state transport.new) };
+
+    /// Which image of an index is meant, where the client's configuration says so.
+    fn platform_resolver(&self) -> Option<&PlatformResolver>
+        ensures resolver { option_copied result ≡ (state self.now).settings.platform_resolver };
 }

@@ -12,7 +12,7 @@ use crate::error::SigstoreError;
 use crate::wording::{Called, worded};
 use json_values::{Blob, Text};
 use oci_auth::RegistryAuth;
-use oci_engine::{Client, ImageData};
+use oci_engine::{Client, ImageData, PlatformResolver};
 use oci_manifests::{OciDescriptor, OciManifest};
 use oci_names::Reference;
 use oci_transport::Transport;
@@ -110,5 +110,9 @@ impl ClientCapabilities for OciClient {
             .client
             .pulled_blob(alloc, transport, moment, image, layer.digest.as_str());
         worded(alloc, Called::Pull, image, outcome)
+    }
+
+    fn platform_resolver(&self) -> Option<&PlatformResolver> {
+        self.client.platform_resolver()
     }
 }

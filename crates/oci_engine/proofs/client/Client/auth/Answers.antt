@@ -1,5 +1,6 @@
+use Rattle.engine_laws.proofs.CallConfined.{given_confined}
 use Rattle.engine_requests.specs.Contexts.{within}
-use Rattle.oci_engine.proofs.TokenRefused.{token_reason, token_fault}
+use Rattle.engine_laws.proofs.TokenCauses.{token_reason, token_fault}
 use Rattle.oci_engine.proofs.client.Client.auth.Goals as goal
 
 pub returns-clause-causes : goal.returns-clause-causes
@@ -7,3 +8,6 @@ returns-clause-causes g c = token_reason (within c.args.self.now.settings c.args
 
 pub returns-clause-fault : goal.returns-clause-fault
 returns-clause-fault g c = token_fault (within c.args.self.now.settings c.args.moment) c.args.image.now c.args.authentication.now c.args.operation c.token_given.ensures
+
+pub returns-clause-confined : goal.returns-clause-confined
+returns-clause-confined g c = given_confined (within c.args.self.now.settings c.args.moment) c.args.image.now c.args.authentication.now c.args.operation c.token_given.ensures

@@ -1,6 +1,7 @@
-use Rattle.oci_engine.proofs.Results.{digest_answered}
-use Rattle.oci_engine.proofs.Reasons.{digest_reason, digest_fault}
-use Rattle.oci_engine.proofs.Exact.{digest_url, digest_bad, met_only, met_early}
+use Rattle.engine_laws.proofs.CallResults.{digest_answered}
+use Rattle.engine_laws.proofs.CallCauses.{digest_reason, digest_fault}
+use Rattle.engine_laws.proofs.ExactRefusals.{digest_url, digest_bad, met_only, met_early}
+use Rattle.engine_laws.proofs.CallConfined.{digest_confined}
 use Rattle.engine_requests.specs.Contexts.{within}
 use Rattle.oci_engine.proofs.client.Client.fetch_manifest_digest.Goals as goal
 
@@ -18,3 +19,6 @@ returns-clause-no_url g c = λ none. met_only _ (digest_url (within c.args.self.
 
 pub returns-clause-bad_header : goal.returns-clause-bad_header
 returns-clause-bad_header g c = λ bad. met_early (digest_bad (within c.args.self.now.settings c.args.moment) c.args.image.now c.args.auth.now bad) c.fetch_manifest_digest.ensures
+
+pub returns-clause-confined : goal.returns-clause-confined
+returns-clause-confined g c = digest_confined (within c.args.self.now.settings c.args.moment) c.args.image.now c.args.auth.now c.fetch_manifest_digest.ensures

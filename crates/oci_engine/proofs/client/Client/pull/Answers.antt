@@ -1,5 +1,6 @@
-use Rattle.oci_engine.proofs.Reasons.{image_reason, image_fault}
-use Rattle.oci_engine.proofs.Exact.{image_url, image_bad, met_only, met_early}
+use Rattle.engine_laws.proofs.CallCauses.{image_reason, image_fault}
+use Rattle.engine_laws.proofs.ExactRefusals.{image_url, image_bad, met_only, met_early}
+use Rattle.engine_laws.proofs.CallConfined.{image_confined}
 use Rattle.engine_requests.specs.Contexts.{within}
 use Rattle.oci_engine.proofs.client.Client.pull.Goals as goal
 
@@ -14,3 +15,6 @@ returns-clause-no_url g c = λ none. met_only _ (image_url (within c.args.self.n
 
 pub returns-clause-bad_header : goal.returns-clause-bad_header
 returns-clause-bad_header g c = λ bad. met_early (image_bad (within c.args.self.now.settings c.args.moment) c.args.image.now c.args.auth.now c.args.accepted_media_types.now bad) c.pull.ensures
+
+pub returns-clause-confined : goal.returns-clause-confined
+returns-clause-confined g c = image_confined (within c.args.self.now.settings c.args.moment) c.args.image.now c.args.auth.now c.args.accepted_media_types.now c.pull.ensures

@@ -1,7 +1,8 @@
 use Rattle.engine_steps.specs.Blobs.{IntoSink}
-use Rattle.oci_engine.proofs.Results.{blob_took}
-use Rattle.oci_engine.proofs.Reasons.{spilled_reason, spilled_fault}
-use Rattle.oci_engine.proofs.Exact.{blob_url, blob_bad, spilled_only, spilled_early}
+use Rattle.engine_laws.proofs.CallResults.{blob_took}
+use Rattle.engine_laws.proofs.CallCauses.{spilled_reason, spilled_fault}
+use Rattle.engine_laws.proofs.ExactRefusals.{blob_url, blob_bad, spilled_only, spilled_early}
+use Rattle.engine_laws.proofs.CallConfined.{spilled_confined}
 use Rattle.engine_requests.specs.Contexts.{within}
 use Rattle.oci_engine.proofs.client.Client.pull_blob.Goals as goal
 
@@ -22,3 +23,6 @@ returns-clause-no_url g c = λ none. spilled_only _ (blob_url IntoSink (within c
 
 pub returns-clause-bad_header : goal.returns-clause-bad_header
 returns-clause-bad_header g c = λ bad. spilled_early (blob_bad IntoSink (within c.args.self.now.settings c.args.moment) c.args.image.now c.args.digest.now bad) c.pull_blob.ensures
+
+pub returns-clause-confined : goal.returns-clause-confined
+returns-clause-confined g c = spilled_confined (within c.args.self.now.settings c.args.moment) c.args.image.now c.args.digest.now c.pull_blob.ensures

@@ -1,5 +1,6 @@
-use Rattle.oci_engine.proofs.Reasons.{manifest_reason, manifest_fault}
-use Rattle.oci_engine.proofs.Exact.{manifest_url, manifest_bad, met_only, met_early}
+use Rattle.engine_laws.proofs.CallCauses.{manifest_reason, manifest_fault}
+use Rattle.engine_laws.proofs.ExactRefusals.{manifest_url, manifest_bad, met_only, met_early}
+use Rattle.engine_laws.proofs.CallConfined.{manifest_confined}
 use Rattle.engine_requests.specs.Contexts.{within}
 use Rattle.oci_engine.proofs.client.Client.pull_manifest.Goals as goal
 
@@ -14,3 +15,6 @@ returns-clause-no_url g c = λ none. met_only _ (manifest_url (within c.args.sel
 
 pub returns-clause-bad_header : goal.returns-clause-bad_header
 returns-clause-bad_header g c = λ bad. met_early (manifest_bad (within c.args.self.now.settings c.args.moment) c.args.image.now c.args.auth.now bad) c.pull_manifest.ensures
+
+pub returns-clause-confined : goal.returns-clause-confined
+returns-clause-confined g c = manifest_confined (within c.args.self.now.settings c.args.moment) c.args.image.now c.args.auth.now c.pull_manifest.ensures

@@ -1,8 +1,9 @@
 use Rattle.std.proofs.Common.{◌∙◌}
 use Rattle.engine_steps.proofs.Exits.{wanting, passed_on}
-use Rattle.oci_engine.proofs.Reasons.{listed_reason, raw_fault}
-use Rattle.oci_engine.proofs.Results.{raw_body, raw_named, raw_given}
-use Rattle.oci_engine.proofs.Exact.{raw_url, raw_bad, met_only, met_early, listed_met}
+use Rattle.engine_laws.proofs.CallCauses.{listed_reason, raw_fault}
+use Rattle.engine_laws.proofs.CallResults.{raw_body, raw_named, raw_given}
+use Rattle.engine_laws.proofs.ExactRefusals.{raw_url, raw_bad, met_only, met_early, listed_met}
+use Rattle.engine_laws.proofs.CallConfined.{raw_confined}
 use Rattle.engine_requests.specs.Contexts.{within}
 use Rattle.oci_engine.proofs.client.Client.pull_manifest_raw.Goals as goal
 
@@ -35,3 +36,12 @@ returns-clause-bad_header g c = λ bad. met_early (raw_bad (within c.args.self.n
 
 pub returns-in_err-found-clause-bad_header : goal.returns-in_err-found-clause-bad_header
 returns-in_err-found-clause-bad_header g c = λ bad. met_early (raw_bad (within c.args.self.now.settings c.args.moment) c.args.image.now c.args.auth.now _ bad) (listed_met (within c.args.self.now.settings c.args.moment) c.args.image.now c.args.auth.now _ _ (c.as_str.ensures ∙ c.in_ok-types.ensures) (passed_on c.in_err-found.ensures c.from_residual-in_err-found.ensures.1))
+
+pub returns-clause-confined : goal.returns-clause-confined
+returns-clause-confined g c = raw_confined (within c.args.self.now.settings c.args.moment) c.args.image.now c.args.auth.now _ c.in_ok-found.ensures
+
+pub returns-in_err-types-clause-confined : goal.returns-in_err-types-clause-confined
+returns-in_err-types-clause-confined g c = raw_confined (within c.args.self.now.settings c.args.moment) c.args.image.now c.args.auth.now _ (returns-in_err-types-clause-run g c)
+
+pub returns-in_err-found-clause-confined : goal.returns-in_err-found-clause-confined
+returns-in_err-found-clause-confined g c = raw_confined (within c.args.self.now.settings c.args.moment) c.args.image.now c.args.auth.now _ (passed_on c.in_err-found.ensures c.from_residual-in_err-found.ensures.1)

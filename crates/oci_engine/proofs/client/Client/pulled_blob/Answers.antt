@@ -1,7 +1,8 @@
 use Rattle.engine_steps.specs.Blobs.{IntoMemory}
-use Rattle.oci_engine.proofs.Results.{blob_body, blob_last, blob_named}
-use Rattle.oci_engine.proofs.Reasons.{blob_reason, blob_fault}
-use Rattle.oci_engine.proofs.Exact.{blob_url, blob_bad, met_only, met_early}
+use Rattle.engine_laws.proofs.CallResults.{blob_body, blob_last, blob_named}
+use Rattle.engine_laws.proofs.CallCauses.{blob_reason, blob_fault}
+use Rattle.engine_laws.proofs.ExactRefusals.{blob_url, blob_bad, met_only, met_early}
+use Rattle.engine_laws.proofs.CallConfined.{blob_confined}
 use Rattle.engine_requests.specs.Contexts.{within}
 use Rattle.oci_engine.proofs.client.Client.pulled_blob.Goals as goal
 
@@ -25,3 +26,6 @@ returns-clause-no_url g c = λ none. met_only _ (blob_url IntoMemory (within c.a
 
 pub returns-clause-bad_header : goal.returns-clause-bad_header
 returns-clause-bad_header g c = λ bad. met_early (blob_bad IntoMemory (within c.args.self.now.settings c.args.moment) c.args.image.now c.args.digest.now bad) c.pulled_blob.ensures
+
+pub returns-clause-confined : goal.returns-clause-confined
+returns-clause-confined g c = blob_confined IntoMemory (within c.args.self.now.settings c.args.moment) c.args.image.now c.args.digest.now c.pulled_blob.ensures

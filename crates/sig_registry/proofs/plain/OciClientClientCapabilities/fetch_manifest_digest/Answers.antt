@@ -12,4 +12,5 @@ returns g c = record {
   run = λ s. made FetchManifest c.args.image.now (λ t. fetch_manifest_digest (within t c.args.moment) c.args.image.now c.args.auth.now) s c.fetch_manifest_digest-outcome.ensures.settings c.fetch_manifest_digest-outcome.ensures.run c.worded.ensures;
   fault = worded_fault FetchManifest _ _ _ _ c.fetch_manifest_digest-outcome.ensures.fault c.worded.ensures;
   no_sink = worded_no_sink FetchManifest _ (DigestRefused c.args.self.now.client c.args.moment c.args.image.now c.args.auth.now) _ _ _ _ (λ d n h. h.holds) c.fetch_manifest_digest-outcome.ensures.causes c.worded.ensures;
+  confined = c.fetch_manifest_digest-outcome.ensures.confined;
 }

@@ -12,4 +12,5 @@ returns g c = record {
   run = λ s. made Pull c.args.image.now (λ t. pull (within t c.args.moment) c.args.image.now c.args.auth.now c.args.accepted_media_types.now) s c.pull-outcome.ensures.settings c.pull-outcome.ensures.run c.worded.ensures;
   fault = worded_fault Pull _ _ _ _ c.pull-outcome.ensures.fault c.worded.ensures;
   no_sink = worded_no_sink Pull _ (PullRefused c.args.self.now.client c.args.moment c.args.image.now c.args.auth.now c.args.accepted_media_types.now) _ _ _ _ (λ d n h. h) c.pull-outcome.ensures.causes c.worded.ensures;
+  confined = c.pull-outcome.ensures.confined;
 }

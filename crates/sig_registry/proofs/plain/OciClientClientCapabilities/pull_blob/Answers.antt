@@ -14,4 +14,5 @@ returns g c = record {
   run = λ s. rw (sym c.as_str.ensures) (made Pull c.args.image.now (λ t. held_blob (within t c.args.moment) c.args.image.now c.as_str.result.now) s c.pulled_blob-outcome.ensures.settings c.pulled_blob-outcome.ensures.run c.worded.ensures);
   fault = worded_fault Pull _ _ _ _ c.pulled_blob-outcome.ensures.fault c.worded.ensures;
   no_sink = worded_no_sink Pull _ (BlobRefused IntoMemory c.args.self.now.client c.args.moment c.args.image.now c.as_str.result.now) _ _ _ _ (λ d n h. h) c.pulled_blob-outcome.ensures.causes c.worded.ensures;
+  confined = c.pulled_blob-outcome.ensures.confined;
 }

@@ -12,4 +12,5 @@ returns g c = record {
   run = λ s. made PullManifest c.args.image.now (λ t. pull_manifest (within t c.args.moment) c.args.image.now c.args.auth.now) s c.pull_manifest-outcome.ensures.settings c.pull_manifest-outcome.ensures.run c.worded.ensures;
   fault = worded_fault PullManifest _ _ _ _ c.pull_manifest-outcome.ensures.fault c.worded.ensures;
   no_sink = worded_no_sink PullManifest _ (ManifestRefused c.args.self.now.client c.args.moment c.args.image.now c.args.auth.now) _ _ _ _ (λ d n h. h.holds) c.pull_manifest-outcome.ensures.causes c.worded.ensures;
+  confined = c.pull_manifest-outcome.ensures.confined;
 }

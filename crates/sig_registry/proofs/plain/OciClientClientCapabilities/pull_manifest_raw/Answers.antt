@@ -13,4 +13,5 @@ returns g c = record {
   run = λ s. made Pull c.args.image.now (λ t. pull_manifest_raw (within t c.args.moment) c.args.image.now c.args.auth.now (listed c.args.accepted_media_types.now)) s c.pull_manifest_raw-outcome.ensures.settings c.pull_manifest_raw-outcome.ensures.run c.worded.ensures;
   fault = worded_fault Pull _ _ _ _ c.pull_manifest_raw-outcome.ensures.fault c.worded.ensures;
   no_sink = worded_no_sink Pull _ (DocumentRefused c.args.self.now.client c.args.moment c.args.image.now c.args.auth.now (listed c.args.accepted_media_types.now)) _ _ _ _ (λ d n h. h.holds) c.pull_manifest_raw-outcome.ensures.causes c.worded.ensures;
+  confined = c.pull_manifest_raw-outcome.ensures.confined;
 }

@@ -1,0 +1,77 @@
+-- What a client keeps in a call: credentials and tokens that the call may show.
+use Rattle.std.proofs.Common.{◌≡◌, inl, inr, ℕ, Bool, true, false, cond, List, [], ◌∷◌, ◌++◌, Option, Some, None, sym, ap, subst, ◌∙◌, append_assoc}
+use Rattle.std.specs.Prelude.{is_some, nat_le, if◌then◌else◌, option_and_then}
+use Rattle.std.specs.Option.{option_map_or}
+use Rattle.std.specs.FinMap as map
+use Rattle.std.specs.FinMap.{FinMap, get-insert}
+use Rattle.std.specs.Cmp.Lexicographic.{nat_list_cmp_total}
+use Rattle.json_values.specs.Places.{by_bytes}
+use Rattle.oci_transport.specs.declared.message.Exchange.{Exchange}
+use Rattle.oci_names.specs.References.{resolved_registry}
+use Rattle.oci_auth.specs.Caches.{key_of, kept_until, kept_token, given_at, token_at}
+use Rattle.oci_auth.specs.Keys.{Key, inserted}
+use Rattle.oci_auth.specs.Memory.{stored}
+use Rattle.oci_auth.specs.declared.auth.RegistryAuth.{RegistryAuth}
+use Rattle.oci_auth.specs.declared.cache.TokenCache.{TokenCache}
+use Rattle.oci_auth.specs.declared.kept.KeptToken.{KeptToken}
+use Rattle.oci_auth.specs.declared.memory.Memory.{Memory}
+use Rattle.oci_auth.specs.declared.token_type.RegistryTokenType.{RegistryTokenType}
+use Rattle.oci_auth.proofs.Places.{is_kept}
+use Rattle.engine_steps.specs.Rows.{with_kept}
+use Rattle.engine_laws.specs.Held.{Entry, IsAuth, GivenIn, IsHeld}
+
+-- what is kept after these exchanges
+pub record Keeps (x : Entry) (l : Memory) (c : List Exchange) : Type 0 where
+  pub credentials : (a : RegistryAuth) → map.get l.credentials (resolved_registry x.image) ≡ Some a → IsAuth x a
+  pub tokens : (token : RegistryTokenType) → token_at l.tokens (key_of x.image x.operation) x.moment ≡ Some token → IsHeld x c token
+
+-- at the beginning
+pub keeps_first : (x : Entry) → Keeps x x.kept []
+keeps_first x = record { credentials = λ a is. inl is; tokens = λ token is. inr (inl is) }
+
+-- what may be shown stays so
+given_more : (c d : List Exchange) (token : RegistryTokenType) → GivenIn c token → GivenIn (c ++ d) token
+given_more c d token g = record { before = g.before; exchange = g.exchange; after = g.after ++ d; split = ap (λ e. e ++ d) g.split ∙ append_assoc g.before (g.exchange ∷ g.after) d; answer = g.answer; answered = g.answered; read = g.read }
+
+pub held_more : (x : Entry) (c d : List Exchange) (token : RegistryTokenType) → IsHeld x c token → IsHeld x (c ++ d) token
+held_more x c d token (inl h) = inl h
+held_more x c d token (inr (inl h)) = inr (inl h)
+held_more x c d token (inr (inr h)) = inr (inr (given_more c d token h))
+
+pub keeps_more : (x : Entry) (l : Memory) (c d : List Exchange) → Keeps x l c → Keeps x l (c ++ d)
+keeps_more x l c d k = record { credentials = k.credentials; tokens = λ token is. held_more x c d token (k.tokens token is) }
+
+-- ---- credentials are stored
+
+by_key : (x : Entry) (b : Bool) (a other : RegistryAuth) (found : Option RegistryAuth) → x.handed ≡ Some a → (found ≡ Some other → IsAuth x other) → cond b (Some a) found ≡ Some other → IsAuth x other
+by_key x true a other found handed before is = let same : a ≡ other = cc is in inr (handed ∙ ap Some same)
+by_key x false a other found handed before is = before is
+
+into_map : (x : Entry) (m : FinMap by_bytes RegistryAuth) (registry : List ℕ) (a other : RegistryAuth) → x.handed ≡ Some a → (map.get m (resolved_registry x.image) ≡ Some other → IsAuth x other) → map.get (map.insert m registry a) (resolved_registry x.image) ≡ Some other → IsAuth x other
+into_map x m registry a other handed before is = by_key x _ a other (map.get m (resolved_registry x.image)) handed before (sym (get-insert nat_list_cmp_total m registry a (resolved_registry x.image)) ∙ is)
+
+stored_by : (x : Entry) (l : Memory) (c : List Exchange) (registry : List ℕ) (a : RegistryAuth) (b : Bool) → x.handed ≡ Some a → Keeps x l c → Keeps x (if b then l else record l { credentials = map.insert l.credentials registry a }) c
+stored_by x l c registry a true handed k = k
+stored_by x l c registry a false handed k = record { credentials = λ other is. into_map x l.credentials registry a other handed (k.credentials other) is; tokens = k.tokens }
+
+pub keeps_stored : (x : Entry) (l : Memory) (c : List Exchange) (registry : List ℕ) (a : RegistryAuth) → x.handed ≡ Some a → Keeps x l c → Keeps x (stored l registry a) c
+keeps_stored x l c registry a handed k = stored_by x l c registry a (is_some (map.get l.credentials registry)) handed k
+
+-- ---- a token is kept
+
+by_moment : (b : Bool) (token other : RegistryTokenType) → (if b then Some token else None) ≡ Some other → token ≡ other
+by_moment true token other is = cc is
+by_moment false token other is = absurd (cc is)
+
+-- the token that is given once one is kept under this key
+given_kept : (cache : TokenCache) (key : Key) (token other : RegistryTokenType) (until moment : ℕ) → token_at (record cache { tokens = inserted cache.tokens (kept_token key token until) }) key moment ≡ Some other → token ≡ other
+given_kept cache key token other until moment is =
+    by_moment (nat_le moment until) token other (sym (ap (λ (o : Option KeptToken). option_and_then (given_at moment) o) (is_kept cache.tokens (kept_token key token until)).here) ∙ is)
+
+cache_by : (x : Entry) (cache : TokenCache) (c : List Exchange) (token other : RegistryTokenType) (until : Option ℕ) → IsHeld x c token → (token_at cache (key_of x.image x.operation) x.moment ≡ Some other → IsHeld x c other)
+    → token_at (option_map_or (λ u. record cache { tokens = inserted cache.tokens (kept_token (key_of x.image x.operation) token u) }) until cache) (key_of x.image x.operation) x.moment ≡ Some other → IsHeld x c other
+cache_by x cache c token other None held before is = before is
+cache_by x cache c token other (Some until) held before is = subst (IsHeld x c) (given_kept cache (key_of x.image x.operation) token other until x.moment is) held
+
+pub keeps_kept : (x : Entry) (l : Memory) (c : List Exchange) (token : RegistryTokenType) → IsHeld x c token → Keeps x l c → Keeps x (with_kept l (key_of x.image x.operation) token x.moment) c
+keeps_kept x l c token held k = record { credentials = k.credentials; tokens = λ other is. cache_by x l.tokens c token other (kept_until token l.tokens.default_expiration_secs x.moment) held (k.tokens other) is }

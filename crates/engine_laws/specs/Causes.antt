@@ -1,0 +1,333 @@
+-- Why a call was refused. A refusal that speaks of an answer speaks of the last one of the call.
+use Rattle.std.specs.Prelude.{◌≡◌, ◌≢◌, ◌<◌, ◌⊎◌, ℕ, true, false, List, [], ◌∷◌, ◌++◌, Some, None, Result, Ok}
+use Rattle.std.specs.Prelude.{Err, codes, length}
+use Rattle.std.specs.List.{Contains}
+use Rattle.std.specs.Str.{is_utf8}
+use Rattle.json_values.specs.Counts.{Rose}
+use Rattle.oci_transport.specs.Headers.{digest_header, first_of, is_header_value}
+use Rattle.oci_transport.specs.Urls.{request_url}
+use Rattle.oci_transport.specs.declared.message.Request.{Request}
+use Rattle.oci_transport.specs.declared.message.Answer.{Answer}
+use Rattle.oci_transport.specs.declared.message.Exchange.{Exchange}
+use Rattle.oci_names.specs.declared.reference.Reference.{Reference}
+use Rattle.oci_auth.specs.Credentials.{authorization_of}
+use Rattle.oci_auth.specs.declared.token_type.RegistryTokenType.{RegistryTokenType}
+use Rattle.oci_names.specs.References.{digest_of}
+use Rattle.oci_digests.specs.Names.{digest_text}
+use Rattle.oci_digests.specs.Checks.{is_header_text}
+use Rattle.oci_digests.specs.Parts.{parts_of, algorithm_of, named_algorithm}
+use Rattle.oci_digests.specs.declared.digester.Algorithm.{Algorithm}
+use Rattle.oci_digests.specs.declared.error.DigestError.{DigestError}
+use Rattle.oci_digests.specs.declared.error.DigestError.TheVariants as digest_refusal
+use Rattle.oci_manifests.specs.declared.document.OciManifest.TheVariants.{Image, ImageIndex}
+use Rattle.oci_manifests.specs.declared.manifest.OciImageManifest.{OciImageManifest}
+use Rattle.oci_manifests.specs.declared.index.OciImageIndex.{OciImageIndex}
+use Rattle.oci_manifests.specs.declared.descriptor.OciDescriptor.{OciDescriptor}
+use Rattle.oci_platforms.specs.Promise.{lists, resolved}
+use Rattle.oci_platforms.specs.declared.promise.ResolverPromise.{ResolverPromise}
+use Rattle.oci_protocol.specs.Runs.{head_part}
+use Rattle.oci_protocol.specs.Ends.{UnlessMemory}
+use Rattle.oci_protocol.specs.Follow.{Trail, IsFinal}
+use Rattle.engine_requests.specs.declared.settings.Settings.{Settings}
+use Rattle.engine_requests.specs.declared.error.GenericCause.TheVariants.{ConfigNotText, HeaderText}
+use Rattle.engine_requests.specs.declared.error.SpecViolation.TheVariants.{Status}
+use Rattle.engine_requests.specs.declared.error.OciDistributionError.{OciDistributionError}
+use Rattle.engine_requests.specs.declared.error.OciDistributionError.TheVariants as refusal
+use Rattle.engine_requests.specs.Addresses.{registry_text, manifest_text, blob_text}
+use Rattle.engine_requests.specs.Answers.{is_success, is_client_error, envelope_in, header_digest}
+use Rattle.engine_requests.specs.Errors.{is_memory}
+use Rattle.engine_requests.specs.Documents.{document_read}
+use Rattle.engine_steps.specs.Blobs.{Destination, IntoSink, IntoMemory}
+use Rattle.engine_requests.specs.Index.{entry_reference}
+use Rattle.engine_pull.specs.Images.{is_accepted}
+use Rattle.engine_laws.specs.Answered.{Body, LastBody}
+use Rattle.engine_laws.specs.Held.{Entry, IsHeld}
+
+-- ---- the last exchange of a call
+
+-- The last request of the call that lists accepted types led to this exchange, and the exchange is
+-- the last one of all. No request of the token step lists types.
+pub record LastAsked (c : List Exchange) (last : Exchange) : Type 0 where
+  pub front : List Exchange
+  pub redirects : List Exchange
+  pub split : c ≡ front ++ (redirects ++ last ∷ [])
+  pub request : Request
+  pub types : List ℕ
+  pub accepts : first_of (codes "accept") request.headers ≡ Some types
+  pub before : ℕ
+  pub left : ℕ
+  pub count : ℕ
+  pub trail : Trail 10 request before redirects left last.request count
+
+-- it was answered so, from this address, and the answer is no redirect that is followed
+pub record LastAnswer (c : List Exchange) (address : List ℕ) (answer : Answer) : Type 0 where
+  pub last : Exchange
+  pub asked : LastAsked c last
+  pub sent : last.request.url ≡ address
+  pub answered : last.answer ≡ Some answer
+  pub final : IsFinal asked.left last.request (head_part answer)
+
+-- it failed: the count of faults, which is this now, rose since it was sent
+pub record LastFailed (c : List Exchange) (now : ℕ) : Type 0 where
+  pub last : Exchange
+  pub asked : LastAsked c last
+  pub rose : Rose last.faults now
+
+-- it was answered with more bytes than this
+pub record LastTooLong (c : List Exchange) (limit : ℕ) : Type 0 where
+  pub last : Exchange
+  pub asked : LastAsked c last
+  pub answer : Answer
+  pub answered : last.answer ≡ Some answer
+  pub long : limit < length answer.body
+
+-- ---- statuses (OCI distribution specification, "Error Codes")
+
+-- an answer with the status of a client's error, other than 401
+pub record IsClientError (answer : Answer) : Type 0 where
+  pub status : is_client_error answer.status ≡ true
+  pub other : answer.status ≢ 401
+
+-- one with no list of errors in it, or an answer of no success and no client's error
+abbrev pub IsServerError : Answer → Type 0
+IsServerError answer = (IsClientError answer × (envelope_in answer.body ≡ None))
+    ⊎ ((is_success answer.status ≡ false) × (is_client_error answer.status ≡ false))
+
+-- ---- digests
+
+-- the text is a digest that the call was given, or the one of the answer's header
+abbrev pub Claimed : (List ℕ → Type 0) → Answer → List ℕ → Type 0
+Claimed Given answer text = Given text ⊎ (header_digest answer.headers ≡ Ok (Some text))
+
+-- the text of the hash of these bytes, by the algorithm that the other text names
+abbrev pub Computed : List ℕ → List ℕ → List ℕ → Type 0
+Computed text bytes computed = (a : Algorithm) × (named_algorithm text ≡ Ok a) × (computed ≡ digest_text a bytes)
+
+-- two texts with the same name of an algorithm
+abbrev pub SameAlgorithm : List ℕ → List ℕ → Type 0
+SameAlgorithm a b = (name : List ℕ) × (x : List ℕ) × (y : List ℕ) × (parts_of a ≡ Some (name, x))
+    × (parts_of b ≡ Some (name, y))
+
+abbrev pub DigestCause : (List ℕ → Type 0) → Answer → DigestError → Type 0
+DigestCause Given answer (digest_refusal.InvalidHeader value) =
+    (first_of digest_header answer.headers ≡ Some value) × (is_header_text value ≡ false)
+DigestCause Given answer digest_refusal.MissingAlgorithm = (text : List ℕ) × Claimed Given answer text
+    × (parts_of text ≡ None)
+DigestCause Given answer (digest_refusal.UnsupportedAlgorithm name) = (text : List ℕ) × (rest : List ℕ)
+    × Claimed Given answer text × (parts_of text ≡ Some (name, rest)) × (algorithm_of name ≡ None)
+DigestCause Given answer (digest_refusal.VerificationError expected actual) = Claimed Given answer expected
+    × (expected ≢ actual) × (Computed expected answer.body actual
+    ⊎ ((header_digest answer.headers ≡ Ok (Some actual)) × SameAlgorithm actual expected))
+DigestCause Given answer digest_refusal.WantOfMemory = ⊥
+
+-- ---- causes
+
+-- what the last answer shows of a refusal: its status, its digests
+abbrev pub AnswerCause : (List ℕ → Type 0) → List ℕ → Answer → OciDistributionError → Type 0
+AnswerCause Given address answer (refusal.UnauthorizedError url) = (url ≡ address) × (answer.status ≡ 401)
+AnswerCause Given address answer (refusal.RegistryError envelope url) = (url ≡ address) × IsClientError answer
+    × (envelope_in answer.body ≡ Some envelope)
+AnswerCause Given address answer (refusal.ServerError status url body) = (url ≡ address) × IsServerError answer
+    × (status ≡ answer.status) × (body ≡ answer.body)
+AnswerCause Given address answer (refusal.SpecViolationError (Status expected got url)) = (url ≡ address)
+    × (expected ≡ 200) × (got ≡ answer.status) × (is_success got ≡ true) × (got ≢ expected)
+AnswerCause Given address answer (refusal.DigestError e) = DigestCause Given answer e
+AnswerCause Given address answer _ = ⊥
+
+-- and that its body does not read as a document, as the refusal says
+abbrev pub IsNoDocument : Answer → OciDistributionError → Type 0
+IsNoDocument answer e = (answer.status ≡ 200) × (document_read answer.body ≡ Err e)
+
+abbrev pub DocumentCause : (List ℕ → Type 0) → List ℕ → Answer → OciDistributionError → Type 0
+DocumentCause Given address answer (refusal.VersionedParsingError body) = IsNoDocument answer
+    (refusal.VersionedParsingError body)
+DocumentCause Given address answer (refusal.ManifestParsingError body) = IsNoDocument answer
+    (refusal.ManifestParsingError body)
+DocumentCause Given address answer (refusal.AmbiguousManifest body) = IsNoDocument answer
+    (refusal.AmbiguousManifest body)
+DocumentCause Given address answer (refusal.UnsupportedSchemaVersionError version) = IsNoDocument answer
+    (refusal.UnsupportedSchemaVersionError version)
+DocumentCause Given address answer (refusal.UnsupportedMediaTypeError kind) = IsNoDocument answer
+    (refusal.UnsupportedMediaTypeError kind)
+DocumentCause Given address answer e = AnswerCause Given address answer e
+
+-- this is so of the last answer and its address
+pub record ByLast (P : List ℕ → Answer → Type 0) (c : List Exchange) : Type 0 where
+  pub address : List ℕ
+  pub answer : Answer
+  pub last : LastAnswer c address answer
+  pub holds : P address answer
+
+-- a value of the request cannot stand in a header
+abbrev pub HasBadHeader : Settings → List ℕ → Type 0
+HasBadHeader s types = (is_header_value s.user_agent ≡ false) ⊎ (is_header_value types ≡ false)
+
+-- nor can a token that the call may show
+abbrev pub HasBadToken : Entry → List Exchange → Type 0
+HasBadToken x c = (token : RegistryTokenType) × IsHeld x c token × (is_header_value (authorization_of token) ≡ false)
+
+-- why a request could not be made: the user agent, the types or the token cannot stand in a header
+abbrev pub BadHeader : Entry → Settings → List ℕ → List Exchange → Type 0
+BadHeader x s types c = HasBadHeader s types ⊎ HasBadToken x c
+
+-- Why a call was refused. A text that is no URL is one of these; of an answer the refusal speaks so,
+-- and of a value that cannot stand in a header so. Memory may be wanting anywhere.
+abbrev pub Cause : (List ℕ → Type 0) → (List ℕ → Answer → OciDistributionError → Type 0)
+    → (List Exchange → Type 0) → Settings → List Exchange → ℕ → OciDistributionError → Type 0
+Cause Text Of Bad s c now (refusal.UrlParseError text) = (request_url text ≡ None) × Text text
+Cause Text Of Bad s c now (refusal.GenericError HeaderText) = Bad c
+Cause Text Of Bad s c now refusal.BodyTooLong = LastTooLong c s.max_body_bytes
+Cause Text Of Bad s c now refusal.TransportFault = LastFailed c now
+Cause Text Of Bad s c now refusal.WantOfMemory = Unit {0}
+Cause Text Of Bad s c now e = ByLast (λ address answer. Of address answer e) c
+
+-- the address of the registry, or of the image's manifest
+abbrev pub ManifestUrl : Settings → Reference → List ℕ → Type 0
+ManifestUrl s image text = (text ≡ registry_text s image) ⊎ (text ≡ manifest_text s image)
+
+-- the address of the registry, or of the blob
+abbrev pub BlobUrl : Settings → Reference → List ℕ → List ℕ → Type 0
+BlobUrl s image digest text = (text ≡ registry_text s image) ⊎ (text ≡ blob_text s image digest)
+
+-- the digest that a reference has
+abbrev pub OwnDigest : Reference → List ℕ → Type 0
+OwnDigest image text = digest_of image ≡ Some text
+
+-- the digest that was asked for
+abbrev pub AskedDigest : List ℕ → List ℕ → Type 0
+AskedDigest digest text = text ≡ digest
+
+-- only a call that has a sink can find that it failed; the count of its faults is not told here
+abbrev pub SinkMayFail : Destination → Type 0
+SinkMayFail IntoSink = Unit {0}
+SinkMayFail IntoMemory = ⊥
+
+-- of a blob
+abbrev pub BlobCause : (List ℕ → Type 0) → Destination → (List Exchange → Type 0) → Settings → List ℕ
+    → List Exchange → ℕ → OciDistributionError → Type 0
+BlobCause Text to Bad s digest c now refusal.SinkFault = SinkMayFail to
+BlobCause Text to Bad s digest c now e = Cause Text (AnswerCause (AskedDigest digest)) Bad s c now e
+
+-- ---- images of indexes
+
+-- the index was read from an answer's body
+pub record IndexRead (c : List Exchange) (index : OciImageIndex) : Type 0 where
+  pub bytes : List ℕ
+  pub body : Body c bytes
+  pub reads : document_read bytes ≡ Ok (ImageIndex index)
+
+-- the last answer's body is an index
+abbrev pub LastIsIndex : List Exchange → Type 0
+LastIsIndex c = ByLast (λ address answer. (index : OciImageIndex) × (document_read answer.body ≡ Ok (ImageIndex index))) c
+
+-- the digest of an entry in an index that was read
+pub record EntryDigest (c : List Exchange) (text : List ℕ) : Type 0 where
+  pub index : OciImageIndex
+  pub read : IndexRead c index
+  pub listed : lists text index.manifests ≡ true
+
+-- The promise leaves no answer, or it leaves this one, which no entry has or which is that of an
+-- index again.
+abbrev pub IsMissing : ResolverPromise → OciImageIndex → List Exchange → List ℕ → Type 0
+IsMissing promise index c text = ((resolved promise index.manifests ≡ None) × (text ≡ []))
+    ⊎ ((resolved promise index.manifests ≡ Some text)
+    × ((lists text index.manifests ≡ false) ⊎ ((lists text index.manifests ≡ true) × LastIsIndex c)))
+
+-- an index was read in which the image was not found
+pub record NotFound (s : Settings) (c : List Exchange) (text : List ℕ) : Type 0 where
+  pub index : OciImageIndex
+  pub read : IndexRead c index
+  pub promise : ResolverPromise
+  pub has : s.platform_resolver ≡ Some promise
+  pub missing : IsMissing promise index c text
+
+-- the digest of the image's reference, or of an index's entry
+abbrev pub FoundDigest : Reference → List Exchange → List ℕ → Type 0
+FoundDigest image c text = OwnDigest image text ⊎ EntryDigest c text
+
+-- the address of the registry, of the image's document, or of an entry's
+abbrev pub FoundUrl : Settings → Reference → List Exchange → List ℕ → Type 0
+FoundUrl s image c text = ManifestUrl s image text
+    ⊎ ((digest : List ℕ) × EntryDigest c digest × (text ≡ manifest_text s (entry_reference image digest)))
+
+-- of a call that an index may lead on, with the addresses and digests that it has
+abbrev pub IndexCause : (List ℕ → Type 0) → (List ℕ → Type 0) → (List Exchange → Type 0) → Settings
+    → List Exchange → ℕ → OciDistributionError → Type 0
+IndexCause Text Given Bad s c now refusal.ImageIndexParsingNoPlatformResolverError =
+    (s.platform_resolver ≡ None) × LastIsIndex c
+IndexCause Text Given Bad s c now (refusal.ImageManifestNotFoundError text) = NotFound s c text
+IndexCause Text Given Bad s c now e = Cause Text (DocumentCause Given) Bad s c now e
+
+-- of the manifest of an image
+abbrev pub FoundCause : (List Exchange → Type 0) → Settings → Reference → List Exchange → ℕ
+    → OciDistributionError → Type 0
+FoundCause Bad s image c now e = IndexCause (FoundUrl s image c) (FoundDigest image c) Bad s c now e
+
+-- ---- images
+
+-- the manifest was read from an answer's body
+pub record ManifestRead (c : List Exchange) (manifest : OciImageManifest) : Type 0 where
+  pub bytes : List ℕ
+  pub body : Body c bytes
+  pub reads : document_read bytes ≡ Ok (Image manifest)
+
+-- the digest of a descriptor in a manifest that was read
+pub record ReadDigest (c : List Exchange) (text : List ℕ) : Type 0 where
+  pub manifest : OciImageManifest
+  pub read : ManifestRead c manifest
+  pub digest : (text ≡ manifest.config.digest) ⊎ ((x : OciDescriptor) × Contains manifest.layers x × (text ≡ x.digest))
+
+-- the digest of the image's reference, of an index's entry or of a descriptor
+abbrev pub ImageDigest : Reference → List Exchange → List ℕ → Type 0
+ImageDigest image c text = FoundDigest image c text ⊎ ReadDigest c text
+
+-- the address of the registry, of the image's document, of an entry's, or of a blob that a descriptor in
+-- a manifest that was read names
+abbrev pub ImageUrl : Settings → Reference → List Exchange → List ℕ → Type 0
+ImageUrl s image c text = FoundUrl s image c text
+    ⊎ ((digest : List ℕ) × ReadDigest c digest × (text ≡ blob_text s image digest))
+
+-- of an image's manifest and its configuration, which is held: it is the body of the last answer, and no text
+abbrev pub ConfigCause : (List Exchange → Type 0) → Settings → Reference → List Exchange → ℕ
+    → OciDistributionError → Type 0
+ConfigCause Bad s image c now (refusal.GenericError ConfigNotText) = (content : List ℕ) × LastBody c content
+    × (is_utf8 content ≡ false)
+ConfigCause Bad s image c now refusal.SinkFault = ⊥
+ConfigCause Bad s image c now e = IndexCause (ImageUrl s image c) (ImageDigest image c) Bad s c now e
+
+-- a layer of a manifest that was read is of this media type, which is not accepted
+pub record NotAccepted (accepted : List (List ℕ)) (c : List Exchange) (kind : List ℕ) : Type 0 where
+  pub manifest : OciImageManifest
+  pub read : ManifestRead c manifest
+  pub layer : OciDescriptor
+  pub contains : Contains manifest.layers layer
+  pub media_type : layer.media_type ≡ kind
+  pub other : is_accepted accepted kind ≡ false
+
+-- of a whole image, whose blobs are held
+abbrev pub ImageCause : (List Exchange → Type 0) → Settings → Reference → List (List ℕ) → List Exchange → ℕ
+    → OciDistributionError → Type 0
+ImageCause Bad s image accepted c now refusal.PullNoLayersError = (manifest : OciImageManifest)
+    × ManifestRead c manifest × (manifest.layers ≡ [])
+ImageCause Bad s image accepted c now (refusal.IncompatibleLayerMediaTypeError kind) = NotAccepted accepted c kind
+ImageCause Bad s image accepted c now refusal.SinkFault = ⊥
+ImageCause Bad s image accepted c now e = IndexCause (ImageUrl s image c) (ImageDigest image c) Bad s c now e
+
+-- ---- refusals that must come
+
+-- the refusal is this one, unless memory was wanting
+abbrev pub IsRefusedAs : {A : Type 0} → OciDistributionError → Result A OciDistributionError → Type 0
+IsRefusedAs e r = UnlessMemory is_memory (λ r. r ≡ Err e) r
+
+-- refused before the request: a text is no URL, a value cannot stand in a header, or memory was
+-- wanting
+abbrev pub IsEarlyRefusal : OciDistributionError → Type 0
+IsEarlyRefusal (refusal.UrlParseError text) = request_url text ≡ None
+IsEarlyRefusal (refusal.GenericError HeaderText) = Unit {0}
+IsEarlyRefusal refusal.WantOfMemory = Unit {0}
+IsEarlyRefusal _ = ⊥
+
+-- the call was refused so
+abbrev pub IsEarly : {A : Type 0} → Result A OciDistributionError → Type 0
+IsEarly (Ok a) = ⊥
+IsEarly (Err e) = IsEarlyRefusal e

@@ -1,0 +1,5 @@
+pub mod Answered
+pub mod Causes
+pub mod Confined
+pub mod Held
+pub mod TokenCauses

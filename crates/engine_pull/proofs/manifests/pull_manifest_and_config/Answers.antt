@@ -1,0 +1,11 @@
+use Rattle.engine_steps.proofs.Exits.{refused, and_then, done}
+use Rattle.engine_pull.specs.Manifests.{pull_manifest_and_config}
+use Rattle.engine_pull.proofs.manifests.pull_manifest_and_config.Goals as goal
+
+pub returns-in_err-found : goal.returns-in_err-found
+unfolding pull_manifest_and_config
+returns-in_err-found g c = refused _ c.in_err-found.ensures c.from_residual.ensures.1
+
+pub returns : goal.returns
+unfolding pull_manifest_and_config
+returns g c = and_then _ c.in_ok-found.ensures done

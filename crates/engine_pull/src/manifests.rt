@@ -1,0 +1,151 @@
+// The manifests of images, to which indexes may lead.
+ghost use Rattle.std.specs.Prelude.{◌≡◌};
+ghost use Rattle.oci_protocol.specs.Runs.{Meets};
+ghost use Rattle.engine_requests.specs.Contexts.{context_of};
+ghost use Rattle.engine_requests.specs.Errors.{is_memory};
+ghost use Rattle.engine_pull.specs.Manifests.{pull_entry, manifest_by, pull_image_manifest};
+ghost use Rattle.engine_pull.specs.Manifests.{pull_image_manifest_and_list_digest, pull_manifest_and_config};
+ghost use Rattle.engine_pull.specs.Manifests.{pull_manifest_and_config_and_list_digest};
+
+use crate::blobs::pulled_blob;
+use crate::documents::pull_manifest;
+use engine_requests::{
+    Call, OciDistributionError, config_text, entry_found, entry_manifest, entry_reference,
+};
+use json_values::Text;
+use oci_auth::{Memory, RegistryAuth};
+use oci_manifests::{OciImageManifest, OciManifest};
+use oci_transport::Transport;
+use std::alloc::Global;
+
+// The manifest of the entry with this digest, which may not be an index again.
+fn pull_entry<T: Transport>(
+    alloc: Global,
+    transport: &mut T,
+    memory: &mut Memory,
+    call: &Call,
+    auth: &RegistryAuth,
+    digest: &str,
+) -> Result<OciImageManifest, OciDistributionError>
+    ensures { Meets is_memory (pull_entry (context_of call.now) call.now.image.now auth.now digest.now)
+        (T.state transport.old) (T.state transport.new) memory.old memory.new result }
+{
+    let image = entry_reference(alloc, call.image, digest)?;
+    let entry = Call {
+        settings: call.settings,
+        image: &image,
+        moment: call.moment,
+    };
+    let found = pull_manifest(alloc, transport, memory, &entry, auth)?;
+    let (document, _) = found;
+    let manifest = entry_manifest(alloc, digest, document)?;
+    Ok(manifest)
+}
+
+// A manifest as it is, or that of an index's entry.
+fn manifest_by<T: Transport>(
+    alloc: Global,
+    transport: &mut T,
+    memory: &mut Memory,
+    call: &Call,
+    auth: &RegistryAuth,
+    document: OciManifest,
+    digest: Text,
+) -> Result<(OciImageManifest, Text, Option<Text>), OciDistributionError>
+    ensures { Meets is_memory (manifest_by (context_of call.now) call.now.image.now auth.now document digest)
+        (T.state transport.old) (T.state transport.new) memory.old memory.new result }
+{
+    let index = match document {
+        OciManifest::Image(manifest) => return Ok((manifest, digest, None)),
+        OciManifest::ImageIndex(index) => index,
+    };
+    let promise = &call.settings.platform_resolver;
+    let entry = entry_found(alloc, promise, index.manifests.as_slice())?;
+    let manifest = pull_entry(alloc, transport, memory, call, auth, entry.as_str())?;
+    Ok((manifest, entry, Some(digest)))
+}
+
+/// The manifest of an image with its digest, and the digest of the index that led to it, where one did. The entry of an index
+/// is found as the settings say. Where none is found, or the entry is an index again, it is
+/// `ImageManifestNotFoundError`.
+pub fn pull_image_manifest_and_list_digest<T: Transport>(
+    alloc: Global,
+    transport: &mut T,
+    memory: &mut Memory,
+    call: &Call,
+    auth: &RegistryAuth,
+) -> Result<(OciImageManifest, Text, Option<Text>), OciDistributionError>
+    ensures { Meets is_memory (pull_image_manifest_and_list_digest (context_of call.now) call.now.image.now auth.now)
+        (T.state transport.old) (T.state transport.new) memory.old memory.new result }
+{
+    let document = pull_manifest(alloc, transport, memory, call, auth)?;
+    let (document_read, digest) = document;
+    let found = manifest_by(
+        alloc,
+        transport,
+        memory,
+        call,
+        auth,
+        document_read,
+        digest,
+    )?;
+    Ok(found)
+}
+
+/// The manifest of an image with its digest.
+pub fn pull_image_manifest<T: Transport>(
+    alloc: Global,
+    transport: &mut T,
+    memory: &mut Memory,
+    call: &Call,
+    auth: &RegistryAuth,
+) -> Result<(OciImageManifest, Text), OciDistributionError>
+    ensures { Meets is_memory (pull_image_manifest (context_of call.now) call.now.image.now auth.now)
+        (T.state transport.old) (T.state transport.new) memory.old memory.new result }
+{
+    let found = pull_image_manifest_and_list_digest(alloc, transport, memory, call, auth)?;
+    let (manifest, digest, _) = found;
+    Ok((manifest, digest))
+}
+
+/// The manifest of an image with its digest, its configuration as text, and the digest of the index that led to it, where
+/// one did.
+pub fn pull_manifest_and_config_and_list_digest<T: Transport>(
+    alloc: Global,
+    transport: &mut T,
+    memory: &mut Memory,
+    call: &Call,
+    auth: &RegistryAuth,
+) -> Result<(OciImageManifest, Text, Text, Option<Text>), OciDistributionError>
+    ensures { Meets is_memory
+        (pull_manifest_and_config_and_list_digest (context_of call.now) call.now.image.now auth.now)
+        (T.state transport.old) (T.state transport.new) memory.old memory.new result }
+{
+    let found = pull_image_manifest_and_list_digest(alloc, transport, memory, call, auth)?;
+    let (manifest, digest, list_digest) = found;
+    let content = pulled_blob(
+        alloc,
+        transport,
+        memory,
+        call,
+        manifest.config.digest.as_str(),
+    )?;
+    let config = config_text(alloc, &content)?;
+    Ok((manifest, digest, config, list_digest))
+}
+
+/// The manifest of an image with its digest, and its configuration as text.
+pub fn pull_manifest_and_config<T: Transport>(
+    alloc: Global,
+    transport: &mut T,
+    memory: &mut Memory,
+    call: &Call,
+    auth: &RegistryAuth,
+) -> Result<(OciImageManifest, Text, Text), OciDistributionError>
+    ensures { Meets is_memory (pull_manifest_and_config (context_of call.now) call.now.image.now auth.now)
+        (T.state transport.old) (T.state transport.new) memory.old memory.new result }
+{
+    let found = pull_manifest_and_config_and_list_digest(alloc, transport, memory, call, auth)?;
+    let (manifest, digest, config, _) = found;
+    Ok((manifest, digest, config))
+}

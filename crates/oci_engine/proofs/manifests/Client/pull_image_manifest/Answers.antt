@@ -1,0 +1,20 @@
+use Rattle.engine_laws.proofs.CallCauses.{one_reason, one_fault}
+use Rattle.engine_laws.proofs.ExactRefusals.{one_url, one_bad, met_only, met_early}
+use Rattle.engine_laws.proofs.CallConfined.{one_confined}
+use Rattle.engine_requests.specs.Contexts.{within}
+use Rattle.oci_engine.proofs.manifests.Client.pull_image_manifest.Goals as goal
+
+pub returns-clause-causes : goal.returns-clause-causes
+returns-clause-causes g c = one_reason (within c.args.self.now.settings c.args.moment) c.args.image.now c.args.auth.now c.pull_image_manifest.ensures
+
+pub returns-clause-fault : goal.returns-clause-fault
+returns-clause-fault g c = one_fault (within c.args.self.now.settings c.args.moment) c.args.image.now c.args.auth.now c.pull_image_manifest.ensures
+
+pub returns-clause-no_url : goal.returns-clause-no_url
+returns-clause-no_url g c = λ none. met_only _ (one_url (within c.args.self.now.settings c.args.moment) c.args.image.now c.args.auth.now none) c.pull_image_manifest.ensures
+
+pub returns-clause-bad_header : goal.returns-clause-bad_header
+returns-clause-bad_header g c = λ bad. met_early (one_bad (within c.args.self.now.settings c.args.moment) c.args.image.now c.args.auth.now bad) c.pull_image_manifest.ensures
+
+pub returns-clause-confined : goal.returns-clause-confined
+returns-clause-confined g c = one_confined (within c.args.self.now.settings c.args.moment) c.args.image.now c.args.auth.now c.pull_image_manifest.ensures

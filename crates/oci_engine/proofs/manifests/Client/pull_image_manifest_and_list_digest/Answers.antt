@@ -1,0 +1,20 @@
+use Rattle.engine_laws.proofs.CallCauses.{found_reason, found_fault}
+use Rattle.engine_laws.proofs.ExactRefusals.{found_url, found_bad, met_only, met_early}
+use Rattle.engine_laws.proofs.CallConfined.{found_confined}
+use Rattle.engine_requests.specs.Contexts.{within}
+use Rattle.oci_engine.proofs.manifests.Client.pull_image_manifest_and_list_digest.Goals as goal
+
+pub returns-clause-causes : goal.returns-clause-causes
+returns-clause-causes g c = found_reason (within c.args.self.now.settings c.args.moment) c.args.image.now c.args.auth.now c.pull_image_manifest_and_list_digest.ensures
+
+pub returns-clause-fault : goal.returns-clause-fault
+returns-clause-fault g c = found_fault (within c.args.self.now.settings c.args.moment) c.args.image.now c.args.auth.now c.pull_image_manifest_and_list_digest.ensures
+
+pub returns-clause-no_url : goal.returns-clause-no_url
+returns-clause-no_url g c = λ none. met_only _ (found_url (within c.args.self.now.settings c.args.moment) c.args.image.now c.args.auth.now none) c.pull_image_manifest_and_list_digest.ensures
+
+pub returns-clause-bad_header : goal.returns-clause-bad_header
+returns-clause-bad_header g c = λ bad. met_early (found_bad (within c.args.self.now.settings c.args.moment) c.args.image.now c.args.auth.now bad) c.pull_image_manifest_and_list_digest.ensures
+
+pub returns-clause-confined : goal.returns-clause-confined
+returns-clause-confined g c = found_confined (within c.args.self.now.settings c.args.moment) c.args.image.now c.args.auth.now c.pull_image_manifest_and_list_digest.ensures

@@ -1,0 +1,20 @@
+use Rattle.engine_laws.proofs.CallCauses.{config_reason, config_fault}
+use Rattle.engine_laws.proofs.ExactRefusals.{config_url, config_bad, met_only, met_early}
+use Rattle.engine_laws.proofs.CallConfined.{config_confined}
+use Rattle.engine_requests.specs.Contexts.{within}
+use Rattle.oci_engine.proofs.manifests.Client.pull_manifest_and_config_and_list_digest.Goals as goal
+
+pub returns-clause-causes : goal.returns-clause-causes
+returns-clause-causes g c = config_reason (within c.args.self.now.settings c.args.moment) c.args.image.now c.args.auth.now c.pull_manifest_and_config_and_list_digest.ensures
+
+pub returns-clause-fault : goal.returns-clause-fault
+returns-clause-fault g c = config_fault (within c.args.self.now.settings c.args.moment) c.args.image.now c.args.auth.now c.pull_manifest_and_config_and_list_digest.ensures
+
+pub returns-clause-no_url : goal.returns-clause-no_url
+returns-clause-no_url g c = λ none. met_only _ (config_url (within c.args.self.now.settings c.args.moment) c.args.image.now c.args.auth.now none) c.pull_manifest_and_config_and_list_digest.ensures
+
+pub returns-clause-bad_header : goal.returns-clause-bad_header
+returns-clause-bad_header g c = λ bad. met_early (config_bad (within c.args.self.now.settings c.args.moment) c.args.image.now c.args.auth.now bad) c.pull_manifest_and_config_and_list_digest.ensures
+
+pub returns-clause-confined : goal.returns-clause-confined
+returns-clause-confined g c = config_confined (within c.args.self.now.settings c.args.moment) c.args.image.now c.args.auth.now c.pull_manifest_and_config_and_list_digest.ensures

@@ -1,0 +1,23 @@
+// Configurations as configuration files.
+ghost use Rattle.engine_requests.specs.Errors.{Says};
+ghost use Rattle.oci_engine.specs.ConfigFiles.{config_file};
+
+use engine_requests::OciDistributionError;
+use json_values::Copied;
+use oci_config::{ConfigError, ConfigFile};
+use oci_manifests::blob::Config;
+use std::alloc::Global;
+
+/// The configuration file that the configuration is. `ConfigConversionError` holds a content that does not read as one.
+pub fn config_file(alloc: Global, config: &Config) -> Result<ConfigFile, OciDistributionError>
+    ensures { Says result (config_file config.now.content) }
+{
+    match ConfigFile::from_config(alloc, config) {
+        Ok(file) => Ok(file),
+        Err(ConfigError::Unreadable) => {
+            let content = config.content.copy(alloc)?;
+            Err(OciDistributionError::ConfigConversionError(content))
+        }
+        Err(ConfigError::WantOfMemory) => Err(OciDistributionError::WantOfMemory),
+    }
+}

@@ -1,0 +1,137 @@
+// The calls that answer the manifest of an image, to which an index may lead.
+ghost use Rattle.std.specs.Prelude.{◌≡◌, Some};
+ghost use Rattle.oci_protocol.specs.Runs.{Meets};
+ghost use Rattle.engine_requests.specs.Addresses.{manifest_text};
+ghost use Rattle.engine_requests.specs.Errors.{is_memory};
+ghost use Rattle.engine_requests.specs.Requests.{manifest_types};
+ghost use Rattle.engine_pull.specs.Manifests.{pull_image_manifest, pull_image_manifest_and_list_digest};
+ghost use Rattle.engine_pull.specs.Manifests.{pull_manifest_and_config, pull_manifest_and_config_and_list_digest};
+ghost use Rattle.engine_laws.specs.Causes.{HasBadHeader, IsEarly};
+ghost use Rattle.oci_engine.specs.Confinement.{Stays};
+ghost use Rattle.oci_engine.specs.Refusals.{RefusedFor, FaultCounted, UrlRefused, at_moment};
+ghost use Rattle.oci_engine.specs.Refusals.{FoundRefused, ConfigRefused};
+
+use crate::client::Client;
+use engine_requests::{Call, OciDistributionError};
+use json_values::Text;
+use oci_auth::RegistryAuth;
+use oci_manifests::OciImageManifest;
+use oci_names::Reference;
+use oci_transport::Transport;
+use std::alloc::Global;
+
+impl Client {
+    /// The manifest of an image with its digest, and the digest of the index that led to it, where one did. Which entry
+    /// of an index is meant, the configuration says.
+    pub fn pull_image_manifest_and_list_digest<T: Transport>(
+        &mut self,
+        alloc: Global,
+        transport: &mut T,
+        moment: u64,
+        image: &Reference,
+        auth: &RegistryAuth,
+    ) -> Result<(OciImageManifest, Text, Option<Text>), OciDistributionError>
+        ensures run { Meets is_memory (pull_image_manifest_and_list_digest (at_moment self.old moment) image.now auth.now)
+            (T.state transport.old) (T.state transport.new) self.old.memory self.new.memory result }
+        ensures settings { self.new.settings ≡ self.old.settings }
+        ensures confined { Stays self.old moment image.now (Some auth.now)
+            (T.state transport.old) (T.state transport.new) }
+        ensures causes { RefusedFor (FoundRefused self.old moment image.now auth.now)
+            (T.state transport.old) (T.state transport.new) result }
+        ensures fault { FaultCounted (T.state transport.old) (T.state transport.new) result }
+        ensures no_url { UrlRefused (manifest_text self.old.settings image.now) result }
+        ensures bad_header { HasBadHeader self.old.settings manifest_types → IsEarly result }
+    {
+        let call = Call {
+            settings: &self.settings,
+            image,
+            moment,
+        };
+        engine_pull::pull_image_manifest_and_list_digest(alloc, transport, &mut self.memory, &call, auth)
+    }
+
+    /// The manifest of an image with its digest.
+    pub fn pull_image_manifest<T: Transport>(
+        &mut self,
+        alloc: Global,
+        transport: &mut T,
+        moment: u64,
+        image: &Reference,
+        auth: &RegistryAuth,
+    ) -> Result<(OciImageManifest, Text), OciDistributionError>
+        ensures run { Meets is_memory (pull_image_manifest (at_moment self.old moment) image.now auth.now)
+            (T.state transport.old) (T.state transport.new) self.old.memory self.new.memory result }
+        ensures settings { self.new.settings ≡ self.old.settings }
+        ensures confined { Stays self.old moment image.now (Some auth.now)
+            (T.state transport.old) (T.state transport.new) }
+        ensures causes { RefusedFor (FoundRefused self.old moment image.now auth.now)
+            (T.state transport.old) (T.state transport.new) result }
+        ensures fault { FaultCounted (T.state transport.old) (T.state transport.new) result }
+        ensures no_url { UrlRefused (manifest_text self.old.settings image.now) result }
+        ensures bad_header { HasBadHeader self.old.settings manifest_types → IsEarly result }
+    {
+        let call = Call {
+            settings: &self.settings,
+            image,
+            moment,
+        };
+        engine_pull::pull_image_manifest(alloc, transport, &mut self.memory, &call, auth)
+    }
+
+    /// The manifest of an image with its digest, its configuration as text, and the digest of the index that led to it,
+    /// where one did.
+    pub fn pull_manifest_and_config_and_list_digest<T: Transport>(
+        &mut self,
+        alloc: Global,
+        transport: &mut T,
+        moment: u64,
+        image: &Reference,
+        auth: &RegistryAuth,
+    ) -> Result<(OciImageManifest, Text, Text, Option<Text>), OciDistributionError>
+        ensures run { Meets is_memory (pull_manifest_and_config_and_list_digest (at_moment self.old moment) image.now auth.now)
+            (T.state transport.old) (T.state transport.new) self.old.memory self.new.memory result }
+        ensures settings { self.new.settings ≡ self.old.settings }
+        ensures confined { Stays self.old moment image.now (Some auth.now)
+            (T.state transport.old) (T.state transport.new) }
+        ensures causes { RefusedFor (ConfigRefused self.old moment image.now auth.now)
+            (T.state transport.old) (T.state transport.new) result }
+        ensures fault { FaultCounted (T.state transport.old) (T.state transport.new) result }
+        ensures no_url { UrlRefused (manifest_text self.old.settings image.now) result }
+        ensures bad_header { HasBadHeader self.old.settings manifest_types → IsEarly result }
+    {
+        let call = Call {
+            settings: &self.settings,
+            image,
+            moment,
+        };
+        engine_pull::pull_manifest_and_config_and_list_digest(alloc, transport, &mut self.memory, &call, auth)
+    }
+
+    /// The manifest of an image with its digest, and its configuration as text.
+    pub fn pull_manifest_and_config<T: Transport>(
+        &mut self,
+        alloc: Global,
+        transport: &mut T,
+        moment: u64,
+        image: &Reference,
+        auth: &RegistryAuth,
+    ) -> Result<(OciImageManifest, Text, Text), OciDistributionError>
+        ensures run { Meets is_memory (pull_manifest_and_config (at_moment self.old moment) image.now auth.now)
+            (T.state transport.old) (T.state transport.new) self.old.memory self.new.memory result }
+        ensures settings { self.new.settings ≡ self.old.settings }
+        ensures confined { Stays self.old moment image.now (Some auth.now)
+            (T.state transport.old) (T.state transport.new) }
+        ensures causes { RefusedFor (ConfigRefused self.old moment image.now auth.now)
+            (T.state transport.old) (T.state transport.new) result }
+        ensures fault { FaultCounted (T.state transport.old) (T.state transport.new) result }
+        ensures no_url { UrlRefused (manifest_text self.old.settings image.now) result }
+        ensures bad_header { HasBadHeader self.old.settings manifest_types → IsEarly result }
+    {
+        let call = Call {
+            settings: &self.settings,
+            image,
+            moment,
+        };
+        engine_pull::pull_manifest_and_config(alloc, transport, &mut self.memory, &call, auth)
+    }
+}

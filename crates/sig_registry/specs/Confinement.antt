@@ -1,0 +1,15 @@
+-- Where a client's credentials and tokens go in a call.
+use Rattle.std.specs.Prelude.{ℕ, Option}
+use Rattle.oci_transport.specs.Link.{Link}
+use Rattle.oci_names.specs.declared.reference.Reference.{Reference}
+use Rattle.oci_auth.specs.declared.auth.RegistryAuth.{RegistryAuth}
+use Rattle.oci_protocol.specs.Runs.{Told}
+use Rattle.engine_requests.specs.Contexts.{within}
+use Rattle.engine_laws.specs.Confined.{AllConfined}
+use Rattle.engine_laws.specs.Held.{pulling}
+use Rattle.sig_registry.specs.Clients.{Client}
+
+-- To the image's registry and to the realm that it names, and nowhere else: so it is of each request that was told.
+abbrev pub Stays : Client → ℕ → Reference → Option RegistryAuth → Link → Link → Type 0
+Stays client moment image handed old new =
+    Told (AllConfined (pulling client.kept (within client.settings moment) image handed) client.settings) old new

@@ -1,0 +1,97 @@
+// The clients of a registry that there are.
+use crate::capabilities::ClientCapabilities;
+use crate::error::SigstoreError;
+use crate::plain::OciClient;
+use json_values::{Blob, Text};
+use oci_auth::RegistryAuth;
+use oci_engine::{ImageData, PlatformResolver};
+use oci_manifests::{OciDescriptor, OciManifest};
+use oci_names::Reference;
+use oci_transport::Transport;
+use std::alloc::Global;
+
+/// A client of a registry, whatever it keeps between its calls.
+#[derive(Drop)]
+pub enum RegistryClient {
+    /// One that keeps no answers.
+    Plain(OciClient),
+}
+
+impl ClientCapabilities for RegistryClient {
+    ghost use Rattle.sig_registry.specs.Clients.{state_of};
+
+    ghost state = { state_of };
+
+    fn fetch_manifest_digest<T: Transport>(
+        &mut self,
+        alloc: Global,
+        transport: &mut T,
+        moment: u64,
+        image: &Reference,
+        auth: &RegistryAuth,
+    ) -> Result<Text, SigstoreError> {
+        match self {
+            RegistryClient::Plain(client) => client.fetch_manifest_digest(alloc, transport, moment, image, auth),
+        }
+    }
+
+    fn pull<T: Transport>(
+        &mut self,
+        alloc: Global,
+        transport: &mut T,
+        moment: u64,
+        image: &Reference,
+        auth: &RegistryAuth,
+        accepted_media_types: &[Text],
+    ) -> Result<ImageData, SigstoreError> {
+        match self {
+            RegistryClient::Plain(client) => client.pull(alloc, transport, moment, image, auth, accepted_media_types),
+        }
+    }
+
+    fn pull_manifest<T: Transport>(
+        &mut self,
+        alloc: Global,
+        transport: &mut T,
+        moment: u64,
+        image: &Reference,
+        auth: &RegistryAuth,
+    ) -> Result<(OciManifest, Text), SigstoreError> {
+        match self {
+            RegistryClient::Plain(client) => client.pull_manifest(alloc, transport, moment, image, auth),
+        }
+    }
+
+    fn pull_manifest_raw<T: Transport>(
+        &mut self,
+        alloc: Global,
+        transport: &mut T,
+        moment: u64,
+        image: &Reference,
+        auth: &RegistryAuth,
+        accepted_media_types: &[Text],
+    ) -> Result<(Blob, Text), SigstoreError> {
+        match self {
+            RegistryClient::Plain(client) => client.pull_manifest_raw(alloc, transport, moment, image, auth, accepted_media_types),
+        }
+    }
+
+    fn pull_blob<T: Transport>(
+        &mut self,
+        alloc: Global,
+        transport: &mut T,
+        moment: u64,
+        image: &Reference,
+        layer: &OciDescriptor,
+    ) -> Result<Blob, SigstoreError> {
+        match self {
+            RegistryClient::Plain(client) => client.pull_blob(alloc, transport, moment, image, layer),
+        }
+    }
+
+    fn platform_resolver(&self) -> Option<&PlatformResolver> {
+        match self {
+            RegistryClient::Plain(client) => client.platform_resolver(),
+        }
+    }
+}
