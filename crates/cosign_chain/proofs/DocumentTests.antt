@@ -1,11 +1,11 @@
 -- The tests of documents decide that the first document leads to the manifest.
-use Rattle.std.proofs.Common.{◌≡◌, ◌⊎◌, inl, inr, ◌↔◌, ◌&&◌, ℕ, Bool, true, false, IsTrue, List, bytes_eq, Option, Some, None, option_and_then, IsSome, Result, Ok, Err, IfOk, refl, sym, ap, ◌∙◌}
+use Rattle.std.proofs.Common.{◌≡◌, ◌⊎◌, inl, inr, ◌↔◌, ℕ, Bool, true, false, IsTrue, List, bytes_eq, Option, Some, None, option_and_then, IsSome, Result, Ok, Err, IfOk, refl, sym, ap, ◌∙◌}
 use Rattle.std.specs.Bool.{Decides}
 use Rattle.std.specs.declared.alloc.AllocError.{AllocError}
 use Rattle.std.proofs.lemmas.Slice.Eq.{bytes_eq-Decides}
 use Rattle.serde_json.specs.Data.{Data}
 use Rattle.json_values.specs.JsonText.{json_of}
-use Rattle.oci_digests.specs.Names.{Names, names}
+use Rattle.oci_digests.specs.Names.{names}
 use Rattle.oci_digests.proofs.Equal.{named}
 use Rattle.oci_manifests.specs.Document.{document_of, one_of}
 use Rattle.oci_manifests.specs.Index.{index_of}
@@ -15,14 +15,14 @@ use Rattle.oci_manifests.specs.declared.document.OciManifest.{OciManifest}
 use Rattle.oci_manifests.specs.declared.document.OciManifest.TheVariants.{Image, ImageIndex}
 use Rattle.oci_manifests.specs.declared.index.OciImageIndex.{OciImageIndex}
 use Rattle.oci_manifests.specs.declared.manifest.OciImageManifest.{OciImageManifest}
-use Rattle.oci_platforms.specs.Promise.{Picks, picks}
+use Rattle.oci_platforms.specs.Promise.{picks}
 use Rattle.oci_platforms.specs.declared.promise.ResolverPromise.{ResolverPromise}
 use Rattle.oci_platforms.proofs.Picking.{picked}
 use Rattle.cosign_chain.specs.Chain.{IsDocument, ReadsAs, FirstIsManifest, FirstIsIndex, LeadsToManifest}
 use Rattle.cosign_chain.specs.Documents.{document_by, document_in, is_manifest, is_first, is_led, leads}
-use Rattle.cosign_chain.specs.SameManifest.{same_manifest, same_option}
+use Rattle.cosign_chain.specs.SameManifest.{same_manifest}
 use Rattle.cosign_chain.specs.declared.image.VerifiedImage.{VerifiedImage}
-use Rattle.cosign_chain.proofs.LinkTests.{both, more, some_same}
+use Rattle.cosign_chain.proofs.LinkTests.{both}
 use Rattle.cosign_chain.proofs.SameManifests.{manifests, texts}
 
 -- ---- what a value reads as

@@ -1,5 +1,5 @@
 -- The tests of the links decide the links, and a chain has its links.
-use Rattle.std.proofs.Common.{◌≡◌, ◌⊎◌, inl, inr, ◌↔◌, ◌&&◌, ◌<◌, ℕ, Bool, true, false, nat_lt, IsTrue, List, [], ◌∷◌, bytes_eq, Option, Some, None, Contains, length, refl, ap, arith}
+use Rattle.std.proofs.Common.{◌≡◌, inl, inr, ◌↔◌, ◌&&◌, ◌<◌, ℕ, Bool, true, false, nat_lt, IsTrue, List, [], ◌∷◌, bytes_eq, Option, Some, None, Contains, length, refl, ap, arith}
 use Rattle.std.specs.Prelude.{◌==◌}
 use Rattle.std.specs.Bool.{Decides}
 use Rattle.std.specs.List.{list_any, list_all, zip}
@@ -20,7 +20,7 @@ use Rattle.oci_manifests.specs.declared.blob.ImageLayer.{ImageLayer}
 use Rattle.oci_manifests.specs.declared.blob.Config.{Config}
 use Rattle.cosign_layers.specs.Standing.{Meaning}
 use Rattle.oci_platforms.specs.declared.promise.ResolverPromise.{ResolverPromise}
-use Rattle.cosign_chain.specs.Chain.{ConfigLinks, LayerLinks, LayersLink, FirstIsManifest, FirstIsIndex, LeadsToManifest, Chain}
+use Rattle.cosign_chain.specs.Chain.{ConfigLinks, LayerLinks, LayersLink, FirstIsManifest, LeadsToManifest, Chain}
 use Rattle.cosign_chain.specs.Links.{ManifestLinks, Links, named_by, same_annotations, has_manifest, has_config, is_layer_of, has_layers, is_linked}
 use Rattle.cosign_chain.specs.declared.image.VerifiedImage.{VerifiedImage}
 

@@ -1,5 +1,5 @@
 -- A layer that is read again stands for an image exactly where the test says so.
-use Rattle.std.proofs.Common.{◌≡◌, ◌⊎◌, inl, inr, ◌↔◌, ◌<◌, ℕ, Bool, true, false, IsTrue, not, zero, suc, List, [], ◌∷◌, length, bytes_eq, Option, Some, None, option_map, option_and_then, if◌then◌else◌, MatchBool, refl, sym, ap, ◌∙◌, arith, codes}
+use Rattle.std.proofs.Common.{◌≡◌, ◌↔◌, ◌<◌, ℕ, Bool, true, false, IsTrue, not, zero, suc, List, [], ◌∷◌, length, Option, Some, None, option_map, option_and_then, if◌then◌else◌, MatchBool, refl, sym, ap, ◌∙◌, arith, codes}
 use Rattle.std.specs.Prelude.{◌==◌}
 use Rattle.std.specs.FinMap.{FinMap}
 use Rattle.json_values.specs.JsonText.{json_of, is_plain, plain_json_of}
@@ -9,11 +9,11 @@ use Rattle.serde_json.specs.Data.{Data, null}
 use Rattle.serde_json.specs.Find.{get}
 use Rattle.serde_json.specs.Written.{has_float}
 use Rattle.cosign_layers.specs.Bundle.{bundle_of}
-use Rattle.cosign_layers.specs.Layer.{LayerOf, Named}
+use Rattle.cosign_layers.specs.Layer.{LayerOf}
 use Rattle.cosign_layers.specs.Payload.{content_of, equal_to, payload_of}
 use Rattle.cosign_layers.specs.Read.{Gives, HasOneOutcome, Rejected, RejectedUnlessMemory, input_of}
 use Rattle.cosign_layers.specs.Rejection.{is_memory}
-use Rattle.cosign_layers.specs.Shown.{shown, shown_in_bundle, shown_by_bundle, bundle_shown, payload_shown}
+use Rattle.cosign_layers.specs.Shown.{shown, shown_by_bundle, bundle_shown, payload_shown}
 use Rattle.cosign_layers.specs.Standing.{Meaning, StandsFor, Supports}
 use Rattle.cosign_layers.specs.Trust.{Trust}
 use Rattle.cosign_layers.specs.declared.layer.LayerKind.{LayerKind}

@@ -1,5 +1,5 @@
 -- Whether two signature layers say the same beside their bytes and annotations, asked field by field.
-use Rattle.std.specs.Prelude.{ℕ, Bool, ◌&&◌, List, bytes_eq}
+use Rattle.std.specs.Prelude.{Bool, ◌&&◌, bytes_eq}
 use Rattle.std.specs.Ordering.{int_eq}
 use Rattle.cosign_layers.specs.declared.certificate.CertificateSignature.{CertificateSignature}
 use Rattle.cosign_layers.specs.declared.certificate.Vouched.{Vouched}

@@ -22,7 +22,7 @@ use Rattle.engine_requests.specs.Contexts.{Context}
 use Rattle.engine_requests.specs.declared.settings.Settings.{Settings}
 use Rattle.engine_pull.specs.declared.image.ImageData.{ImageData}
 use Rattle.oci_engine.specs.Answered.{FirstAsked, Answered}
-use Rattle.oci_engine.proofs.Documents.{body_after}
+use Rattle.engine_laws.proofs.DocumentAnswers.{body_after}
 use Rattle.sig_registry.specs.declared.error.SigstoreError.{SigstoreError}
 use Rattle.sig_registry.specs.Errors.{is_memory}
 use Rattle.sig_registry.specs.Clients.{Kept, Row}

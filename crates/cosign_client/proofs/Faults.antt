@@ -30,9 +30,10 @@ use Rattle.engine_pull.specs.Pulls.{pull_manifest}
 use Rattle.engine_pull.specs.Images.{pull}
 use Rattle.engine_pull.specs.declared.image.ImageData.{ImageData}
 use Rattle.oci_engine.specs.Causes.{DocumentCause, ManifestUrl, OwnDigest}
-use Rattle.oci_engine.proofs.Early.{Loose}
-use Rattle.oci_engine.proofs.ImageRefused.{RowCause, manifest_causes, image_causes}
-use Rattle.oci_engine.proofs.Reasons.{manifest_fault, image_fault}
+use Rattle.engine_laws.proofs.EarlyCauses.{Loose}
+use Rattle.engine_laws.proofs.ImageCauses.{RowCause, image_causes}
+use Rattle.engine_laws.proofs.ManifestCauses.{manifest_causes}
+use Rattle.engine_laws.proofs.CallCauses.{manifest_fault, image_fault}
 use Rattle.sig_registry.specs.declared.error.SigstoreError.{SigstoreError}
 use Rattle.sig_registry.specs.declared.error.SigstoreError.TheVariants as sigstore
 use Rattle.sig_registry.specs.declared.wording.Called.{Called}

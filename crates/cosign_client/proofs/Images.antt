@@ -32,9 +32,9 @@ use Rattle.engine_steps.specs.Rows.{Row as Engine}
 use Rattle.engine_pull.specs.Pulls.{fetch_manifest_digest, pull_manifest_raw, held_blob}
 use Rattle.engine_pull.specs.Images.{image_manifest, is_accepted, all_accepted, layers_accepted, layer_of, config_of}
 use Rattle.oci_engine.specs.Answered.{Answered, Body, Document, LastBody}
-use Rattle.oci_engine.proofs.Documents.{body_before, body_after, raw_shows}
-use Rattle.oci_engine.proofs.Blobs.{blob_shows}
-use Rattle.oci_engine.proofs.Digests.{digest_shows}
+use Rattle.engine_laws.proofs.DocumentAnswers.{body_before, body_after, raw_shows}
+use Rattle.engine_laws.proofs.BlobAnswers.{blob_shows}
+use Rattle.engine_laws.proofs.DigestAnswers.{digest_shows}
 use Rattle.sig_registry.specs.declared.error.SigstoreError.{SigstoreError}
 use Rattle.sig_registry.specs.declared.error.SigstoreError.TheVariants as sigstore
 use Rattle.sig_registry.specs.declared.wording.Called.{Called}

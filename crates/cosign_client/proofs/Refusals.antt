@@ -40,11 +40,11 @@ use Rattle.engine_steps.specs.Rows.{Row as Engine}
 use Rattle.engine_pull.specs.Pulls.{fetch_manifest_digest, pull_manifest_raw, held_blob}
 use Rattle.engine_pull.specs.Images.{image_manifest, is_accepted, all_accepted, layers_accepted, layer_of, config_of}
 use Rattle.oci_engine.specs.Causes.{AnswerCause, BlobUrl, ManifestUrl, OwnDigest}
-use Rattle.oci_engine.proofs.BlobRefused.{blob_causes}
-use Rattle.oci_engine.proofs.Causing.{Accepted, OwnCause, raw_causes}
-use Rattle.oci_engine.proofs.Early.{Loose, LooseBlob}
-use Rattle.oci_engine.proofs.Reasons.{digest_fault, raw_fault, blob_fault}
-use Rattle.oci_engine.proofs.Refused.{digest_causes}
+use Rattle.engine_laws.proofs.BlobCauses.{blob_causes}
+use Rattle.engine_laws.proofs.DocumentCauses.{Accepted, OwnCause, raw_causes}
+use Rattle.engine_laws.proofs.EarlyCauses.{Loose, LooseBlob}
+use Rattle.engine_laws.proofs.CallCauses.{digest_fault, raw_fault, blob_fault}
+use Rattle.engine_laws.proofs.DigestCauses.{digest_causes}
 use Rattle.sig_registry.specs.declared.error.SigstoreError.{SigstoreError}
 use Rattle.sig_registry.specs.declared.error.SigstoreError.TheVariants as sigstore
 use Rattle.sig_registry.specs.declared.wording.Called.TheVariants.{FetchManifest, Pull}

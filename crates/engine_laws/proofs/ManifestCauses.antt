@@ -157,4 +157,3 @@ manifest_causes s image a = Shows-each (λ m c n found. Accepted c found.0) (λ 
     (λ m n c found h. Shows-step (λ start d o r. ByAnswer (λ m c n found. ReadLast c found.0) (ManifestCause s.settings image) m (c ++ d) o r) (document_read found.0) (λ document. Done (Ok (document, found.1)))
     (λ document is. Shows-done (λ start d o r. ByAnswer (λ m c n found. ReadLast c found.0) (ManifestCause s.settings image) m (c ++ d) o r) (Ok (document, found.1)) (λ o. subst (λ x. ReadLast x document) (sym (append-nil c)) (last_later (λ address answer. document_read answer.body ≡ Ok document) [] (λ address answer g. ap document_read (sym g.1) ∙ is) h)))
     (λ e is o. subst (λ x. ManifestCause s.settings image m x o e) (sym (append-nil c)) (document_refused (ManifestUrl s.settings image) (OwnDigest image) s.settings manifest_types o c found.0 e h is)))
-

@@ -80,15 +80,7 @@ pub fn pull_image_manifest_and_list_digest<T: Transport>(
 {
     let document = pull_manifest(alloc, transport, memory, call, auth)?;
     let (document_read, digest) = document;
-    let found = manifest_by(
-        alloc,
-        transport,
-        memory,
-        call,
-        auth,
-        document_read,
-        digest,
-    )?;
+    let found = manifest_by(alloc, transport, memory, call, auth, document_read, digest)?;
     Ok(found)
 }
 

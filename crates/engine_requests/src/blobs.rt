@@ -9,11 +9,11 @@ ghost use Rattle.engine_requests.specs.Blobs.{plan_in, plan_of, compared, given_
 ghost use Rattle.engine_requests.specs.Blobs.{both_compared, given_algorithm};
 
 use crate::OciDistributionError;
+use crate::answers::{header_in, is_success};
 use json_values::{Copied, Text};
 use oci_digests::{Algorithm, DigestError, Digesters, named_algorithm};
 use oci_transport::AnswerHead;
 use std::alloc::{AllocError, Global};
-use test_answers::{header_in, is_success};
 
 /// A digest text that has to name the bytes, with its algorithm.
 #[derive(Drop)]

@@ -134,29 +134,51 @@ impl Copied for OciDistributionError {
             Self::AmbiguousManifest(body) => Ok(Self::AmbiguousManifest(body.copy(alloc)?)),
             Self::AuthenticationFailure(body) => Ok(Self::AuthenticationFailure(body.copy(alloc)?)),
             Self::BodyTooLong => Ok(Self::BodyTooLong),
-            Self::ConfigConversionError(content) => Ok(Self::ConfigConversionError(content.copy(alloc)?)),
+            Self::ConfigConversionError(content) => Ok(Self::ConfigConversionError(content.copy(
+                alloc,
+            )?)),
             Self::DigestError(error) => Ok(Self::DigestError(error.copy(alloc)?)),
             Self::GenericError(cause) => Ok(Self::GenericError(*cause)),
-            Self::ImageIndexParsingNoPlatformResolverError => Ok(Self::ImageIndexParsingNoPlatformResolverError),
-            Self::ImageManifestNotFoundError(digest) => Ok(Self::ImageManifestNotFoundError(digest.copy(alloc)?)),
-            Self::IncompatibleLayerMediaTypeError(kind) => Ok(Self::IncompatibleLayerMediaTypeError(kind.copy(alloc)?)),
+            Self::ImageIndexParsingNoPlatformResolverError => Ok(
+                Self::ImageIndexParsingNoPlatformResolverError,
+            ),
+            Self::ImageManifestNotFoundError(digest) => Ok(Self::ImageManifestNotFoundError(
+                digest.copy(alloc)?,
+            )),
+            Self::IncompatibleLayerMediaTypeError(kind) => Ok(Self::IncompatibleLayerMediaTypeError(
+                kind.copy(alloc)?,
+            )),
             Self::ManifestParsingError(body) => Ok(Self::ManifestParsingError(body.copy(alloc)?)),
             Self::PullNoLayersError => Ok(Self::PullNoLayersError),
             Self::RegistryError { envelope, url } => {
                 let row![envelope, url] = copy_all(alloc, row![envelope, url])?;
                 Ok(Self::RegistryError { envelope, url })
             }
-            Self::RegistryTokenDecodeError(body) => Ok(Self::RegistryTokenDecodeError(body.copy(alloc)?)),
+            Self::RegistryTokenDecodeError(body) => Ok(Self::RegistryTokenDecodeError(body.copy(
+                alloc,
+            )?)),
             Self::ServerError { code, url, message } => {
                 let row![url, message] = copy_all(alloc, row![url, message])?;
-                Ok(Self::ServerError { code: *code, url, message })
+                Ok(Self::ServerError {
+                    code: *code,
+                    url,
+                    message,
+                })
             }
             Self::SinkFault => Ok(Self::SinkFault),
-            Self::SpecViolationError(violation) => Ok(Self::SpecViolationError(violation.copy(alloc)?)),
+            Self::SpecViolationError(violation) => Ok(Self::SpecViolationError(violation.copy(
+                alloc,
+            )?)),
             Self::TransportFault => Ok(Self::TransportFault),
-            Self::UnauthorizedError { url } => Ok(Self::UnauthorizedError { url: url.copy(alloc)? }),
-            Self::UnsupportedMediaTypeError(kind) => Ok(Self::UnsupportedMediaTypeError(kind.copy(alloc)?)),
-            Self::UnsupportedSchemaVersionError(version) => Ok(Self::UnsupportedSchemaVersionError(*version)),
+            Self::UnauthorizedError { url } => Ok(Self::UnauthorizedError {
+                url: url.copy(alloc)?,
+            }),
+            Self::UnsupportedMediaTypeError(kind) => Ok(Self::UnsupportedMediaTypeError(kind.copy(
+                alloc,
+            )?)),
+            Self::UnsupportedSchemaVersionError(version) => Ok(Self::UnsupportedSchemaVersionError(
+                *version,
+            )),
             Self::UrlParseError(text) => Ok(Self::UrlParseError(text.copy(alloc)?)),
             Self::VersionedParsingError(body) => Ok(Self::VersionedParsingError(body.copy(alloc)?)),
             Self::WantOfMemory => Ok(Self::WantOfMemory),
@@ -176,85 +198,6 @@ impl Display for OciDistributionError {
 }
 
 impl Error for OciDistributionError {}
-
-impl Copied for GenericCause {
-    fn copy(&self, _alloc: Global) -> Result<GenericCause, AllocError> {
-        Ok(*self)
-    }
-}
-
-impl Copied for SpecViolation {
-    fn copy(&self, alloc: Global) -> Result<SpecViolation, AllocError> {
-        let SpecViolation::Status { expected, got, url } = self;
-        let url = url.copy(alloc)?;
-        Ok(SpecViolation::Status {
-            expected: *expected,
-            got: *got,
-            url,
-        })
-    }
-}
-
-impl Copied for OciDistributionError {
-    fn copy(&self, alloc: Global) -> Result<OciDistributionError, AllocError> {
-        Ok(match self {
-            OciDistributionError::AmbiguousManifest(body) => {
-                OciDistributionError::AmbiguousManifest(body.copy(alloc)?)
-            }
-            OciDistributionError::AuthenticationFailure(body) => {
-                OciDistributionError::AuthenticationFailure(body.copy(alloc)?)
-            }
-            OciDistributionError::BodyTooLong => OciDistributionError::BodyTooLong,
-            OciDistributionError::DigestError(error) => {
-                OciDistributionError::DigestError(error.copy(alloc)?)
-            }
-            OciDistributionError::GenericError(cause) => OciDistributionError::GenericError(*cause),
-            OciDistributionError::ImageIndexParsingNoPlatformResolverError => {
-                OciDistributionError::ImageIndexParsingNoPlatformResolverError
-            }
-            OciDistributionError::IncompatibleLayerMediaTypeError(media_type) => {
-                OciDistributionError::IncompatibleLayerMediaTypeError(media_type.copy(alloc)?)
-            }
-            OciDistributionError::ManifestParsingError(body) => {
-                OciDistributionError::ManifestParsingError(body.copy(alloc)?)
-            }
-            OciDistributionError::PullNoLayersError => OciDistributionError::PullNoLayersError,
-            OciDistributionError::RegistryError { envelope, url } => {
-                let row!(envelope, url) = copy_all(alloc, row!(envelope, url))?;
-                OciDistributionError::RegistryError { envelope, url }
-            }
-            OciDistributionError::RegistryTokenDecodeError(body) => {
-                OciDistributionError::RegistryTokenDecodeError(body.copy(alloc)?)
-            }
-            OciDistributionError::ServerError { code, url, message } => {
-                let row!(code, url, message) = copy_all(alloc, row!(code, url, message))?;
-                OciDistributionError::ServerError { code, url, message }
-            }
-            OciDistributionError::SinkFault => OciDistributionError::SinkFault,
-            OciDistributionError::SpecViolationError(violation) => {
-                OciDistributionError::SpecViolationError(violation.copy(alloc)?)
-            }
-            OciDistributionError::TransportFault => OciDistributionError::TransportFault,
-            OciDistributionError::UnauthorizedError { url } => {
-                let url = url.copy(alloc)?;
-                OciDistributionError::UnauthorizedError { url }
-            }
-            OciDistributionError::UnsupportedMediaTypeError(media_type) => {
-                OciDistributionError::UnsupportedMediaTypeError(media_type.copy(alloc)?)
-            }
-            OciDistributionError::UnsupportedSchemaVersionError(version) => {
-                OciDistributionError::UnsupportedSchemaVersionError(*version)
-            }
-            OciDistributionError::UrlParseError(text) => {
-                OciDistributionError::UrlParseError(text.copy(alloc)?)
-            }
-            OciDistributionError::VersionedParsingError(body) => {
-                OciDistributionError::VersionedParsingError(body.copy(alloc)?)
-            }
-            OciDistributionError::WantOfMemory => OciDistributionError::WantOfMemory,
-        })
-    }
-}
 
 impl From<AllocError> for OciDistributionError {
     ghost use Rattle.engine_requests.specs.declared.error.OciDistributionError.TheVariants.{WantOfMemory};

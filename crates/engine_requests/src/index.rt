@@ -97,8 +97,6 @@ pub fn config_text(alloc: Global, content: &Blob) -> Result<Text, OciDistributio
             let text = Text::new(alloc, text)?;
             Ok(text)
         }
-        Err(_) => Err(OciDistributionError::GenericError(
-            GenericCause::ConfigNotText,
-        )),
+        Err(_) => Err(OciDistributionError::GenericError(GenericCause::ConfigNotText)),
     }
 }

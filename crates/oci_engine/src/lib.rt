@@ -9,16 +9,16 @@ mod source;
 
 pub use client::Client;
 pub use config::{
-    ClientConfig, DEFAULT_MAX_CONCURRENT_DOWNLOAD,
-    DEFAULT_MAX_CONCURRENT_UPLOAD, DEFAULT_TOKEN_EXPIRATION_SECS,
+    ClientConfig, DEFAULT_MAX_CONCURRENT_DOWNLOAD, DEFAULT_MAX_CONCURRENT_UPLOAD,
+    DEFAULT_TOKEN_EXPIRATION_SECS,
 };
 pub use config_file::config_file;
 pub use engine_pull::ImageData;
 pub use engine_requests::{
     ClientProtocol, GenericCause, OciDistributionError, Settings, SpecViolation,
 };
-pub use source::ClientConfigSource;
 pub use oci_platforms::{
     PlatformResolver, ResolverPromise, current_platform_resolver, linux_amd64_resolver,
     windows_amd64_resolver,
 };
+pub use source::ClientConfigSource;

@@ -47,7 +47,13 @@ impl Client {
             image,
             moment,
         };
-        engine_pull::pull_image_manifest_and_list_digest(alloc, transport, &mut self.memory, &call, auth)
+        engine_pull::pull_image_manifest_and_list_digest(
+            alloc,
+            transport,
+            &mut self.memory,
+            &call,
+            auth,
+        )
     }
 
     /// The manifest of an image with its digest.
@@ -104,7 +110,13 @@ impl Client {
             image,
             moment,
         };
-        engine_pull::pull_manifest_and_config_and_list_digest(alloc, transport, &mut self.memory, &call, auth)
+        engine_pull::pull_manifest_and_config_and_list_digest(
+            alloc,
+            transport,
+            &mut self.memory,
+            &call,
+            auth,
+        )
     }
 
     /// The manifest of an image with its digest, and its configuration as text.

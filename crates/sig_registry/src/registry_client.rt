@@ -31,7 +31,9 @@ impl ClientCapabilities for RegistryClient {
         auth: &RegistryAuth,
     ) -> Result<Text, SigstoreError> {
         match self {
-            RegistryClient::Plain(client) => client.fetch_manifest_digest(alloc, transport, moment, image, auth),
+            RegistryClient::Plain(client) => client.fetch_manifest_digest(
+                alloc, transport, moment, image, auth,
+            ),
         }
     }
 
@@ -45,7 +47,14 @@ impl ClientCapabilities for RegistryClient {
         accepted_media_types: &[Text],
     ) -> Result<ImageData, SigstoreError> {
         match self {
-            RegistryClient::Plain(client) => client.pull(alloc, transport, moment, image, auth, accepted_media_types),
+            RegistryClient::Plain(client) => client.pull(
+                alloc,
+                transport,
+                moment,
+                image,
+                auth,
+                accepted_media_types,
+            ),
         }
     }
 
@@ -58,7 +67,9 @@ impl ClientCapabilities for RegistryClient {
         auth: &RegistryAuth,
     ) -> Result<(OciManifest, Text), SigstoreError> {
         match self {
-            RegistryClient::Plain(client) => client.pull_manifest(alloc, transport, moment, image, auth),
+            RegistryClient::Plain(client) => client.pull_manifest(
+                alloc, transport, moment, image, auth,
+            ),
         }
     }
 
@@ -72,7 +83,14 @@ impl ClientCapabilities for RegistryClient {
         accepted_media_types: &[Text],
     ) -> Result<(Blob, Text), SigstoreError> {
         match self {
-            RegistryClient::Plain(client) => client.pull_manifest_raw(alloc, transport, moment, image, auth, accepted_media_types),
+            RegistryClient::Plain(client) => client.pull_manifest_raw(
+                alloc,
+                transport,
+                moment,
+                image,
+                auth,
+                accepted_media_types,
+            ),
         }
     }
 
@@ -85,7 +103,9 @@ impl ClientCapabilities for RegistryClient {
         layer: &OciDescriptor,
     ) -> Result<Blob, SigstoreError> {
         match self {
-            RegistryClient::Plain(client) => client.pull_blob(alloc, transport, moment, image, layer),
+            RegistryClient::Plain(client) => client.pull_blob(
+                alloc, transport, moment, image, layer,
+            ),
         }
     }
 

@@ -1,4 +1,4 @@
-use Rattle.std.proofs.Common.{◌≡◌, length, sym, ap}
+use Rattle.std.proofs.Common.{length, sym, ap}
 use Rattle.cosign_chain.proofs.Standing.{another, supported, rejected}
 use Rattle.cosign_chain.proofs.chain.stands_for.Goals as goal
 

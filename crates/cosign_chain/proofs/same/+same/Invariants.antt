@@ -1,6 +1,6 @@
-use Rattle.std.proofs.Common.{◌≡◌, ℕ, ◌+◌, ◌-◌, ◌*◌, ◌<◌, ◌≤◌, length, drop}
-use Rattle.serde_json.specs.View.{view, number_view, items_view, members_view}
-use Rattle.cosign_chain.specs.Same.{same_data, same_items, same_members, same_number}
+use Rattle.std.proofs.Common.{◌≡◌, drop}
+use Rattle.serde_json.specs.View.{items_view, members_view}
+use Rattle.cosign_chain.specs.Same.{same_items, same_members}
 use Rattle.cosign_chain.proofs.same.+same.Given as goal
 
 abbrev pub invariant-same_items-loop-item : goal.invariant-same_items-loop-item

@@ -1,0 +1,6 @@
+pub mod Constants
+pub mod Decrypt
+pub mod Encrypt
+pub mod Envelope
+pub mod Refusals
+pub mod Scrypt

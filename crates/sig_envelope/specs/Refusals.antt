@@ -1,0 +1,9 @@
+-- Which refusals say only that memory was wanting.
+use Rattle.std.specs.Prelude.{Bool, true, false}
+use Rattle.sig_envelope.specs.declared.error.KdfError.{KdfError}
+use Rattle.sig_envelope.specs.declared.error.KdfError.TheVariants.{EnvelopeUnreadable, PrivateKeyDecryptError, WantOfMemory}
+
+abbrev pub is_memory : KdfError → Bool
+is_memory EnvelopeUnreadable = false
+is_memory (PrivateKeyDecryptError cause) = false
+is_memory WantOfMemory = true

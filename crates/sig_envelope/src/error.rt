@@ -1,0 +1,83 @@
+//! Why an envelope is not opened.
+ghost use Rattle.std.specs.Prelude.{◌≡◌};
+ghost use Rattle.sig_envelope.specs.Refusals.{is_memory};
+
+use json_values::{Copied, Text};
+use std::alloc::{AllocError, Global};
+use thiserror::Error;
+
+/// Why a private key is not decrypted.
+#[derive(Debug, Drop, Error)]
+pub enum DecryptCause {
+    /// The cipher of this name is not `nacl/secretbox`.
+    #[error("the cipher is not nacl/secretbox: encrypt the key with cosign")]
+    UnknownCipher(Text),
+    /// The key derivation of this name is not `scrypt`.
+    #[error("the key derivation is not scrypt: encrypt the key with cosign")]
+    UnknownKdf(Text),
+    /// N is neither 32768 nor 65536, r is not 8, or p is not 1.
+    #[error("the parameters of scrypt are none that cosign writes")]
+    UnexpectedParameters,
+    /// The nonce has not 24 bytes.
+    #[error("the nonce has not 24 bytes: the envelope was changed")]
+    NonceLength,
+    /// The box does not open the ciphertext.
+    #[error("the ciphertext is not opened: check the password")]
+    UnsealRefused,
+}
+
+/// Why an envelope gives no private key.
+#[derive(Debug, Drop, Error)]
+pub enum KdfError {
+    /// The bytes are no JSON without floats that the envelope's table reads.
+    #[error("the bytes are no envelope: give the JSON that an encrypted key holds")]
+    EnvelopeUnreadable,
+    /// The envelope reads, and is not opened.
+    #[error("the private key is not decrypted: {0}")]
+    PrivateKeyDecryptError(DecryptCause),
+    #[error("out of memory")]
+    WantOfMemory,
+}
+
+impl KdfError {
+    /// Whether memory was wanting.
+    pub fn is_memory(&self) -> bool
+        ensures { result ≡ is_memory self.now }
+    {
+        matches!(self, KdfError::WantOfMemory)
+    }
+}
+
+impl From<AllocError> for KdfError {
+    ghost use Rattle.sig_envelope.specs.declared.error.KdfError.TheVariants.{WantOfMemory};
+
+    ghost from_gives = { λ _ e. e ≡ WantOfMemory };
+
+    fn from(_error: AllocError) -> KdfError {
+        KdfError::WantOfMemory
+    }
+}
+
+impl Copied for DecryptCause {
+    fn copy(&self, alloc: Global) -> Result<DecryptCause, AllocError> {
+        match self {
+            DecryptCause::UnknownCipher(name) => Ok(DecryptCause::UnknownCipher(name.copy(alloc)?)),
+            DecryptCause::UnknownKdf(name) => Ok(DecryptCause::UnknownKdf(name.copy(alloc)?)),
+            DecryptCause::UnexpectedParameters => Ok(DecryptCause::UnexpectedParameters),
+            DecryptCause::NonceLength => Ok(DecryptCause::NonceLength),
+            DecryptCause::UnsealRefused => Ok(DecryptCause::UnsealRefused),
+        }
+    }
+}
+
+impl Copied for KdfError {
+    fn copy(&self, alloc: Global) -> Result<KdfError, AllocError> {
+        match self {
+            KdfError::EnvelopeUnreadable => Ok(KdfError::EnvelopeUnreadable),
+            KdfError::PrivateKeyDecryptError(cause) => {
+                Ok(KdfError::PrivateKeyDecryptError(cause.copy(alloc)?))
+            }
+            KdfError::WantOfMemory => Ok(KdfError::WantOfMemory),
+        }
+    }
+}

@@ -1,0 +1,11 @@
+pub mod Ec
+pub mod Ecdsa
+pub mod Ed25519
+pub mod KeyPair
+pub mod Outcomes
+pub mod Pair
+pub mod Rsa
+pub mod Scheme
+pub mod Shown
+pub mod Sizes
+pub mod StoreSigner

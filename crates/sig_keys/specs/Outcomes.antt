@@ -1,0 +1,40 @@
+-- What calls on keys answer. Only want of memory is free.
+use Rattle.std.specs.Prelude.{◌≡◌, ℕ, List, Bool, true, false, Option, Some, None, Result, Ok, Err, ⊤, MatchBool}
+use Rattle.sig_keys.specs.declared.error.KeyError.{KeyError}
+use Rattle.sig_keys.specs.declared.error.KeyError.TheVariants.{KeyParseError, KeyGenerationError, SigningError, UnmatchedKeyAndSigningScheme, WantOfMemory}
+use Rattle.sig_keys.specs.declared.scheme.SigningScheme.{SigningScheme}
+
+abbrev pub is_memory : KeyError → Bool
+is_memory KeyParseError = false
+is_memory KeyGenerationError = false
+is_memory SigningError = false
+is_memory (UnmatchedKeyAndSigningScheme key scheme) = false
+is_memory WantOfMemory = true
+
+-- none exactly where it cannot be
+abbrev pub GivesIf : {A : Type 0} → Bool → (A → Type 0) → Option A → Type 0
+GivesIf can P None = can ≡ false
+GivesIf can P (Some x) = (can ≡ true) × P x
+
+-- this refusal, exactly where a fact stands, or want of memory
+abbrev pub Refuses : KeyError → Type 0 → KeyError → Type 0
+Refuses cause P e = MatchBool (is_memory e) ⊤ ((e ≡ cause) × P)
+
+-- new keys, or `KeyGenerationError` exactly where none can be made
+abbrev pub Makes : {A : Type 0} → Result A KeyError → Bool → (A → Type 0) → Type 0
+Makes (Ok keys) can P = (can ≡ true) × P keys
+Makes (Err e) can P = Refuses KeyGenerationError (can ≡ false) e
+
+-- the keys that are read, or `KeyParseError` exactly where there are none
+abbrev pub Parses : {A : Type 0} → Result A KeyError → Option A → Type 0
+Parses (Ok keys) read = read ≡ Some keys
+Parses (Err e) read = Refuses KeyParseError (read ≡ None) e
+
+-- a signature under a scheme by a private key, or `SigningError` exactly where none can be given
+abbrev pub SignsBy : (SigningScheme → List ℕ → List ℕ → Bool)
+    → (SigningScheme → List ℕ → List ℕ → List ℕ → Type 0)
+    → SigningScheme → List ℕ → List ℕ → Result (List ℕ) KeyError → Type 0
+SignsBy can Signs scheme private message (Ok signature) =
+    (can scheme private message ≡ true) × Signs scheme private message signature
+SignsBy can Signs scheme private message (Err e) =
+    Refuses SigningError (can scheme private message ≡ false) e

@@ -1,0 +1,43 @@
+-- How keys and signers are printed, and how they are shown to programmers: no key stands in the text.
+use Rattle.std.specs.Prelude.{ℕ, List, ◌++◌, codes}
+use Rattle.sig_keys.specs.Ecdsa.{inner_of}
+use Rattle.sig_keys.specs.declared.ecdsa.ec.EcdsaKeys.{EcdsaKeys}
+use Rattle.sig_keys.specs.declared.ecdsa.ECDSAKeys.{ECDSAKeys as AnyCurveKeys}
+use Rattle.sig_keys.specs.declared.ecdsa.ECDSAKeys.TheVariants as on
+use Rattle.sig_keys.specs.declared.pair.SigStoreKeyPair.{SigStoreKeyPair}
+use Rattle.sig_keys.specs.declared.pair.SigStoreKeyPair.TheVariants as pair
+use Rattle.sig_keys.specs.declared.scheme.EllipticCurve.{EllipticCurve}
+use Rattle.sig_keys.specs.declared.scheme.EllipticCurve.TheVariants.{P256, P384, P521}
+use Rattle.sig_keys.specs.declared.store_signer.SigStoreSigner.{SigStoreSigner}
+use Rattle.sig_keys.specs.declared.store_signer.SigStoreSigner.TheVariants as signer
+
+abbrev pub curve_name : EllipticCurve → List ℕ
+curve_name P256 = codes "P256"
+curve_name P384 = codes "P384"
+curve_name P521 = codes "P521"
+
+abbrev pub printed_keys : AnyCurveKeys → List ℕ
+printed_keys keys = codes "ECDSA " ++ curve_name (inner_of keys).curve
+
+abbrev pub printed_pair : SigStoreKeyPair → List ℕ
+printed_pair (pair.ECDSA keys) = codes "EC Key"
+printed_pair (pair.ED25519 keys) = codes "Ed25519 Key"
+printed_pair (pair.RSA keys) = codes "RSA Key"
+
+abbrev pub shown_ecdsa_keys : EcdsaKeys → List ℕ
+shown_ecdsa_keys keys = codes "EcdsaKeys { curve: " ++ curve_name keys.curve ++ codes ", .. }"
+
+abbrev pub shown_curve_keys : AnyCurveKeys → List ℕ
+shown_curve_keys (on.P256 keys) = codes "P256(..)"
+shown_curve_keys (on.P384 keys) = codes "P384(..)"
+shown_curve_keys (on.P521 keys) = codes "P521(..)"
+
+abbrev pub shown_pair : SigStoreKeyPair → List ℕ
+shown_pair (pair.ECDSA keys) = codes "ECDSA(..)"
+shown_pair (pair.ED25519 keys) = codes "ED25519(..)"
+shown_pair (pair.RSA keys) = codes "RSA(..)"
+
+abbrev pub shown_signer : SigStoreSigner → List ℕ
+shown_signer (signer.ECDSA keys) = codes "ECDSA(..)"
+shown_signer (signer.ED25519 keys) = codes "ED25519(..)"
+shown_signer (signer.RSA keys) = codes "RSA(..)"

@@ -1,0 +1,51 @@
+//! What all pairs of keys give.
+ghost use Rattle.std.specs.Prelude.{◌≡◌, ℕ, List, IfOk};
+ghost use Rattle.sig_keys.specs.KeyPair.{verification_key};
+ghost use Rattle.sig_keys.specs.declared.scheme.SigningScheme.{SigningScheme};
+
+use crate::scheme::SigningScheme;
+use json_values::{Blob, Copied, copied};
+use std::alloc::{AllocError, Global};
+
+/// A public key, and the scheme under which its signatures are verified.
+#[derive(Debug, Drop)]
+pub struct CosignVerificationKey {
+    pub scheme: SigningScheme,
+    /// SubjectPublicKeyInfo in DER.
+    pub key: Blob,
+}
+
+/// A private key and its public key.
+pub trait KeyPair {
+    /// The public key.
+    ghost public_der: { Self → List ℕ };
+
+    /// The private key.
+    ghost private_der: { Self → List ℕ };
+
+    /// The scheme of a verification key, where this one is asked for.
+    ghost scheme_under: { Self → SigningScheme → SigningScheme };
+
+    /// A copy of the public key, SubjectPublicKeyInfo in DER.
+    fn public_key_to_der(&self, alloc: Global) -> Result<Blob, AllocError>
+        ensures { IfOk result (λ der. der ≡ public_der self.now) };
+
+    /// A copy of the private key, PKCS 8 in DER.
+    fn private_key_to_der(&self, alloc: Global) -> Result<Blob, AllocError>
+        ensures { IfOk result (λ der. der ≡ private_der self.now) };
+
+    /// The public key under this scheme; that of Ed25519 keys is under `ED25519` whatever the scheme.
+    fn to_verification_key(
+        &self,
+        alloc: Global,
+        scheme: SigningScheme,
+    ) -> Result<CosignVerificationKey, AllocError>
+        ensures { IfOk result (λ key. key
+            ≡ verification_key (scheme_under self.now scheme) (public_der self.now)) };
+}
+
+impl Copied for CosignVerificationKey {
+    fn copy(&self, alloc: Global) -> Result<CosignVerificationKey, AllocError> {
+        copied!(alloc, self, CosignVerificationKey { scheme, key })
+    }
+}

@@ -1,0 +1,25 @@
+-- What an entry of a known kind has beside its kind (Rekor's API, `allOf`).
+use Rattle.std.specs.Prelude.{List, [], ◌∷◌, Bool, Option, Some, codes}
+use Rattle.serde_json.specs.Data.{Data, string}
+use Rattle.serde_json.specs.Written.{has_float}
+use Rattle.json_tables.specs.Reading.{◌>>=◌, text_of, required}
+use Rattle.json_writing.specs.Fields.{Field, fields}
+use Rattle.sig_models.specs.Values.{any_value}
+use Rattle.sig_models.specs.declared.all_of.EntryAllOf.{EntryAllOf}
+
+unfoldable pub all_of : Data → Option EntryAllOf
+all_of d = do
+  api_version ← required text_of (codes "apiVersion") d
+  spec ← required any_value (codes "spec") d
+  Some (record { api_version = api_version; spec = spec })
+
+-- how it is written
+abbrev pub all_of_fields : EntryAllOf → List Field
+all_of_fields x = (codes "apiVersion", Some (string x.api_version)) ∷ (codes "spec", Some x.spec) ∷ []
+
+unfoldable pub all_of_written : EntryAllOf → Data
+all_of_written x = fields (all_of_fields x)
+
+-- whether a float stands in the spec
+abbrev pub spec_has_float : EntryAllOf → Bool
+spec_has_float x = has_float x.spec

@@ -1,0 +1,23 @@
+-- What the log says of a refusal (Rekor's API, `Error`).
+use Rattle.std.specs.Prelude.{List, [], ◌∷◌, Option, Some, option_map, codes}
+use Rattle.serde_json.specs.Data.{Data, string}
+use Rattle.json_tables.specs.Reading.{◌>>=◌, text_of, i32_of, optional}
+use Rattle.json_writing.specs.Fields.{Field, fields}
+use Rattle.sig_models.specs.declared.error.Error.{Error}
+use Rattle.sig_models.specs.Numbers.{whole}
+
+unfoldable pub error_of : Data → Option Error
+error_of d = do
+  code ← optional i32_of (codes "code") d
+  message ← optional text_of (codes "message") d
+  Some (record { code = code; message = message })
+
+-- how it is written
+abbrev pub error_fields : Error → List Field
+error_fields x =
+    (codes "code", option_map whole x.code)
+    ∷ (codes "message", option_map string x.message)
+    ∷ []
+
+unfoldable pub error_written : Error → Data
+error_written x = fields (error_fields x)

@@ -1,0 +1,16 @@
+pub mod AllOf
+pub mod Certificate
+pub mod CertificateRequest
+pub mod Error
+pub mod Format
+pub mod InactiveShard
+pub mod LogEntry
+pub mod ModelError
+pub mod Numbers
+pub mod ProposedEntry
+pub mod PublicKey
+pub mod Sct
+pub mod SearchIndex
+pub mod SearchLogQuery
+pub mod Single
+pub mod Values

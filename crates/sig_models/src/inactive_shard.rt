@@ -1,0 +1,127 @@
+ghost use Rattle.std.specs.Prelude.{◌≡◌, IfOk, Ok};
+ghost use Rattle.serde_json.specs.View.{view};
+ghost use Rattle.sig_models.specs.ModelError.{ReadsModel};
+
+use crate::model_error::{ModelError, read_model};
+use crate::whole::Size;
+use json_tables::{ReadError, Reads, read_row};
+use json_values::{Copied, Text, ToValue, copied, row};
+use json_writing::{Writes, object};
+use serde_json::Value;
+use std::alloc::{AllocError, Global};
+
+/// A part of the log that takes no more entries (Rekor's API, `InactiveShardLogInfo`).
+#[derive(Debug, Drop)]
+pub struct InactiveShardLogInfo {
+    /// The hash at the root of its tree.
+    pub root_hash: Text,
+    /// How many entries it has.
+    pub tree_size: u64,
+    /// What the log signed of it.
+    pub signed_tree_head: Text,
+    pub tree_id: Text,
+}
+
+impl InactiveShardLogInfo {
+    ghost use Rattle.sig_models.specs.InactiveShard.{shard_of};
+
+    pub fn new(
+        root_hash: Text,
+        tree_size: u64,
+        signed_tree_head: Text,
+        tree_id: Text,
+    ) -> InactiveShardLogInfo
+        ensures { result ≡ record {
+          root_hash = root_hash;
+          tree_size = tree_size;
+          signed_tree_head = signed_tree_head;
+          tree_id = tree_id;
+        } }
+    {
+        InactiveShardLogInfo {
+            root_hash,
+            tree_size,
+            signed_tree_head,
+            tree_id,
+        }
+    }
+
+    /// `Float` exactly where a float stands anywhere, else `Shape` exactly where the table does not read it.
+    pub fn read(alloc: Global, value: &Value) -> Result<InactiveShardLogInfo, ModelError>
+        ensures { ReadsModel result shard_of (view value.now) }
+    {
+        read_model(alloc, value)
+    }
+}
+
+impl Reads for InactiveShardLogInfo {
+    ghost use Rattle.sig_models.specs.InactiveShard.{shard_of};
+
+    ghost reading = { shard_of };
+
+    #[tactic(auto, unfolding(crate::specs::InactiveShard::shard_of))]
+    fn read_value(alloc: Global, value: &Value) -> Result<InactiveShardLogInfo, ReadError> {
+        let row![root_hash, tree_size, signed_tree_head, tree_id] = read_row::<Self, _>(
+            alloc,
+            value,
+            &["rootHash", "treeSize", "signedTreeHead", "treeID"],
+        )?;
+        Ok(InactiveShardLogInfo {
+            root_hash,
+            tree_size,
+            signed_tree_head,
+            tree_id,
+        })
+    }
+}
+
+impl Writes for InactiveShardLogInfo {
+    ghost use Rattle.sig_models.specs.InactiveShard.{shard_written};
+
+    ghost written = { shard_written };
+
+    #[tactic(auto, unfolding(crate::specs::InactiveShard::shard_written))]
+    fn write_value(&self, alloc: Global) -> Result<Value, AllocError> {
+        let size = Size {
+            size: self.tree_size,
+        };
+        let value = object!(alloc, {
+            "rootHash": &self.root_hash,
+            "treeSize": &size,
+            "signedTreeHead": &self.signed_tree_head,
+            "treeID": &self.tree_id,
+        })?;
+        Ok(value)
+    }
+}
+
+impl ToValue for InactiveShardLogInfo {
+    ghost use Rattle.sig_models.specs.InactiveShard.{shard_of, shard_written};
+
+    ghost written = { shard_written };
+
+    /// What it gives reads back.
+    #[tactic(auto, using(json_writing::proofs::Whole::document_again))]
+    fn to_value(&self, alloc: Global) -> Result<Value, AllocError>
+        ensures exact { IfOk result (λ v. view v ≡ shard_written self.now) }
+        ensures reads_back { IfOk result (λ v. ReadsModel (Ok self.now) shard_of (view v)) }
+    {
+        let value = self.write_value(alloc)?;
+        Ok(value)
+    }
+}
+
+impl Copied for InactiveShardLogInfo {
+    fn copy(&self, alloc: Global) -> Result<InactiveShardLogInfo, AllocError> {
+        copied!(
+            alloc,
+            self,
+            InactiveShardLogInfo {
+                root_hash,
+                tree_size,
+                signed_tree_head,
+                tree_id
+            }
+        )
+    }
+}

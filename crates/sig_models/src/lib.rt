@@ -1,0 +1,41 @@
+//! What a transparency log (Rekor) and a certificate authority (Fulcio) are asked with and answer: each is read
+//! exactly as its table says, and what is written of it reads back.
+#![tactic(auto)]
+
+mod all_of;
+mod certificate;
+mod certificate_request;
+mod error;
+mod format;
+mod inactive_shard;
+mod log_entry;
+mod model_error;
+mod proposed_entry;
+mod public_key;
+mod sct;
+mod search_index;
+mod search_log_query;
+mod single;
+mod whole;
+
+pub use all_of::{
+    AlpineAllOf, EntryAllOf, HashedrekordAllOf, HelmAllOf, IntotoAllOf, JarAllOf, RekordAllOf,
+    Rfc3161AllOf, RpmAllOf, TufAllOf,
+};
+pub use certificate::{
+    CertificateChain, SigningCertificate, SigningCertificateDetachedSCT,
+    SigningCertificateEmbeddedSCT,
+};
+pub use certificate_request::{CertificateRequest, CreateSigningCertificateRequest, KeyAlgorithm};
+pub use error::Error;
+pub use format::Format;
+pub use inactive_shard::InactiveShardLogInfo;
+pub use log_entry::LogEntry;
+pub use model_error::ModelError;
+pub use proposed_entry::{
+    Alpine, Hashedrekord, Helm, Intoto, Jar, ProposedEntry, Rekord, Rfc3161, Rpm, Tuf,
+};
+pub use public_key::SearchIndexPublicKey;
+pub use sct::{InnerDetachedSCT, SCTVersion, SctError, read_sct_signature};
+pub use search_index::SearchIndex;
+pub use search_log_query::SearchLogQuery;

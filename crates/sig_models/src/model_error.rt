@@ -1,0 +1,52 @@
+ghost use Rattle.serde_json.specs.View.{view};
+ghost use Rattle.sig_models.specs.ModelError.{ReadsModel};
+
+use json_tables::{ReadError, Reads, read_document};
+use json_values::Copied;
+use serde_json::Value;
+use std::alloc::{AllocError, Global};
+use thiserror::Error;
+
+/// Why a value is not the model.
+#[derive(Clone, Copy, Debug, PartialEq, Eq, Error)]
+pub enum ModelError {
+    /// A float stands in it.
+    #[error("a float stands in the value: write its numbers as whole ones")]
+    Float,
+    /// Its table does not read it.
+    #[error("the value has another shape: compare its members with those of the model")]
+    Shape,
+    /// The allocator had no memory.
+    #[error("out of memory: free some and try again")]
+    WantOfMemory,
+}
+
+impl Copied for ModelError {
+    fn copy(&self, _alloc: Global) -> Result<ModelError, AllocError> {
+        Ok(*self)
+    }
+}
+
+impl From<AllocError> for ModelError {
+    ghost use Rattle.std.specs.Prelude.{◌≡◌};
+    ghost use Rattle.sig_models.specs.declared.model_error.ModelError.TheVariants.{WantOfMemory};
+
+    ghost from_gives = { λ _ e. e ≡ WantOfMemory };
+
+    fn from(_error: AllocError) -> ModelError {
+        ModelError::WantOfMemory
+    }
+}
+
+// What a model's table reads.
+pub(crate) fn read_model<T: Reads + Drop>(alloc: Global, value: &Value) -> Result<T, ModelError>
+    ensures { ReadsModel result T.reading (view value.now) }
+{
+    match read_document(alloc, value) {
+        Ok(model) => Ok(model),
+        Err(ReadError::Float) => Err(ModelError::Float),
+        Err(ReadError::Shape) => Err(ModelError::Shape),
+        Err(ReadError::Ambiguous) => unreachable!(),
+        Err(ReadError::WantOfMemory) => Err(ModelError::WantOfMemory),
+    }
+}

@@ -1,0 +1,58 @@
+-- A call to the log: a request, and what its answer says.
+use Rattle.std.specs.Prelude.{◌≡◌, ℕ, List, Bool, false, ◌&&◌, nat_le, nat_lt, if◌then◌else◌, Option, Some, None, option_map, Result, Ok, Err}
+use Rattle.serde_json.specs.Data.{Data}
+use Rattle.serde_json.specs.Written.{has_float, compact_text}
+use Rattle.json_values.specs.JsonText.{plain_json_of}
+use Rattle.oci_transport.specs.declared.message.Answer.{Answer}
+use Rattle.oci_transport.specs.declared.message.Method.{Method}
+use Rattle.oci_transport.specs.Link.{Link}
+use Rattle.oci_protocol.specs.Proto.{Done, ◌>>=◌}
+use Rattle.oci_protocol.specs.Runs.{Meets}
+use Rattle.sig_services.specs.Exchange.{Row, whole}
+use Rattle.sig_services.specs.Error.{is_memory}
+use Rattle.sig_services.specs.Request.{request_of}
+use Rattle.sig_services.specs.declared.configuration.Configuration.{Configuration}
+use Rattle.sig_services.specs.declared.error.Error.{Error}
+use Rattle.sig_services.specs.declared.error.Error.TheVariants.{Link as Broken, BodyTooLong, Json, ResponseError}
+
+-- a status of the client's or the server's error (RFC 9110, 15.5 and 15.6)
+abbrev pub is_refusal : ℕ → Bool
+is_refusal status = nat_le 400 status && nat_lt status 600
+
+-- what the JSON of a body reads as, if it is JSON in which no float stands
+abbrev pub entity_in : {E : Type 0} → (Data → E) → List ℕ → Option E
+entity_in entity body = option_map entity (plain_json_of body)
+
+abbrev pub read_or_json : {A E : Type 0} → List ℕ → Option A → Result A (Error E)
+read_or_json body (Some found) = Ok found
+read_or_json body None = Err (Json body)
+
+-- what an answer says
+abbrev pub judged : {A E : Type 0} → (List ℕ → Option A) → (Data → E) → Answer → Result A (Error E)
+judged read entity answer =
+    if is_refusal answer.status
+    then Err (ResponseError (record {
+      status = answer.status;
+      content = answer.body;
+      entity = entity_in entity answer.body;
+    }))
+    else read_or_json answer.body (read answer.body)
+
+-- a call: one request, one answer, and what it says
+unfoldable pub call : {A E : Type 0} → (List ℕ → Option A) → (Data → E) → Configuration → Method → List ℕ
+    → Option (List ℕ) → Row (Error E) A
+call read entity c method path content = do
+  request ← Done (request_of c method path content)
+  answer ← whole Broken BodyTooLong c.max_body_bytes request
+  Done (judged read entity answer)
+
+-- the compact text of JSON data; of data in which a float stands any text
+abbrev pub IsCompact : List ℕ → Data → Type 0
+IsCompact text d = has_float d ≡ false → text ≡ compact_text d
+
+-- a call that sent the compact text of this data
+pub record Posts {A E : Type 0}
+    (d : Data) (row : List ℕ → Row (Error E) A) (old new : Link) (r : Result A (Error E)) : Type 0 where
+  pub text : List ℕ
+  pub compact : IsCompact text d
+  pub met : (k : Unit {0}) → Meets is_memory (row text) old new k k r

@@ -1,0 +1,12 @@
+pub mod Body
+pub mod Call
+pub mod Calls
+pub mod Causes
+pub mod Configuration
+pub mod Entities
+pub mod Error
+pub mod Exchange
+pub mod Fulcio
+pub mod Headers
+pub mod Request
+pub mod Token

@@ -1,0 +1,8 @@
+-- The token that the certificate authority is shown.
+use Rattle.std.specs.Prelude.{ℕ, List}
+use Rattle.sig_services.specs.declared.token.TokenProvider.{TokenProvider}
+use Rattle.sig_services.specs.declared.token.TokenProvider.TheVariants.{Static}
+
+-- the token, and the challenge that the caller signs
+abbrev pub token_of : TokenProvider → List ℕ × List ℕ
+token_of (Static token challenge) = (token, challenge)

@@ -1,0 +1,353 @@
+//! The certificate authority.
+ghost use Rattle.std.specs.Prelude.{◌≡◌, ◌++◌, codes, IfOk, option_copied};
+ghost use Rattle.serde_json.specs.Written.{compact_text};
+ghost use Rattle.oci_protocol.specs.Runs.{Meets};
+ghost use Rattle.sig_models.specs.CertificateRequest.{request_written, signing_request_written};
+ghost use Rattle.sig_services.specs.Fulcio.{Says, is_memory, asked, certificate_in, headers_of, joined};
+ghost use Rattle.sig_services.specs.Fulcio.{parted, request_of, response_in, response_of};
+ghost use Rattle.sig_services.specs.Fulcio as row;
+
+use crate::body::Body;
+use crate::call::compact;
+use crate::exchange::exchange;
+use crate::fulcio_error::FulcioError;
+use crate::headers::with_header;
+use crate::token::TokenProvider;
+use json_tables::read_plain;
+use json_values::{Blob, Copied, List, Text, ToValue, copied};
+use oci_transport::{Answer, Headers, Method, Request, Transport};
+use sig_models::{
+    CertificateChain, CertificateRequest, CreateSigningCertificateRequest, KeyAlgorithm,
+    SigningCertificate, SigningCertificateDetachedSCT,
+};
+use std::alloc::{AllocError, Global};
+use std::fmt;
+use url::{ParseError, Url};
+
+/// The public certificate authority.
+pub const FULCIO_ROOT: &str = "https://fulcio.sigstore.dev/";
+
+/// The path of certificates, version 1.
+pub const SIGNING_CERT_PATH: &str = "api/v1/signingCert";
+
+/// The path of certificates, version 2.
+pub const SIGNING_CERT_V2_PATH: &str = "api/v2/signingCert";
+
+// How many bytes the body of an answer may have.
+const MAX_BODY_BYTES: u64 = 4294967295;
+
+/// A certificate chain as it was answered, PEM text.
+#[derive(Debug, Drop)]
+pub struct FulcioCert {
+    pub text: Text,
+}
+
+/// A certificate, those that it is signed under, and the timestamp that stands beside it.
+#[derive(Debug, Drop)]
+pub struct CertificateResponse {
+    /// The certificate, PEM text.
+    pub cert: Text,
+    /// The further certificates, each the issuer of the one before it.
+    pub chain: List<Text>,
+    /// None where the timestamp stands in the certificate.
+    pub detached_sct: Option<SigningCertificateDetachedSCT>,
+}
+
+/// A client of a certificate authority.
+#[derive(Drop)]
+pub struct FulcioClient {
+    root_url: Url,
+    token_provider: TokenProvider,
+}
+
+impl FulcioCert {
+    /// The bytes of the text.
+    pub fn as_ref(&self) -> &[u8]
+        ensures { result.now ≡ self.now.text }
+    {
+        self.text.as_str().as_bytes()
+    }
+}
+
+impl fmt::Display for FulcioCert {
+    fn fmt<W: fmt::Write>(&self, f: &mut fmt::Formatter<W>) -> fmt::Result {
+        f.write_str(self.text.as_str())
+    }
+}
+
+fn joined(alloc: Global, root: &Url, path: &str) -> Result<Url, FulcioError>
+    ensures { Says result (joined root.now path.now) }
+{
+    match root.join(path) {
+        Ok(url) => Ok(url),
+        Err(ParseError::OutOfMemory) => Err(FulcioError::WantOfMemory),
+        Err(ParseError::Overflow) => Err(FulcioError::WantOfMemory),
+        Err(_) => Err(FulcioError::Url(Text::new(alloc, path)?)),
+    }
+}
+
+fn bearer(alloc: Global, token: &str) -> Result<Text, AllocError>
+    ensures { IfOk result (λ value. value ≡ codes "Bearer " ++ token.now) }
+{
+    let mut value = Text::new(alloc, "Bearer ")?;
+    value.push_str(token)?;
+    Ok(value)
+}
+
+fn with_accept(headers: Headers, accept: Option<&str>) -> Result<Option<Headers>, AllocError>
+    ensures { IfOk result (λ more. more ≡ row.with_accept (option_copied accept.entry) headers) }
+{
+    match accept {
+        Some(accept) => with_header(headers, "accept", accept),
+        None => Ok(Some(headers)),
+    }
+}
+
+fn headers_of(alloc: Global, token: &str, accept: Option<&str>) -> Result<Headers, FulcioError>
+    ensures { Says result (headers_of token.now (option_copied accept.entry)) }
+{
+    let value = bearer(alloc, token)?;
+    if let Some(headers) = with_header(Headers::new(alloc), "authorization", value.as_str())? {
+        if let Some(headers) = with_header(headers, "content-type", "application/json")? {
+            if let Some(headers) = with_accept(headers, accept)? {
+                return Ok(headers);
+            }
+        }
+    }
+    let token = Text::new(alloc, token)?;
+    Err(FulcioError::Header(token))
+}
+
+#[tactic(auto, unfolding(crate::specs::Fulcio::request_of))]
+fn request_of(
+    alloc: Global,
+    root: &Url,
+    path: &str,
+    token: &str,
+    accept: Option<&str>,
+    body: Blob,
+) -> Result<Request, FulcioError>
+    ensures { Says result
+        (request_of root.now path.now token.now (option_copied accept.entry) body) }
+{
+    let url = joined(alloc, root, path)?;
+    let headers = headers_of(alloc, token, accept)?;
+    let url = Text::new(alloc, url.as_str())?;
+    Ok(Request {
+        method: Method::Post,
+        url,
+        headers,
+        body,
+    })
+}
+
+// The answer to a request for certificates, whatever its status.
+#[tactic(none)]
+fn asked<T: Transport>(
+    alloc: Global,
+    transport: &mut T,
+    root: &Url,
+    path: &str,
+    token: &str,
+    accept: Option<&str>,
+    body: Blob,
+) -> Result<Answer, FulcioError>
+    ensures { (k : Unit {0}) → Meets is_memory
+        (asked root.now path.now token.now (option_copied accept.entry) body)
+        (T.state transport.old) (T.state transport.new) k k result }
+{
+    let request = request_of(alloc, root, path, token, accept, body)?;
+    let answer = exchange::<T, FulcioError>(alloc, transport, MAX_BODY_BYTES, &request)?;
+    Ok(answer)
+}
+
+fn certificate_in(alloc: Global, answer: Answer) -> Result<FulcioCert, FulcioError>
+    ensures { Says result (certificate_in answer.body) }
+{
+    match Text::from_body(alloc, answer.body.as_slice())? {
+        Some(text) => Ok(FulcioCert { text }),
+        None => Err(FulcioError::Json(answer.body)),
+    }
+}
+
+fn copies(alloc: Global, certificates: &[Text]) -> Result<List<Text>, AllocError>
+    ensures { IfOk result (λ chain. chain ≡ certificates.now) }
+{
+    let mut chain = List::new(alloc);
+    for certificate in certificates {
+        chain.push(certificate.copy(alloc)?)?;
+    }
+    Ok(chain)
+}
+
+// The first certificate, and the others.
+fn parted(alloc: Global, chain: &CertificateChain) -> Result<(Text, List<Text>), FulcioError>
+    ensures { Says result (parted chain.now.certificates) }
+{
+    let Some((first, others)) = chain.certificates.as_slice().split_first() else {
+        return Err(FulcioError::ChainTooShort);
+    };
+    if others.is_empty() {
+        return Err(FulcioError::ChainTooShort);
+    }
+    let first = first.copy(alloc)?;
+    let others = copies(alloc, others)?;
+    Ok((first, others))
+}
+
+fn response_of(
+    alloc: Global,
+    certificate: SigningCertificate,
+) -> Result<CertificateResponse, FulcioError>
+    ensures { Says result (response_of certificate) }
+{
+    match certificate {
+        SigningCertificate::SignedCertificateDetachedSct(signed) => {
+            let (cert, chain) = parted(alloc, &signed.chain)?;
+            Ok(CertificateResponse {
+                cert,
+                chain,
+                detached_sct: Some(signed),
+            })
+        }
+        SigningCertificate::SignedCertificateEmbeddedSct(signed) => {
+            let (cert, chain) = parted(alloc, &signed.chain)?;
+            Ok(CertificateResponse {
+                cert,
+                chain,
+                detached_sct: None,
+            })
+        }
+    }
+}
+
+fn response_in(alloc: Global, answer: Answer) -> Result<CertificateResponse, FulcioError>
+    ensures { Says result (response_in answer.body) }
+{
+    let Some(certificate) = read_plain(alloc, answer.body.as_slice())? else {
+        return Err(FulcioError::Json(answer.body));
+    };
+    let response = response_of(alloc, certificate)?;
+    Ok(response)
+}
+
+fn request_text(
+    alloc: Global,
+    algorithm: KeyAlgorithm,
+    public_key: &[u8],
+    signature: &[u8],
+) -> Result<Blob, AllocError>
+    ensures { IfOk result (λ text. text
+        ≡ compact_text (request_written algorithm public_key.now signature.now)) }
+{
+    let request = CertificateRequest {
+        algorithm,
+        public_key,
+        signature,
+    };
+    let value = request.to_value(alloc)?;
+    let text = compact(alloc, &value)?;
+    Ok(text)
+}
+
+fn signing_request_text(alloc: Global, request: &[u8]) -> Result<Blob, AllocError>
+    ensures { IfOk result (λ text. text ≡ compact_text (signing_request_written request.now)) }
+{
+    let request = CreateSigningCertificateRequest {
+        certificate_signing_request: request,
+    };
+    let value = request.to_value(alloc)?;
+    let text = compact(alloc, &value)?;
+    Ok(text)
+}
+
+impl FulcioClient {
+    /// A client of the certificate authority at this URL, as `FULCIO_ROOT`.
+    pub fn new(root_url: Url, token_provider: TokenProvider) -> FulcioClient
+        ensures { result ≡ record { root_url = root_url; token_provider = token_provider } }
+    {
+        FulcioClient {
+            root_url,
+            token_provider,
+        }
+    }
+
+    /// Asks for a certificate for this public key, in DER, with the key's signature over the challenge of the token.
+    /// The answer's status is not looked at.
+    #[tactic(none)]
+    pub fn request_cert<T: Transport>(
+        &self,
+        alloc: Global,
+        transport: &mut T,
+        algorithm: KeyAlgorithm,
+        public_key: &[u8],
+        signature: &[u8],
+    ) -> Result<FulcioCert, FulcioError>
+        ensures { (k : Unit {0}) → Meets is_memory
+            (row.request_cert self.now algorithm public_key.now signature.now)
+            (T.state transport.old) (T.state transport.new) k k result }
+    {
+        let TokenProvider::Static(token, _challenge) = &self.token_provider;
+        let body = request_text(alloc, algorithm, public_key, signature)?;
+        let answer = asked(
+            alloc,
+            transport,
+            &self.root_url,
+            SIGNING_CERT_PATH,
+            token.as_str(),
+            None,
+            body,
+        )?;
+        let cert = certificate_in(alloc, answer)?;
+        Ok(cert)
+    }
+
+    /// Asks for a certificate for this signing request, PEM text (RFC 2986), and shows this identity token. The
+    /// answer's status is not looked at.
+    #[tactic(none)]
+    pub fn request_cert_v2<T: Transport>(
+        &self,
+        alloc: Global,
+        transport: &mut T,
+        request: &[u8],
+        identity: &str,
+    ) -> Result<CertificateResponse, FulcioError>
+        ensures { (k : Unit {0}) → Meets is_memory
+            (row.request_cert_v2 self.now request.now identity.now)
+            (T.state transport.old) (T.state transport.new) k k result }
+    {
+        let body = signing_request_text(alloc, request)?;
+        let answer = asked(
+            alloc,
+            transport,
+            &self.root_url,
+            SIGNING_CERT_V2_PATH,
+            identity,
+            Some("application/pem-certificate-chain"),
+            body,
+        )?;
+        let response = response_in(alloc, answer)?;
+        Ok(response)
+    }
+}
+
+impl Copied for FulcioCert {
+    fn copy(&self, alloc: Global) -> Result<FulcioCert, AllocError> {
+        let text = self.text.copy(alloc)?;
+        Ok(FulcioCert { text })
+    }
+}
+
+impl Copied for CertificateResponse {
+    fn copy(&self, alloc: Global) -> Result<CertificateResponse, AllocError> {
+        copied!(
+            alloc,
+            self,
+            CertificateResponse {
+                cert,
+                chain,
+                detached_sct
+            }
+        )
+    }
+}

@@ -1,0 +1,79 @@
+ghost use Rattle.std.specs.Prelude.{◌≡◌};
+ghost use Rattle.sig_services.specs.declared.error.Error.TheVariants.{WantOfMemory as out_of_memory};
+
+use json_values::{Blob, Copied, Text, copied};
+use std::alloc::{AllocError, Global};
+
+/// An answer that refuses.
+#[derive(Debug, Drop)]
+pub struct ResponseContent<E> {
+    /// From 400 to 599.
+    pub status: u16,
+    /// The body.
+    pub content: Blob,
+    /// What the body reads as; none where it is no JSON, or where a float stands in it.
+    pub entity: Option<E>,
+}
+
+/// Why a call to the log was refused.
+#[derive(Debug, Drop, thiserror::Error)]
+pub enum Error<E> {
+    /// The transport failed: the count of its faults rose.
+    #[error("the connection to the log failed: send the request again")]
+    Link,
+    /// The body of the answer has more bytes than `max_body_bytes`.
+    #[error("the log's answer has more bytes than the configuration allows")]
+    BodyTooLong,
+    /// This text is no URL of a request.
+    #[error("the URL of the request does not read: look at the base path")]
+    Url(Text),
+    /// This user agent cannot stand in a header.
+    #[error("the user agent cannot stand in a header: give it no control characters")]
+    Header(Text),
+    /// This body of a success does not read.
+    #[error("the log's answer does not read: ask whether the base path is that of a log")]
+    Json(Blob),
+    /// The status is from 400 to 599.
+    #[error("the log refused the request: look at the status and the content of its answer")]
+    ResponseError(ResponseContent<E>),
+    /// The allocator had no memory.
+    #[error("out of memory: free some and try again")]
+    WantOfMemory,
+}
+
+impl<E> From<AllocError> for Error<E> {
+    ghost from_gives = { λ _ e. e ≡ out_of_memory };
+
+    fn from(_: AllocError) -> Error<E> {
+        Error::WantOfMemory
+    }
+}
+
+impl<E: Copied + Drop> Copied for ResponseContent<E> {
+    fn copy(&self, alloc: Global) -> Result<ResponseContent<E>, AllocError> {
+        copied!(
+            alloc,
+            self,
+            ResponseContent {
+                status,
+                content,
+                entity
+            }
+        )
+    }
+}
+
+impl<E: Copied + Drop> Copied for Error<E> {
+    fn copy(&self, alloc: Global) -> Result<Error<E>, AllocError> {
+        let error = match self {
+            Error::Link => Error::Link,
+            Error::BodyTooLong => Error::BodyTooLong,
+            Error::Url(text) => Error::Url(text.copy(alloc)?),
+            Error::Header(text) => Error::Header(text.copy(alloc)?),
+            Error::Json(body) => Error::Json(body.copy(alloc)?),
+            Error::ResponseError(content) => Error::ResponseError(content.copy(alloc)?),
+            Error::WantOfMemory => Error::WantOfMemory,
+        };
+        Ok(error)
+    }
+}

@@ -1,0 +1,8 @@
+//! What the log is asked with and answers.
+
+pub use sig_models::{
+    Alpine, AlpineAllOf, EntryAllOf, Error, Format, Hashedrekord, HashedrekordAllOf, Helm,
+    HelmAllOf, InactiveShardLogInfo, Intoto, IntotoAllOf, Jar, JarAllOf, LogEntry, ModelError,
+    ProposedEntry, Rekord, RekordAllOf, Rfc3161, Rfc3161AllOf, Rpm, RpmAllOf, SearchIndex,
+    SearchIndexPublicKey, SearchLogQuery, Tuf, TufAllOf,
+};
