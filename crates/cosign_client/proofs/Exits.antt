@@ -16,6 +16,7 @@ use Rattle.sig_registry.specs.declared.wording.Called.{Called}
 use Rattle.cosign_client.specs.declared.refusal.PullRefusal.{PullRefusal}
 use Rattle.cosign_client.specs.Refusal.{is_memory as of_refusal, refused_as, Says as SaysWhole}
 use Rattle.cosign_chain.specs.declared.image.VerifiedImage.{VerifiedImage}
+use Rattle.cosign_client.specs.Image.{with_image}
 use Rattle.cosign_client.specs.Verified.{as_whole, constrained, part_of, readable_by, stood_image, verified_image}
 use Rattle.cosign_client.specs.declared.pull.Pulled.{Pulled}
 use Rattle.cosign_client.specs.declared.verified.Standing.{Standing}
@@ -106,6 +107,18 @@ pub said_of : {A B : Type 0} {s : Settings} {p : Proto Kept (Result A SigstoreEr
     → ((e : SigstoreError) → is_memory e ≡ true → f (Err e) ≡ Err e) → Made is_memory s p c d old new r → Says t (f r) → Made is_memory s (bind p (λ x. Done (f x))) c d old new t
 said_of f (Ok a) {t = t} stays first says = caught (λ x. Done (f x)) first (said t says)
 said_of f (Err e) stays first says = said_refusal (λ x. Done (f x)) refl (stays e) first says
+
+-- a step with no call, which asks what the client's settings are
+pub said_at : {A : Type 0} {s : Settings} (w : Settings → Result A SigstoreError) (r : Result A SigstoreError) {c : Client} {link : Link} → Says r (w c.settings) → Made is_memory s (Done (w s)) c c link link r
+said_at {s = s} w r {c = c} {link = link} h = record { made = λ at. (said r (subst (λ t. Says r (w t)) at h)).made at }
+
+-- want of memory speaks of no image
+pub with_stays : {A : Type 0} (text : List ℕ) (e : SigstoreError) → is_memory e ≡ true → (let r : Result A SigstoreError = Err e in with_image text r) ≡ Err e
+with_stays text (sigstore.OciReferenceNotValidError t) h = absurd (cc h)
+with_stays text (sigstore.RegistryFetchManifestError t e) h = absurd (cc h)
+with_stays text (sigstore.RegistryPullError t e) h = absurd (cc h)
+with_stays text (sigstore.RegistryPullManifestError t e) h = absurd (cc h)
+with_stays text sigstore.WantOfMemory h = refl
 
 -- the same, where the row goes on with an answer alone
 pub said_next : {A B : Type 0} {s : Settings} {p : Proto Kept (Result A SigstoreError)} (f : A → B) (g : Result A SigstoreError → Result B SigstoreError) {c d : Client} {old new : Link} (r : Result A SigstoreError) {t : Result B SigstoreError}
