@@ -8,7 +8,6 @@ use Rattle.json_tables.specs.Reading.{◌>>=◌, text_at, or_null}
 use Rattle.serde_json.specs.Data.{Data, null}
 use Rattle.serde_json.specs.Find.{get}
 use Rattle.serde_json.specs.Written.{has_float}
-use Rattle.cosign_layers.specs.Bundle.{bundle_of}
 use Rattle.cosign_layers.specs.Layer.{LayerOf}
 use Rattle.cosign_layers.specs.Payload.{content_of, equal_to, payload_of}
 use Rattle.cosign_layers.specs.Read.{Gives, HasOneOutcome, Rejected, RejectedUnlessMemory, input_of}
@@ -72,7 +71,7 @@ payload_plain notes (Some signing) shows each is =
     let same : payload_shown notes signing ≡ shows = cc is in rw (← same) (each signing refl)
 
 bundle_plain : (d : Data) (shows : _) → shown_by_bundle d ≡ Some shows → IsPlain shows.signing
-bundle_plain d shows is = by (bundle_of d) is where
+bundle_plain d shows is = by _ is where
   by : (o : Option _) → option_map (bundle_shown d) o ≡ Some shows → IsPlain shows.signing
   by None is = absurd (cc is)
   by (Some bundle) is = let same : bundle_shown d bundle ≡ shows = cc is in rw (← same) tt

@@ -1,4 +1,7 @@
-ghost use Rattle.std.specs.Prelude.{◌≡◌, IfOk};
+ghost use Rattle.std.specs.Prelude.{◌≡◌, IfOk, Result};
+ghost use Rattle.cosign_layers.specs.Rejection.{Says};
+ghost use Rattle.cosign_layers.specs.declared.layer.SignatureLayer.{SignatureLayer};
+ghost use Rattle.cosign_layers.specs.declared.rejection.LayerRejection.{LayerRejection};
 ghost use Rattle.docs_bench.specs.Bundle.{bundle_signature, signature_in};
 
 use cosign_layers::{
@@ -34,11 +37,13 @@ pub fn bundle_signature(alloc: Global, content: &Blob) -> Result<Option<Blob>, A
     signature_in(alloc, &read)
 }
 
+// The signature of the layer that was read, or of none, unless memory was wanting.
 fn signature_in(
     alloc: Global,
     read: &Result<SignatureLayer, LayerRejection>,
 ) -> Result<Option<Blob>, AllocError>
-    ensures { IfOk result (λ found. found ≡ signature_in read.now) }
+    ensures { (said : Result SignatureLayer LayerRejection) → Says read.now said
+        → IfOk result (λ found. found ≡ signature_in said) }
 {
     match read {
         Ok(layer) => {

@@ -11,7 +11,7 @@ use Rattle.oci_auth.specs.declared.memory.Memory.{Memory}
 use Rattle.oci_auth.specs.declared.token_type.RegistryOperation.{RegistryOperation}
 use Rattle.oci_auth.specs.declared.token_type.RegistryTokenType.{RegistryTokenType}
 use Rattle.oci_auth.specs.Caches.{key_of}
-use Rattle.oci_protocol.specs.Proto.{Done, bind, unless_refused, ◌>>=◌, ◌>>◌}
+use Rattle.oci_protocol.specs.Proto.{Done, bind, unless_refused, ◌>>=◌}
 use Rattle.oci_protocol.specs.Runs.{Meets, Told}
 use Rattle.oci_protocol.specs.Safe.{Safe}
 use Rattle.oci_protocol.proofs.Safety.{Meets-safe, Safe-bind}
@@ -19,7 +19,7 @@ use Rattle.engine_requests.specs.Contexts.{Context}
 use Rattle.engine_requests.specs.Requests.{manifest_types}
 use Rattle.engine_requests.specs.declared.error.OciDistributionError.{OciDistributionError}
 use Rattle.engine_requests.specs.Errors.{is_memory}
-use Rattle.engine_steps.specs.Rows.{Row, store, token_step, kept_text, token_given}
+use Rattle.engine_steps.specs.Rows.{store, token_step, kept_text, token_given}
 use Rattle.engine_steps.specs.Blobs.{Destination, IntoSink, Spills}
 use Rattle.engine_pull.specs.Pulls.{fetch_manifest_digest, pull_manifest_raw, pull_manifest, blob_to, pull_blob}
 use Rattle.engine_pull.specs.Manifests.{pull_image_manifest_and_list_digest, pull_image_manifest, pull_manifest_and_config_and_list_digest, pull_manifest_and_config}
@@ -28,7 +28,7 @@ use Rattle.engine_pull.specs.declared.image.ImageData.{ImageData}
 use Rattle.engine_laws.specs.Confined.{Confined, AllConfined}
 use Rattle.engine_laws.specs.Held.{Entry, pulling, asking}
 use Rattle.engine_laws.proofs.KeptTokens.{Keeps, keeps_first, keeps_kept}
-use Rattle.engine_laws.proofs.ShownTokens.{Carries, Ended, Asked, safe_done, store_safe, step_safe}
+use Rattle.engine_laws.proofs.ShownTokens.{Carries, Ended, Asked, store_safe, step_safe}
 use Rattle.engine_laws.proofs.HeaderCauses.{digest_sound, raw_sound, manifest_sound, found_sound, one_sound, config_sound, text_sound, image_sound, blob_sound}
 
 pub digest_confined : (s : Context) (image : Reference) (a : RegistryAuth) {old new : Link} {k l : Memory} {r : Result (List ℕ) OciDistributionError} → Meets is_memory (fetch_manifest_digest s image a) old new k l r → Told (AllConfined (pulling k s image (Some a)) s.settings) old new

@@ -1,5 +1,5 @@
 -- Requests that carry a value of `authorization` go to the registry, also where redirects lead.
-use Rattle.std.proofs.Common.{◌≡◌, ◌⊎◌, inl, inr, ℕ, Bool, true, false, not, List, [], ◌∷◌, ◌++◌, Option, Some, None, Result, Ok, Err, codes, unwrap_or, refl, sym, ap, subst, ◌∙◌, arith}
+use Rattle.std.proofs.Common.{◌≡◌, inl, ℕ, Bool, true, false, not, List, [], ◌∷◌, ◌++◌, Option, Some, None, Ok, codes, unwrap_or, refl, sym, ap, subst, ◌∙◌, arith}
 use Rattle.std.specs.Prelude.{◌&&◌, nat_eq, if◌then◌else◌, bytes_eq}
 use Rattle.std.specs.FinMap as map
 use Rattle.std.specs.FinMap.{get-insert, get-empty, get-remove}
@@ -16,16 +16,13 @@ use Rattle.oci_transport.specs.declared.message.AnswerHead.{AnswerHead}
 use Rattle.oci_transport.specs.declared.message.Exchange.{Exchange}
 use Rattle.oci_transport.specs.declared.message.Method.{Method}
 use Rattle.oci_auth.specs.Credentials.{authorization_of}
-use Rattle.oci_auth.specs.declared.memory.Memory.{Memory}
 use Rattle.oci_auth.specs.declared.token_type.RegistryTokenType.{RegistryTokenType}
-use Rattle.oci_protocol.proofs.Safety.{Moves}
 use Rattle.engine_requests.specs.declared.settings.Settings.{Settings}
-use Rattle.engine_requests.specs.declared.error.OciDistributionError.{OciDistributionError}
-use Rattle.engine_requests.specs.Requests.{with_accept, with_token, request_of, bare_request}
+use Rattle.engine_requests.specs.Requests.{with_accept, with_token, request_of}
 use Rattle.engine_laws.specs.Confined.{ToRegistry, MayCarry, Each, Confined}
 use Rattle.engine_laws.specs.Held.{Entry, IsHeld}
 use Rattle.engine_laws.proofs.KeptTokens.{held_more}
-use Rattle.engine_laws.proofs.PreparedRequests.{with_ok, Made, made_of}
+use Rattle.engine_laws.proofs.PreparedRequests.{with_ok, made_of}
 
 pub each_more : (P Q : List ℕ → Type 0) (values : List (List ℕ)) → ((value : List ℕ) → P value → Q value) → Each P values → Each Q values
 each_more P Q [] more h = tt

@@ -1,6 +1,6 @@
 -- Why digests were refused, by what an answer shows.
 use Rattle.std.proofs.Common.{◌≡◌, ◌≢◌, inl, inr, ℕ, Bool, true, false, List, [], ◌∷◌, Option, Some, None, Result, Ok, Err, bytes_eq, refl, sym, ap, subst, ◌∙◌}
-use Rattle.std.specs.Prelude.{if◌then◌else◌, ok_or, not, ◌&&◌, codes}
+use Rattle.std.specs.Prelude.{if◌then◌else◌, ok_or, not, ◌&&◌}
 use Rattle.std.proofs.lemmas.Slice.Eq.{bytes_eq-Decides}
 use Rattle.oci_transport.specs.Headers.{digest_header, first_of}
 use Rattle.oci_transport.specs.declared.message.Answer.{Answer}

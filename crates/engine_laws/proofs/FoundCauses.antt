@@ -1,7 +1,6 @@
 -- Why the calls for the manifest of an image were refused, to which an index may lead.
-use Rattle.std.proofs.Common.{◌≡◌, ◌⊎◌, inl, inr, ℕ, Bool, true, false, List, [], ◌∷◌, ◌++◌, Option, Some, None, Result, Ok, Err, refl, sym, ap, subst, ◌∙◌, append_assoc, append-nil}
+use Rattle.std.proofs.Common.{◌≡◌, inl, inr, ℕ, Bool, true, false, List, [], ◌∷◌, ◌++◌, Option, Some, None, Result, Ok, Err, refl, sym, ap, subst, ◌∙◌, append_assoc, append-nil}
 use Rattle.std.specs.Prelude.{if◌then◌else◌}
-use Rattle.oci_transport.specs.declared.message.Answer.{Answer}
 use Rattle.oci_transport.specs.declared.message.Exchange.{Exchange}
 use Rattle.oci_names.specs.declared.reference.Reference.{Reference}
 use Rattle.oci_manifests.specs.declared.document.OciManifest.{OciManifest}
@@ -19,13 +18,12 @@ use Rattle.engine_requests.specs.Contexts.{Context}
 use Rattle.engine_requests.specs.declared.settings.Settings.{Settings}
 use Rattle.engine_requests.specs.declared.error.OciDistributionError.{OciDistributionError}
 use Rattle.engine_requests.specs.declared.error.OciDistributionError.TheVariants as refusal
-use Rattle.engine_requests.specs.Addresses.{manifest_text}
 use Rattle.engine_requests.specs.Documents.{document_read}
 use Rattle.engine_requests.specs.Index.{entry_named, entry_found, entry_manifest, entry_reference}
 use Rattle.engine_requests.specs.Requests.{manifest_types}
 use Rattle.engine_pull.specs.Manifests.{pull_entry, manifest_by, pull_image_manifest_and_list_digest, pull_image_manifest}
 use Rattle.engine_pull.specs.Pulls.{pull_manifest}
-use Rattle.engine_laws.specs.Causes.{ManifestUrl, DocumentCause, OwnDigest, IndexRead, LastIsIndex, EntryDigest, IsMissing, NotFound, FoundDigest, FoundUrl, IndexCause, FoundCause, ManifestRead}
+use Rattle.engine_laws.specs.Causes.{ManifestUrl, DocumentCause, OwnDigest, IndexRead, LastIsIndex, EntryDigest, FoundDigest, FoundUrl, FoundCause, ManifestRead}
 use Rattle.engine_laws.proofs.EarlyCauses.{AnyValue, Loose}
 use Rattle.engine_laws.proofs.DocumentAnswers.{body_before}
 use Rattle.engine_laws.proofs.DocumentCauses.{cause_later, last_later}

@@ -17,7 +17,7 @@ use Rattle.oci_auth.specs.declared.memory.Memory.{Memory}
 use Rattle.oci_auth.specs.declared.token_type.RegistryOperation.TheVariants.{Pull}
 use Rattle.oci_manifests.specs.declared.descriptor.OciDescriptor.{OciDescriptor}
 use Rattle.oci_manifests.specs.declared.blob.ImageLayer.{ImageLayer}
-use Rattle.oci_protocol.specs.Proto.{Reply, Headed, Answered, Failed, TooLong, SinkFailed, read_within, ◌>>=◌, ◌>>◌}
+use Rattle.oci_protocol.specs.Proto.{Reply, Headed, Answered, Failed, TooLong, SinkFailed, read_within}
 use Rattle.oci_protocol.specs.Runs.{head_part}
 use Rattle.oci_protocol.specs.Safe.{Safe}
 use Rattle.engine_requests.specs.Contexts.{Context}
@@ -48,8 +48,8 @@ use Rattle.engine_laws.proofs.PlainRefusals.{Plain, into_plain, refused_plain, a
 use Rattle.engine_laws.specs.Held.{Entry, pulling}
 use Rattle.engine_laws.proofs.KeptTokens.{Keeps}
 use Rattle.engine_laws.proofs.SafeMore.{Safe-map}
-use Rattle.engine_laws.proofs.Confining.{SentValue, Sent, each_more}
-use Rattle.engine_laws.specs.Confined.{ToRegistry, ToRealm, MayCarry, Each, Confined}
+use Rattle.engine_laws.proofs.Confining.{Sent, each_more}
+use Rattle.engine_laws.specs.Confined.{ToRegistry, ToRealm, MayCarry}
 use Rattle.engine_laws.proofs.ShownTokens.{Carries, HeaderCause, Ended, safe_done, safe_next, safe_ready, safe_follow, prepared_safe, store_safe, plain_step, plain_last, url_first}
 
 -- the protocol keeps to it, and its refusals have their causes

@@ -1,9 +1,8 @@
 -- Why the calls for a whole image and for its configuration were refused.
-use Rattle.std.proofs.Common.{◌≡◌, ◌⊎◌, inl, inr, ℕ, suc, Bool, true, false, List, [], ◌∷◌, ◌++◌, Option, Some, None, Result, Ok, Err, refl, sym, ap, subst, ◌∙◌, append_assoc, append-nil, arith}
+use Rattle.std.proofs.Common.{◌≡◌, inl, inr, ℕ, suc, Bool, true, false, List, [], ◌∷◌, ◌++◌, Option, Some, Result, Ok, Err, refl, sym, ap, subst, ◌∙◌, append_assoc, append-nil, arith}
 use Rattle.std.specs.Prelude.{if◌then◌else◌}
 use Rattle.std.specs.List.{Contains}
 use Rattle.std.specs.Str.{is_utf8}
-use Rattle.oci_transport.specs.declared.message.Answer.{Answer}
 use Rattle.oci_transport.specs.declared.message.Exchange.{Exchange}
 use Rattle.oci_names.specs.declared.reference.Reference.{Reference}
 use Rattle.oci_manifests.specs.declared.manifest.OciImageManifest.{OciImageManifest}

@@ -1,7 +1,6 @@
 -- Why the call for a manifest or an index was refused.
-use Rattle.std.proofs.Common.{◌≡◌, inl, inr, ℕ, suc, Bool, true, false, List, [], ◌∷◌, ◌++◌, Option, Some, None, Result, Ok, Err, refl, sym, ap, subst, ◌∙◌, append_assoc, append-nil, arith}
+use Rattle.std.proofs.Common.{◌≡◌, inl, inr, ℕ, Bool, true, false, List, [], ◌++◌, Option, Some, None, Result, Ok, Err, sym, ap, subst, ◌∙◌, append-nil}
 use Rattle.std.specs.Prelude.{pos, if◌then◌else◌}
-use Rattle.std.specs.List.{Contains}
 use Rattle.std.specs.Ordering.{int_eq}
 use Rattle.json_values.specs.JsonText.{json_of}
 use Rattle.oci_transport.specs.declared.message.Answer.{Answer}
@@ -13,13 +12,8 @@ use Rattle.oci_manifests.specs.Types.{is_manifest_type}
 use Rattle.oci_manifests.specs.Document.{document_of}
 use Rattle.oci_manifests.specs.declared.versioned.Versioned.{Versioned}
 use Rattle.oci_manifests.specs.declared.document.OciManifest.{OciManifest}
-use Rattle.oci_manifests.specs.declared.document.OciManifest.TheVariants.{Image, ImageIndex}
-use Rattle.oci_manifests.specs.declared.manifest.OciImageManifest.{OciImageManifest}
-use Rattle.oci_manifests.specs.declared.index.OciImageIndex.{OciImageIndex}
-use Rattle.oci_manifests.specs.declared.descriptor.OciDescriptor.{OciDescriptor}
-use Rattle.oci_manifests.specs.declared.blob.ImageLayer.{ImageLayer}
 use Rattle.oci_auth.specs.declared.auth.RegistryAuth.{RegistryAuth}
-use Rattle.oci_protocol.specs.Proto.{Done, ◌>>=◌, ◌>>◌}
+use Rattle.oci_protocol.specs.Proto.{Done, ◌>>=◌}
 use Rattle.oci_protocol.specs.Shows.{Shows, ByAnswer}
 use Rattle.oci_protocol.proofs.Showing.{Shows-done, Shows-more, Shows-each, Shows-step}
 use Rattle.engine_requests.specs.Contexts.{Context}
@@ -30,15 +24,10 @@ use Rattle.engine_requests.specs.declared.error.OciDistributionError.TheVariants
 use Rattle.engine_requests.specs.Errors.{◌>>◌ as ◌before◌}
 use Rattle.engine_requests.specs.Requests.{manifest_types}
 use Rattle.engine_requests.specs.Documents.{plain_of, type_checked, version_checked, versioned_in, or_unread, reads_twice, tables_read, document_read}
-use Rattle.engine_pull.specs.Pulls.{pull_manifest_raw, pull_manifest, held_blob}
-use Rattle.engine_steps.specs.Blobs.{IntoMemory}
-use Rattle.engine_pull.specs.Images.{image_manifest, is_accepted, all_accepted, layers_accepted, layer_of, config_of, pull_layers, pull}
-use Rattle.engine_pull.specs.declared.image.ImageData.{ImageData}
-use Rattle.engine_laws.specs.Causes.{ManifestUrl, BlobUrl, ImageUrl, Claimed, DigestCause, AnswerCause, IsNoDocument, DocumentCause, ByLast, OwnDigest, AskedDigest, ManifestRead, ReadDigest, ImageDigest, ImageCause}
-use Rattle.engine_laws.proofs.EarlyCauses.{AnyValue, Loose, LooseBlob}
-use Rattle.engine_laws.proofs.DocumentAnswers.{body_before}
+use Rattle.engine_pull.specs.Pulls.{pull_manifest_raw, pull_manifest}
+use Rattle.engine_laws.specs.Causes.{ManifestUrl, Claimed, DigestCause, AnswerCause, IsNoDocument, DocumentCause, ByLast, OwnDigest}
+use Rattle.engine_laws.proofs.EarlyCauses.{Loose}
 use Rattle.engine_laws.proofs.DocumentCauses.{cause_later, last_later, Accepted, OwnCause, raw_causes}
-use Rattle.engine_laws.proofs.BlobCauses.{blob_later, blob_causes}
 
 -- ---- which refusals speak of a document
 

@@ -22,7 +22,6 @@ use Rattle.oci_auth.specs.Credentials.{own_token, authorization_of}
 use Rattle.oci_auth.specs.declared.auth.RegistryAuth.{RegistryAuth}
 use Rattle.oci_auth.specs.declared.auth.RegistryAuth.TheVariants as credentials
 use Rattle.oci_auth.specs.declared.memory.Memory.{Memory}
-use Rattle.oci_auth.specs.declared.token_type.RegistryOperation.{RegistryOperation}
 use Rattle.oci_auth.specs.declared.token_type.RegistryTokenType.{RegistryTokenType}
 use Rattle.oci_protocol.specs.Proto.{Reading, Unread, read_none, read_within, Reply, Headed, Answered, Failed, TooLong, SinkFailed, Proto, Done, bind, unless_refused, ◌>>=◌}
 use Rattle.oci_protocol.specs.Follow.{follow}
@@ -49,7 +48,7 @@ use Rattle.oci_transport.specs.Link.{answer_of}
 use Rattle.oci_protocol.specs.Runs.{head_part}
 use Rattle.engine_requests.specs.Tokens.{realm_url}
 use Rattle.engine_laws.specs.Held.{Entry, IsAuth, GivenIn, IsHeld}
-use Rattle.engine_laws.specs.Confined.{ToRegistry, ToRealm, MayCarry, Each, Confined}
+use Rattle.engine_laws.specs.Confined.{ToRealm, MayCarry, Each, Confined}
 use Rattle.engine_laws.proofs.Confining.{values_by, request_values, request_url_is, request_method_is, SentValue, Sent, sent_confined, sent_moves}
 use Rattle.engine_laws.proofs.SafeMore.{Safe-more}
 use Rattle.engine_laws.specs.Causes.{HasBadHeader, HasBadToken, BadHeader}

@@ -218,7 +218,8 @@ pub record IndexRead (c : List Exchange) (index : OciImageIndex) : Type 0 where
 
 -- the last answer's body is an index
 abbrev pub LastIsIndex : List Exchange → Type 0
-LastIsIndex c = ByLast (λ address answer. (index : OciImageIndex) × (document_read answer.body ≡ Ok (ImageIndex index))) c
+LastIsIndex c = ByLast
+    (λ address answer. (index : OciImageIndex) × (document_read answer.body ≡ Ok (ImageIndex index))) c
 
 -- the digest of an entry in an index that was read
 pub record EntryDigest (c : List Exchange) (text : List ℕ) : Type 0 where

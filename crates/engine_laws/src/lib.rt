@@ -1,3 +1,3 @@
-//! What every run of the rows of the client's calls shows: whose answer an answer is, and why a call was refused. It has
-//! definitions and laws alone.
+//! What every run of the rows of the client's calls shows: whose answer an answer is, why a call was refused, and where
+//! credentials go. It has definitions and laws alone.
 #![tactic(auto)]

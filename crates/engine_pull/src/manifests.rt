@@ -1,5 +1,6 @@
 // The manifests of images, to which indexes may lead.
 ghost use Rattle.std.specs.Prelude.{◌≡◌};
+ghost use Rattle.oci_manifests.specs.declared.document.OciManifest.TheVariants.{ImageIndex};
 ghost use Rattle.oci_protocol.specs.Runs.{Meets};
 ghost use Rattle.engine_requests.specs.Contexts.{context_of};
 ghost use Rattle.engine_requests.specs.Errors.{is_memory};
@@ -14,7 +15,7 @@ use engine_requests::{
 };
 use json_values::Text;
 use oci_auth::{Memory, RegistryAuth};
-use oci_manifests::{OciImageManifest, OciManifest};
+use oci_manifests::{OciImageIndex, OciImageManifest, OciManifest};
 use oci_transport::Transport;
 use std::alloc::Global;
 
@@ -42,6 +43,26 @@ fn pull_entry<T: Transport>(
     Ok(manifest)
 }
 
+// The manifest of the entry of an index that is meant.
+fn index_manifest<T: Transport>(
+    alloc: Global,
+    transport: &mut T,
+    memory: &mut Memory,
+    call: &Call,
+    auth: &RegistryAuth,
+    index: &OciImageIndex,
+    digest: Text,
+) -> Result<(OciImageManifest, Text, Option<Text>), OciDistributionError>
+    ensures { Meets is_memory
+        (manifest_by (context_of call.now) call.now.image.now auth.now (ImageIndex index.now) digest)
+        (T.state transport.old) (T.state transport.new) memory.old memory.new result }
+{
+    let resolver = &call.settings.platform_resolver;
+    let entry = entry_found(alloc, resolver, index.manifests.as_slice())?;
+    let manifest = pull_entry(alloc, transport, memory, call, auth, entry.as_str())?;
+    Ok((manifest, entry, Some(digest)))
+}
+
 // A manifest as it is, or that of an index's entry.
 fn manifest_by<T: Transport>(
     alloc: Global,
@@ -59,14 +80,12 @@ fn manifest_by<T: Transport>(
         OciManifest::Image(manifest) => return Ok((manifest, digest, None)),
         OciManifest::ImageIndex(index) => index,
     };
-    let promise = &call.settings.platform_resolver;
-    let entry = entry_found(alloc, promise, index.manifests.as_slice())?;
-    let manifest = pull_entry(alloc, transport, memory, call, auth, entry.as_str())?;
-    Ok((manifest, entry, Some(digest)))
+    let found = index_manifest(alloc, transport, memory, call, auth, &index, digest)?;
+    Ok(found)
 }
 
-/// The manifest of an image with its digest, and the digest of the index that led to it, where one did. The entry of an index
-/// is found as the settings say. Where none is found, or the entry is an index again, it is
+/// The manifest of an image with its digest, and the digest of the index that led to it, where one did. The entry of
+/// an index is found as the settings say. Where none is found, or the entry is an index again, it is
 /// `ImageManifestNotFoundError`.
 pub fn pull_image_manifest_and_list_digest<T: Transport>(
     alloc: Global,
@@ -100,8 +119,8 @@ pub fn pull_image_manifest<T: Transport>(
     Ok((manifest, digest))
 }
 
-/// The manifest of an image with its digest, its configuration as text, and the digest of the index that led to it, where
-/// one did.
+/// The manifest of an image with its digest, its configuration as text, and the digest of the index that led to it,
+/// where one did.
 pub fn pull_manifest_and_config_and_list_digest<T: Transport>(
     alloc: Global,
     transport: &mut T,

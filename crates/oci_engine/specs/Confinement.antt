@@ -11,8 +11,8 @@ use Rattle.engine_laws.specs.Held.{asking}
 use Rattle.oci_engine.specs.declared.client.Client.{Client}
 use Rattle.oci_engine.specs.Refusals.{at_moment}
 
--- To the image's registry and to the realm that it names, and nowhere else: so it is of each request that was told. They are
--- those that the client keeps for it, that are handed in, or that an answer gave.
+-- To the image's registry and to the realm that it names, and nowhere else: so it is of each request that was told.
+-- They are those that the client keeps for it, that are handed in, or that an answer gave.
 abbrev pub StaysFor : RegistryOperation → Client → ℕ → Reference → Option RegistryAuth → Link → Link → Type 0
 StaysFor op client moment image handed old new =
     Told (AllConfined (asking client.memory (at_moment client moment) image op handed) client.settings) old new

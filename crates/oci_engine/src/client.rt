@@ -101,15 +101,16 @@ impl Client {
         registry: &str,
         auth: &RegistryAuth,
     ) -> Result<(), AllocError>
-        ensures ok { OnOk result (self.new ≡ record self.old { memory = stored self.old.memory registry.now auth.now }) }
+        ensures ok { OnOk result
+            (self.new ≡ record self.old { memory = stored self.old.memory registry.now auth.now }) }
         ensures err { OnErr result (self.new ≡ self.old) }
     {
         let alloc = self.memory.tokens.alloc();
         oci_auth::store(alloc, &mut self.memory, registry, auth)
     }
 
-    /// Stores credentials and gets their token for the operation, which is kept. The text of a token is answered, and none where
-    /// the registry asks for no token or for the credentials themselves. `moment` is in seconds since 1970.
+    /// Stores credentials and gets their token for the operation, which is kept. The text of a token is answered, and
+    /// none where the registry asks for no token or for the credentials themselves. `moment` is in seconds since 1970.
     pub fn auth<T: Transport>(
         &mut self,
         alloc: Global,
@@ -183,7 +184,8 @@ impl Client {
         auth: &RegistryAuth,
         accepted_media_types: &[Text],
     ) -> Result<(Blob, Text), OciDistributionError>
-        ensures run { Meets is_memory (pull_manifest_raw (at_moment self.old moment) image.now auth.now (listed accepted_media_types.now))
+        ensures run { Meets is_memory
+            (pull_manifest_raw (at_moment self.old moment) image.now auth.now (listed accepted_media_types.now))
             (T.state transport.old) (T.state transport.new) self.old.memory self.new.memory result }
         ensures settings { self.new.settings ≡ self.old.settings }
         ensures confined { Stays self.old moment image.now (Some auth.now)

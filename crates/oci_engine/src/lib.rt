@@ -3,7 +3,7 @@
 
 mod client;
 mod config;
-mod config_file;
+mod config_files;
 mod manifests;
 mod source;
 
@@ -12,7 +12,7 @@ pub use config::{
     ClientConfig, DEFAULT_MAX_CONCURRENT_DOWNLOAD, DEFAULT_MAX_CONCURRENT_UPLOAD,
     DEFAULT_TOKEN_EXPIRATION_SECS,
 };
-pub use config_file::config_file;
+pub use config_files::config_file;
 pub use engine_pull::ImageData;
 pub use engine_requests::{
     ClientProtocol, GenericCause, OciDistributionError, Settings, SpecViolation,

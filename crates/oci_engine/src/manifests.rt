@@ -31,7 +31,8 @@ impl Client {
         image: &Reference,
         auth: &RegistryAuth,
     ) -> Result<(OciImageManifest, Text, Option<Text>), OciDistributionError>
-        ensures run { Meets is_memory (pull_image_manifest_and_list_digest (at_moment self.old moment) image.now auth.now)
+        ensures run { Meets is_memory
+            (pull_image_manifest_and_list_digest (at_moment self.old moment) image.now auth.now)
             (T.state transport.old) (T.state transport.new) self.old.memory self.new.memory result }
         ensures settings { self.new.settings ≡ self.old.settings }
         ensures confined { Stays self.old moment image.now (Some auth.now)
@@ -94,7 +95,8 @@ impl Client {
         image: &Reference,
         auth: &RegistryAuth,
     ) -> Result<(OciImageManifest, Text, Text, Option<Text>), OciDistributionError>
-        ensures run { Meets is_memory (pull_manifest_and_config_and_list_digest (at_moment self.old moment) image.now auth.now)
+        ensures run { Meets is_memory
+            (pull_manifest_and_config_and_list_digest (at_moment self.old moment) image.now auth.now)
             (T.state transport.old) (T.state transport.new) self.old.memory self.new.memory result }
         ensures settings { self.new.settings ≡ self.old.settings }
         ensures confined { Stays self.old moment image.now (Some auth.now)

@@ -44,6 +44,7 @@ digest_print (digest.VerificationError expected actual) =
 digest_print digest.WantOfMemory = codes "WantOfMemory"
 
 abbrev pub cause_print : GenericCause → List ℕ
+cause_print cause.ConfigNotText = codes "ConfigNotText"
 cause_print cause.HeaderText = codes "HeaderText"
 
 abbrev pub violation_print : SpecViolation → List ℕ
@@ -56,10 +57,14 @@ distribution_print (distribution.AmbiguousManifest document) =
 distribution_print (distribution.AuthenticationFailure body) =
     spaced (codes "AuthenticationFailure" ∷ bytes_print body ∷ [])
 distribution_print distribution.BodyTooLong = codes "BodyTooLong"
+distribution_print (distribution.ConfigConversionError content) =
+    spaced (codes "ConfigConversionError" ∷ bytes_print content ∷ [])
 distribution_print (distribution.DigestError error) = spaced (codes "DigestError" ∷ digest_print error ∷ [])
 distribution_print (distribution.GenericError cause) = spaced (codes "GenericError" ∷ cause_print cause ∷ [])
 distribution_print distribution.ImageIndexParsingNoPlatformResolverError =
     codes "ImageIndexParsingNoPlatformResolverError"
+distribution_print (distribution.ImageManifestNotFoundError digest) =
+    spaced (codes "ImageManifestNotFoundError" ∷ quoted_text digest ∷ [])
 distribution_print (distribution.IncompatibleLayerMediaTypeError media_type) =
     spaced (codes "IncompatibleLayerMediaTypeError" ∷ quoted_text media_type ∷ [])
 distribution_print (distribution.ManifestParsingError document) =

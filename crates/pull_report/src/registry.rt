@@ -31,6 +31,7 @@ impl Printed for GenericCause {
 
     fn write_print(&self, _alloc: Global, out: &mut Blob) -> Result<(), AllocError> {
         match self {
+            Self::ConfigNotText => word(out, "ConfigNotText"),
             Self::HeaderText => word(out, "HeaderText"),
         }
     }
@@ -63,10 +64,16 @@ impl Printed for OciDistributionError {
                 body.bytes(),
             ),
             Self::BodyTooLong => word(out, "BodyTooLong"),
+            Self::ConfigConversionError(content) => {
+                print1(alloc, out, "ConfigConversionError", content)
+            }
             Self::DigestError(error) => print1(alloc, out, "DigestError", error),
             Self::GenericError(cause) => print1(alloc, out, "GenericError", cause),
             Self::ImageIndexParsingNoPlatformResolverError => {
                 word(out, "ImageIndexParsingNoPlatformResolverError")
+            }
+            Self::ImageManifestNotFoundError(digest) => {
+                print1(alloc, out, "ImageManifestNotFoundError", digest)
             }
             Self::IncompatibleLayerMediaTypeError(media_type) => {
                 print1(alloc, out, "IncompatibleLayerMediaTypeError", media_type)

@@ -84,8 +84,12 @@ limit_by (Some limit) = limit
 
 -- the settings of a client by its protocol and its limit, else the usual ones
 abbrev pub settings_by : ClientProtocol → Option ℕ → Settings
-settings_by protocol limit =
-    record { protocol = protocol; user_agent = codes "oci-client/0.18.0"; max_body_bytes = limit_by limit }
+settings_by protocol limit = record {
+  protocol = protocol;
+  user_agent = codes "oci-client/0.18.0";
+  max_body_bytes = limit_by limit;
+  platform_resolver = None;
+}
 
 abbrev pub settings_of : Case → Settings
 settings_of case = settings_by case.protocol case.limit

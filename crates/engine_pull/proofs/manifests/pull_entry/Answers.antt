@@ -1,4 +1,4 @@
-use Rattle.engine_steps.proofs.Exits.{refused, wanting, and_then, said}
+use Rattle.engine_steps.proofs.Exits.{refused, wanting, and_then, said, passed_on}
 use Rattle.engine_pull.specs.Manifests.{pull_entry}
 use Rattle.engine_pull.proofs.manifests.pull_entry.Goals as goal
 
@@ -11,7 +11,7 @@ returns-in_err-found g c = refused _ (rw c.in_ok-image.ensures at c.in_err-found
 
 pub returns-in_err-manifest : goal.returns-in_err-manifest
 unfolding pull_entry
-returns-in_err-manifest g c = and_then _ (rw c.in_ok-image.ensures at c.in_ok-found.ensures) (said _ c.in_err-manifest.ensures)
+returns-in_err-manifest g c = and_then _ (rw c.in_ok-image.ensures at c.in_ok-found.ensures) (passed_on (said _ c.in_err-manifest.ensures) c.from_residual-in_err-manifest.ensures.1)
 
 pub returns : goal.returns
 unfolding pull_entry

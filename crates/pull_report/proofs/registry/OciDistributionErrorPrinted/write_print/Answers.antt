@@ -18,3 +18,9 @@ returns-in-VersionedParsingError c = rw c.in-VersionedParsingError.is c.print1-i
 
 pub returns-in-WantOfMemory : goal.returns-in-WantOfMemory
 returns-in-WantOfMemory c = rw c.in-WantOfMemory.is c.word-in-WantOfMemory.ensures
+
+pub returns-in-ConfigConversionError : goal.returns-in-ConfigConversionError
+returns-in-ConfigConversionError c = rw c.in-ConfigConversionError.is c.print1-in-ConfigConversionError.ensures
+
+pub returns-in-ImageManifestNotFoundError : goal.returns-in-ImageManifestNotFoundError
+returns-in-ImageManifestNotFoundError c = rw c.in-ImageManifestNotFoundError.is c.print1-in-ImageManifestNotFoundError.ensures
