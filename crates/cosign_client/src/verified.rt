@@ -14,7 +14,7 @@ ghost use Rattle.cosign_client.specs.Verified.{manifest_digests, readable, stand
 ghost use Rattle.cosign_client.specs.Verified.{verified, verified_image};
 
 use crate::found::TrustedLayers;
-use crate::pull::{Pulled, pull_image};
+use crate::pull::{Pulled, PulledManifest, pull_image};
 use crate::references::digest_reference;
 use crate::refusal::PullRefusal;
 use crate::search::search;
@@ -88,18 +88,33 @@ fn verified_image(standing: Standing, pulled: Pulled, digest: Text) -> VerifiedI
     requires { digest ≡ standing.digest }
     ensures { result ≡ verified_image standing pulled }
 {
-    let digests = manifest_digests(digest, pulled.chosen.entry);
+    let Standing {
+        digest: answered,
+        signature,
+    } = standing;
+    let Pulled {
+        first,
+        chosen,
+        config,
+        layers,
+    } = pulled;
+    let PulledManifest {
+        bytes,
+        manifest,
+        entry,
+    } = chosen;
+    let digests = manifest_digests(digest, entry);
     let (manifest_digest, list_digest) = digests;
     VerifiedImage {
-        digest: standing.digest,
-        first: pulled.first,
-        manifest_bytes: pulled.chosen.bytes,
-        manifest: pulled.chosen.manifest,
+        digest: answered,
+        first,
+        manifest_bytes: bytes,
+        manifest,
         manifest_digest,
         list_digest,
-        config: pulled.config,
-        layers: pulled.layers,
-        signature: standing.signature,
+        config,
+        layers,
+        signature,
     }
 }
 
