@@ -157,7 +157,7 @@ refused_whole {A} {B} {s} {p} f {c} {d} {old} {new} {x} is first = by_memory (is
   by_memory false other = caught_refusal f first other (rw is (failed (other_as x other)))
 
 -- a step of the engine with no request, in words
-in_words_said : {A : Type 0} (called : Called) (text : List ℕ) (r w : Result A OciDistributionError) (t : Result A SigstoreError) → SaysEngine r w → Says t (worded called text r) → Says t (worded called text w)
+pub in_words_said : {A : Type 0} (called : Called) (text : List ℕ) (r w : Result A OciDistributionError) (t : Result A SigstoreError) → SaysEngine r w → Says t (worded called text r) → Says t (worded called text w)
 in_words_said called text (Ok a) w t h says = rw h says
 in_words_said {A} called text (Err e) w t h says = by_memory (engine_is_memory e) refl h where
   any : (t : Result A SigstoreError) → Says t (Err sigstore.WantOfMemory) → Says t (worded called text w)

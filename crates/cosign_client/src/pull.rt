@@ -182,25 +182,33 @@ fn entry_of<C: ClientCapabilities>(
 {
     let resolver = platform_resolver(alloc, client)?;
     let found = entry_found(alloc, &resolver, entries);
-    let entry = worded(alloc, Called::Pull, source, found)?;
-    Ok(entry)
+    worded(alloc, Called::Pull, source, found)
 }
 
-// A refused pull speaks of this image.
+// A refused pull speaks of the source.
 fn with_image(
     alloc: Global,
-    image: &Reference,
+    source: &Reference,
     found: Result<(Blob, Text), SigstoreError>,
 ) -> Result<(Blob, Text), SigstoreError>
-    ensures { Says result (with_image (whole_text image.now) found) }
+    ensures { Says result (with_image (whole_text source.now) found) }
 {
     match found {
         Ok(found) => Ok(found),
         Err(SigstoreError::RegistryPullError { error, .. }) => {
-            let image = image.whole(alloc)?;
+            let image = source.whole(alloc)?;
             Err(SigstoreError::RegistryPullError { image, error })
         }
-        Err(error) => Err(error),
+        Err(SigstoreError::OciReferenceNotValidError { reference }) => {
+            Err(SigstoreError::OciReferenceNotValidError { reference })
+        }
+        Err(SigstoreError::RegistryFetchManifestError { image, error }) => {
+            Err(SigstoreError::RegistryFetchManifestError { image, error })
+        }
+        Err(SigstoreError::RegistryPullManifestError { image, error }) => {
+            Err(SigstoreError::RegistryPullManifestError { image, error })
+        }
+        Err(SigstoreError::WantOfMemory) => Err(SigstoreError::WantOfMemory),
     }
 }
 
