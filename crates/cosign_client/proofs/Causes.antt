@@ -7,6 +7,10 @@ use Rattle.oci_auth.specs.declared.auth.RegistryAuth.{RegistryAuth}
 use Rattle.oci_manifests.specs.declared.descriptor.OciDescriptor.{OciDescriptor}
 use Rattle.oci_manifests.specs.declared.blob.ImageLayer.{ImageLayer}
 use Rattle.oci_manifests.specs.declared.manifest.OciImageManifest.{OciImageManifest}
+use Rattle.oci_manifests.specs.declared.document.OciManifest.{OciManifest}
+use Rattle.oci_manifests.specs.declared.document.OciManifest.TheVariants.{Image, ImageIndex}
+use Rattle.oci_manifests.specs.declared.index_entry.ImageIndexEntry.{ImageIndexEntry}
+use Rattle.engine_requests.specs.Index.{entry_found, entry_reference}
 use Rattle.oci_transport.specs.Link.{Link}
 use Rattle.oci_transport.specs.declared.message.Exchange.{Exchange}
 use Rattle.oci_protocol.specs.Proto.{Proto, Done, unless_refused, ◌>>=◌}
@@ -34,7 +38,7 @@ use Rattle.cosign_layers.specs.Trust.{Trust}
 use Rattle.cosign_layers.specs.declared.layer.SignatureLayer.{SignatureLayer}
 use Rattle.cosign_chain.specs.declared.image.VerifiedImage.{VerifiedImage}
 use Rattle.cosign_client.specs.Causes.{SearchCause, Found, NoneStands, PullCause}
-use Rattle.cosign_client.specs.Image.{manifest_in, layers_row, blobs_row, image_row}
+use Rattle.cosign_client.specs.Image.{document_in, entry_in, with_image, layers_row, blobs_row, entry_call, entry_row, manifest_row, image_row}
 use Rattle.cosign_client.specs.Part.{skipping}
 use Rattle.cosign_client.specs.Points.{Point, point, Ran}
 use Rattle.cosign_client.specs.References.{tag_reference, digest_reference, or_not_valid, reading_back}
@@ -127,13 +131,38 @@ blobs_own s source accepted manifest =
     next_own (IsOwn Pull) (layers_row s source manifest.layers []) _ (layers_own s source manifest.layers []) (λ layers.
     done_own (IsOwn Pull) (Ok _) tt)))
 
+with_own : {A : Type 0} (text : List ℕ) (r : Result A SigstoreError) → OnRefusal (IsOwn Pull) r → OnRefusal (IsOwn Pull) (with_image text r)
+with_own text (Ok a) h = tt
+with_own text (Err (sigstore.OciReferenceNotValidError t)) h = h
+with_own text (Err (sigstore.RegistryFetchManifestError t e)) h = h
+with_own text (Err (sigstore.RegistryPullError t e)) h = tt
+with_own text (Err (sigstore.RegistryPullManifestError t e)) h = h
+with_own text (Err sigstore.WantOfMemory) h = h
+
+entry_call_own : (s : Context) (source : Reference) (a : RegistryAuth) (entry : List ℕ) → Ends (OnRefusal (IsOwn Pull)) (entry_call s source a entry)
+unfolding entry_call Ends
+entry_call_own s source a entry = Ends-bind (OnRefusal (IsOwn Pull)) (OnRefusal (IsOwn Pull)) (document_call s (entry_reference source entry) a manifest_types) (λ r. Done (with_image (whole_text source) r)) (document_own s (entry_reference source entry) a manifest_types) (λ r h. with_own (whole_text source) r h)
+
+entry_own : (s : Context) (source : Reference) (a : RegistryAuth) (entries : List ImageIndexEntry) → Ends (OnRefusal (IsOwn Pull)) (entry_row s source a entries)
+unfolding entry_row
+entry_own s source a entries =
+    next_own (IsOwn Pull) (Done (worded Pull (whole_text source) (entry_found s.settings.platform_resolver entries))) _ (done_own (IsOwn Pull) _ (worded_own Pull (whole_text source) (entry_found s.settings.platform_resolver entries))) (λ entry.
+    next_own (IsOwn Pull) (entry_call s source a entry) _ (entry_call_own s source a entry) (λ found.
+    next_own (IsOwn Pull) (Done (worded Pull (whole_text source) (entry_in entry found.0))) _ (done_own (IsOwn Pull) _ (worded_own Pull (whole_text source) (entry_in entry found.0))) (λ manifest.
+    done_own (IsOwn Pull) (Ok _) tt)))
+
+manifest_own : (s : Context) (source : Reference) (a : RegistryAuth) (first : List ℕ) (document : OciManifest) → Ends (OnRefusal (IsOwn Pull)) (manifest_row s source a first document)
+manifest_own s source a first (Image manifest) = done_own (IsOwn Pull) (Ok _) tt
+manifest_own s source a first (ImageIndex index) = entry_own s source a index.manifests
+
 image_own : (s : Context) (image source : Reference) (a : RegistryAuth) (accepted : List (List ℕ)) → Ends (OnRefusal (IsOwn Pull)) (image_row s image source a accepted)
 unfolding image_row
 image_own s image source a accepted =
     next_own (IsOwn Pull) (document_call s source a manifest_types) _ (document_own s source a manifest_types) (λ found.
-    next_own (IsOwn Pull) (Done (worded Pull (whole_text source) (manifest_in image found.0))) _ (done_own (IsOwn Pull) _ (worded_own Pull (whole_text source) (manifest_in image found.0))) (λ manifest.
-    next_own (IsOwn Pull) (blobs_row s source accepted manifest) _ (blobs_own s source accepted manifest) (λ blobs.
-    done_own (IsOwn Pull) (Ok _) tt)))
+    next_own (IsOwn Pull) (Done (worded Pull (whole_text source) (document_in image found.0))) _ (done_own (IsOwn Pull) _ (worded_own Pull (whole_text source) (document_in image found.0))) (λ document.
+    next_own (IsOwn Pull) (manifest_row s source a found.0 document) _ (manifest_own s source a found.0 document) (λ chosen.
+    next_own (IsOwn Pull) (blobs_row s source accepted chosen.manifest) _ (blobs_own s source accepted chosen.manifest) (λ blobs.
+    done_own (IsOwn Pull) (Ok _) tt))))
 
 -- ---- a source is skipped, unless memory was wanting
 

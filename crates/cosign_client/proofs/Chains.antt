@@ -37,7 +37,10 @@ use Rattle.cosign_layers.specs.declared.layer.SignatureLayer.{SignatureLayer}
 use Rattle.cosign_layers.specs.declared.rejection.LayerRejection.{LayerRejection}
 use Rattle.cosign_layers.proofs.Layers.{gives}
 use Rattle.cosign_layers.proofs.Supports.{stands_for}
-use Rattle.cosign_chain.specs.Chain.{Chain}
+use Rattle.oci_digests.specs.Names.{Names}
+use Rattle.oci_platforms.specs.Promise.{Picks}
+use Rattle.oci_platforms.specs.declared.promise.ResolverPromise.{ResolverPromise}
+use Rattle.cosign_chain.specs.Chain.{Chain, FirstIsManifest, FirstIsIndex, LeadsToManifest}
 use Rattle.cosign_chain.specs.Links.{Links as HasLinks}
 use Rattle.cosign_chain.specs.declared.image.VerifiedImage.{VerifiedImage}
 use Rattle.cosign_chain.proofs.LinkTests.{chain_links}
@@ -47,7 +50,7 @@ use Rattle.cosign_client.specs.References.{tag_reference, digest_reference, read
 use Rattle.cosign_client.specs.Refusal.{is_memory as of_refusal}
 use Rattle.cosign_client.specs.Search.{payload_type, document_part, tag_layers, or_skipped, tag_by, tag_source, trusted_layers, searched}
 use Rattle.cosign_client.specs.Sound.{EachBody, Backed, Sound}
-use Rattle.cosign_client.specs.Verified.{Whole, constrained, is_unconstrained, readable, as_whole, part_of, stands_by, standing_by, standing, verified_image, after_search, verified}
+use Rattle.cosign_client.specs.Verified.{Whole, constrained, is_unconstrained, readable, as_whole, part_of, stands_by, standing_by, standing, manifest_digests, verified_image, after_search, verified}
 use Rattle.cosign_client.specs.declared.found.Part.{Part}
 use Rattle.cosign_client.specs.declared.found.SkipCause.TheVariants.{Refused}
 use Rattle.cosign_client.specs.declared.found.Skipped.TheVariants.{Source}
@@ -57,7 +60,7 @@ use Rattle.cosign_client.specs.declared.found.TrustedLayers.{TrustedLayers}
 use Rattle.cosign_client.specs.declared.pull.Pulled.{Pulled}
 use Rattle.cosign_client.specs.declared.refusal.PullRefusal.{PullRefusal}
 use Rattle.cosign_client.specs.declared.verified.Standing.{Standing}
-use Rattle.cosign_client.proofs.Images.{Seen, digest_call_shows, next_seen, step_seen, done_seen, bodies_after, Links, image_shows}
+use Rattle.cosign_client.proofs.Images.{Seen, digest_call_shows, next_seen, step_seen, done_seen, bodies_after, IsFirst, IsEntry, Leads, Links, image_shows}
 
 -- ---- an answered digest stays one as more is asked
 
@@ -213,12 +216,32 @@ module _ {V : Type 0} {H : V → Type 0} (s : Context) (meaning : Meaning V H) (
   abbrev IsSound : List Exchange → VerifiedImage → Type 0
   IsSound = Sound s.settings meaning image accepted
 
-  sound_of : (c d : List Exchange) (stood : Standing) (pulled : Pulled) → Answered s.settings image c stood.digest → StandsFor meaning stood.digest stood.signature → Links image stood.digest accepted d pulled → IsSound (c ++ d) (verified_image stood pulled)
+  first_leads : (stood : Standing) (pulled : Pulled) → IsFirst pulled.first pulled.chosen → FirstIsManifest (verified_image stood pulled)
+  first_leads stood pulled h = record { reads = h.reads; bytes = h.bytes; digest = ap (λ o. (manifest_digests stood.digest o).0) h.none; no_list = ap (λ o. (manifest_digests stood.digest o).1) h.none }
+
+  entry_leads : (promise : ResolverPromise) (stood : Standing) (pulled : Pulled) → IsEntry promise pulled.first pulled.chosen → FirstIsIndex promise (verified_image stood pulled)
+  entry_leads promise stood pulled h =
+      let same : (manifest_digests stood.digest pulled.chosen.entry).0 ≡ h.entry = ap (λ o. (manifest_digests stood.digest o).0) h.is in
+      record {
+        index = h.index;
+        indexed = h.indexed;
+        picked = subst (Picks promise h.index.manifests) (sym same) h.picked;
+        named = subst (λ d. Names d pulled.chosen.bytes) (sym same) h.named;
+        reads = h.reads;
+        list = ap (λ o. (manifest_digests stood.digest o).1) h.is;
+      }
+
+  leads : (promise : Option ResolverPromise) (stood : Standing) (pulled : Pulled) → Leads promise pulled.first pulled.chosen → LeadsToManifest promise (verified_image stood pulled)
+  leads None stood pulled h = first_leads stood pulled h
+  leads (Some promise) stood pulled (inl h) = inl (first_leads stood pulled h)
+  leads (Some promise) stood pulled (inr h) = inr (entry_leads promise stood pulled h)
+
+  sound_of : (c d : List Exchange) (stood : Standing) (pulled : Pulled) → Answered s.settings image c stood.digest → StandsFor meaning stood.digest stood.signature → Links s.settings.platform_resolver image stood.digest accepted d pulled → IsSound (c ++ d) (verified_image stood pulled)
   sound_of c d stood pulled answered signed links = record {
     chain = record {
       named = links.named;
       asked = links.asked;
-      manifest = record { reads = links.reads; bytes = links.same; digest = refl; no_list = refl };
+      manifest = leads s.settings.platform_resolver stood pulled links.leads;
       config = links.config;
       some = links.some;
       layers = links.layers;
@@ -227,7 +250,7 @@ module _ {V : Type 0} {H : V → Type 0} (s : Context) (meaning : Meaning V H) (
     backed = record {
       answered = answered_before s.settings image c d stood.digest answered;
       first = body_after c links.first_body;
-      manifest = rw links.same (body_after c links.first_body);
+      manifest = body_after c links.manifest_body;
       config = body_after c links.config_body;
       layers = bodies_after c d pulled.layers links.layer_bodies;
     };
@@ -250,8 +273,8 @@ module _ {V : Type 0} {H : V → Type 0} (s : Context) (meaning : Meaning V H) (
   after_shows c found some h =
       step_seen (λ d v. IsSound (c ++ d) v) (standing meaning found) _ (λ stood is.
       let stands = stood_by c found (find (stands_by meaning) found.collected) stood some h refl is in
-      next_seen (Links image stood.digest accepted) (λ d v. IsSound (c ++ d) v) (part_of (image_row s image (digest_reference image stood.digest) a accepted)) _
-      (part_seen (Links image stood.digest accepted) (image_row s image (digest_reference image stood.digest) a accepted) (image_shows s image (digest_reference image stood.digest) stood.digest a accepted refl)) (λ d pulled links.
+      next_seen (Links s.settings.platform_resolver image stood.digest accepted) (λ d v. IsSound (c ++ d) v) (part_of (image_row s image (digest_reference image stood.digest) a accepted)) _
+      (part_seen (Links s.settings.platform_resolver image stood.digest accepted) (image_row s image (digest_reference image stood.digest) a accepted) (image_shows s image (digest_reference image stood.digest) stood.digest a accepted refl)) (λ d pulled links.
       done_seen (λ e v. IsSound (c ++ (d ++ e)) v) (verified_image stood pulled) (rw append-nil (sound_of c d stood pulled stands.answered stands.stands links))))
 
   -- what a pull answers has a chain, and comes of its conversation
@@ -267,7 +290,7 @@ module _ {V : Type 0} {H : V → Type 0} (s : Context) (meaning : Meaning V H) (
   told_sound met = Meets-shows-ok (λ m c n v. IsSound c v) verified_shows met
 
   -- the chain of what a pull answers
-  pub chain_of : {old new : Link} {k l : Kept} (r : Result VerifiedImage PullRefusal) → Meets of_refusal (verified meaning s image a accepted) old new k l r → IfOk r (λ v. Chain meaning image accepted None v)
+  pub chain_of : {old new : Link} {k l : Kept} (r : Result VerifiedImage PullRefusal) → Meets of_refusal (verified meaning s image a accepted) old new k l r → IfOk r (λ v. Chain meaning image accepted s.settings.platform_resolver v)
   chain_of (Ok v) met = (told_sound met).holds.chain
   chain_of (Err e) met = tt
 

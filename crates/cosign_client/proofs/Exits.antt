@@ -16,6 +16,7 @@ use Rattle.sig_registry.specs.declared.wording.Called.{Called}
 use Rattle.cosign_client.specs.declared.refusal.PullRefusal.{PullRefusal}
 use Rattle.cosign_client.specs.Refusal.{is_memory as of_refusal, refused_as, Says as SaysWhole}
 use Rattle.cosign_chain.specs.declared.image.VerifiedImage.{VerifiedImage}
+use Rattle.cosign_client.specs.Image.{with_image}
 use Rattle.cosign_client.specs.Verified.{as_whole, constrained, part_of, readable_by, stood_image, verified_image}
 use Rattle.cosign_client.specs.declared.pull.Pulled.{Pulled}
 use Rattle.cosign_client.specs.declared.verified.Standing.{Standing}
@@ -107,6 +108,18 @@ pub said_of : {A B : Type 0} {s : Settings} {p : Proto Kept (Result A SigstoreEr
 said_of f (Ok a) {t = t} stays first says = caught (λ x. Done (f x)) first (said t says)
 said_of f (Err e) stays first says = said_refusal (λ x. Done (f x)) refl (stays e) first says
 
+-- a step with no call, which asks what the client's settings are
+pub said_at : {A : Type 0} {s : Settings} (w : Settings → Result A SigstoreError) (r : Result A SigstoreError) {c : Client} {link : Link} → Says r (w c.settings) → Made is_memory s (Done (w s)) c c link link r
+said_at {s = s} w r {c = c} {link = link} h = record { made = λ at. (said r (subst (λ t. Says r (w t)) at h)).made at }
+
+-- want of memory speaks of no image
+pub with_stays : {A : Type 0} (text : List ℕ) (e : SigstoreError) → is_memory e ≡ true → (let r : Result A SigstoreError = Err e in with_image text r) ≡ Err e
+with_stays text (sigstore.OciReferenceNotValidError t) h = absurd (cc h)
+with_stays text (sigstore.RegistryFetchManifestError t e) h = absurd (cc h)
+with_stays text (sigstore.RegistryPullError t e) h = absurd (cc h)
+with_stays text (sigstore.RegistryPullManifestError t e) h = absurd (cc h)
+with_stays text sigstore.WantOfMemory h = refl
+
 -- the same, where the row goes on with an answer alone
 pub said_next : {A B : Type 0} {s : Settings} {p : Proto Kept (Result A SigstoreError)} (f : A → B) (g : Result A SigstoreError → Result B SigstoreError) {c d : Client} {old new : Link} (r : Result A SigstoreError) {t : Result B SigstoreError}
     → ((a : A) → g (Ok a) ≡ Ok (f a)) → ((e : SigstoreError) → g (Err e) ≡ Err e) → Made is_memory s p c d old new r → Says t (g r) → Made is_memory s (p >>= (λ a. Done (Ok (f a)))) c d old new t
@@ -144,7 +157,7 @@ refused_whole {A} {B} {s} {p} f {c} {d} {old} {new} {x} is first = by_memory (is
   by_memory false other = caught_refusal f first other (rw is (failed (other_as x other)))
 
 -- a step of the engine with no request, in words
-in_words_said : {A : Type 0} (called : Called) (text : List ℕ) (r w : Result A OciDistributionError) (t : Result A SigstoreError) → SaysEngine r w → Says t (worded called text r) → Says t (worded called text w)
+pub in_words_said : {A : Type 0} (called : Called) (text : List ℕ) (r w : Result A OciDistributionError) (t : Result A SigstoreError) → SaysEngine r w → Says t (worded called text r) → Says t (worded called text w)
 in_words_said called text (Ok a) w t h says = rw h says
 in_words_said {A} called text (Err e) w t h says = by_memory (engine_is_memory e) refl h where
   any : (t : Result A SigstoreError) → Says t (Err sigstore.WantOfMemory) → Says t (worded called text w)

@@ -1,5 +1,5 @@
 -- What each whole run of the pull's parts shows.
-use Rattle.std.proofs.Common.{◌≡◌, ◌<◌, ℕ, Bool, true, false, List, [], ◌∷◌, ◌++◌, Option, Some, None, Result, Ok, Err, Contains, length, refl, sym, ap, ◌∙◌, arith, append_assoc, append-nil}
+use Rattle.std.proofs.Common.{◌≡◌, ◌<◌, ◌⊎◌, inl, inr, ℕ, Bool, true, false, List, [], ◌∷◌, ◌++◌, Option, Some, None, Result, Ok, Err, Contains, length, refl, sym, ap, subst, ◌∙◌, arith, append_assoc, append-nil}
 use Rattle.std.specs.Prelude.{if◌then◌else◌, bytes_eq}
 use Rattle.std.proofs.lemmas.Slice.Eq.{bytes_eq-Decides}
 use Rattle.std.proofs.lemmas.List.Elements.{Contains-append_right}
@@ -12,8 +12,12 @@ use Rattle.oci_digests.specs.Parts.{named_algorithm}
 use Rattle.oci_digests.specs.declared.digester.Algorithm.{Algorithm}
 use Rattle.oci_digests.specs.declared.error.DigestError.{DigestError}
 use Rattle.oci_digests.specs.declared.error.DigestError.TheVariants as digest_refusal
+use Rattle.oci_manifests.specs.declared.document.OciManifest.{OciManifest}
+use Rattle.oci_manifests.specs.declared.document.OciManifest.TheVariants.{Image, ImageIndex}
 use Rattle.oci_manifests.specs.declared.manifest.OciImageManifest.{OciImageManifest}
 use Rattle.oci_manifests.specs.declared.descriptor.OciDescriptor.{OciDescriptor}
+use Rattle.oci_manifests.specs.declared.index.OciImageIndex.{OciImageIndex}
+use Rattle.oci_manifests.specs.declared.index_entry.ImageIndexEntry.{ImageIndexEntry}
 use Rattle.oci_manifests.specs.declared.blob.Config.{Config}
 use Rattle.oci_manifests.specs.declared.blob.ImageLayer.{ImageLayer}
 use Rattle.oci_transport.specs.declared.message.Exchange.{Exchange}
@@ -27,10 +31,13 @@ use Rattle.engine_requests.specs.Errors.{is_memory as engine_is_memory, ◌>>=�
 use Rattle.engine_requests.specs.Answers.{or_digest_error}
 use Rattle.engine_requests.specs.Requests.{manifest_types}
 use Rattle.engine_requests.specs.Documents.{document_read}
+use Rattle.engine_requests.specs.Index.{entry_found, entry_manifest, entry_reference}
+use Rattle.oci_platforms.specs.Promise.{Picks}
+use Rattle.oci_platforms.specs.declared.promise.ResolverPromise.{ResolverPromise}
 use Rattle.engine_steps.specs.Blobs.{IntoMemory}
 use Rattle.engine_steps.specs.Rows.{Row as Engine}
 use Rattle.engine_pull.specs.Pulls.{fetch_manifest_digest, pull_manifest_raw, held_blob}
-use Rattle.engine_pull.specs.Images.{image_manifest, is_accepted, all_accepted, layers_accepted, layer_of, config_of}
+use Rattle.engine_pull.specs.Images.{is_accepted, all_accepted, layers_accepted, layer_of, config_of}
 use Rattle.oci_engine.specs.Answered.{Answered, Body, Document, LastBody}
 use Rattle.engine_laws.proofs.DocumentAnswers.{body_before, body_after, raw_shows}
 use Rattle.engine_laws.proofs.BlobAnswers.{blob_shows}
@@ -43,10 +50,12 @@ use Rattle.sig_registry.specs.Errors.{worded, refusal}
 use Rattle.sig_registry.specs.Clients.{Kept, Row}
 use Rattle.sig_registry.specs.Calls.{in_words, digest_call, document_call, blob_call}
 use Rattle.cosign_client.specs.declared.pull.Pulled.{Pulled}
-use Rattle.cosign_client.specs.Image.{named_by_reference, manifest_in, layers_row, blobs_row, image_row}
-use Rattle.cosign_chain.specs.Chain.{ReadsAs, ConfigLinks, LayersLink}
+use Rattle.cosign_client.specs.declared.pull.PulledManifest.{PulledManifest}
+use Rattle.cosign_client.proofs.Entries.{found_picked}
+use Rattle.cosign_client.specs.Image.{named_by_reference, document_in, entry_in, with_image, layers_row, blobs_row, entry_call, entry_row, manifest_row, image_row}
+use Rattle.cosign_chain.specs.Chain.{IsDocument as Reads, ReadsAs, ConfigLinks, LayersLink}
 use Rattle.cosign_client.specs.Sound.{EachBody}
-use Rattle.cosign_client.proofs.Reading.{both, reads_as}
+use Rattle.cosign_client.proofs.Reading.{both, document_is, entry_is}
 
 -- ---- calls in words
 
@@ -243,40 +252,133 @@ pub bodies_after : (c d : List Exchange) (layers : List ImageLayer) → EachBody
 bodies_after c d [] h = tt
 bodies_after c d (layer ∷ layers) h = (body_after c h.0, bodies_after c d layers h.1)
 
+-- ---- the manifest, which may be an entry's
+
+-- a refused pull with another image's text shows the same
+with_seen : {A : Type 0} (P : List Exchange → A → Type 0) (text : List ℕ) (m n o : ℕ) (c : List Exchange) (r : Result A SigstoreError) → Seen P m c n r → Seen P m (c ++ []) o (with_image text r)
+with_seen P text m n o c (Ok a) h = rw append-nil h
+with_seen P text m n o c (Err (sigstore.OciReferenceNotValidError t)) h = tt
+with_seen P text m n o c (Err (sigstore.RegistryFetchManifestError t e)) h = tt
+with_seen P text m n o c (Err (sigstore.RegistryPullError t e)) h = tt
+with_seen P text m n o c (Err (sigstore.RegistryPullManifestError t e)) h = tt
+with_seen P text m n o c (Err sigstore.WantOfMemory) h = tt
+
+entry_call_shows : (s : Context) (source : Reference) (a : RegistryAuth) (entry : List ℕ) → Shows (Seen (IsDocument (entry_reference source entry))) (entry_call s source a entry)
+unfolding entry_call
+entry_call_shows s source a entry = Shows-bind (Seen (IsDocument (entry_reference source entry))) (Seen (IsDocument (entry_reference source entry))) (document_call s (entry_reference source entry) a manifest_types) (λ r. Done (with_image (whole_text source) r)) (document_call_shows s (entry_reference source entry) a manifest_types)
+    (λ m n c r at. Shows-done (λ t d o b. Seen (IsDocument (entry_reference source entry)) m (c ++ d) o b) (with_image (whole_text source) r) (λ o. with_seen (IsDocument (entry_reference source entry)) (whole_text source) m n o c r at))
+
+-- the manifest of an entry that the promise picks
+record OfEntry (promise : Option ResolverPromise) (entries : List ImageIndexEntry) (p : PulledManifest) : Type 0 where
+  entry : List ℕ
+  is : p.entry ≡ Some entry
+  found : entry_found promise entries ≡ Ok entry
+  named : Names entry p.bytes
+  reads : ReadsAs p.bytes p.manifest
+
+record SeenEntry (promise : Option ResolverPromise) (entries : List ImageIndexEntry) (c : List Exchange) (p : PulledManifest) : Type 0 where
+  of_entry : OfEntry promise entries p
+  body : Body c p.bytes
+
+entry_seen : (promise : Option ResolverPromise) (entries : List ImageIndexEntry) (source : Reference) (entry : List ℕ) (c d : List Exchange) (found : List ℕ × List ℕ) (manifest : OciImageManifest) → entry_found promise entries ≡ Ok entry → IsDocument (entry_reference source entry) c found → entry_in entry found.0 ≡ Ok manifest
+    → SeenEntry promise entries (c ++ d) (record { bytes = found.0; manifest = manifest; entry = Some entry })
+entry_seen promise entries source entry c d found manifest is document read =
+    let parts = both (document_read found.0) (entry_manifest entry) manifest read in
+    record {
+      of_entry = record { entry = entry; is = refl; found = is; named = document.named entry refl; reads = subst (Reads found.0) (entry_is entry parts.0 manifest parts.2) (document_is found.0 parts.0 parts.1) };
+      body = body_before d document.body;
+    }
+
+entry_shows : (s : Context) (source : Reference) (a : RegistryAuth) (entries : List ImageIndexEntry) → Shows (Seen (SeenEntry s.settings.platform_resolver entries)) (entry_row s source a entries)
+unfolding entry_row
+entry_shows s source a entries =
+    step_seen (SeenEntry s.settings.platform_resolver entries) (worded Pull (whole_text source) (entry_found s.settings.platform_resolver entries)) _ (λ entry found.
+    next_seen (IsDocument (entry_reference source entry)) (SeenEntry s.settings.platform_resolver entries) (entry_call s source a entry) _ (entry_call_shows s source a entry) (λ c document at.
+    step_seen (λ d p. SeenEntry s.settings.platform_resolver entries (c ++ d) p) (worded Pull (whole_text source) (entry_in entry document.0)) _ (λ manifest read.
+    done_seen (λ d p. SeenEntry s.settings.platform_resolver entries (c ++ d) p) (record { bytes = document.0; manifest = manifest; entry = Some entry })
+    (entry_seen s.settings.platform_resolver entries source entry c [] document manifest (worded_ok Pull (whole_text source) (entry_found s.settings.platform_resolver entries) entry found) at (worded_ok Pull (whole_text source) (entry_in entry document.0) manifest read)))))
+
+-- the manifest is the first document, or that of an entry which the promise picks
+pub record IsFirst (first : List ℕ) (p : PulledManifest) : Type 0 where
+  pub reads : ReadsAs first p.manifest
+  pub bytes : p.bytes ≡ first
+  pub none : p.entry ≡ None
+
+pub record IsEntry (promise : ResolverPromise) (first : List ℕ) (p : PulledManifest) : Type 0 where
+  pub index : OciImageIndex
+  pub indexed : Reads first (ImageIndex index)
+  pub entry : List ℕ
+  pub is : p.entry ≡ Some entry
+  pub picked : Picks promise index.manifests entry
+  pub named : Names entry p.bytes
+  pub reads : ReadsAs p.bytes p.manifest
+
+abbrev pub Leads : Option ResolverPromise → List ℕ → PulledManifest → Type 0
+Leads None first p = IsFirst first p
+Leads (Some promise) first p = IsFirst first p ⊎ IsEntry promise first p
+
+first_leads : (promise : Option ResolverPromise) (first : List ℕ) (p : PulledManifest) → IsFirst first p → Leads promise first p
+first_leads None first p h = h
+first_leads (Some promise) first p h = inl h
+
+entry_leads : (promise : Option ResolverPromise) (first : List ℕ) (index : OciImageIndex) (p : PulledManifest) → Reads first (ImageIndex index) → OfEntry promise index.manifests p → Leads promise first p
+entry_leads None first index p indexed h = absurd (unresolved h.found) where
+  unresolved : entry_found None index.manifests ≡ Ok h.entry → ⊥
+  unresolved is = cc is
+entry_leads (Some promise) first index p indexed h = inr (record { index = index; indexed = indexed; entry = h.entry; is = h.is; picked = found_picked promise index.manifests h.entry h.found; named = h.named; reads = h.reads })
+
+-- of a first document that was an answer's body
+record HasManifest (promise : Option ResolverPromise) (first : List ℕ) (c : List Exchange) (p : PulledManifest) : Type 0 where
+  leads : Leads promise first p
+  bytes : (p.bytes ≡ first) ⊎ Body c p.bytes
+
+manifest_shows : (s : Context) (source : Reference) (a : RegistryAuth) (first : List ℕ) (document : OciManifest) → document_read first ≡ Ok document → Shows (Seen (HasManifest s.settings.platform_resolver first)) (manifest_row s source a first document)
+manifest_shows s source a first (Image manifest) is = done_seen (HasManifest s.settings.platform_resolver first) (record { bytes = first; manifest = manifest; entry = None })
+    (record { leads = first_leads s.settings.platform_resolver first (record { bytes = first; manifest = manifest; entry = None }) (record { reads = document_is first (Image manifest) is; bytes = refl; none = refl }); bytes = inl refl })
+manifest_shows s source a first (ImageIndex index) is = more_seen (SeenEntry s.settings.platform_resolver index.manifests) (HasManifest s.settings.platform_resolver first) (entry_row s source a index.manifests) (entry_shows s source a index.manifests)
+    (λ c p h. record { leads = entry_leads s.settings.platform_resolver first index p (document_is first (ImageIndex index) is) h.of_entry; bytes = inr h.body })
+
 -- an image whose parts hang together
-pub record Links (image : Reference) (digest : List ℕ) (accepted : List (List ℕ)) (c : List Exchange) (p : Pulled) : Type 0 where
+pub record Links (promise : Option ResolverPromise) (image : Reference) (digest : List ℕ) (accepted : List (List ℕ)) (c : List Exchange) (p : Pulled) : Type 0 where
   pub named : Names digest p.first
   pub asked : (own : List ℕ) → digest_of image ≡ Some own → Names own p.first
-  pub same : p.manifest_bytes ≡ p.first
-  pub reads : ReadsAs p.first p.manifest
-  pub config : ConfigLinks p.manifest p.config
+  pub leads : Leads promise p.first p.chosen
+  pub config : ConfigLinks p.chosen.manifest p.config
   pub some : 0 < length p.layers
-  pub layers : LayersLink accepted p.manifest.layers p.layers
+  pub layers : LayersLink accepted p.chosen.manifest.layers p.layers
   pub first_body : Body c p.first
+  pub manifest_body : Body c p.chosen.bytes
   pub config_body : Body c p.config.content
   pub layer_bodies : EachBody c p.layers
 
-pub image_shows : (s : Context) (image source : Reference) (digest : List ℕ) (a : RegistryAuth) (accepted : List (List ℕ)) → digest_of source ≡ Some digest → Shows (Seen (Links image digest accepted)) (image_row s image source a accepted)
+-- the manifest's bytes are a body, as the first document's are
+manifest_body : (first bytes : List ℕ) (c d e : List Exchange) → Body c first → (bytes ≡ first) ⊎ Body d bytes → Body (c ++ (d ++ e)) bytes
+manifest_body first bytes c d e body (inl same) = subst (Body (c ++ (d ++ e))) (sym same) (body_before (d ++ e) body)
+manifest_body first bytes c d e body (inr own) = body_after c (body_before e own)
+
+abbrev Linked : Context → Reference → List ℕ → List (List ℕ) → List Exchange → Pulled → Type 0
+Linked s image digest accepted = Links s.settings.platform_resolver image digest accepted
+
+pub image_shows : (s : Context) (image source : Reference) (digest : List ℕ) (a : RegistryAuth) (accepted : List (List ℕ)) → digest_of source ≡ Some digest → Shows (Seen (Links s.settings.platform_resolver image digest accepted)) (image_row s image source a accepted)
 unfolding image_row
-image_shows s image source digest a accepted is = next_seen (IsDocument source) (Links image digest accepted) (document_call s source a manifest_types) _ (document_call_shows s source a manifest_types) (λ c found document.
-    step_seen (λ d p. Links image digest accepted (c ++ d) p) (worded Pull (whole_text source) (manifest_in image found.0)) _ (λ manifest read.
-    next_seen (HasBlobs accepted manifest) (λ d p. Links image digest accepted (c ++ d) p) (blobs_row s source accepted manifest) _ (blobs_show s source accepted manifest) (λ d blobs has.
-    done_seen (λ e p. Links image digest accepted (c ++ (d ++ e)) p) (record { first = found.0; manifest_bytes = found.0; manifest = manifest; config = blobs.0; layers = blobs.1 })
-    (linked c d found.0 manifest blobs document.body (document.named digest is) (worded_ok Pull (whole_text source) (manifest_in image found.0) manifest read) has)))) where
-      linked : (c d : List Exchange) (first : List ℕ) (manifest : OciImageManifest) (blobs : Config × List ImageLayer) → Body c first → Names digest first → manifest_in image first ≡ Ok manifest → HasBlobs accepted manifest d blobs
-          → Links image digest accepted (c ++ (d ++ [])) (record { first = first; manifest_bytes = first; manifest = manifest; config = blobs.0; layers = blobs.1 })
-      linked c d first manifest blobs body named read has =
-          let asked = both (named_by_reference (digest_of image) first) (λ u. document_read first before image_manifest) manifest read in
-          let found = both (document_read first) image_manifest manifest asked.2 in
-          record {
-            named = named;
-            asked = asked_names (digest_of image) first asked.0 asked.1;
-            same = refl;
-            reads = reads_as first found.0 manifest found.1 found.2;
-            config = has.config;
-            some = has.some;
-            layers = has.layers;
-            first_body = body_before (d ++ []) body;
-            config_body = body_after c (body_before [] has.config_body);
-            layer_bodies = bodies_after c (d ++ []) blobs.1 (rw append-nil has.layer_bodies);
-          }
+image_shows s image source digest a accepted is = next_seen (IsDocument source) (Linked s image digest accepted) (document_call s source a manifest_types) _ (document_call_shows s source a manifest_types) (λ c found document.
+    step_seen (λ d p. Linked s image digest accepted (c ++ d) p) (worded Pull (whole_text source) (document_in image found.0)) _ (λ read worded_read.
+    let asked = both (named_by_reference (digest_of image) found.0) (λ u. document_read found.0) read (worded_ok Pull (whole_text source) (document_in image found.0) read worded_read) in
+    next_seen (HasManifest s.settings.platform_resolver found.0) (λ d p. Linked s image digest accepted (c ++ d) p) (manifest_row s source a found.0 read) _ (manifest_shows s source a found.0 read asked.2) (λ d chosen has.
+    next_seen (HasBlobs accepted chosen.manifest) (λ e p. Linked s image digest accepted (c ++ (d ++ e)) p) (blobs_row s source accepted chosen.manifest) _ (blobs_show s source accepted chosen.manifest) (λ e blobs got.
+    done_seen (λ f p. Linked s image digest accepted (c ++ (d ++ (e ++ f))) p) (record { first = found.0; chosen = chosen; config = blobs.0; layers = blobs.1 })
+    (linked c d e found.0 chosen blobs asked.0 document.body (document.named digest is) asked.1 has got))))) where
+      linked : (c d e : List Exchange) (first : List ℕ) (chosen : PulledManifest) (blobs : Config × List ImageLayer) (u : Unit) → Body c first → Names digest first → named_by_reference (digest_of image) first ≡ Ok u → HasManifest s.settings.platform_resolver first d chosen → HasBlobs accepted chosen.manifest e blobs
+          → Links s.settings.platform_resolver image digest accepted (c ++ (d ++ (e ++ []))) (record { first = first; chosen = chosen; config = blobs.0; layers = blobs.1 })
+      linked c d e first chosen blobs u body named asked has got = record {
+        named = named;
+        asked = asked_names (digest_of image) first u asked;
+        leads = has.leads;
+        config = got.config;
+        some = got.some;
+        layers = got.layers;
+        first_body = body_before (d ++ (e ++ [])) body;
+        manifest_body = manifest_body first chosen.bytes c d (e ++ []) body has.bytes;
+        config_body = body_after c (body_after d (body_before [] got.config_body));
+        layer_bodies = bodies_after c (d ++ (e ++ [])) blobs.1 (bodies_after d (e ++ []) blobs.1 (rw append-nil got.layer_bodies));
+      }

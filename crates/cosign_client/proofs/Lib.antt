@@ -3,6 +3,7 @@ pub mod Chains
 pub mod Counts
 pub mod Descriptors
 pub mod DigestStep
+pub mod Entries
 pub mod Exits
 pub mod Faults
 pub mod First

@@ -15,8 +15,8 @@ use Rattle.engine_requests.specs.declared.error.OciDistributionError.{OciDistrib
 use Rattle.engine_requests.specs.declared.error.OciDistributionError.TheVariants as refusal
 use Rattle.engine_requests.specs.Errors.{◌>>=◌}
 use Rattle.engine_requests.specs.Documents.{plain_of, type_checked, version_checked, versioned_in, or_unread, reads_twice, tables_read, document_read}
-use Rattle.engine_pull.specs.Images.{image_manifest}
-use Rattle.cosign_chain.specs.Chain.{ReadsAs}
+use Rattle.engine_requests.specs.Index.{entry_manifest}
+use Rattle.cosign_chain.specs.Chain.{IsDocument}
 
 -- both steps were answered
 pub both : {A B : Type 0} (r : Result A OciDistributionError) (f : A → Result B OciDistributionError) (b : B) → (r >>= f) ≡ Ok b → (a : A) × (r ≡ Ok a) × (f a ≡ Ok b)
@@ -58,18 +58,19 @@ table body d document plain is = by_plain (rw plain at is) where
   by_plain : tables_read body (Some d) ≡ Ok document → document_of d ≡ Some document
   by_plain h = by_test (reads_twice d) h
 
-an_image : (document : OciManifest) (manifest : OciImageManifest) → image_manifest document ≡ Ok manifest → document ≡ Image manifest
-an_image (Image found) manifest is = let same : found ≡ manifest = cc is in ap Image same
-an_image (ImageIndex index) manifest is = absurd (cc is)
-
--- the manifest that the bytes are
-pub reads_as : (body : List ℕ) (document : OciManifest) (manifest : OciImageManifest) → document_read body ≡ Ok document → image_manifest document ≡ Ok manifest → ReadsAs body manifest
-reads_as body document manifest read is =
+-- the document that the bytes are
+pub document_is : (body : List ℕ) (document : OciManifest) → document_read body ≡ Ok document → IsDocument body document
+document_is body document read =
     let parts = both (version_checked body (versioned_in (json_of body))) (λ u. tables_read body (plain_of (json_of body))) document read in
     let v = versioned body (json_of body) parts.0 parts.1 in
     record {
       value = v.0;
       json = v.1;
       versioned = v.3;
-      reads = table body v.0 document v.2 (rw v.1 at parts.2) ∙ ap Some (an_image document manifest is);
+      reads = table body v.0 document v.2 (rw v.1 at parts.2);
     }
+
+-- the manifest that an entry's document is
+pub entry_is : (entry : List ℕ) (document : OciManifest) (manifest : OciImageManifest) → entry_manifest entry document ≡ Ok manifest → document ≡ Image manifest
+entry_is entry (Image found) manifest is = let same : found ≡ manifest = cc is in ap Image same
+entry_is entry (ImageIndex index) manifest is = absurd (cc is)

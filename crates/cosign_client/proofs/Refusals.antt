@@ -35,10 +35,14 @@ use Rattle.engine_requests.specs.Answers.{or_digest_error}
 use Rattle.engine_requests.specs.Documents.{plain_of, type_checked, version_checked, versioned_in, or_unread, reads_twice, tables_read, document_read}
 use Rattle.engine_requests.specs.Errors.{is_memory as engine_is_memory, ◌>>=◌ as ◌before◌}
 use Rattle.engine_requests.specs.Requests.{manifest_types}
+use Rattle.engine_requests.specs.Index.{entry_named, entry_found, entry_manifest, entry_reference}
+use Rattle.oci_platforms.specs.Promise.{lists, resolved}
+use Rattle.oci_platforms.specs.declared.promise.ResolverPromise.{ResolverPromise}
+use Rattle.oci_manifests.specs.declared.index_entry.ImageIndexEntry.{ImageIndexEntry}
 use Rattle.engine_steps.specs.Blobs.{IntoMemory}
 use Rattle.engine_steps.specs.Rows.{Row as Engine}
 use Rattle.engine_pull.specs.Pulls.{fetch_manifest_digest, pull_manifest_raw, held_blob}
-use Rattle.engine_pull.specs.Images.{image_manifest, is_accepted, all_accepted, layers_accepted, layer_of, config_of}
+use Rattle.engine_pull.specs.Images.{is_accepted, all_accepted, layers_accepted, layer_of, config_of}
 use Rattle.oci_engine.specs.Causes.{AnswerCause, BlobUrl, ManifestUrl, OwnDigest}
 use Rattle.engine_laws.proofs.BlobCauses.{blob_causes}
 use Rattle.engine_laws.proofs.DocumentCauses.{Accepted, OwnCause, raw_causes}
@@ -55,7 +59,7 @@ use Rattle.cosign_layers.specs.Standing.{Meaning}
 use Rattle.cosign_layers.specs.Trust.{Trust}
 use Rattle.cosign_layers.specs.declared.layer.SignatureLayer.{SignatureLayer}
 use Rattle.cosign_chain.specs.declared.image.VerifiedImage.{VerifiedImage}
-use Rattle.cosign_client.specs.Image.{named_by_reference, manifest_in, layers_row, blobs_row, image_row}
+use Rattle.cosign_client.specs.Image.{named_by_reference, document_in, entry_in, with_image, layers_row, blobs_row, entry_call, entry_row, manifest_row, image_row}
 use Rattle.cosign_client.specs.Part.{skipping}
 use Rattle.cosign_client.specs.References.{tag_reference, digest_reference, or_not_valid, reading_back}
 use Rattle.cosign_client.specs.Refusal.{is_memory as of_refusal, refused_as, client_refusal, FaultCounted, NoSinkFault}
@@ -201,12 +205,26 @@ tables_bytes body =
 document_bytes : (body : List ℕ) → OfBytes (document_read body)
 document_bytes body = before_bytes (version_checked body (versioned_in (json_of body))) _ (version_bytes body (versioned_in (json_of body))) (λ u. tables_bytes body)
 
-kind_bytes : (document : OciManifest) → OfBytes (image_manifest document)
-kind_bytes (Image manifest) = tt
-kind_bytes (ImageIndex index) = tt
+document_in_bytes : (image : Reference) (body : List ℕ) → OfBytes (document_in image body)
+document_in_bytes image body = before_bytes (named_by_reference (digest_of image) body) _ (asked_bytes (digest_of image) body) (λ u. document_bytes body)
 
-manifest_bytes : (image : Reference) (body : List ℕ) → OfBytes (manifest_in image body)
-manifest_bytes image body = before_bytes (named_by_reference (digest_of image) body) _ (asked_bytes (digest_of image) body) (λ u. before_bytes (document_read body) image_manifest (document_bytes body) (λ document. kind_bytes document))
+entry_kind_bytes : (entry : List ℕ) (document : OciManifest) → OfBytes (entry_manifest entry document)
+entry_kind_bytes entry (Image manifest) = tt
+entry_kind_bytes entry (ImageIndex index) = tt
+
+entry_in_bytes : (entry body : List ℕ) → OfBytes (entry_in entry body)
+entry_in_bytes entry body = before_bytes (document_read body) (entry_manifest entry) (document_bytes body) (λ document. entry_kind_bytes entry document)
+
+entry_named_bytes : (entries : List ImageIndexEntry) (o : Option (List ℕ)) → OfBytes (entry_named entries o)
+entry_named_bytes entries None = tt
+entry_named_bytes entries (Some digest) = by_test (lists digest entries) where
+  by_test : (b : Bool) → OfBytes (if b then Ok digest else Err (engine_refusal.ImageManifestNotFoundError digest))
+  by_test true = tt
+  by_test false = tt
+
+entry_found_bytes : (promise : Option ResolverPromise) (entries : List ImageIndexEntry) → OfBytes (entry_found promise entries)
+entry_found_bytes None entries = tt
+entry_found_bytes (Some promise) entries = entry_named_bytes entries (resolved promise entries)
 
 types_bytes : (types : List (List ℕ)) (xs : List OciDescriptor) → OfBytes (all_accepted types xs)
 types_bytes types [] = tt
@@ -252,13 +270,39 @@ blobs_counts s source accepted manifest =
     next (layers_row s source manifest.layers []) _ (layers_counts s source manifest.layers []) (λ layers.
     answered _)))
 
+with_counts : {A : Type 0} (text : List ℕ) (m n : ℕ) (r : Result A SigstoreError) → CallCounts m n r → CallCounts m n (with_image text r)
+with_counts text m n (Ok a) h = h
+with_counts text m n (Err (sigstore.OciReferenceNotValidError t)) h = h
+with_counts text m n (Err (sigstore.RegistryFetchManifestError t e)) h = h
+with_counts text m n (Err (sigstore.RegistryPullError t e)) h = record { falls = h.falls; no_memory = h.no_memory; fault = h.fault }
+with_counts text m n (Err (sigstore.RegistryPullManifestError t e)) h = h
+with_counts text m n (Err sigstore.WantOfMemory) h = h
+
+entry_call_counts : (s : Context) (source : Reference) (a : RegistryAuth) (entry : List ℕ) → Counts CallCounts (entry_call s source a entry)
+unfolding entry_call
+entry_call_counts s source a entry = Counts-bind CallCounts CallCounts (document_call s (entry_reference source entry) a manifest_types) (λ r. Done (with_image (whole_text source) r)) (document_call_counts s (entry_reference source entry) a manifest_types)
+    (λ m n r at. Counts-done (λ t p b. t ≡ n → CallCounts m p b) (with_image (whole_text source) r) (λ p same. rw same (with_counts (whole_text source) m n r at)))
+
+entry_counts : (s : Context) (source : Reference) (a : RegistryAuth) (entries : List ImageIndexEntry) → Counts CallCounts (entry_row s source a entries)
+unfolding entry_row
+entry_counts s source a entries =
+    next (Done (worded Pull (whole_text source) (entry_found s.settings.platform_resolver entries))) _ (said (whole_text source) (entry_found s.settings.platform_resolver entries) (entry_found_bytes s.settings.platform_resolver entries)) (λ entry.
+    next (entry_call s source a entry) _ (entry_call_counts s source a entry) (λ found.
+    next (Done (worded Pull (whole_text source) (entry_in entry found.0))) _ (said (whole_text source) (entry_in entry found.0) (entry_in_bytes entry found.0)) (λ manifest.
+    answered _)))
+
+manifest_counts_row : (s : Context) (source : Reference) (a : RegistryAuth) (first : List ℕ) (document : OciManifest) → Counts CallCounts (manifest_row s source a first document)
+manifest_counts_row s source a first (Image manifest) = answered _
+manifest_counts_row s source a first (ImageIndex index) = entry_counts s source a index.manifests
+
 image_row_counts : (s : Context) (image source : Reference) (a : RegistryAuth) (accepted : List (List ℕ)) → Counts CallCounts (image_row s image source a accepted)
 unfolding image_row
 image_row_counts s image source a accepted =
     next (document_call s source a manifest_types) _ (document_call_counts s source a manifest_types) (λ found.
-    next (Done (worded Pull (whole_text source) (manifest_in image found.0))) _ (said (whole_text source) (manifest_in image found.0) (manifest_bytes image found.0)) (λ manifest.
-    next (blobs_row s source accepted manifest) _ (blobs_counts s source accepted manifest) (λ blobs.
-    answered _)))
+    next (Done (worded Pull (whole_text source) (document_in image found.0))) _ (said (whole_text source) (document_in image found.0) (document_in_bytes image found.0)) (λ document.
+    next (manifest_row s source a found.0 document) _ (manifest_counts_row s source a found.0 document) (λ chosen.
+    next (blobs_row s source accepted chosen.manifest) _ (blobs_counts s source accepted chosen.manifest) (λ blobs.
+    answered _))))
 
 -- ---- the search
 

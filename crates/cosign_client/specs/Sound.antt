@@ -1,5 +1,5 @@
 -- What an image that was pulled has to do with the policy and with what registries answered.
-use Rattle.std.specs.Prelude.{ℕ, List, [], ◌∷◌, None}
+use Rattle.std.specs.Prelude.{ℕ, List, [], ◌∷◌}
 use Rattle.oci_names.specs.declared.reference.Reference.{Reference}
 use Rattle.oci_transport.specs.declared.message.Exchange.{Exchange}
 use Rattle.oci_manifests.specs.declared.blob.ImageLayer.{ImageLayer}
@@ -25,5 +25,5 @@ pub record Backed (s : Settings) (image : Reference) (c : List Exchange) (v : Ve
 -- the chain holds, and comes of this conversation
 pub record Sound {V : Type 0} {H : V → Type 0} (s : Settings) (meaning : Meaning V H) (image : Reference)
     (accepted : List (List ℕ)) (c : List Exchange) (v : VerifiedImage) : Type 0 where
-  pub chain : Chain meaning image accepted None v
+  pub chain : Chain meaning image accepted s.platform_resolver v
   pub backed : Backed s image c v

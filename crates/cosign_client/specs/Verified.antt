@@ -64,14 +64,19 @@ standing_by found (Some signature) = Ok (record { digest = found.digest; signatu
 abbrev pub standing : {V : Type 0} {H : V → Type 0} → Meaning V H → TrustedLayers → Result Standing PullRefusal
 standing meaning found = standing_by found (find (stands_by meaning) found.collected)
 
+-- the digest of the manifest, and that of the index that led to it
+abbrev pub manifest_digests : List ℕ → Option (List ℕ) → List ℕ × Option (List ℕ)
+manifest_digests digest None = (digest, None)
+manifest_digests digest (Some entry) = (entry, Some digest)
+
 abbrev pub verified_image : Standing → Pulled → VerifiedImage
 verified_image standing pulled = record {
   digest = standing.digest;
   first = pulled.first;
-  manifest_bytes = pulled.manifest_bytes;
-  manifest = pulled.manifest;
-  manifest_digest = standing.digest;
-  list_digest = None;
+  manifest_bytes = pulled.chosen.bytes;
+  manifest = pulled.chosen.manifest;
+  manifest_digest = (manifest_digests standing.digest pulled.chosen.entry).0;
+  list_digest = (manifest_digests standing.digest pulled.chosen.entry).1;
   config = pulled.config;
   layers = pulled.layers;
   signature = standing.signature;

@@ -1,5 +1,5 @@
 //! The client that users hold.
-ghost use Rattle.std.specs.Prelude.{◌≡◌, true, false, Err, IfOk, IfErr, IsTrue, None};
+ghost use Rattle.std.specs.Prelude.{◌≡◌, true, false, Err, IfOk, IfErr, IsTrue};
 ghost use Rattle.engine_requests.specs.Contexts.{within};
 ghost use Rattle.oci_names.specs.References.{whole_text, reads_back};
 ghost use Rattle.oci_protocol.specs.Ends.{UnlessMemory};
@@ -146,7 +146,8 @@ impl Client {
         ensures chain { IfOk result (λ v. Chain
             (meaning policy.now (λ b. accepts (b.vtable, b.value))
             (trusts (V.valid verifier.now) (O.vouched judge.now) self.old))
-            (reference_in image.now) accepted_media_types.now None v) }
+            (reference_in image.now) accepted_media_types.now
+            (client_state self.old).settings.platform_resolver v) }
         ensures causes { IfErr result (λ e. Told
             (λ c. PullCause (meaning policy.now (λ b. accepts (b.vtable, b.value))
             (trusts (V.valid verifier.now) (O.vouched judge.now) self.old))

@@ -1,38 +1,48 @@
 //! The image of a digest for which a signature stands.
 ghost use Rattle.std.specs.Prelude.{◌≡◌, IfOk};
 ghost use Rattle.engine_requests.specs.Contexts.{within};
-ghost use Rattle.oci_names.specs.References.{digest_of};
+ghost use Rattle.oci_names.specs.References.{digest_of, whole_text};
 ghost use Rattle.engine_requests.specs.declared.settings.Settings.{Settings};
 ghost use Rattle.engine_requests.specs.Errors.{Says as SaysEngine};
 ghost use Rattle.engine_requests.specs.Requests.{listed, manifest_types};
-ghost use Rattle.sig_registry.specs.Errors.{is_memory};
+ghost use Rattle.engine_requests.specs.Index.{entry_found};
+ghost use Rattle.sig_registry.specs.Errors.{is_memory, worded, Says};
+ghost use Rattle.sig_registry.specs.declared.wording.Called.TheVariants.{Pull};
 ghost use Rattle.sig_registry.specs.Clients.{Made};
-ghost use Rattle.cosign_client.specs.Image.{named_by_reference, manifest_in, layers_row, blobs_row};
+ghost use Rattle.cosign_client.specs.Image.{named_by_reference, document_in, entry_in, layers_row, blobs_row};
+ghost use Rattle.cosign_client.specs.Image.{with_image, entry_call, entry_row, manifest_row};
 ghost use Rattle.cosign_client.specs.Image.{after_document, image_row};
 
 use crate::terms::Asked;
-use engine_pull::{config_of, image_manifest, layer_of, layers_accepted};
-use engine_requests::read_document;
+use engine_pull::{config_of, layer_of, layers_accepted};
+use engine_requests::{entry_found, entry_manifest, entry_reference, read_document};
 use json_values::{Blob, Copied, List, Text};
 use oci_digests::{DigestError, validate_digest};
 use oci_engine::OciDistributionError;
 use oci_manifests::blob::Config;
 use oci_manifests::{
-    IMAGE_MANIFEST_LIST_MEDIA_TYPE, IMAGE_MANIFEST_MEDIA_TYPE, ImageLayer,
-    OCI_IMAGE_INDEX_MEDIA_TYPE, OCI_IMAGE_MEDIA_TYPE, OciDescriptor, OciImageManifest,
+    IMAGE_MANIFEST_LIST_MEDIA_TYPE, IMAGE_MANIFEST_MEDIA_TYPE, ImageIndexEntry, ImageLayer,
+    OCI_IMAGE_INDEX_MEDIA_TYPE, OCI_IMAGE_MEDIA_TYPE, OciDescriptor, OciImageManifest, OciManifest,
 };
 use oci_names::Reference;
+use oci_platforms::PlatformResolver;
 use oci_transport::Transport;
 use sig_registry::{Called, ClientCapabilities, SigstoreError, worded};
 use std::alloc::{AllocError, Global};
 
-/// A manifest with its bytes, its configuration and its layers.
+/// The manifest of an image with its bytes, and the entry's digest where an index led to it.
+#[derive(Drop)]
+pub(crate) struct PulledManifest {
+    pub bytes: Blob,
+    pub manifest: OciImageManifest,
+    pub entry: Option<Text>,
+}
+
+/// The document of a digest, and the manifest that it is or leads to, with its configuration and its layers.
 #[derive(Drop)]
 pub(crate) struct Pulled {
-    /// The document of the digest.
     pub first: Blob,
-    pub manifest_bytes: Blob,
-    pub manifest: OciImageManifest,
+    pub chosen: PulledManifest,
     pub config: Config,
     /// In the manifest's order.
     pub layers: List<ImageLayer>,
@@ -68,17 +78,30 @@ fn named_by_reference(
     }
 }
 
-// The manifest in a document for this reference.
-fn manifest_in(
+// The document for this reference.
+fn document_in(
     alloc: Global,
     image: &Reference,
     bytes: &Blob,
-) -> Result<OciImageManifest, OciDistributionError>
-    ensures { SaysEngine result (manifest_in image.now bytes.now) }
+) -> Result<OciManifest, OciDistributionError>
+    ensures { SaysEngine result (document_in image.now bytes.now) }
 {
     named_by_reference(alloc, image, bytes)?;
     let document = read_document(alloc, bytes)?;
-    image_manifest(document)
+    Ok(document)
+}
+
+// The manifest in an entry's document, which may not be an index again.
+fn entry_in(
+    alloc: Global,
+    entry: &str,
+    bytes: &Blob,
+) -> Result<OciImageManifest, OciDistributionError>
+    ensures { SaysEngine result (entry_in entry.now bytes.now) }
+{
+    let document = read_document(alloc, bytes)?;
+    let manifest = entry_manifest(alloc, entry, document)?;
+    Ok(manifest)
 }
 
 // Each descriptor's blob, behind the layers that are there.
@@ -134,7 +157,143 @@ fn pull_blobs<C: ClientCapabilities, T: Transport>(
     Ok((config, layers))
 }
 
-// The manifest in a document, and its blobs.
+// Which image of an index the client's configuration means.
+fn platform_resolver<C: ClientCapabilities>(
+    alloc: Global,
+    client: &C,
+) -> Result<Option<PlatformResolver>, AllocError>
+    ensures { IfOk result (λ resolver. resolver ≡ (C.state client.now).settings.platform_resolver) }
+{
+    match client.platform_resolver() {
+        Some(resolver) => Ok(Some(resolver.copy(alloc)?)),
+        None => Ok(None),
+    }
+}
+
+// The digest of the entry that the client's configuration means.
+fn entry_of<C: ClientCapabilities>(
+    alloc: Global,
+    client: &C,
+    source: &Reference,
+    entries: &[ImageIndexEntry],
+) -> Result<Text, SigstoreError>
+    ensures { Says result (worded Pull (whole_text source.now)
+        (entry_found (C.state client.now).settings.platform_resolver entries.now)) }
+{
+    let resolver = platform_resolver(alloc, client)?;
+    let found = entry_found(alloc, &resolver, entries);
+    worded(alloc, Called::Pull, source, found)
+}
+
+// A refused pull speaks of the source.
+fn with_image(
+    alloc: Global,
+    source: &Reference,
+    found: Result<(Blob, Text), SigstoreError>,
+) -> Result<(Blob, Text), SigstoreError>
+    ensures { Says result (with_image (whole_text source.now) found) }
+{
+    match found {
+        Ok(found) => Ok(found),
+        Err(SigstoreError::RegistryPullError { error, .. }) => {
+            let image = source.whole(alloc)?;
+            Err(SigstoreError::RegistryPullError { image, error })
+        }
+        Err(SigstoreError::OciReferenceNotValidError { reference }) => {
+            Err(SigstoreError::OciReferenceNotValidError { reference })
+        }
+        Err(SigstoreError::RegistryFetchManifestError { image, error }) => {
+            Err(SigstoreError::RegistryFetchManifestError { image, error })
+        }
+        Err(SigstoreError::RegistryPullManifestError { image, error }) => {
+            Err(SigstoreError::RegistryPullManifestError { image, error })
+        }
+        Err(SigstoreError::WantOfMemory) => Err(SigstoreError::WantOfMemory),
+    }
+}
+
+// The document of an entry, in the source's repository.
+fn pull_entry_document<C: ClientCapabilities, T: Transport>(
+    alloc: Global,
+    client: &mut C,
+    transport: &mut T,
+    asked: &Asked<'_>,
+    source: &Reference,
+    entry: &str,
+) -> Result<(Blob, Text), SigstoreError>
+    ensures { (s : Settings) → Made is_memory s
+        (entry_call (within s asked.now.moment) source.now asked.now.auth.now entry.now)
+        (C.state client.old) (C.state client.new) (T.state transport.old) (T.state transport.new) result }
+{
+    let types = manifest_types(alloc)?;
+    let reference = entry_reference(alloc, source, entry)?;
+    let found = client.pull_manifest_raw(
+        alloc,
+        transport,
+        asked.moment,
+        &reference,
+        asked.auth,
+        types.as_slice(),
+    );
+    with_image(alloc, source, found)
+}
+
+// The manifest of the entry that the client's configuration means.
+fn pull_entry<C: ClientCapabilities, T: Transport>(
+    alloc: Global,
+    client: &mut C,
+    transport: &mut T,
+    asked: &Asked<'_>,
+    source: &Reference,
+    entries: &[ImageIndexEntry],
+) -> Result<PulledManifest, SigstoreError>
+    ensures { (s : Settings) → Made is_memory s
+        (entry_row (within s asked.now.moment) source.now asked.now.auth.now entries.now)
+        (C.state client.old) (C.state client.new) (T.state transport.old) (T.state transport.new) result }
+{
+    let entry = entry_of(alloc, client, source, entries)?;
+    let found = pull_entry_document(alloc, client, transport, asked, source, entry.as_str())?;
+    let (bytes, _) = found;
+    let read = entry_in(alloc, entry.as_str(), &bytes);
+    let manifest = worded(alloc, Called::Pull, source, read)?;
+    Ok(PulledManifest {
+        bytes,
+        manifest,
+        entry: Some(entry),
+    })
+}
+
+// The manifest that a document is, or that of an index's entry.
+fn pull_chosen<C: ClientCapabilities, T: Transport>(
+    alloc: Global,
+    client: &mut C,
+    transport: &mut T,
+    asked: &Asked<'_>,
+    source: &Reference,
+    first: &Blob,
+    document: OciManifest,
+) -> Result<PulledManifest, SigstoreError>
+    ensures { (s : Settings) → Made is_memory s
+        (manifest_row (within s asked.now.moment) source.now asked.now.auth.now first.now document)
+        (C.state client.old) (C.state client.new) (T.state transport.old) (T.state transport.new) result }
+{
+    match document {
+        OciManifest::Image(manifest) => {
+            let bytes = first.copy(alloc)?;
+            Ok(PulledManifest {
+                bytes,
+                manifest,
+                entry: None,
+            })
+        }
+        OciManifest::ImageIndex(index) => {
+            let entries = index.manifests.as_slice();
+            pull_entry(alloc, client, transport, asked, source, entries)
+        }
+    }
+}
+
+// The manifest of a document, and its blobs.
 fn after_document<C: ClientCapabilities, T: Transport>(
     alloc: Global,
     client: &mut C,
@@ -145,27 +304,26 @@ fn after_document<C: ClientCapabilities, T: Transport>(
     first: Blob,
 ) -> Result<Pulled, SigstoreError>
     ensures { (s : Settings) → Made is_memory s
-        (after_document (within s asked.now.moment) asked.now.image.now source.now accepted.now first)
+        (after_document (within s asked.now.moment) asked.now.image.now source.now asked.now.auth.now
+        accepted.now first)
         (C.state client.old) (C.state client.new) (T.state transport.old) (T.state transport.new) result }
 {
-    let manifest_bytes = first.copy(alloc)?;
-    let read = manifest_in(alloc, asked.image, &first);
-    let manifest = worded(alloc, Called::Pull, source, read)?;
+    let read = document_in(alloc, asked.image, &first);
+    let document = worded(alloc, Called::Pull, source, read)?;
+    let chosen = pull_chosen(alloc, client, transport, asked, source, &first, document)?;
     let moment = asked.moment;
-    let blobs = pull_blobs(
-        alloc, client, transport, moment, source, accepted, &manifest,
-    )?;
+    let manifest = &chosen.manifest;
+    let blobs = pull_blobs(alloc, client, transport, moment, source, accepted, manifest)?;
     let (config, layers) = blobs;
     Ok(Pulled {
         first,
-        manifest_bytes,
-        manifest,
+        chosen,
         config,
         layers,
     })
 }
 
-/// The document of the source's digest, which is a manifest, and its blobs. `asked` has the reference that was asked
+/// The document of the source's digest, its manifest, and the blobs of that. `asked` has the reference that was asked
 /// for.
 pub(crate) fn pull_image<C: ClientCapabilities, T: Transport>(
     alloc: Global,

@@ -10,10 +10,11 @@ ghost use Rattle.cosign_client.specs.Refusal.{is_memory, Says};
 ghost use Rattle.cosign_client.specs.Terms.{meaning_of};
 ghost use Rattle.cosign_client.specs.Verified.{after_search, after_standing, constrained, is_unconstrained};
 ghost use Rattle.cosign_client.specs.References.{digest_reference};
-ghost use Rattle.cosign_client.specs.Verified.{readable, standing_by, stood_image, verified, verified_image};
+ghost use Rattle.cosign_client.specs.Verified.{manifest_digests, readable, standing_by, stood_image};
+ghost use Rattle.cosign_client.specs.Verified.{verified, verified_image};
 
 use crate::found::TrustedLayers;
-use crate::pull::{Pulled, pull_image};
+use crate::pull::{Pulled, PulledManifest, pull_image};
 use crate::references::digest_reference;
 use crate::refusal::PullRefusal;
 use crate::search::search;
@@ -72,34 +73,61 @@ fn standing_by(found: TrustedLayers, first: Option<SignatureLayer>) -> Result<St
     }
 }
 
+// The digest of the manifest, and that of the index that led to it.
+fn manifest_digests(digest: Text, entry: Option<Text>) -> (Text, Option<Text>)
+    ensures { result ≡ manifest_digests digest entry }
+{
+    match entry {
+        Some(entry) => (entry, Some(digest)),
+        None => (digest, None),
+    }
+}
+
 // The image of the digest, with the signature layer that stands for it. The digest's copy was made before.
-fn verified_image(standing: Standing, pulled: Pulled, manifest_digest: Text) -> VerifiedImage
-    requires { manifest_digest ≡ standing.digest }
+fn verified_image(standing: Standing, pulled: Pulled, digest: Text) -> VerifiedImage
+    requires { digest ≡ standing.digest }
     ensures { result ≡ verified_image standing pulled }
 {
+    let Standing {
+        digest: answered,
+        signature,
+    } = standing;
+    let Pulled {
+        first,
+        chosen,
+        config,
+        layers,
+    } = pulled;
+    let PulledManifest {
+        bytes,
+        manifest,
+        entry,
+    } = chosen;
+    let digests = manifest_digests(digest, entry);
+    let (manifest_digest, list_digest) = digests;
     VerifiedImage {
-        digest: standing.digest,
-        first: pulled.first,
-        manifest_bytes: pulled.manifest_bytes,
-        manifest: pulled.manifest,
+        digest: answered,
+        first,
+        manifest_bytes: bytes,
+        manifest,
         manifest_digest,
-        list_digest: None,
-        config: pulled.config,
-        layers: pulled.layers,
-        signature: standing.signature,
+        list_digest,
+        config,
+        layers,
+        signature,
     }
 }
 
 fn stood_image(
     standing: Standing,
-    manifest_digest: Text,
+    digest: Text,
     pulled: Result<Pulled, SigstoreError>,
 ) -> Result<VerifiedImage, PullRefusal>
-    requires { manifest_digest ≡ standing.digest }
+    requires { digest ≡ standing.digest }
     ensures { result ≡ stood_image standing pulled }
 {
     match pulled {
-        Ok(pulled) => Ok(verified_image(standing, pulled, manifest_digest)),
+        Ok(pulled) => Ok(verified_image(standing, pulled, digest)),
         Err(error) => Err(PullRefusal::from(error)),
     }
 }
@@ -132,9 +160,9 @@ fn pull_stood<C: ClientCapabilities, T: Transport>(
         (C.state client.old) (C.state client.new) (T.state transport.old) (T.state transport.new) result }
 {
     let named = named_source(alloc, asked.image, &standing.digest)?;
-    let (source, manifest_digest) = named;
+    let (source, digest) = named;
     let pulled = pull_image(alloc, client, transport, asked, &source, accepted);
-    stood_image(standing, manifest_digest, pulled)
+    stood_image(standing, digest, pulled)
 }
 
 // The image for which a layer stands.
