@@ -11,10 +11,12 @@ use Rattle.engine_laws.specs.Held.{asking}
 use Rattle.oci_engine.specs.declared.client.Client.{Client}
 use Rattle.oci_engine.specs.Refusals.{at_moment}
 
--- To the image's registry and to the realm that it names, and nowhere else: so it is of each request that was told. They
--- are those that the client keeps for it, that are handed in, or that an answer gave. Each token that is kept afterwards was
--- kept before, or is one of these and stands under the image's registry, its repository and the operation.
-abbrev pub StaysFor : RegistryOperation → Client → Client → ℕ → Reference → Option RegistryAuth → Link → Link → Type 0
+-- To the image's registry and to the realm that it names, and nowhere else: so it is of each request that was told.
+-- They are those that the client keeps for it, that are handed in, or that an answer gave. Each token that is kept
+-- afterwards was kept before, or is one of these and stands under the image's registry, its repository and the
+-- operation.
+abbrev pub StaysFor : RegistryOperation → Client → Client → ℕ → Reference → Option RegistryAuth → Link → Link
+    → Type 0
 StaysFor op before after moment image handed old new =
     Told (Within (asking before.memory (at_moment before moment) image op handed) before.settings after.memory) old new
 

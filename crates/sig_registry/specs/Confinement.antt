@@ -9,8 +9,9 @@ use Rattle.engine_laws.specs.Confined.{Within}
 use Rattle.engine_laws.specs.Held.{pulling}
 use Rattle.sig_registry.specs.Clients.{Client}
 
--- To the image's registry and to the realm that it names, and nowhere else: so it is of each request that was told. Each
--- token that is kept afterwards was kept before, or the call may show it and it stands under the image's repository.
+-- To the image's registry and to the realm that it names, and nowhere else: so it is of each request that was told.
+-- Each token that is kept afterwards was kept before, or the call may show it and it stands under the image's
+-- repository.
 abbrev pub Stays : Client → Client → ℕ → Reference → Option RegistryAuth → Link → Link → Type 0
 Stays before after moment image handed old new =
     Told (Within (pulling before.kept (within before.settings moment) image handed) before.settings after.kept) old new
