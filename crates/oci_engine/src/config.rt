@@ -47,13 +47,14 @@ impl ClientConfig {
             DEFAULT_MAX_CONCURRENT_UPLOAD,
             DEFAULT_MAX_CONCURRENT_DOWNLOAD,
         );
+        let kept_for = DEFAULT_TOKEN_EXPIRATION_SECS;
         Ok(ClientConfig {
             protocol: ClientProtocol::Https,
             use_monolithic_push: false,
             platform_resolver: None,
             max_concurrent_upload: uploads,
             max_concurrent_download: downloads,
-            default_token_expiration_secs: DEFAULT_TOKEN_EXPIRATION_SECS,
+            default_token_expiration_secs: kept_for,
             user_agent,
             max_body_bytes: 4294967295,
         })
