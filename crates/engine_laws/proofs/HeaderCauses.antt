@@ -178,10 +178,10 @@ layers_sound s image (x ∷ xs) layers k handed l c keeps = safe_next (pulling k
 -- ---- the document of an index's entry, in the image's repository
 
 same_keeps : (k : Memory) (s : Context) (image : Reference) (digest : List ℕ) (handed : Option RegistryAuth) (l : Memory) (c : List Exchange) → Keeps (pulling k s (entry_reference image digest) handed) l c → Keeps (pulling k s image handed) l c
-same_keeps k s image digest handed l c h = record { credentials = λ a is. h.credentials a is; tokens = λ token is. h.tokens token is }
+same_keeps k s image digest handed l c h = record { credentials = λ a is. h.credentials a is; tokens = λ token is. h.tokens token is; added = λ key moment token is. h.added key moment token is }
 
 other_keeps : (k : Memory) (s : Context) (image : Reference) (digest : List ℕ) (handed : Option RegistryAuth) (l : Memory) (c : List Exchange) → Keeps (pulling k s image handed) l c → Keeps (pulling k s (entry_reference image digest) handed) l c
-other_keeps k s image digest handed l c h = record { credentials = λ a is. h.credentials a is; tokens = λ token is. h.tokens token is }
+other_keeps k s image digest handed l c h = record { credentials = λ a is. h.credentials a is; tokens = λ token is. h.tokens token is; added = λ key moment token is. h.added key moment token is }
 
 same_cause : (k : Memory) (s : Context) (image : Reference) (digest : List ℕ) (handed : Option RegistryAuth) (types : List ℕ) (c : List Exchange) (e : OciDistributionError) → HeaderCause (pulling k s (entry_reference image digest) handed) s.settings types c e → HeaderCause (pulling k s image handed) s.settings types c e
 same_cause k s image digest handed types c (refusal.GenericError HeaderText) h = h

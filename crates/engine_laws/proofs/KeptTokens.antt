@@ -1,5 +1,5 @@
 -- What a client keeps in a call: credentials and tokens that the call may show.
-use Rattle.std.proofs.Common.{◌≡◌, inl, inr, ℕ, Bool, true, false, cond, List, [], ◌∷◌, ◌++◌, Option, Some, None, sym, ap, subst, ◌∙◌, append_assoc}
+use Rattle.std.proofs.Common.{◌≡◌, inl, inr, ℕ, Bool, true, false, cond, List, [], ◌∷◌, ◌++◌, Option, Some, None, true≢false, refl, sym, ap, subst, ◌∙◌, append_assoc}
 use Rattle.std.specs.Prelude.{is_some, nat_le, if◌then◌else◌, option_and_then}
 use Rattle.std.specs.Option.{option_map_or}
 use Rattle.std.specs.FinMap as map
@@ -9,25 +9,27 @@ use Rattle.json_values.specs.Places.{by_bytes}
 use Rattle.oci_transport.specs.declared.message.Exchange.{Exchange}
 use Rattle.oci_names.specs.References.{resolved_registry}
 use Rattle.oci_auth.specs.Caches.{key_of, kept_until, kept_token, given_at, token_at}
-use Rattle.oci_auth.specs.Keys.{Key, inserted}
+use Rattle.oci_auth.specs.Keys.{Key, key_in, is_under, inserted}
 use Rattle.oci_auth.specs.Memory.{stored}
 use Rattle.oci_auth.specs.declared.auth.RegistryAuth.{RegistryAuth}
 use Rattle.oci_auth.specs.declared.cache.TokenCache.{TokenCache}
 use Rattle.oci_auth.specs.declared.kept.KeptToken.{KeptToken}
 use Rattle.oci_auth.specs.declared.memory.Memory.{Memory}
 use Rattle.oci_auth.specs.declared.token_type.RegistryTokenType.{RegistryTokenType}
-use Rattle.oci_auth.proofs.Places.{is_kept}
+use Rattle.oci_auth.proofs.Places.{is_kept, same_key, under_itself}
 use Rattle.engine_steps.specs.Rows.{with_kept}
+use Rattle.engine_laws.specs.Confined.{KeptOrAdded, KeptWell}
 use Rattle.engine_laws.specs.Held.{Entry, IsAuth, GivenIn, IsHeld}
 
 -- what is kept after these exchanges
 pub record Keeps (x : Entry) (l : Memory) (c : List Exchange) : Type 0 where
   pub credentials : (a : RegistryAuth) → map.get l.credentials (resolved_registry x.image) ≡ Some a → IsAuth x a
   pub tokens : (token : RegistryTokenType) → token_at l.tokens (key_of x.image x.operation) x.moment ≡ Some token → IsHeld x c token
+  pub added : KeptWell x l c
 
 -- at the beginning
 pub keeps_first : (x : Entry) → Keeps x x.kept []
-keeps_first x = record { credentials = λ a is. inl is; tokens = λ token is. inr (inl is) }
+keeps_first x = record { credentials = λ a is. inl is; tokens = λ token is. inr (inl is); added = λ key moment token is. inl is }
 
 -- what may be shown stays so
 given_more : (c d : List Exchange) (token : RegistryTokenType) → GivenIn c token → GivenIn (c ++ d) token
@@ -38,8 +40,12 @@ held_more x c d token (inl h) = inl h
 held_more x c d token (inr (inl h)) = inr (inl h)
 held_more x c d token (inr (inr h)) = inr (inr (given_more c d token h))
 
+added_more : (x : Entry) (c d : List Exchange) (key : Key) (moment : ℕ) (token : RegistryTokenType) → KeptOrAdded x c key moment token → KeptOrAdded x (c ++ d) key moment token
+added_more x c d key moment token (inl h) = inl h
+added_more x c d key moment token (inr h) = inr (h.0, held_more x c d token h.1)
+
 pub keeps_more : (x : Entry) (l : Memory) (c d : List Exchange) → Keeps x l c → Keeps x l (c ++ d)
-keeps_more x l c d k = record { credentials = k.credentials; tokens = λ token is. held_more x c d token (k.tokens token is) }
+keeps_more x l c d k = record { credentials = k.credentials; tokens = λ token is. held_more x c d token (k.tokens token is); added = λ key moment token is. added_more x c d key moment token (k.added key moment token is) }
 
 -- ---- credentials are stored
 
@@ -52,7 +58,7 @@ into_map x m registry a other handed before is = by_key x _ a other (map.get m (
 
 stored_by : (x : Entry) (l : Memory) (c : List Exchange) (registry : List ℕ) (a : RegistryAuth) (b : Bool) → x.handed ≡ Some a → Keeps x l c → Keeps x (if b then l else record l { credentials = map.insert l.credentials registry a }) c
 stored_by x l c registry a true handed k = k
-stored_by x l c registry a false handed k = record { credentials = λ other is. into_map x l.credentials registry a other handed (k.credentials other) is; tokens = k.tokens }
+stored_by x l c registry a false handed k = record { credentials = λ other is. into_map x l.credentials registry a other handed (k.credentials other) is; tokens = k.tokens; added = k.added }
 
 pub keeps_stored : (x : Entry) (l : Memory) (c : List Exchange) (registry : List ℕ) (a : RegistryAuth) → x.handed ≡ Some a → Keeps x l c → Keeps x (stored l registry a) c
 keeps_stored x l c registry a handed k = stored_by x l c registry a (is_some (map.get l.credentials registry)) handed k
@@ -73,5 +79,24 @@ cache_by : (x : Entry) (cache : TokenCache) (c : List Exchange) (token other : R
 cache_by x cache c token other None held before is = before is
 cache_by x cache c token other (Some until) held before is = subst (IsHeld x c) (given_kept cache (key_of x.image x.operation) token other until x.moment is) held
 
+-- the token that is given under some key once one is kept
+other_key : (key : Key) (t : KeptToken) → is_under key t ≡ false → key ≡ key_in t → ⊥
+other_key key t apart same = true≢false (sym (under_itself t) ∙ ap (λ (k : Key). is_under k t) (sym same) ∙ apart)
+
+added_by : (x : Entry) (cache : TokenCache) (c : List Exchange) (token other : RegistryTokenType) (until moment : ℕ) (key : Key) (b : Bool) → is_under key (kept_token (key_of x.image x.operation) token until) ≡ b → IsHeld x c token → (token_at cache key moment ≡ Some other → KeptOrAdded x c key moment other)
+    → token_at (record cache { tokens = inserted cache.tokens (kept_token (key_of x.image x.operation) token until) }) key moment ≡ Some other → KeptOrAdded x c key moment other
+added_by x cache c token other until moment key true found held before is =
+    let t = kept_token (key_of x.image x.operation) token until in
+    let same : key_of x.image x.operation ≡ key = same_key key t found in
+    inr (sym same, subst (IsHeld x c) (given_kept cache (key_of x.image x.operation) token other until moment (subst (λ (k : Key). token_at (record cache { tokens = inserted cache.tokens t }) k moment ≡ Some other) (sym same) is)) held)
+added_by x cache c token other until moment key false apart held before is =
+    let t = kept_token (key_of x.image x.operation) token until in
+    before (sym (ap (λ (o : Option KeptToken). option_and_then (given_at moment) o) ((is_kept cache.tokens t).others key (other_key key t apart))) ∙ is)
+
+cache_added : (x : Entry) (cache : TokenCache) (c : List Exchange) (token other : RegistryTokenType) (until : Option ℕ) (moment : ℕ) (key : Key) → IsHeld x c token → (token_at cache key moment ≡ Some other → KeptOrAdded x c key moment other)
+    → token_at (option_map_or (λ u. record cache { tokens = inserted cache.tokens (kept_token (key_of x.image x.operation) token u) }) until cache) key moment ≡ Some other → KeptOrAdded x c key moment other
+cache_added x cache c token other None moment key held before is = before is
+cache_added x cache c token other (Some until) moment key held before is = added_by x cache c token other until moment key (is_under key (kept_token (key_of x.image x.operation) token until)) refl held before is
+
 pub keeps_kept : (x : Entry) (l : Memory) (c : List Exchange) (token : RegistryTokenType) → IsHeld x c token → Keeps x l c → Keeps x (with_kept l (key_of x.image x.operation) token x.moment) c
-keeps_kept x l c token held k = record { credentials = k.credentials; tokens = λ other is. cache_by x l.tokens c token other (kept_until token l.tokens.default_expiration_secs x.moment) held (k.tokens other) is }
+keeps_kept x l c token held k = record { credentials = k.credentials; tokens = λ other is. cache_by x l.tokens c token other (kept_until token l.tokens.default_expiration_secs x.moment) held (k.tokens other) is; added = λ key moment other is. cache_added x l.tokens c token other (kept_until token l.tokens.default_expiration_secs x.moment) moment key held (k.added key moment other) is }

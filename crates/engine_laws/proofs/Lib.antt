@@ -19,6 +19,7 @@ pub mod KeptTokens
 pub mod ManifestCauses
 pub mod PlainRefusals
 pub mod PreparedRequests
+pub mod SafeKeeps
 pub mod SafeMore
 pub mod ShownTokens
 pub mod TokenCauses

@@ -9,7 +9,10 @@ use Rattle.oci_transport.specs.declared.message.Answer.{Answer}
 use Rattle.oci_transport.specs.declared.message.Exchange.{Exchange}
 use Rattle.oci_transport.specs.declared.message.Method.TheVariants.{Get}
 use Rattle.oci_names.specs.declared.reference.Reference.{Reference}
+use Rattle.oci_auth.specs.Caches.{key_of, token_at}
 use Rattle.oci_auth.specs.Credentials.{authorization_of}
+use Rattle.oci_auth.specs.Keys.{Key}
+use Rattle.oci_auth.specs.declared.memory.Memory.{Memory}
 use Rattle.oci_auth.specs.declared.token_type.RegistryOperation.{RegistryOperation}
 use Rattle.oci_auth.specs.declared.token_type.RegistryTokenType.{RegistryTokenType}
 use Rattle.oci_protocol.specs.Runs.{head_part}
@@ -68,3 +71,20 @@ Confined x s seen request = Each (MayCarry x s seen request) (values_of (codes "
 -- so it is of each request of these exchanges
 abbrev pub AllConfined : Entry → Settings → List Exchange → Type 0
 AllConfined x s c = EachAfter (Confined x s) [] c
+
+-- ---- what is kept
+
+-- the token was kept before, or these exchanges added it under what the call is for, and the call may show it
+abbrev pub KeptOrAdded : Entry → List Exchange → Key → ℕ → RegistryTokenType → Type 0
+KeptOrAdded x c key moment token = (token_at x.kept.tokens key moment ≡ Some token)
+    ⊎ ((key ≡ key_of x.image x.operation) × IsHeld x c token)
+
+-- so it is of each token that is given now, under whatever key and at whatever moment
+abbrev pub KeptWell : Entry → Memory → List Exchange → Type 0
+KeptWell x l c = (key : Key) (moment : ℕ) (token : RegistryTokenType)
+    → token_at l.tokens key moment ≡ Some token → KeptOrAdded x c key moment token
+
+-- the requests of these exchanges carry what they may, and what is kept after them was kept before or came of them
+pub record Within (x : Entry) (s : Settings) (l : Memory) (c : List Exchange) : Type 0 where
+  pub confined : AllConfined x s c
+  pub kept : KeptWell x l c

@@ -6,17 +6,20 @@ use Rattle.oci_auth.specs.declared.auth.RegistryAuth.{RegistryAuth}
 use Rattle.oci_auth.specs.declared.token_type.RegistryOperation.{RegistryOperation}
 use Rattle.oci_auth.specs.declared.token_type.RegistryOperation.TheVariants.{Pull}
 use Rattle.oci_protocol.specs.Runs.{Told}
-use Rattle.engine_laws.specs.Confined.{AllConfined}
+use Rattle.engine_laws.specs.Confined.{Within}
 use Rattle.engine_laws.specs.Held.{asking}
 use Rattle.oci_engine.specs.declared.client.Client.{Client}
 use Rattle.oci_engine.specs.Refusals.{at_moment}
 
 -- To the image's registry and to the realm that it names, and nowhere else: so it is of each request that was told.
--- They are those that the client keeps for it, that are handed in, or that an answer gave.
-abbrev pub StaysFor : RegistryOperation → Client → ℕ → Reference → Option RegistryAuth → Link → Link → Type 0
-StaysFor op client moment image handed old new =
-    Told (AllConfined (asking client.memory (at_moment client moment) image op handed) client.settings) old new
+-- They are those that the client keeps for it, that are handed in, or that an answer gave. Each token that is kept
+-- afterwards was kept before, or is one of these and stands under the image's registry, its repository and the
+-- operation.
+abbrev pub StaysFor : RegistryOperation → Client → Client → ℕ → Reference → Option RegistryAuth → Link → Link
+    → Type 0
+StaysFor op before after moment image handed old new =
+    Told (Within (asking before.memory (at_moment before moment) image op handed) before.settings after.memory) old new
 
 -- of a call that pulls
-abbrev pub Stays : Client → ℕ → Reference → Option RegistryAuth → Link → Link → Type 0
-Stays client moment image handed old new = StaysFor Pull client moment image handed old new
+abbrev pub Stays : Client → Client → ℕ → Reference → Option RegistryAuth → Link → Link → Type 0
+Stays before after moment image handed old new = StaysFor Pull before after moment image handed old new

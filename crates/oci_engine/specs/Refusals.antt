@@ -13,7 +13,7 @@ use Rattle.engine_requests.specs.declared.error.OciDistributionError.{OciDistrib
 use Rattle.engine_requests.specs.declared.error.OciDistributionError.TheVariants as refusal
 use Rattle.engine_steps.specs.Blobs.{Destination}
 use Rattle.oci_engine.specs.declared.client.Client.{Client}
-use Rattle.engine_laws.specs.Held.{Entry, pulling}
+use Rattle.engine_laws.specs.Held.{pulling}
 use Rattle.engine_laws.specs.Causes.{Cause, AnswerCause, DocumentCause, BadHeader, OwnDigest, ManifestUrl}
 use Rattle.engine_laws.specs.Causes.{BlobUrl, BlobCause, FoundCause, ConfigCause, ImageCause, IsRefusedAs}
 

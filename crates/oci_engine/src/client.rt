@@ -123,7 +123,7 @@ impl Client {
         ensures run { Meets is_memory (token_given (at_moment self.old moment) image.now authentication.now operation)
             (T.state transport.old) (T.state transport.new) self.old.memory self.new.memory result }
         ensures settings { self.new.settings ≡ self.old.settings }
-        ensures confined { StaysFor operation self.old moment image.now (Some authentication.now)
+        ensures confined { StaysFor operation self.old self.new moment image.now (Some authentication.now)
             (T.state transport.old) (T.state transport.new) }
         ensures causes { RefusedFor (TokenCause self.old.settings image.now authentication.now)
             (T.state transport.old) (T.state transport.new) result }
@@ -156,7 +156,7 @@ impl Client {
         ensures run { Meets is_memory (fetch_manifest_digest (at_moment self.old moment) image.now auth.now)
             (T.state transport.old) (T.state transport.new) self.old.memory self.new.memory result }
         ensures settings { self.new.settings ≡ self.old.settings }
-        ensures confined { Stays self.old moment image.now (Some auth.now)
+        ensures confined { Stays self.old self.new moment image.now (Some auth.now)
             (T.state transport.old) (T.state transport.new) }
         ensures answered { IfOk result (λ d. Told (λ c. Answered self.old.settings image.now c d)
             (T.state transport.old) (T.state transport.new)) }
@@ -188,7 +188,7 @@ impl Client {
             (pull_manifest_raw (at_moment self.old moment) image.now auth.now (listed accepted_media_types.now))
             (T.state transport.old) (T.state transport.new) self.old.memory self.new.memory result }
         ensures settings { self.new.settings ≡ self.old.settings }
-        ensures confined { Stays self.old moment image.now (Some auth.now)
+        ensures confined { Stays self.old self.new moment image.now (Some auth.now)
             (T.state transport.old) (T.state transport.new) }
         ensures body { IfOk result (λ found. Told (λ c. Body c found.0)
             (T.state transport.old) (T.state transport.new)) }
@@ -230,7 +230,7 @@ impl Client {
         ensures run { Meets is_memory (pull_manifest (at_moment self.old moment) image.now auth.now)
             (T.state transport.old) (T.state transport.new) self.old.memory self.new.memory result }
         ensures settings { self.new.settings ≡ self.old.settings }
-        ensures confined { Stays self.old moment image.now (Some auth.now)
+        ensures confined { Stays self.old self.new moment image.now (Some auth.now)
             (T.state transport.old) (T.state transport.new) }
         ensures causes { RefusedFor (ManifestRefused self.old moment image.now auth.now)
             (T.state transport.old) (T.state transport.new) result }
@@ -259,7 +259,7 @@ impl Client {
         ensures run { Meets is_memory (pull (at_moment self.old moment) image.now auth.now accepted_media_types.now)
             (T.state transport.old) (T.state transport.new) self.old.memory self.new.memory result }
         ensures settings { self.new.settings ≡ self.old.settings }
-        ensures confined { Stays self.old moment image.now (Some auth.now)
+        ensures confined { Stays self.old self.new moment image.now (Some auth.now)
             (T.state transport.old) (T.state transport.new) }
         ensures causes { RefusedFor
             (PullRefused self.old moment image.now auth.now accepted_media_types.now)
@@ -297,7 +297,7 @@ impl Client {
             (T.state transport.old) (T.state transport.new) self.old.memory self.new.memory
             (K.state out.old) (K.state out.new) result }
         ensures settings { self.new.settings ≡ self.old.settings }
-        ensures confined { Stays self.old moment image.now None
+        ensures confined { Stays self.old self.new moment image.now None
             (T.state transport.old) (T.state transport.new) }
         ensures took { IfOk result (λ u. TookBlob digest.now
             (T.state transport.old) (T.state transport.new) (K.state out.old) (K.state out.new)) }
@@ -329,7 +329,7 @@ impl Client {
         ensures run { Meets is_memory (held_blob (at_moment self.old moment) image.now digest.now)
             (T.state transport.old) (T.state transport.new) self.old.memory self.new.memory result }
         ensures settings { self.new.settings ≡ self.old.settings }
-        ensures confined { Stays self.old moment image.now None
+        ensures confined { Stays self.old self.new moment image.now None
             (T.state transport.old) (T.state transport.new) }
         ensures body { IfOk result (λ bytes. Told (λ c. Body c bytes)
             (T.state transport.old) (T.state transport.new)) }

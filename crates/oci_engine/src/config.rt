@@ -43,14 +43,18 @@ impl ClientConfig {
         ensures { IfOk result (λ config. config ≡ default_config) }
     {
         let user_agent = Text::new(alloc, "oci-client/0.18.0")?;
-        let downloads = DEFAULT_MAX_CONCURRENT_DOWNLOAD;
+        let (uploads, downloads) = (
+            DEFAULT_MAX_CONCURRENT_UPLOAD,
+            DEFAULT_MAX_CONCURRENT_DOWNLOAD,
+        );
+        let kept_for = DEFAULT_TOKEN_EXPIRATION_SECS;
         Ok(ClientConfig {
             protocol: ClientProtocol::Https,
             use_monolithic_push: false,
             platform_resolver: None,
-            max_concurrent_upload: DEFAULT_MAX_CONCURRENT_UPLOAD,
+            max_concurrent_upload: uploads,
             max_concurrent_download: downloads,
-            default_token_expiration_secs: DEFAULT_TOKEN_EXPIRATION_SECS,
+            default_token_expiration_secs: kept_for,
             user_agent,
             max_body_bytes: 4294967295,
         })

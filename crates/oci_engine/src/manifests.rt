@@ -35,7 +35,7 @@ impl Client {
             (pull_image_manifest_and_list_digest (at_moment self.old moment) image.now auth.now)
             (T.state transport.old) (T.state transport.new) self.old.memory self.new.memory result }
         ensures settings { self.new.settings ≡ self.old.settings }
-        ensures confined { Stays self.old moment image.now (Some auth.now)
+        ensures confined { Stays self.old self.new moment image.now (Some auth.now)
             (T.state transport.old) (T.state transport.new) }
         ensures causes { RefusedFor (FoundRefused self.old moment image.now auth.now)
             (T.state transport.old) (T.state transport.new) result }
@@ -69,7 +69,7 @@ impl Client {
         ensures run { Meets is_memory (pull_image_manifest (at_moment self.old moment) image.now auth.now)
             (T.state transport.old) (T.state transport.new) self.old.memory self.new.memory result }
         ensures settings { self.new.settings ≡ self.old.settings }
-        ensures confined { Stays self.old moment image.now (Some auth.now)
+        ensures confined { Stays self.old self.new moment image.now (Some auth.now)
             (T.state transport.old) (T.state transport.new) }
         ensures causes { RefusedFor (FoundRefused self.old moment image.now auth.now)
             (T.state transport.old) (T.state transport.new) result }
@@ -99,7 +99,7 @@ impl Client {
             (pull_manifest_and_config_and_list_digest (at_moment self.old moment) image.now auth.now)
             (T.state transport.old) (T.state transport.new) self.old.memory self.new.memory result }
         ensures settings { self.new.settings ≡ self.old.settings }
-        ensures confined { Stays self.old moment image.now (Some auth.now)
+        ensures confined { Stays self.old self.new moment image.now (Some auth.now)
             (T.state transport.old) (T.state transport.new) }
         ensures causes { RefusedFor (ConfigRefused self.old moment image.now auth.now)
             (T.state transport.old) (T.state transport.new) result }
@@ -133,7 +133,7 @@ impl Client {
         ensures run { Meets is_memory (pull_manifest_and_config (at_moment self.old moment) image.now auth.now)
             (T.state transport.old) (T.state transport.new) self.old.memory self.new.memory result }
         ensures settings { self.new.settings ≡ self.old.settings }
-        ensures confined { Stays self.old moment image.now (Some auth.now)
+        ensures confined { Stays self.old self.new moment image.now (Some auth.now)
             (T.state transport.old) (T.state transport.new) }
         ensures causes { RefusedFor (ConfigRefused self.old moment image.now auth.now)
             (T.state transport.old) (T.state transport.new) result }

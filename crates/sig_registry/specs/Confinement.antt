@@ -5,11 +5,13 @@ use Rattle.oci_names.specs.declared.reference.Reference.{Reference}
 use Rattle.oci_auth.specs.declared.auth.RegistryAuth.{RegistryAuth}
 use Rattle.oci_protocol.specs.Runs.{Told}
 use Rattle.engine_requests.specs.Contexts.{within}
-use Rattle.engine_laws.specs.Confined.{AllConfined}
+use Rattle.engine_laws.specs.Confined.{Within}
 use Rattle.engine_laws.specs.Held.{pulling}
 use Rattle.sig_registry.specs.Clients.{Client}
 
 -- To the image's registry and to the realm that it names, and nowhere else: so it is of each request that was told.
-abbrev pub Stays : Client → ℕ → Reference → Option RegistryAuth → Link → Link → Type 0
-Stays client moment image handed old new =
-    Told (AllConfined (pulling client.kept (within client.settings moment) image handed) client.settings) old new
+-- Each token that is kept afterwards was kept before, or the call may show it and it stands under the image's
+-- repository.
+abbrev pub Stays : Client → Client → ℕ → Reference → Option RegistryAuth → Link → Link → Type 0
+Stays before after moment image handed old new =
+    Told (Within (pulling before.kept (within before.settings moment) image handed) before.settings after.kept) old new

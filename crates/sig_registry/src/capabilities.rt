@@ -35,7 +35,7 @@ pub trait ClientCapabilities {
             (state self.old) (state self.new) (T.state transport.old) (T.state transport.new) result }
         ensures fault { FaultCounted (T.state transport.old) (T.state transport.new) result }
         ensures no_sink { NoSinkFault result }
-        ensures confined { Stays (state self.old) moment image.now (Some auth.now)
+        ensures confined { Stays (state self.old) (state self.new) moment image.now (Some auth.now)
             (T.state transport.old) (T.state transport.new) };
 
     /// The image with its blobs; a refusal is `RegistryPullError`.
@@ -53,7 +53,7 @@ pub trait ClientCapabilities {
             (state self.old) (state self.new) (T.state transport.old) (T.state transport.new) result }
         ensures fault { FaultCounted (T.state transport.old) (T.state transport.new) result }
         ensures no_sink { NoSinkFault result }
-        ensures confined { Stays (state self.old) moment image.now (Some auth.now)
+        ensures confined { Stays (state self.old) (state self.new) moment image.now (Some auth.now)
             (T.state transport.old) (T.state transport.new) };
 
     /// The image's manifest or index with its digest; a refusal is `RegistryPullManifestError`.
@@ -69,7 +69,7 @@ pub trait ClientCapabilities {
             (state self.old) (state self.new) (T.state transport.old) (T.state transport.new) result }
         ensures fault { FaultCounted (T.state transport.old) (T.state transport.new) result }
         ensures no_sink { NoSinkFault result }
-        ensures confined { Stays (state self.old) moment image.now (Some auth.now)
+        ensures confined { Stays (state self.old) (state self.new) moment image.now (Some auth.now)
             (T.state transport.old) (T.state transport.new) };
 
     /// The bytes of the image's manifest or index with their digest; a refusal is `RegistryPullError`.
@@ -87,7 +87,7 @@ pub trait ClientCapabilities {
             (state self.old) (state self.new) (T.state transport.old) (T.state transport.new) result }
         ensures fault { FaultCounted (T.state transport.old) (T.state transport.new) result }
         ensures no_sink { NoSinkFault result }
-        ensures confined { Stays (state self.old) moment image.now (Some auth.now)
+        ensures confined { Stays (state self.old) (state self.new) moment image.now (Some auth.now)
             (T.state transport.old) (T.state transport.new) };
 
     /// The bytes of a blob of the image's repository; a refusal is `RegistryPullError`.
@@ -103,7 +103,7 @@ pub trait ClientCapabilities {
             (state self.old) (state self.new) (T.state transport.old) (T.state transport.new) result }
         ensures fault { FaultCounted (T.state transport.old) (T.state transport.new) result }
         ensures no_sink { NoSinkFault result }
-        ensures confined { Stays (state self.old) moment image.now None
+        ensures confined { Stays (state self.old) (state self.new) moment image.now None
             (T.state transport.old) (T.state transport.new) };
 
     /// Which image of an index is meant, where the client's configuration says so.
