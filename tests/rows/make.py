@@ -172,6 +172,11 @@ def pulls():
     write("pulls/digests_named_by_no_header", case(unnamed, [signature]), ["moment 100"] + asked + image_lines(signature))
     longest = max(len(a["pieces"][0].encode()) for a in answers if "pieces" in a)
     write("pulls/a_limit_that_all_bodies_keep", case(answers, [signature], limit=longest), ["moment 100"] + asked + image_lines(signature))
+    # Of a manifest no resolver of platforms is asked.
+    for title, platform in [("a_platform", "linux/amd64"), ("a_platform_by_digest", {"digest": digest("x")})]:
+        write(f"pulls/{title}_beside_a_manifest", case(answers, [signature], platform=platform), ["moment 100"] + asked + image_lines(signature))
+    none = compact(dict(json.loads(case(answers, [signature])), platform=None))
+    write("pulls/a_platform_of_null", none, ["moment 100"] + asked + image_lines(signature))
     # Redirects are followed, and the request that follows has no token step of its own.
     other, here = "http://cdn.example/l", f"{BASE}app/blobs/l"
     moved = answers[:-1] + [answer(None, None, 307, headers=[["location", other]]), answers[-1]]
@@ -518,6 +523,9 @@ def inputs():
         ("a_protocol_that_is_not_known", {"protocol": "ftp"}),
         ("credentials_without_password", {"auth": {"basic": ["user"]}}),
         ("credentials_of_two_kinds", {"auth": {"basic": ["user", "secret"], "bearer": "t"}}),
+        ("a_platform_without_slash", {"platform": "linux"}),
+        ("a_platform_of_another_kind", {"platform": ["linux", "amd64"]}),
+        ("a_platform_with_another_member", {"platform": {"digest": "sha256:ab", "at": 1}}),
         ("a_limit_below_zero", {"limit": -1}),
         ("a_limit_in_words", {"limit": "5"}),
         ("a_key_that_is_no_base64", {"keys": [{"base64": "a"}]}),
@@ -539,8 +547,8 @@ def inputs():
     for title, members in others:
         write(f"input/{title}", case(members.pop("answers", []), **members), [], 3)
     null = json.loads(case([]))
-    for name in ("limit", "log_keys", "vouched"):
-        write(f"input/{name}_of_null", compact(dict(null, **{name: None})), [], 3)
+    for title, name in [("a_limit", "limit"), ("log_keys", "log_keys"), ("nothing_vouched", "vouched")]:
+        write(f"input/{title}_of_null", compact(dict(null, **{name: None})), [], 3)
 
 
 def canonical_texts():

@@ -5,7 +5,7 @@ use Rattle.std.specs.Prelude.{[]}
 use Rattle.std.specs.FinMap.{empty}
 use Rattle.serde_json.specs.Data.{Data}
 use Rattle.serde_json.specs.Find.{get}
-use Rattle.json_tables.specs.Reading.{◌>>=◌, text_of, u64_of, list_of, required, at_name, only}
+use Rattle.json_tables.specs.Reading.{◌>>=◌, text_of, u64_of, list_of, required, optional, at_name, only}
 use Rattle.json_tables.specs.Bytes.{bytes_of}
 use Rattle.engine_requests.specs.declared.settings.ClientProtocol.TheVariants.{Https}
 use Rattle.oci_names.specs.References.{reference_of}
@@ -16,6 +16,7 @@ use Rattle.pull_case.specs.Answer.{answer_of}
 use Rattle.pull_case.specs.Auth.{auth_of}
 use Rattle.oci_auth.specs.declared.auth.RegistryAuth.TheVariants.{Anonymous}
 use Rattle.pull_case.specs.Constraint.{constraint_of}
+use Rattle.pull_case.specs.Platform.{platform_of}
 use Rattle.pull_case.specs.Trust.{signature_of, judge_of, judge_by, log_keys_of}
 
 passed_here : {A : Type 0} (test : A → Bool) (b : Bool) (x a : A) → test x ≡ b → (if b then Some x else None) ≡ Some a → test a ≡ true
@@ -61,6 +62,7 @@ members_of d =
     through (HasRead d) (at_name (unless_absent Https protocol_of) (codes "protocol") d) _ (λ protocol _.
     through (HasRead d) (at_name (unless_absent Anonymous auth_of) (codes "auth") d) _ (λ auth _.
     through (HasRead d) (required (list_of text_of) (codes "accepted") d) _ (λ accepted _.
+    through (HasRead d) (optional platform_of (codes "platform") d) _ (λ platform _.
     through (HasRead d) (required moments_of (codes "moments") d) _ (λ moments are_moments.
     through (HasRead d) (at_name (unless_absent None number_of) (codes "limit") d) _ (λ limit _.
     through (HasRead d) (required (list_of bytes_of) (codes "keys") d) _ (λ keys _.
@@ -69,7 +71,7 @@ members_of d =
     through (HasRead d) (required (list_of signature_of) (codes "signatures") d) _ (λ signatures _.
     through (HasRead d) (at_name (unless_absent (judge_by []) judge_of) (codes "vouched") d) _ (λ vouched _.
     through (HasRead d) (required (list_of answer_of) (codes "answers") d) _ (λ answers _.
-    (is_reference, are_moments))))))))))))))
+    (is_reference, are_moments)))))))))))))))
 
 -- what follows from what holds of a value that is there
 follows : {A : Type 0} (P Q : A → Type 0) (o : Option A) → IfSome o P → ((a : A) → P a → Q a) → IfSome o Q

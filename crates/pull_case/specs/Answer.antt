@@ -44,11 +44,19 @@ Adds (Err e) old new header = Refuses e (with_header old header)
 abbrev pub none_empty : (pieces : List (List ℕ)) → Option (NoneEmpty pieces)
 none_empty [] = Some (All-nil (λ piece. 0 < length piece))
 none_empty ([] ∷ pieces) = None
-none_empty ((b ∷ bs) ∷ pieces) = option_map (All-cons (λ piece. 0 < length piece) (b ∷ bs) pieces (zero-lt-suc (length bs))) (none_empty pieces)
+none_empty ((b ∷ bs) ∷ pieces) =
+    option_map (All-cons (λ piece. 0 < length piece) (b ∷ bs) pieces (zero-lt-suc (length bs))) (none_empty pieces)
 
 -- a send that fails, whose other parts say nothing
 abbrev pub failing : Recorded
-failing = record { fails = true; status = 0; headers = empty; pieces = []; fails_before = None; none_empty = All-nil (λ piece. 0 < length piece) }
+failing = record {
+  fails = true;
+  status = 0;
+  headers = empty;
+  pieces = [];
+  fails_before = None;
+  none_empty = All-nil (λ piece. 0 < length piece);
+}
 
 -- an answer with its status, its headers, its body in pieces, and before how many of them a call fails, once
 unfoldable pub answering : Data → Option Recorded
@@ -59,7 +67,14 @@ answering d = do
   pieces ← at_name (unless_absent [] (list_of bytes_of)) (codes "pieces") d
   fails_before ← at_name (unless_absent None number_of) (codes "fault") d
   full ← none_empty pieces
-  Some (record { fails = false; status = status; headers = headers; pieces = pieces; fails_before = fails_before; none_empty = full })
+  Some (record {
+    fails = false;
+    status = status;
+    headers = headers;
+    pieces = pieces;
+    fails_before = fails_before;
+    none_empty = full;
+  })
 
 -- `fail` is a send that fails, all else is an answer
 unfoldable pub answer_of : Data → Option Recorded

@@ -4,7 +4,7 @@ use Rattle.std.specs.FinMap.{empty}
 use Rattle.std.specs.Str.{bytes_eq}
 use Rattle.serde_json.specs.Data.{Data}
 use Rattle.json_values.specs.JsonText.{plain_json_of}
-use Rattle.json_tables.specs.Reading.{◌>>=◌, text_of, u64_of, list_of, required, at_name, only}
+use Rattle.json_tables.specs.Reading.{◌>>=◌, text_of, u64_of, list_of, required, optional, at_name, only}
 use Rattle.json_tables.specs.Bytes.{bytes_of}
 use Rattle.oci_names.specs.References.{reference_of}
 use Rattle.oci_auth.specs.declared.auth.RegistryAuth.TheVariants.{Anonymous}
@@ -14,6 +14,7 @@ use Rattle.pull_case.specs.Answer.{answer_of}
 use Rattle.pull_case.specs.Auth.{auth_of}
 use Rattle.pull_case.specs.Constraint.{constraint_of}
 use Rattle.pull_case.specs.Members.{unless_absent, number_of, passing}
+use Rattle.pull_case.specs.Platform.{platform_of}
 use Rattle.pull_case.specs.Trust.{signature_of, judge_of, judge_by, log_keys_of}
 use Rattle.pull_case.specs.declared.case.Case.{Case}
 
@@ -41,6 +42,7 @@ members =
     ∷ codes "protocol"
     ∷ codes "auth"
     ∷ codes "accepted"
+    ∷ codes "platform"
     ∷ codes "moments"
     ∷ codes "limit"
     ∷ codes "keys"
@@ -52,7 +54,8 @@ members =
     ∷ []
 
 -- An object with no members but these. The protocol may be absent, which is `https`, the credentials, which are
--- anonymous, the limit of a body, which is the client's own, and the keys of logs and what is vouched, which are none.
+-- anonymous, the platform, which is none, as null is, the limit of a body, which is the client's own, and the keys of
+-- logs and what is vouched, which are none.
 unfoldable pub case_of : Data → Option Case
 case_of d = do
   known ← only members d
@@ -60,6 +63,7 @@ case_of d = do
   protocol ← at_name (unless_absent Https protocol_of) (codes "protocol") d
   auth ← at_name (unless_absent Anonymous auth_of) (codes "auth") d
   accepted ← required (list_of text_of) (codes "accepted") d
+  platform ← optional platform_of (codes "platform") d
   moments ← required moments_of (codes "moments") d
   limit ← at_name (unless_absent None number_of) (codes "limit") d
   keys ← required (list_of bytes_of) (codes "keys") d
@@ -73,6 +77,7 @@ case_of d = do
     protocol = protocol;
     auth = auth;
     accepted = accepted;
+    platform = platform;
     moments = moments;
     limit = limit;
     keys = keys;

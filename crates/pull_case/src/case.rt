@@ -5,11 +5,13 @@ ghost use Rattle.pull_case.specs.Case.{case_in};
 use crate::constraint::WrittenConstraint;
 use crate::entries::{Entries, OrUsual};
 use crate::members::{Moments, ReferenceText};
+use crate::platform::Platform;
 use cosign_layers::{LogKeys, SignedRow, TableJudge};
 use engine_requests::ClientProtocol;
 use json_tables::{ReadError, Reads, only, read_plain, read_row};
 use json_values::{Blob, List, Text, row};
 use oci_auth::RegistryAuth;
+use oci_platforms::PlatformResolver;
 use oci_transport::Recorded;
 use serde_json::Value;
 use std::alloc::{AllocError, Global};
@@ -26,6 +28,9 @@ pub struct Case {
     pub auth: RegistryAuth,
     /// A list of texts, the media types of layers that are accepted.
     pub accepted: List<Text>,
+    /// `"os/architecture"`, split at the first slash, for the first image of an index that is for it, or
+    /// `{"digest": text}` for the image of that digest; an index is refused where the member is absent or null.
+    pub platform: Option<PlatformResolver>,
     /// A list of at least one number, in seconds since 1970, at each of which the image is pulled.
     pub moments: List<u64>,
     /// How many bytes a body may have that is held; the client's own limit where the member is absent.
@@ -55,6 +60,7 @@ const NAMES: &[&str] = &[
     "protocol",
     "auth",
     "accepted",
+    "platform",
     "moments",
     "limit",
     "keys",
@@ -82,7 +88,9 @@ type Limit = (OrUsual<Option<u64>>, Keys);
 
 type Times = (Moments, Limit);
 
-type Accepted = (List<Text>, Times);
+type Platforms = (Platform, Times);
+
+type Accepted = (List<Text>, Platforms);
 
 type Auth = (OrUsual<RegistryAuth>, Accepted);
 
@@ -103,6 +111,7 @@ impl Reads for Case {
             protocol,
             auth,
             accepted,
+            platform,
             moments,
             limit,
             keys,
@@ -117,6 +126,7 @@ impl Reads for Case {
             protocol: protocol.value,
             auth: auth.value,
             accepted,
+            platform: platform.resolver,
             moments: moments.list,
             limit: limit.value,
             keys,

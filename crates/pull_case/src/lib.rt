@@ -8,6 +8,7 @@ mod credentials;
 mod entries;
 mod headers;
 mod members;
+mod platform;
 mod policy;
 mod trust;
 

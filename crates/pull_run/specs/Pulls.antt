@@ -11,6 +11,7 @@ use Rattle.oci_protocol.specs.Runs.{Runs}
 use Rattle.engine_requests.specs.Contexts.{within}
 use Rattle.engine_requests.specs.declared.settings.ClientProtocol.{ClientProtocol}
 use Rattle.engine_requests.specs.declared.settings.Settings.{Settings}
+use Rattle.oci_platforms.specs.declared.promise.ResolverPromise.{ResolverPromise}
 use Rattle.sig_registry.specs.Clients.{Kept}
 use Rattle.cosign_layers.specs.Judge.{vouched_in}
 use Rattle.cosign_layers.specs.Standing.{Meaning, meaning}
@@ -82,17 +83,17 @@ abbrev pub limit_by : Option ℕ → ℕ
 limit_by None = 4294967295
 limit_by (Some limit) = limit
 
--- the settings of a client by its protocol and its limit, else the usual ones
-abbrev pub settings_by : ClientProtocol → Option ℕ → Settings
-settings_by protocol limit = record {
+-- the settings of a client by its protocol, its limit and which image of an index it pulls, else the usual ones
+abbrev pub settings_by : ClientProtocol → Option ℕ → Option ResolverPromise → Settings
+settings_by protocol limit platform = record {
   protocol = protocol;
   user_agent = codes "oci-client/0.18.0";
   max_body_bytes = limit_by limit;
-  platform_resolver = None;
+  platform_resolver = platform;
 }
 
 abbrev pub settings_of : Case → Settings
-settings_of case = settings_by case.protocol case.limit
+settings_of case = settings_by case.protocol case.limit case.platform
 
 -- a client that keeps nothing yet
 abbrev pub fresh : Kept

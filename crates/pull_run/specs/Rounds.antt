@@ -67,8 +67,8 @@ IsCalm script = (told : List Exchange) → (state_of script).told ≡ Some told
     → IsTrue (calm (answering (answers_of script)).fails 0 told (state_of script).faults)
 
 -- pulls at these moments over these recorded answers, with their report
-pub record Played (row : ℕ → Whole VerifiedImage) (answers : List Recorded) (moments : List ℕ) (k l : Kept) (made : Report)
-    : Type 0 where
+pub record Played (row : ℕ → Whole VerifiedImage) (answers : List Recorded) (moments : List ℕ) (k l : Kept)
+    (made : Report) : Type 0 where
   pub talks : List Talk
   pub moments_are : map moment_of talks ≡ moments
   pub faults : ℕ

@@ -15,6 +15,7 @@ use cosign_client::{Client, PullRefusal, VerifiedImage};
 use cosign_layers::{LogKeys, PullPolicy, TableJudge, TableVerifier};
 use json_values::{Blob, List, Text};
 use oci_engine::{ClientConfig, ClientProtocol};
+use oci_platforms::PlatformResolver;
 use oci_transport::{Exchange, Recorded, Script};
 use pull_case::{Case, case_policy, read_case};
 use pull_report::write_report;
@@ -125,15 +126,17 @@ fn fresh_client(
     alloc: Global,
     protocol: ClientProtocol,
     limit: Option<u64>,
+    platform: Option<PlatformResolver>,
     rekor_pub_keys: LogKeys,
 ) -> Result<Client, AllocError>
     ensures state { IfOk result (λ client.
-        client_state client ≡ record { settings = settings_by protocol limit; kept = fresh }) }
+        client_state client ≡ record { settings = settings_by protocol limit platform; kept = fresh }) }
     ensures log_keys { IfOk result (λ client. client.rekor_pub_keys ≡ rekor_pub_keys) }
 {
     let mut config = ClientConfig::default(alloc)?;
     config.protocol = protocol;
     config.max_body_bytes = limit.unwrap_or(config.max_body_bytes);
+    config.platform_resolver = platform;
     Ok(Client {
         registry_client: OciClient::new(oci_engine::Client::new(alloc, config)),
         rekor_pub_keys,
@@ -187,7 +190,13 @@ pub fn pull_case(alloc: Global, case: Case) -> Result<Report, AllocError>
         },
         judge: case.vouched,
     };
-    let mut client = fresh_client(alloc, case.protocol, case.limit, case.log_keys)?;
+    let mut client = fresh_client(
+        alloc,
+        case.protocol,
+        case.limit,
+        case.platform,
+        case.log_keys,
+    )?;
     pull_each(
         alloc,
         &mut client,
