@@ -315,6 +315,50 @@ def layers():
         vouched=[{"certificate": pem, "key": "ck", "email": None, **identity}])
 
 
+# ---- images of an index
+
+
+def entry(architecture, content):
+    return dict(descriptor(MANIFEST, content), platform={"architecture": architecture, "os": "linux"})
+
+
+def index_of(*entries):
+    return compact({"schemaVersion": 2, "mediaType": INDEX, "manifests": list(entries)})
+
+
+def indexes():
+    index = index_of(entry("arm64", "x"), entry("amd64", IMAGE))
+    behind = index_of(entry("amd64", index))
+    by_x, by_image = {"digest": digest("x")}, {"digest": digest(IMAGE)}
+
+    def one(title, first, platform, documents, lines):
+        """A pull of this index, after which these documents are answered, each asked by its digest."""
+        signature = payload(image=first)
+        tag = digest(first).replace(":", "-") + ".sig"
+        signatures = manifest("{}", [signed(signature)])
+        answers = [TOKEN, answer(None, digest(first))] + served(signatures) * 2 + served("{}") + served(signature) + served(first)
+        asked = requests(("HEAD", "manifests/v1"), f"manifests/{tag}", f"manifests/{tag}", "blobs/" + digest("{}"), "blobs/" + digest(signature), "manifests/" + digest(first))
+        for document in documents:
+            answers += served(document)
+            asked += requests("manifests/" + digest(document))
+        if lines is None:
+            answers += served("{}") + served(CONTENT)
+            asked += requests("blobs/" + digest("{}"), "blobs/" + digest(CONTENT))
+            lines = ["ok " + digest(first)] + image_lines(signature)[1:]
+        else:
+            lines = [f"refused RegistryPullError {compact(REGISTRY + '/app@' + digest(first))} {lines}"]
+        write(f"indexes/{title}", case(answers, [signature], platform=platform), ["moment 100"] + asked + lines, 0 if lines[0].startswith("ok") else 1)
+
+    one("an_image_by_its_platform", index, "linux/amd64", [IMAGE], None)
+    one("an_image_by_its_digest", index, by_image, [IMAGE], None)
+    one("another_system", index, "windows/amd64", [], 'ImageManifestNotFoundError ""')
+    one("a_digest_of_no_entry", index, {"digest": digest("y")}, [], f"ImageManifestNotFoundError {compact(digest('y'))}")
+    one("a_platform_with_a_variant", index, "linux/amd64/v2", [], 'ImageManifestNotFoundError ""')
+    one("no_platform", index, None, [], "ImageIndexParsingNoPlatformResolverError")
+    one("an_index_behind_an_index", behind, "linux/amd64", [index], f"ImageManifestNotFoundError {compact(digest(index))}")
+    one("an_entry_that_is_no_document", index, by_x, ["x"], "VersionedParsingError 1")
+
+
 # ---- the digest
 
 
@@ -568,6 +612,7 @@ TABLES = {
     "pulls": pulls,
     "policies": policies,
     "layers": layers,
+    "indexes": indexes,
     "digests": digests,
     "signatures": signatures,
     "tokens": tokens,
