@@ -26,7 +26,8 @@ Why read entity s path before c after BodyTooLong =
 Why read entity s path before c after (Url text) =
     (c ≡ []) × (text ≡ address s.base_path path) × (request_url text ≡ None)
 Why read entity s path before c after (Header text) =
-    (c ≡ []) × (text ≡ agent_text s.user_agent) × (content : Option (List ℕ)) × (headers_sent s.user_agent content ≡ None)
+    (c ≡ []) × (text ≡ agent_text s.user_agent)
+    × (content : Option (List ℕ)) × (headers_sent s.user_agent content ≡ None)
 Why read entity s path before c after (Json body) = (answer : Answer) × IsAnswer c answer
     × (is_refusal answer.status ≡ false) × (body ≡ answer.body) × (read body ≡ None)
 Why read entity s path before c after (ResponseError x) = (answer : Answer) × IsAnswer c answer
