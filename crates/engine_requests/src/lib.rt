@@ -10,6 +10,7 @@ mod error;
 mod index;
 mod requests;
 mod settings;
+mod sources;
 mod token_body;
 mod tokens;
 
@@ -22,5 +23,6 @@ pub use error::{GenericCause, OciDistributionError, SpecViolation};
 pub use index::{config_text, entry_found, entry_manifest, entry_reference};
 pub use requests::{MANIFEST_TYPES, listed, request_of};
 pub use settings::{ClientProtocol, Settings};
+pub use sources::{AsLayerDescriptor, LayerDescriptor, Source, source_of};
 pub use token_body::TokenBody;
 pub use tokens::{Wanted, read_challenge, realm_request, token_read};
