@@ -3,5 +3,3 @@
 
 #[cfg(test)]
 mod pulls;
-#[cfg(test)]
-mod refusals;
