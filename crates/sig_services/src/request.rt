@@ -2,8 +2,8 @@
 ghost use Rattle.std.specs.Prelude.{◌≡◌, IfOk};
 ghost use Rattle.form_urlencoded.specs.Form.{byte_serialize};
 ghost use Rattle.sig_services.specs.Error.{Says};
-ghost use Rattle.sig_services.specs.Request.{address, agent_text, with_agent, with_type};
-ghost use Rattle.sig_services.specs.Request.{headers_sent, headers_of, request_of, body_of, url_of};
+ghost use Rattle.sig_services.specs.Request.{address, with_agent, with_type};
+ghost use Rattle.sig_services.specs.Request.{headers_sent, headers_of, request_of, url_of};
 
 use crate::configuration::Configuration;
 use crate::error::Error;
@@ -61,15 +61,6 @@ fn with_type(headers: Headers, content: &Option<Blob>) -> Result<Option<Headers>
     }
 }
 
-fn agent_text(alloc: Global, agent: &Option<Text>) -> Result<Text, AllocError>
-    ensures { IfOk result (λ text. text ≡ agent_text agent.now) }
-{
-    match agent {
-        Some(agent) => Text::new(alloc, agent.as_str()),
-        None => Text::new(alloc, ""),
-    }
-}
-
 fn headers_sent(
     alloc: Global,
     agent: &Option<Text>,
@@ -92,16 +83,13 @@ fn headers_of<E>(
 {
     match headers_sent(alloc, agent, content)? {
         Some(headers) => Ok(headers),
-        None => Err(Error::Header(agent_text(alloc, agent)?)),
-    }
-}
-
-fn body_of(alloc: Global, content: Option<Blob>) -> Blob
-    ensures { result ≡ body_of content }
-{
-    match content {
-        Some(content) => content,
-        None => Blob::empty(alloc),
+        None => {
+            let agent = match agent {
+                Some(agent) => agent.as_str(),
+                None => "",
+            };
+            Err(Error::Header(Text::new(alloc, agent)?))
+        }
     }
 }
 
@@ -124,6 +112,6 @@ pub(crate) fn request_of<E>(
         method,
         url,
         headers,
-        body: body_of(alloc, content),
+        body: content.unwrap_or(Blob::empty(alloc)),
     })
 }
