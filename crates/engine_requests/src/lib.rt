@@ -8,6 +8,7 @@ mod call;
 mod documents;
 mod error;
 mod index;
+mod referrers;
 mod requests;
 mod settings;
 mod token_body;
@@ -20,6 +21,9 @@ pub use call::Call;
 pub use documents::read_document;
 pub use error::{GenericCause, OciDistributionError, SpecViolation};
 pub use index::{config_text, entry_found, entry_manifest, entry_reference};
+pub use referrers::{
+    digest_given, fallback_reference, referrers_in, referrers_url, tagged_index,
+};
 pub use requests::{MANIFEST_TYPES, listed, request_of};
 pub use settings::{ClientProtocol, Settings};
 pub use token_body::TokenBody;
