@@ -21,9 +21,7 @@ pub use call::Call;
 pub use documents::read_document;
 pub use error::{GenericCause, OciDistributionError, SpecViolation};
 pub use index::{config_text, entry_found, entry_manifest, entry_reference};
-pub use referrers::{
-    digest_given, fallback_reference, referrers_in, referrers_url, tagged_index,
-};
+pub use referrers::{digest_given, fallback_reference, referrers_in, referrers_url, tagged_index};
 pub use requests::{MANIFEST_TYPES, listed, request_of};
 pub use settings::{ClientProtocol, Settings};
 pub use token_body::TokenBody;
