@@ -7,4 +7,5 @@ pub mod Errors
 pub mod Index
 pub mod Referrers
 pub mod Requests
+pub mod Sources
 pub mod Tokens

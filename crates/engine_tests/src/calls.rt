@@ -123,7 +123,7 @@ fn is_poured(alloc: Global, script: &mut Script) -> Option<bool> {
     let (mut client, image) = begun(alloc)?;
     let mut sink = PlainSink::new(alloc);
     client
-        .pull_blob(alloc, script, 100, &image, LAYER_DIGEST, &mut sink)
+        .pull_blob(alloc, script, 100, &image, &LAYER_DIGEST, &mut sink)
         .ok()?;
     Some(sink.into_blob().as_slice() == b"hello world".as_slice())
 }
@@ -143,7 +143,7 @@ fn unpoured(alloc: Global, script: &mut Script) -> Option<&'static str> {
     failing.push(0u64).ok()?;
     let mut sink = MemorySink::new(alloc, failing);
     let refusal = client
-        .pull_blob(alloc, script, 100, &image, LAYER_DIGEST, &mut sink)
+        .pull_blob(alloc, script, 100, &image, &LAYER_DIGEST, &mut sink)
         .err()?;
     Some(refusal.name())
 }
