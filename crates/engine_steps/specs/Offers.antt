@@ -11,13 +11,12 @@ use Rattle.oci_protocol.specs.Proto.{Reading, Unread, Reply, Headed, Done, ◌>>
 use Rattle.oci_protocol.specs.Follow.{follow}
 use Rattle.oci_protocol.specs.Runs.{Meets}
 use Rattle.engine_requests.specs.Answers.{is_error}
-use Rattle.engine_requests.specs.Contexts.{Context}
 use Rattle.engine_requests.specs.Errors.{is_memory}
 use Rattle.engine_requests.specs.Sources.{asked_at}
 use Rattle.engine_requests.specs.declared.settings.Settings.{Settings}
 use Rattle.engine_requests.specs.declared.error.OciDistributionError.{OciDistributionError}
 use Rattle.engine_requests.specs.declared.sources.Place.{Place}
-use Rattle.engine_steps.specs.Blobs.{Destination, IntoSink, IntoMemory, blob_reading, blob_reply, attempt, Spills}
+use Rattle.engine_steps.specs.Blobs.{Destination, blob_reading, blob_reply, attempt, Spills}
 use Rattle.engine_steps.specs.Rows.{Row}
 
 -- an answer of an error is not read

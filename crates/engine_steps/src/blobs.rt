@@ -1,5 +1,5 @@
 // One request for a blob.
-ghost use Rattle.std.specs.Prelude.{◌≡◌, ℕ, List, []};
+ghost use Rattle.std.specs.Prelude.{ℕ, List};
 ghost use Rattle.oci_auth.specs.declared.memory.Memory.{Memory};
 ghost use Rattle.oci_transport.specs.Link.{Link};
 ghost use Rattle.oci_transport.specs.declared.message.Request.{Request as Asked};
@@ -127,7 +127,6 @@ fn have_digests(
 }
 
 // Holds the body of the answer that was reached, as its plan says.
-#[tactic(none)]
 fn held_reached<T: Transport>(
     alloc: Global,
     transport: &mut T,

@@ -1,5 +1,4 @@
-use Rattle.std.proofs.Common.{refl, sym, ◌∙◌, arith}
-use Rattle.oci_protocol.proofs.Extending.{Steady-none}
+use Rattle.std.proofs.Common.{refl, sym, ◌∙◌}
 use Rattle.engine_steps.proofs.Attempts.{blob_wanting, blob_unread, blob_judged, blob_long, blob_failed, held_other, held_whole, held_wanting}
 use Rattle.engine_steps.proofs.blobs.held_reached.Goals as goal
 
@@ -35,6 +34,3 @@ returns-in-Err-BodyTooLong-read_body g c = λ old request k p reached takes. blo
 
 pub returns : goal.returns
 returns g c = λ old request k p reached takes. blob_wanting _ _ _ _ _ _ _ _ _ k _ takes reached c.read_body-in-Pour.ensures.count c.read_body-in-Pour.ensures.told c.read_body-in-Pour.ensures.steady refl
-
-pub same-body : goal.same-body
-same-body g c = refl
