@@ -17,6 +17,7 @@ use Rattle.oci_manifests.specs.declared.index.OciImageIndex.{OciImageIndex}
 use Rattle.oci_protocol.specs.Proto.{Done, bind, unless_refused, ◌>>=◌}
 use Rattle.oci_protocol.specs.Runs.{Runs, Performs, Breaks, Outcome, Meets, Told}
 use Rattle.oci_protocol.specs.Shows.{Shows, ByAnswer}
+use Rattle.oci_protocol.specs.Ends.{Ends}
 use Rattle.oci_protocol.proofs.Ending.{Runs-ends-safe}
 use Rattle.oci_protocol.proofs.Parts.{Parts, Runs-parts}
 use Rattle.engine_requests.specs.Contexts.{Context}
@@ -42,6 +43,7 @@ use Rattle.engine_laws.proofs.CallCauses.{tight}
 use Rattle.engine_laws.proofs.DocumentAnswers.{accepted_is}
 use Rattle.engine_laws.proofs.DocumentCauses.{asked_later, into_err, not_accepted, status_is, status_other}
 use Rattle.engine_laws.proofs.EarlyCauses.{Loose}
+use Rattle.engine_laws.proofs.ExactRefusals.{Only, after_refusal}
 use Rattle.engine_laws.proofs.FaultCounts.{fault_rose}
 use Rattle.engine_laws.proofs.KeptTokens.{Keeps, keeps_first}
 use Rattle.engine_laws.proofs.ManifestCauses.{ReadLast, ManifestCause}
@@ -278,3 +280,8 @@ failed x s c n (inr h) = subst (λ z. LastFailed z n) (sym h.split) (record { la
 
 pub referrers_fault : (s : Context) (image : Reference) (kind : Option (List ℕ)) {old new : Link} {k l : Memory} {r : Result OciImageIndex OciDistributionError} → Meets is_memory (pull_referrers s image kind) old new k l r → r ≡ Err refusal.TransportFault → Rose old.faults new.faults
 referrers_fault s image kind {r = r} met is = fault_rose (λ m c n index. Unit {0}) (RowCause s image) (pull_referrers s image kind) refusal.TransportFault refl (λ m n c h. failed (pulling h.0 s image None) s.settings c n h.1) (referrers_causes s image kind) (rw is at met)
+
+-- a reference without a digest is refused as that
+pub no_digest : (s : Context) (image : Reference) (kind : Option (List ℕ)) → digest_of image ≡ None → Ends (Only (refusal.GenericError NoDigest)) (pull_referrers s image kind)
+unfolding pull_referrers Ends bind
+no_digest s image kind none = after_refusal (refusal.GenericError NoDigest) (λ digest. referrers_asked s image digest kind >>= referrers_by s image digest kind) (digest_given (digest_of image)) (ap digest_given none)
