@@ -5,4 +5,7 @@ pub mod Constraint
 pub mod Members
 pub mod Platform
 pub mod Policy
+pub mod Registry
+pub mod Replay
+pub mod Shelf
 pub mod Trust
