@@ -11,7 +11,7 @@ use Rattle.engine_requests.specs.declared.settings.ClientProtocol.TheVariants.{H
 use Rattle.oci_names.specs.References.{reference_of}
 use Rattle.pull_case.specs.declared.case.Case.{Case}
 use Rattle.pull_case.specs.Members.{passing, unless_absent, number_of}
-use Rattle.pull_case.specs.Case.{case_of, reference_text_of, protocol_of, moments_of, members}
+use Rattle.pull_case.specs.Case.{case_of, reference_text_of, protocol_of, moments_of, members, IsReady}
 use Rattle.pull_case.specs.Answer.{answer_of}
 use Rattle.pull_case.specs.Registry.{registry_of, one_of, Leads}
 use Rattle.pull_case.specs.Shelf.{maps_of, shelf_of}
@@ -111,26 +111,20 @@ follows : {A : Type 0} (P Q : A → Type 0) (o : Option A) → IfSome o P → ((
 follows P Q None h f = tt
 follows P Q (Some a) h f = f a h
 
-pub case_parses : (d : Data) → IfSome (case_of d) (λ case. IsOk (reference_of case.reference))
-case_parses d =
-    follows _ _ (case_of d) (members_of d) (λ case h. reads_as_reference (get (codes "reference") d) case.reference h.0)
+pub case_ready : (d : Data) → IfSome (case_of d) IsReady
+case_ready d =
+    follows _ _ (case_of d) (members_of d) (λ case h.
+    (reads_as_reference (get (codes "reference") d) case.reference h.0, registry_leads d case.registry h.2))
 
 pub case_timed : (d : Data) → IfSome (case_of d) (λ case. 0 < length case.moments)
 case_timed d =
     follows _ _ (case_of d) (members_of d) (λ case h. has_moments (get (codes "moments") d) case.moments h.1)
 
-pub case_leads : (d : Data) → IfSome (case_of d) (λ case. Leads case.registry)
-case_leads d = follows _ _ (case_of d) (members_of d) (λ case h. registry_leads d case.registry h.2)
-
 -- the same of the case that JSON says
-pub json_parses : (o : Option Data) → IfSome (o >>= case_of) (λ case. IsOk (reference_of case.reference))
-json_parses None = tt
-json_parses (Some d) = case_parses d
+pub json_ready : (o : Option Data) → IfSome (o >>= case_of) IsReady
+json_ready None = tt
+json_ready (Some d) = case_ready d
 
 pub json_timed : (o : Option Data) → IfSome (o >>= case_of) (λ case. 0 < length case.moments)
 json_timed None = tt
 json_timed (Some d) = case_timed d
-
-pub json_leads : (o : Option Data) → IfSome (o >>= case_of) (λ case. Leads case.registry)
-json_leads None = tt
-json_leads (Some d) = case_leads d

@@ -1,5 +1,5 @@
 -- Recorded cases: what to pull, under which policy, and what the registry answers.
-use Rattle.std.specs.Prelude.{ℕ, nat_lt, List, [], ◌∷◌, Option, Some, None, is_ok, length, if◌then◌else◌, codes}
+use Rattle.std.specs.Prelude.{ℕ, nat_lt, List, [], ◌∷◌, Option, Some, None, is_ok, IsOk, length, if◌then◌else◌, codes}
 use Rattle.std.specs.FinMap.{empty}
 use Rattle.std.specs.Str.{bytes_eq}
 use Rattle.serde_json.specs.Data.{Data}
@@ -14,7 +14,7 @@ use Rattle.pull_case.specs.Auth.{auth_of}
 use Rattle.pull_case.specs.Constraint.{constraint_of}
 use Rattle.pull_case.specs.Members.{unless_absent, number_of, passing}
 use Rattle.pull_case.specs.Platform.{platform_of}
-use Rattle.pull_case.specs.Registry.{registry_of}
+use Rattle.pull_case.specs.Registry.{registry_of, Leads}
 use Rattle.pull_case.specs.Trust.{signature_of, judge_of, judge_by, log_keys_of}
 use Rattle.pull_case.specs.declared.case.Case.{Case}
 
@@ -92,3 +92,7 @@ case_of d = do
 -- the case that a JSON text without floats says
 abbrev pub case_in : List ℕ → Option Case
 case_in bytes = plain_json_of bytes >>= case_of
+
+-- its reference reads as one, and the redirects of its shelf lead to an end
+abbrev pub IsReady : Case → Type 0
+IsReady case = IsOk (reference_of case.reference) × Leads case.registry

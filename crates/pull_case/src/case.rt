@@ -1,7 +1,5 @@
-ghost use Rattle.std.specs.Prelude.{◌≡◌, ◌<◌, IfOk, IfSome, IsOk, length};
-ghost use Rattle.oci_names.specs.References.{reference_of};
-ghost use Rattle.pull_case.specs.Case.{case_in};
-ghost use Rattle.pull_case.specs.Registry.{Leads};
+ghost use Rattle.std.specs.Prelude.{◌≡◌, ◌<◌, IfOk, IfSome, length};
+ghost use Rattle.pull_case.specs.Case.{case_in, IsReady};
 
 use crate::constraint::WrittenConstraint;
 use crate::entries::{Entries, OrUsual};
@@ -140,9 +138,8 @@ impl Reads for Case {
 /// stands in it, or where it is no object of the members that `Case` names.
 pub fn read_case(alloc: Global, bytes: &[u8]) -> Result<Option<Case>, AllocError>
     ensures exact { IfOk result (λ found. found ≡ case_in bytes.now) }
-    ensures parses { IfOk result (λ found. IfSome found (λ case. IsOk (reference_of case.reference))) }
+    ensures ready { IfOk result (λ found. IfSome found IsReady) }
     ensures timed { IfOk result (λ found. IfSome found (λ case. 0 < length case.moments)) }
-    ensures leads { IfOk result (λ found. IfSome found (λ case. Leads case.registry)) }
 {
     let case = read_plain(alloc, bytes)?;
     Ok(case)
