@@ -1,19 +1,14 @@
 -- What a replay of a case's registry shows.
-use Rattle.std.specs.Prelude.{◌≡◌, ℕ, false, IsTrue, List, Some}
+use Rattle.std.specs.Prelude.{◌≡◌, IsTrue, List, Some}
 use Rattle.oci_transport.specs.Calm.{calm}
 use Rattle.oci_transport.specs.Link.{Link, Answering}
 use Rattle.oci_transport.specs.Playback as recorded
 use Rattle.oci_transport.specs.Script as script
 use Rattle.oci_transport.specs.declared.message.Exchange.{Exchange}
 use Rattle.oci_link.specs.State as shelf
-use Rattle.oci_link.specs.declared.shelf_transport.ShelfTransport.{ShelfTransport}
 use Rattle.pull_case.specs.declared.replay.Replay.{Replay}
 use Rattle.pull_case.specs.declared.replay.Replay.TheVariants.{Script, Shelf}
 use Rattle.pull_case.specs.declared.quiet_shelf.QuietShelf.{QuietShelf}
-
--- no exchange failed so far
-abbrev pub IsQuiet : ShelfTransport → Type 0
-IsQuiet t = (told : List Exchange) → (shelf.state_of t).told ≡ Some told → IsTrue (calm (λ place. false) 0 told 0)
 
 abbrev pub quiet_state_of : QuietShelf → Link
 quiet_state_of t = shelf.state_of t.transport

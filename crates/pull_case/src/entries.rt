@@ -66,10 +66,13 @@ pub struct EntryMap<T> {
 }
 
 impl<T> Model for EntryMap<T> {
-    ghost use Rattle.std.specs.FinMap.{FinMap};
+    ghost use Rattle.std.specs.FinMap.{FinMap, code};
+    ghost use Rattle.std.specs.Coded.{coded_ℕ, coded_list};
     ghost use Rattle.json_values.specs.Places.{by_bytes};
 
     ghost Value = { FinMap by_bytes T };
+
+    ghost coded = { code (coded_list coded_ℕ) T.code };
 
     ghost view = { λ entries. entries.map };
 }

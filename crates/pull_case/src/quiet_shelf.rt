@@ -1,9 +1,9 @@
 // A shelf's transport that had no fault so far.
-ghost use Rattle.std.specs.Prelude.{◌≡◌, [], IsTrue, Some};
+ghost use Rattle.std.specs.Prelude.{◌≡◌, [], IsTrue, Some, false};
 ghost use Rattle.oci_transport.specs.Calm.{calm};
 ghost use Rattle.oci_link.specs.Leads.{redirects_lead};
-ghost use Rattle.oci_link.specs.State.{answering, shelf_of};
-ghost use Rattle.pull_case.specs.Replay.{IsQuiet, quiet_state_of};
+ghost use Rattle.oci_link.specs.State.{answering, shelf_of, state_of};
+ghost use Rattle.pull_case.specs.Quiet.{IsQuiet};
 
 use json_values::Blob;
 use oci_link::{Shelf, ShelfTransport};
@@ -21,9 +21,9 @@ impl QuietShelf {
     /// Answers from this shelf, whose redirects have to lead.
     pub fn new(alloc: Global, shelf: Shelf) -> QuietShelf
         requires { IsTrue (redirects_lead shelf) }
-        ensures told { (quiet_state_of result).told ≡ Some [] }
-        ensures faults { (quiet_state_of result).faults ≡ 0 }
-        ensures table { (quiet_state_of result).answers ≡ Some (answering shelf) }
+        ensures told { (state_of result.transport).told ≡ Some [] }
+        ensures faults { (state_of result.transport).faults ≡ 0 }
+        ensures table { (state_of result.transport).answers ≡ Some (answering shelf) }
         ensures shelf { shelf_of result.transport ≡ shelf }
     {
         QuietShelf {
@@ -33,7 +33,7 @@ impl QuietShelf {
 
     /// All exchanges so far.
     pub fn conversation(&self) -> &Conversation
-        ensures told { Some result.now ≡ (quiet_state_of self.now).told }
+        ensures told { Some result.now ≡ (state_of self.now.transport).told }
         ensures calm { IsTrue (calm (λ place. false) 0 result.now 0) }
     {
         self.transport.conversation()
@@ -41,11 +41,7 @@ impl QuietShelf {
 }
 
 impl Transport for QuietShelf {
-    ghost use Rattle.std.specs.Prelude.{false, IfOk, IsErrOf};
-    ghost use Rattle.oci_transport.specs.Link.{Answers, Steady, Takes, AddsAtMost};
-    ghost use Rattle.pull_case.specs.Replay.{quiet_state_of};
-
-    ghost state = { quiet_state_of };
+    ghost state = { λ t. state_of t.transport };
 
     fn send(&mut self, alloc: Global, request: &Request) -> Result<AnswerHead, LinkError> {
         self.transport.send(alloc, request)

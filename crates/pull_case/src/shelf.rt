@@ -78,14 +78,10 @@ fn read_maps(alloc: Global, value: &Value) -> Result<Shelf, ReadError>
     ensures { Gives result (maps_of (view value.now)) }
 {
     only(value, NAMES)?;
-    let row![
-        repository,
-        tags,
-        documents,
-        blobs,
-        referrers,
-        redirects
-    ]: Members = read_row::<Shelf, _>(alloc, value, NAMES)?;
+    let row![repository, tags, documents, blobs, referrers, redirects]: Members = read_row::<
+        Shelf,
+        _,
+    >(alloc, value, NAMES)?;
     Ok(Shelf {
         repository,
         tags,

@@ -53,14 +53,18 @@ image_of chain manifest signature = record {
   signature = signature;
 }
 
--- what the signature layer is read from; its digest is the SHA-256 text of its bytes
-abbrev pub input_of : WrittenSignature → Input
-input_of signature = record {
+-- what the signature layer is read from, where it came by this digest
+abbrev pub input_by : List ℕ → WrittenSignature → Input
+input_by digest signature = record {
   kind = signature.kind;
   content = signature.content;
-  oci_digest = digest_text Sha256 signature.content;
+  oci_digest = digest;
   annotations = signature.annotations;
 }
+
+-- it came by the SHA-256 text of its bytes
+abbrev pub input_of : WrittenSignature → Input
+input_of signature = input_by (digest_text Sha256 signature.content) signature
 
 -- a manifest that has a descriptor for each of so many layers
 abbrev pub of_layers : ℕ → OciImageManifest → Option OciImageManifest

@@ -1,5 +1,6 @@
 // The image that a written chain says.
-ghost use Rattle.std.specs.Prelude.{◌≡◌, IfOk};
+ghost use Rattle.std.specs.Prelude.{◌≡◌, IfOk, IfErr};
+ghost use Rattle.cosign_layers.specs.Read.{Gives, HasOneOutcome, RejectedUnlessMemory};
 ghost use Rattle.cosign_layers.specs.Trust.{trust};
 ghost use Rattle.pull_chain.specs.Built as words;
 ghost use Rattle.pull_chain.specs.Parts.{image_with, parts_of};
@@ -103,11 +104,7 @@ fn parts_of(
         ],
     )?;
     let config = config_of(alloc, manifest, content)?;
-    let layers = layers_of(
-        alloc,
-        manifest.layers.as_slice(),
-        chain.layers.as_slice(),
-    )?;
+    let layers = layers_of(alloc, manifest.layers.as_slice(), chain.layers.as_slice())?;
     Ok(Parts {
         digest,
         first,
@@ -119,11 +116,7 @@ fn parts_of(
     })
 }
 
-fn image_with(
-    parts: Parts,
-    manifest: OciImageManifest,
-    signature: SignatureLayer,
-) -> VerifiedImage
+fn image_with(parts: Parts, manifest: OciImageManifest, signature: SignatureLayer) -> VerifiedImage
     ensures { result ≡ image_with parts manifest signature }
 {
     VerifiedImage {
@@ -139,7 +132,39 @@ fn image_with(
     }
 }
 
-// What the bytes and annotations of the signature layer say of this digest. None where a check of them fails.
+// What the bytes and annotations of the signature layer say of this digest.
+fn read_written<V: SignatureVerifier, O: Offline>(
+    alloc: Global,
+    log_keys: &LogKeys,
+    verifier: &V,
+    judge: &O,
+    digest: &str,
+    named: &str,
+    written: &WrittenSignature,
+) -> Result<SignatureLayer, LayerRejection>
+    ensures gives { IfOk result (Gives
+        (trust (V.valid verifier.now) (O.vouched judge.now) log_keys.now) digest.now (words.input_by named.now written.now)) }
+    ensures rejects { IfErr result (RejectedUnlessMemory
+        (trust (V.valid verifier.now) (O.vouched judge.now) log_keys.now) digest.now (words.input_by named.now written.now)) }
+    ensures law { HasOneOutcome
+        (trust (V.valid verifier.now) (O.vouched judge.now) log_keys.now) digest.now (words.input_by named.now written.now) }
+{
+    let (content, notes) = (&written.content, &written.annotations);
+    match written.kind {
+        LayerKind::Payload => {
+            read_payload_layer(
+                alloc, content, named, notes, digest, log_keys, verifier, judge,
+            )
+        }
+        LayerKind::Bundle => {
+            read_bundle_layer(
+                alloc, content, named, notes, digest, log_keys, verifier, judge,
+            )
+        }
+    }
+}
+
+// The same by the SHA-256 text of the bytes. None where a check of them fails.
 fn signature_of<V: SignatureVerifier, O: Offline>(
     alloc: Global,
     log_keys: &LogKeys,
@@ -152,16 +177,15 @@ fn signature_of<V: SignatureVerifier, O: Offline>(
         digest.now (words.input_of written.now)) }
 {
     let named = sha256_digest(alloc, written.content.as_slice())?;
-    let (content, named, notes) = (&written.content, named.as_str(), &written.annotations);
-    let read = match written.kind {
-        LayerKind::Payload => {
-            read_payload_layer(alloc, content, named, notes, digest, log_keys, verifier, judge)
-        }
-        LayerKind::Bundle => {
-            read_bundle_layer(alloc, content, named, notes, digest, log_keys, verifier, judge)
-        }
-    };
-    match read {
+    match read_written(
+        alloc,
+        log_keys,
+        verifier,
+        judge,
+        digest,
+        named.as_str(),
+        written,
+    ) {
         Ok(signature) => Ok(Some(signature)),
         Err(rejection) => {
             if rejection.is_memory() {
