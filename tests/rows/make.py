@@ -158,6 +158,20 @@ def base_case():
     return case(answers, [signature]), ["moment 100"] + asked + image_lines(signature)
 
 
+def shelf_of(tags, documents, blobs, **others):
+    """A registry in memory with these tags, documents and blobs, each by its digest."""
+    held = {digest(d): {"media_type": json.loads(d).get("mediaType", MANIFEST), "content": d} for d in documents}
+    found = {"repository": "app", "tags": tags, "documents": held, "blobs": {digest(b): b for b in blobs}, "referrers": {}}
+    found.update(others)
+    return found
+
+
+def base_shelf(**others):
+    signature = payload()
+    signatures = manifest("{}", [signed(signature)])
+    return shelf_of({"v1": digest(IMAGE), TAG: digest(signatures)}, [IMAGE, signatures], ["{}", CONTENT, signature], **others)
+
+
 # ---- whole pulls
 
 
@@ -188,6 +202,152 @@ def pulls():
     tag = compact(f"{REGISTRY}/app@{digest(IMAGE)}")
     lines = ["moment 100"] + asked + [f"GET {other}"] * 10 + [f"refused RegistryPullError {tag} ServerError 307 {compact(other)} 0"]
     write("pulls/eleven_redirects", case(answers[:-1] + again, [signature]), lines, 1)
+
+
+def shelves():
+    """Pulls of a registry in memory."""
+    answers, asked, signature = base_run()
+    shelf = base_shelf()
+    whole = ["moment 100"] + asked + image_lines(signature)
+    write("shelves/base_case", case(None, [signature], shelf=shelf), whole)
+    second = ["moment 200"] + asked + image_lines(signature)
+    write("shelves/two_moments", case(None, [signature], shelf=shelf, moments=[100, 200]), whole + second)
+    blob, other = f"{BASE}app/blobs/{digest(CONTENT)}", f"http://cdn.example/v2/app/blobs/{digest(CONTENT)}"
+    moved = dict(shelf, redirects={blob: other})
+    write("shelves/a_redirect_to_another_host", case(None, [signature], shelf=moved), ["moment 100"] + asked + [f"GET {other}"] + image_lines(signature))
+    lines = ["moment 100"] + requests(("HEAD", "manifests/v1"), "manifests/v1")
+    url = f"{BASE}app/manifests/v1"
+    lines += [f'refused RegistryFetchManifestError "{REGISTRY}/app:v1" ServerError 404 "{url}" 0']
+    write("shelves/another_repository", case(None, [signature], shelf=dict(shelf, repository="other")), lines, 1)
+    # A tag whose digest is no digest of the document: a registry may say anything.
+    lies = dict(shelf, documents=dict(shelf["documents"], **{digest(IMAGE): {"media_type": MANIFEST, "content": IMAGE + " "}}))
+    tag = compact(f"{REGISTRY}/app@{digest(IMAGE)}")
+    error = f"DigestError VerificationError {compact(digest(IMAGE))} {compact(digest(IMAGE + ' '))}"
+    lines = ["moment 100"] + asked[: asked.index(f"GET {BASE}app/manifests/{digest(IMAGE)}") + 1] + [f"refused RegistryPullError {tag} {error}"]
+    write("shelves/a_document_of_another_digest", case(None, [signature], shelf=lies), lines, 1)
+    no_case = [
+        ("answers_and_a_shelf", {"answers": [], "shelf": shelf}),
+        ("neither_answers_nor_a_shelf", {}),
+        ("a_shelf_of_null", {"shelf": {}}),
+        ("a_shelf_without_referrers", {"shelf": {n: v for n, v in shelf.items() if n != "referrers"}}),
+        ("a_shelf_with_another_member", {"shelf": dict(shelf, at=1)}),
+        ("a_document_with_another_member", {"shelf": dict(shelf, documents={"d": {"media_type": "m", "content": "c", "at": 1}})}),
+        ("a_document_without_content", {"shelf": dict(shelf, documents={"d": {"media_type": "m"}})}),
+        ("a_tag_that_is_no_text", {"shelf": dict(shelf, tags={"v1": 1})}),
+        ("redirects_of_null", {"shelf": dict(shelf, redirects=None)}),
+        ("a_redirect_to_itself", {"shelf": dict(shelf, redirects={blob: blob})}),
+        ("a_redirect_to_another_path", {"shelf": dict(shelf, redirects={blob: "http://cdn.example/x"})}),
+        ("a_redirect_to_no_url", {"shelf": dict(shelf, redirects={blob: "x" + blob[4:]})}),
+        ("a_redirect_to_another_text_of_its_url", {"shelf": dict(shelf, redirects={blob: other.replace("http", "HTTP")})}),
+    ]
+    for title, members in no_case:
+        stdin = case(members.pop("answers", None), [signature], **members)
+        write(f"shelves/{title}", stdin.replace('"shelf":{}', '"shelf":null'), [], 3)
+    # Ten redirects lead, and eleven do not.
+    hosts = [blob] + [f"http://h{i}.example/v2/app/blobs/{digest(CONTENT)}" for i in range(1, 12)]
+    ten = dict(shelf, redirects=dict(zip(hosts[:10], hosts[1:11])))
+    write("shelves/ten_redirects", case(None, [signature], shelf=ten), ["moment 100"] + asked + [f"GET {h}" for h in hosts[1:11]] + image_lines(signature))
+    eleven = dict(shelf, redirects=dict(zip(hosts[:11], hosts[1:12])))
+    write("shelves/eleven_redirects", case(None, [signature], shelf=eleven), [], 3)
+
+
+# ---- chains that are held to a case
+
+
+def chain_of(first, layers, signature, notes, image=None):
+    """A chain from this document to an image with these layers."""
+    found = {"digest": digest(first), "first": first, "config": "{}", "layers": layers}
+    if image is not None:
+        found["entry"] = {"digest": digest(image), "content": image}
+    found["signature"] = {"kind": "payload", "content": signature, "annotations": notes}
+    return found
+
+
+def chains():
+    signature = payload()
+    notes = {SIGNATURE: base64_of("sig1")}
+    policy = json.loads(case([], [signature]))
+    chain = chain_of(IMAGE, [CONTENT], signature, notes)
+
+    def one(title, status, chain, case=policy):
+        lines = {0: ["chain holds"], 1: ["chain fails"], 3: []}[status]
+        write(f"chains/{title}", compact({"case": case, "chain": chain}), lines, status, args=["check"])
+
+    one("an_image", 0, chain)
+    one("an_image_by_its_digest", 0, chain, dict(policy, reference=f"{REGISTRY}/app@{digest(IMAGE, 'sha512')}"))
+    one("another_image_by_its_digest", 1, chain, dict(policy, reference=f"{REGISTRY}/app@{digest('x')}"))
+    # Each part of the chain, broken once.
+    other = payload(image="other")
+    for title, changes in [
+        ("another_digest", {"digest": digest("x")}),
+        ("a_digest_by_sha512", {"digest": digest(IMAGE, "sha512")}),
+        ("another_first_document", {"first": IMAGE + " "}),
+        ("a_first_document_that_is_no_json", {"first": "x", "digest": digest("x")}),
+        ("another_configuration", {"config": "x"}),
+        ("another_layer", {"layers": ["x"]}),
+        ("no_layers", {"layers": []}),
+        ("a_layer_too_many", {"layers": [CONTENT, CONTENT]}),
+        ("a_signature_of_another_image", {"signature": {"kind": "payload", "content": other, "annotations": notes}}),
+        ("a_signature_of_other_bytes", {"signature": {"kind": "payload", "content": signature, "annotations": {SIGNATURE: base64_of("sig2")}}}),
+        ("a_payload_without_signature", {"signature": {"kind": "payload", "content": signature, "annotations": {}}}),
+        ("a_payload_as_a_bundle", {"signature": {"kind": "bundle", "content": signature, "annotations": notes}}),
+        ("an_entry_beside_a_manifest", {"entry": {"digest": digest(IMAGE), "content": IMAGE}}),
+    ]:
+        one(title, 1, dict(chain, **changes))
+    # And the policy and the tables that it is held to.
+    for title, changes in [
+        ("no_key", {"keys": []}),
+        ("another_key", {"keys": ["k2"]}),
+        ("no_constraint", {"constraints": []}),
+        ("a_constraint_that_is_not_satisfied", {"constraints": [{"annotations": {"a": "1"}}]}),
+        ("a_signature_that_is_not_valid", {"signatures": []}),
+        ("a_layer_of_a_type_that_is_not_accepted", {"accepted": ["application/octet-stream"]}),
+    ]:
+        one(title, 1, chain, dict(policy, **changes))
+    two = manifest("{}", [descriptor(LAYER, CONTENT), descriptor(LAYER, "second", {"a": "1"})])
+    by_two = payload(image=two)
+    signs = dict(policy, signatures=[{"key": "k1", "message": digest(by_two), "signature": "sig1"}])
+    one("two_layers", 0, chain_of(two, [CONTENT, "second"], by_two, notes), signs)
+    one("two_layers_in_another_order", 1, chain_of(two, ["second", CONTENT], by_two, notes), signs)
+    one("a_layer_too_few", 1, chain_of(two, [CONTENT], by_two, notes), signs)
+    old = compact(dict(json.loads(IMAGE), schemaVersion=1))
+    by_old = payload(image=old)
+    one("a_manifest_of_another_version", 1, chain_of(old, [CONTENT], by_old, notes), dict(policy, signatures=[{"key": "k1", "message": digest(by_old), "signature": "sig1"}]))
+    # An index, of which the platform picks the manifest.
+    index = index_of(entry("arm64", "x"), entry("amd64", IMAGE))
+    by_index = payload(image=index)
+    signs = dict(policy, signatures=[{"key": "k1", "message": digest(by_index), "signature": "sig1"}], platform="linux/amd64")
+    indexed = chain_of(index, [CONTENT], by_index, notes, IMAGE)
+    one("an_image_of_an_index", 0, indexed, signs)
+    one("an_image_of_an_index_by_its_digest", 0, indexed, dict(signs, platform={"digest": digest(IMAGE)}))
+    one("an_image_of_an_index_without_platform", 1, indexed, dict(signs, platform=None))
+    one("an_image_of_an_index_for_another_platform", 1, indexed, dict(signs, platform="linux/arm64"))
+    one("an_index_without_entry", 1, chain_of(index, [CONTENT], by_index, notes), signs)
+    one("an_entry_of_other_bytes", 1, dict(indexed, entry={"digest": digest(IMAGE), "content": IMAGE + " "}), signs)
+    one("an_entry_of_another_digest", 1, dict(indexed, entry={"digest": digest("x"), "content": IMAGE}), signs)
+    # A certificate with its log entry.
+    note, _, canonical = log_entry(log_body(signature))
+    keyless = dict(policy, keys=[], constraints=[{"email": "a@b.example", "issuer": None}], log_keys={"ab": "lk"}, vouched=[{"certificate": "CERT", "key": "ck", "email": "a@b.example"}])
+    keyless["signatures"] = [{"key": "ck", "message": digest(signature), "signature": "sig1"}, log_signs(canonical)]
+    certified = chain_of(IMAGE, [CONTENT], signature, dict(notes, **{ENTRY: note, CERTIFICATE: "CERT"}))
+    one("a_certificate", 0, certified, keyless)
+    one("a_certificate_that_nobody_vouches_for", 1, certified, dict(keyless, vouched=[]))
+    one("a_certificate_where_no_log_is_known", 1, certified, dict(keyless, log_keys={}))
+    # Input that is no case and chain.
+    for title, changes in [
+        ("a_chain_with_another_member", {"at": 1}),
+        ("an_entry_of_null", {"entry": None}),
+        ("an_entry_without_digest", {"entry": {"content": IMAGE}}),
+        ("a_kind_that_is_not_known", {"signature": dict(chain["signature"], kind="other")}),
+        ("a_signature_without_annotations", {"signature": {"kind": "payload", "content": signature}}),
+        ("layers_that_are_no_list", {"layers": CONTENT}),
+        ("a_digest_that_is_no_text", {"digest": 1}),
+    ]:
+        one(title, 3, dict(chain, **changes))
+    one("a_chain_without_configuration", 3, {n: v for n, v in chain.items() if n != "config"})
+    one("a_case_without_moment", 3, chain, dict(policy, moments=[]))
+    write("chains/a_case_alone", compact(policy), [], 3, args=["check"])
+    write("chains/no_json", "x", [], 3, args=["check"])
 
 
 def policies():
@@ -649,6 +809,8 @@ def canonical_texts():
 
 TABLES = {
     "pulls": pulls,
+    "shelves": shelves,
+    "chains": chains,
     "policies": policies,
     "layers": layers,
     "indexes": indexes,

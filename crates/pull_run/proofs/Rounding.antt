@@ -7,10 +7,11 @@ use Rattle.std.proofs.Math.Nat.{le-add_right}
 use Rattle.std.proofs.Math.Seq.{drop-append_seam, take-suc}
 use Rattle.oci_transport.specs.Link.{Link, Extends, Answering}
 use Rattle.oci_transport.specs.Calm.{calm}
-use Rattle.oci_transport.specs.Playback.{answering}
-use Rattle.oci_transport.specs.Script.{state_of, answers_of}
-use Rattle.oci_transport.specs.declared.recorded.Recorded.{Recorded}
-use Rattle.oci_transport.specs.declared.script.Script.{Script}
+use Rattle.pull_case.specs.Registry.{answering_by}
+use Rattle.pull_case.specs.Replay.{state_of, answering_of, IsCalm}
+use Rattle.pull_case.specs.declared.registry.Registry.{Registry}
+use Rattle.pull_case.specs.declared.replay.Replay.{Replay}
+use Rattle.pull_case.specs.declared.replay.Replay.TheVariants.{Script, Shelf}
 use Rattle.oci_transport.specs.declared.message.Exchange.{Exchange}
 use Rattle.oci_protocol.specs.Runs.{Runs, Performs, Breaks, Meets}
 use Rattle.oci_protocol.proofs.Extending.{Extends-more}
@@ -27,7 +28,7 @@ use Rattle.json_values.specs.Places.{by_bytes}
 use Rattle.std.specs.FinMap.{FinMap}
 use Rattle.cosign_layers.specs.Standing.{Owns}
 use Rattle.pull_run.specs.declared.pulls.Terms.{Terms}
-use Rattle.pull_run.specs.Rounds.{row_for, is_wanting, Rounds, Round, IsCalm, Played}
+use Rattle.pull_run.specs.Rounds.{row_for, is_wanting, Rounds, Round, Played}
 
 turn_more : (row : ℕ → Whole VerifiedImage) (k l j : Kept) (m n o : ℕ) (talks : List Talk) (talk : Talk) → InTurn row k m talks l n → Runs (row talk.moment) l n talk.conversation o j talk.result → InTurn row k m (talks ++ talk ∷ []) j o
 turn_more row k l j m n o [] talk h run = (j, o, rw (h.0, h.1) run, (refl, refl))
@@ -89,7 +90,7 @@ whole {p} {old} {new} {k} {l} (Err e) is met = rw is at met.outcome
 behind : (before added after : List Exchange) → after ≡ before ++ added → drop (length before) after ≡ added
 behind before added after is = rw is (drop-append_seam before added)
 
--- a pull whose conversation was cut off from the whole of a script
+-- a pull whose conversation was cut off from the whole of a replay
 pub told_round : {row : ℕ → Whole VerifiedImage} {moment : ℕ} {mid new : Link} {k l : Kept} {before after : Report} (r : Result VerifiedImage PullRefusal) (old_told new_told : List Exchange)
     → Some old_told ≡ mid.told → Some new_told ≡ new.told → is_wanting r ≡ false → Meets is_memory (row moment) mid new k l r
     → after.bytes ≡ before.bytes ++ report moment (take (length new_told - length old_told) (drop (length old_told) new_told)) r → after.refused ≡ (before.refused || not (is_answered r)) → Round row moment mid new k l before after
@@ -109,19 +110,24 @@ pub row_as : {V : Type 0} {H : V → Type 0} (own : Owns V H) (terms : Terms V H
 row_as own terms {s} {t} {k} {l} e f =
     ap (λ (x : Settings). row_for own terms x k) e ∙ ap (λ (x : FinMap by_bytes (List ℕ)). row_for own terms t x) f
 
--- all pulls over the answers of a new script
-pub played : {row : ℕ → Whole VerifiedImage} {moments : List ℕ} {k l : Kept} {made : Report} (answers : List Recorded) (first last : Script)
-    → (state_of first).told ≡ Some [] → (state_of first).faults ≡ 0 → (state_of first).answers ≡ Some (answering answers)
-    → Rounds row moments (state_of first) (state_of last) k l made → IsCalm last → Played row answers moments k l made
-played {row} {moments} {k} {l} {made} answers first last told faults table rounds calm_is =
+-- a replay answers by its registry
+pub answers_by : (replay : Replay) → (state_of replay).answers ≡ Some (answering_of replay)
+answers_by (Script s) = refl
+answers_by (Shelf t) = refl
+
+-- all pulls over a new replay of a registry
+pub played : {row : ℕ → Whole VerifiedImage} {moments : List ℕ} {k l : Kept} {made : Report} (registry : Registry) (first last : Replay)
+    → (state_of first).told ≡ Some [] → (state_of first).faults ≡ 0 → (state_of first).answers ≡ Some (answering_by registry)
+    → Rounds row moments (state_of first) (state_of last) k l made → IsCalm last → Played row registry moments k l made
+played {row} {moments} {k} {l} {made} registry first last told faults table rounds calm_is =
     let all = rounds.told.told [] told in
-    let same : answering (answers_of last) ≡ answering answers = cc (rounds.told.stays.steady (answering answers) table) in
+    let same : answering_of last ≡ answering_by registry = cc (sym (answers_by last) ∙ rounds.told.stays.steady (answering_by registry) table) in
     record {
       talks = rounds.talks;
       moments_are = rounds.moments_are;
       faults = (state_of last).faults;
       in_turn = subst (λ (n : ℕ). InTurn row k n rounds.talks l (state_of last).faults) faults rounds.in_turn;
-      answered = rounds.told.table (answering answers) [] table told;
+      answered = rounds.told.table (answering_by registry) [] table told;
       calm_is = subst (λ (a : Answering). IsTrue (calm a.fails 0 (joined rounds.talks) (state_of last).faults)) same (calm_is (joined rounds.talks) all);
       written = rounds.written;
       refused = rounds.refused;
@@ -130,13 +136,13 @@ played {row} {moments} {k} {l} {made} answers first last told faults table round
 calm_none : (fails : ℕ → Bool) (n : ℕ) (c : List Exchange) → [] ≡ c → IsTrue (calm fails 0 c n)
 calm_none fails n c is = rw (← is) refl
 
--- nothing was asked of a new script
-pub new_is_calm : (script : Script) → (state_of script).told ≡ Some [] → IsCalm script
-new_is_calm script is = λ told told_is. calm_none (answering (answers_of script)).fails (state_of script).faults told (cc (sym is ∙ told_is))
+-- nothing was asked of a new replay
+pub new_is_calm : (replay : Replay) → (state_of replay).told ≡ Some [] → IsCalm replay
+new_is_calm replay is = λ told told_is. calm_none (answering_of replay).fails (state_of replay).faults told (cc (sym is ∙ told_is))
 
--- what the conversation of a script says of it
-pub told_is_calm : (script : Script) (all : List Exchange) → Some all ≡ (state_of script).told → IsTrue (calm (answering (answers_of script)).fails 0 all (state_of script).faults) → IsCalm script
-told_is_calm script all is holds = λ told told_is. subst (λ (c : List Exchange). IsTrue (calm (answering (answers_of script)).fails 0 c (state_of script).faults)) (cc (is ∙ told_is)) holds
+-- what the conversation of a replay says of it
+pub told_is_calm : (replay : Replay) (all : List Exchange) → Some all ≡ (state_of replay).told → IsTrue (calm (answering_of replay).fails 0 all (state_of replay).faults) → IsCalm replay
+told_is_calm replay all is holds = λ told told_is. subst (λ (c : List Exchange). IsTrue (calm (answering_of replay).fails 0 c (state_of replay).faults)) (cc (is ∙ told_is)) holds
 
 front_le : (a c b : List Exchange) → b ≡ a ++ c → length a ≤ length b
 front_le a c b is = rw (is, length-append) (le-add_right (length a) (length c))

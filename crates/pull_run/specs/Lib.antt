@@ -1,4 +1,5 @@
 pub mod Canon
+pub mod Check
 pub mod Input
 pub mod Output
 pub mod Program

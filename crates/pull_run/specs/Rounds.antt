@@ -1,13 +1,9 @@
--- The pulls so far, and what the client and the script came to.
+-- The pulls so far, and what the client and the replay came to.
 use Rattle.std.specs.Prelude.{◌≡◌, ℕ, Bool, not, IsTrue, List, ◌∷◌, [], ◌++◌, map, Some, Result, Ok, Err, false}
 use Rattle.std.specs.FinMap.{FinMap}
 use Rattle.oci_transport.specs.Link.{Link, Extends, AnsweredBy}
 use Rattle.oci_transport.specs.Calm.{calm}
-use Rattle.oci_transport.specs.Playback.{answering}
-use Rattle.oci_transport.specs.Script.{state_of, answers_of}
 use Rattle.oci_transport.specs.declared.message.Exchange.{Exchange}
-use Rattle.oci_transport.specs.declared.recorded.Recorded.{Recorded}
-use Rattle.oci_transport.specs.declared.script.Script.{Script}
 use Rattle.oci_names.specs.declared.reference.Reference.{Reference}
 use Rattle.oci_auth.specs.declared.auth.RegistryAuth.{RegistryAuth}
 use Rattle.engine_requests.specs.Contexts.{within}
@@ -24,6 +20,8 @@ use Rattle.cosign_client.specs.Refusal.{is_memory}
 use Rattle.cosign_client.specs.Verified.{Whole, verified}
 use Rattle.cosign_chain.specs.declared.image.VerifiedImage.{VerifiedImage}
 use Rattle.cosign_client.specs.declared.refusal.PullRefusal.{PullRefusal}
+use Rattle.pull_case.specs.Registry.{answering_by}
+use Rattle.pull_case.specs.declared.registry.Registry.{Registry}
 use Rattle.pull_run.specs.declared.pulls.Terms.{Terms}
 use Rattle.pull_run.specs.declared.report.Report.{Report}
 use Rattle.pull_run.specs.Pulls.{Talk, moment_of, joined, reports, all_answered, InTurn}
@@ -61,19 +59,14 @@ pub record Round (row : ℕ → Whole VerifiedImage) (moment : ℕ) (mid new : L
   pub more : (moments : List ℕ) (start : Link) (j : Kept)
       → Rounds row moments start mid j k before → Rounds row (moments ++ moment ∷ []) start new j l after
 
--- a script failed only where it is recorded
-abbrev pub IsCalm : Script → Type 0
-IsCalm script = (told : List Exchange) → (state_of script).told ≡ Some told
-    → IsTrue (calm (answering (answers_of script)).fails 0 told (state_of script).faults)
-
--- pulls at these moments over these recorded answers, with their report
-pub record Played (row : ℕ → Whole VerifiedImage) (answers : List Recorded) (moments : List ℕ) (k l : Kept)
+-- pulls at these moments over what this registry answers, with their report
+pub record Played (row : ℕ → Whole VerifiedImage) (registry : Registry) (moments : List ℕ) (k l : Kept)
     (made : Report) : Type 0 where
   pub talks : List Talk
   pub moments_are : map moment_of talks ≡ moments
   pub faults : ℕ
   pub in_turn : InTurn row k 0 talks l faults
-  pub answered : AnsweredBy (answering answers) 0 (joined talks)
-  pub calm_is : IsTrue (calm (answering answers).fails 0 (joined talks) faults)
+  pub answered : AnsweredBy (answering_by registry) 0 (joined talks)
+  pub calm_is : IsTrue (calm (answering_by registry).fails 0 (joined talks) faults)
   pub written : made.bytes ≡ reports talks
   pub refused : made.refused ≡ not (all_answered talks)

@@ -11,6 +11,7 @@ use crate::task::Task;
 use crate::word::{Word, word_of};
 use json_values::{Json, Sink, Text};
 use pull_case::Case;
+use pull_chain::ChainInput;
 use pull_edge::Source;
 use std::alloc::Global;
 
@@ -41,6 +42,7 @@ fn serve_word<S: Source, K: Sink>(
     match word {
         Some(Word::Pull) => serve::<Case, S, K>(alloc, source, sink),
         Some(Word::Canon) => serve::<Json, S, K>(alloc, source, sink),
+        Some(Word::Check) => serve::<ChainInput, S, K>(alloc, source, sink),
         None => Status::Usage,
     }
 }
