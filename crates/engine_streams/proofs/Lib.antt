@@ -1,0 +1,4 @@
+pub mod Decimals
+pub mod Judging
+pub mod Pieces
+pub mod Walking
