@@ -6,4 +6,5 @@ pub mod Documents
 pub mod Errors
 pub mod Index
 pub mod Requests
+pub mod Sources
 pub mod Tokens
