@@ -63,6 +63,13 @@ pull_manifest s image a = do
   document ← Done (document_read found.0)
   Done (Ok (document, found.1))
 
+-- the same, where credentials are stored already
+unfoldable pub manifest_asked : Context → Reference → Row (OciManifest × List ℕ)
+manifest_asked s image = do
+  found ← manifest_document s image manifest_types
+  document ← Done (document_read found.0)
+  Done (Ok (document, found.1))
+
 -- the bytes of a blob, which its digest names
 unfoldable pub blob_to : Destination → Context → Reference → List ℕ → Row (List ℕ)
 blob_to to s image digest = do

@@ -1,0 +1,1 @@
+use Rattle.engine_pull.proofs.referrers.referrers_by.Goals as goal
