@@ -86,9 +86,9 @@ unfolding opening_unless_error
 opened_here range digest head o is made = ap (λ (b : Bool). if b then Ok None else some_opening (opening range digest head)) is ∙ ap some_opening made
 
 pub not_opened : (range : Option ByteRange) (digest : List ℕ) (head : AnswerHead) (e : OciDistributionError) → is_error head.status ≡ false → Says {A = Opening} (Err e) (opening range digest head) → Says {A = Option Opening} (Err e) (opening_unless_error range digest head)
+unfolding opening_unless_error
 not_opened range digest head e is = by_memory (is_memory e) where
   made : opening range digest head ≡ Err e → opening_unless_error range digest head ≡ Err e
-  unfolding opening_unless_error
   made says = ap (λ (b : Bool). if b then Ok None else some_opening (opening range digest head)) is ∙ ap some_opening says
 
   by_memory : (b : Bool) → MatchBool b (Unit {0}) (opening range digest head ≡ Err e) → MatchBool b (Unit {0}) (opening_unless_error range digest head ≡ Err e)

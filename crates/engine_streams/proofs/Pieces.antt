@@ -1,23 +1,20 @@
--- What `next` answers, outcome by outcome.
-use Rattle.std.proofs.Common.{◌≡◌, ◌≤◌, ◌<◌, ◌+◌, ◌-◌, ◌⊎◌, inl, inr, ℕ, Bool, true, false, arith, List, [], ◌++◌, Option, Some, None, Result, Ok, Err, length, refl, sym, ap, ◌∙◌}
-use Rattle.std.specs.Prelude.{MatchBool}
+-- What a stream answers where the digests are compared.
+use Rattle.std.proofs.Common.{◌≡◌, ℕ, Bool, true, false, arith, List, [], ◌∷◌, Option, Some, None, Result, Ok, Err, length, refl, ap, ◌∙◌}
+use Rattle.std.specs.Prelude.{MatchBool, bytes_eq, if◌then◌else◌}
 use Rattle.std.specs.Result.{IsErrAnd}
 use Rattle.std.proofs.lemmas.Result.{err_from_is_err_and}
-use Rattle.std.proofs.lemmas.List.{length-append}
-use Rattle.json_values.specs.Counts.{Rose}
 use Rattle.oci_transport.specs.Link.{Link, Takes}
+use Rattle.oci_digests.specs.Names.{digest_text}
+use Rattle.oci_digests.specs.declared.error.DigestError.{DigestError as DigestRefusal}
+use Rattle.oci_digests.specs.declared.error.DigestError.TheVariants.{VerificationError}
+use Rattle.engine_requests.specs.Blobs.{both_compared, compared as one_compared}
 use Rattle.engine_requests.specs.declared.blobs.Expected.{Expected}
 use Rattle.engine_requests.specs.declared.error.OciDistributionError.{OciDistributionError}
 use Rattle.engine_requests.specs.declared.error.OciDistributionError.TheVariants as refusal
 use Rattle.engine_requests.specs.Errors.{is_memory, Says, ◌>>◌ as ◌and_then◌}
-use Rattle.engine_streams.specs.Streams.{compared, NextCause, NothingLeft}
+use Rattle.engine_streams.specs.Streams.{compared, digests_of, NextCause, NothingLeft, Next, HasFailed}
 use Rattle.engine_streams.specs.declared.head.Digests.{Digests}
-use Rattle.engine_requests.specs.Blobs.{both_compared, given_compared, compared as one_compared}
-use Rattle.engine_requests.specs.declared.error.OciDistributionError.TheVariants.{DigestError}
-use Rattle.oci_digests.specs.declared.error.DigestError.{DigestError as DigestCause}
-use Rattle.oci_digests.specs.declared.error.DigestError.TheVariants.{VerificationError}
-use Rattle.oci_digests.specs.Names.{digest_text}
-use Rattle.std.specs.Prelude.{bytes_eq, if◌then◌else◌}
+use Rattle.engine_streams.specs.declared.stream.SizedStream.{SizedStream}
 
 memory_is : (e : OciDistributionError) → is_memory e ≡ true → e ≡ refusal.WantOfMemory
 memory_is refusal.WantOfMemory h = refl
@@ -25,7 +22,7 @@ memory_is _ h = absurd (cc h)
 
 -- a digest that does not name the bytes is refused as that
 abbrev IsOfDigest : OciDistributionError → Type 0
-IsOfDigest e = (d : DigestCause) × (e ≡ refusal.DigestError d)
+IsOfDigest e = (d : DigestRefusal) × (e ≡ refusal.DigestError d)
 
 one_kind : (x : Expected) (bytes : List ℕ) (e : OciDistributionError) → one_compared x bytes ≡ Err e → IsOfDigest e
 one_kind x bytes e = by_test (bytes_eq x.text (digest_text x.algorithm bytes)) where
@@ -44,13 +41,7 @@ compared_kind : (digests : Option Digests) (bytes : List ℕ) (e : OciDistributi
 compared_kind None bytes e h = absurd (cc h)
 compared_kind (Some d) bytes e h = both_kind d.given d.own bytes e h
 
--- ---- refusals
-
-pub piece_refused : (limit : ℕ) (gave : List ℕ) (digests : Option Digests) (old new : Link) (e : OciDistributionError) → (e ≡ refusal.WantOfMemory) ⊎ ((e ≡ refusal.TransportFault) × Rose old.faults new.faults) → NextCause limit gave digests old new e
-piece_refused limit gave digests old new e (inl is) = rw is tt
-piece_refused limit gave digests old new e (inr x) = rw x.0 x.1
-
-pub compare_refused : (limit : ℕ) (gave : List ℕ) (digests : Option Digests) (old new : Link) (e : OciDistributionError) → NothingLeft old new → Says {A = Unit} (Err e) (compared digests gave) → NextCause limit gave digests old new e
+compare_refused : (limit : ℕ) (gave : List ℕ) (digests : Option Digests) (old new : Link) (e : OciDistributionError) → NothingLeft old new → Says {A = Unit} (Err e) (compared digests gave) → NextCause limit gave digests old new e
 compare_refused limit gave digests old new e ended says = by_memory (is_memory e) refl says where
   by_kind : IsOfDigest e → compared digests gave ≡ Err e → NextCause limit gave digests old new e
   by_kind k h = rw k.1 (ended, h ∙ ap Err k.1)
@@ -59,12 +50,13 @@ compare_refused limit gave digests old new e ended says = by_memory (is_memory e
   by_memory true is h = rw (memory_is e is) tt
   by_memory false is h = by_kind (compared_kind digests gave e h) h
 
--- more bytes came than may
-pub too_long : (limit left : ℕ) (gave piece : List ℕ) (old new : Link) → length gave + left ≡ limit → left < length piece → Takes piece old new → (rest : List ℕ) → old.rest ≡ Some rest → limit < length gave + length rest
-too_long limit left gave piece old new within more takes rest is =
-    let at = takes.front rest is in
-    let long : length rest ≡ length piece + length at.0 = ap length at.1 ∙ length-append piece at.0 in
-    omega (arith, within, more, long)
+empty : (xs : List ℕ) → length xs ≡ 0 → xs ≡ []
+empty [] h = refl
+empty (x ∷ xs) h = absurd (omega (arith, h))
 
-pub less_left : (limit left : ℕ) (gave piece : List ℕ) → length gave + left ≡ limit → length piece ≤ left → length (gave ++ piece) + (left - length piece) ≡ limit
-less_left limit left gave piece within fits = omega (arith, within, fits, length-append gave piece)
+-- the same at the exit of a `?`
+pub compare_on : (limit : ℕ) (gave : List ℕ) (after : SizedStream) (old new : Link) (piece : List ℕ) (before : Option Digests) (e : OciDistributionError) (r : Result (Option (List ℕ)) OciDistributionError)
+    → Takes piece old new → length piece ≡ 0 → digests_of after.check ≡ before → Says {A = Unit} (Err e) (compared before gave) → HasFailed after → IsErrAnd r (λ x. x ≡ e) → Next limit gave after old new r
+compare_on limit gave after old new piece before e r takes none same says failed at_exit =
+    let at = err_from_is_err_and r at_exit in
+    rw (at.1, at.2) (rw same (compare_refused limit gave before old new e (rw (empty piece none) at takes) says), failed)

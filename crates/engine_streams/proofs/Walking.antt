@@ -6,6 +6,7 @@ use Rattle.std.proofs.lemmas.Result.{err_from_is_err_and}
 use Rattle.oci_transport.specs.Link.{Link}
 use Rattle.oci_transport.specs.declared.message.Request.{Request}
 use Rattle.oci_transport.specs.declared.message.Exchange.{Exchange}
+use Rattle.oci_auth.specs.Memory.{fresh}
 use Rattle.oci_auth.specs.declared.memory.Memory.{Memory}
 use Rattle.oci_protocol.specs.Proto.{Done, ◌>>=◌}
 use Rattle.oci_protocol.specs.Runs.{Meets, Told}
@@ -52,9 +53,12 @@ left_more t l = record {
 pub met_told : {A : Type 0} {p : Row A} {old new : Link} {k l : Memory} {r : Result A OciDistributionError} → Meets is_memory p old new k l r → Told Anything old new
 met_told met = meets_told Anything (λ c. tt) met
 
+at_next : {A : Type 0} (xs : List A) (i : ℕ) (x : A) → i < length xs → x ≡ get_or xs i x → drop i xs ≡ x ∷ drop (i + 1) xs
+at_next {A} xs i x lt is = rw add-one (drop-cons xs i x lt ∙ ap (λ (y : A). y ∷ drop (suc i) xs) (sym is))
+
 -- the places of the URLs from here on
 places_here : (urls : List (List ℕ)) (i : ℕ) (url : List ℕ) (place : Option Place) → i < length urls → url ≡ get_or urls i url → place ≡ place_of url → places_of (drop i urls) ≡ with_place place (places_of (drop (i + 1) urls))
-places_here urls i url place lt is named = ap places_of (rw add-one (drop-cons urls i url lt)) ∙ ap (λ (x : List ℕ). with_place (place_of x) (places_of (drop (i + 1) urls))) (sym is) ∙ ap (λ (o : Option Place). with_place o (places_of (drop (i + 1) urls))) (sym named)
+places_here urls i url place lt is named = ap places_of (at_next urls i url lt is) ∙ ap (λ (o : Option Place). with_place o (places_of (drop (i + 1) urls))) (sym named)
 
 -- a URL that names no place
 pub passed : (s : Settings) (range : Option ByteRange) (digest : List ℕ) (urls : List (List ℕ)) (i : ℕ) (url : List ℕ) (place : Option Place) (request : Request) {p : Row Opening} {old mid : Link}
@@ -80,20 +84,20 @@ pub first_found : (s : Settings) (range : Option ByteRange) (digest : List ℕ) 
 unfolding tried
 first_found s range digest urls i url found place request answered o lt is named here met it = at_place s range digest urls i url found place request lt is named here (and_then _ (rw it at met) done)
 
-pub next_unasked : (s : Settings) (range : Option ByteRange) (digest : List ℕ) (urls : List (List ℕ)) (i : ℕ) (url : List ℕ) (found : Option Place) (place : Place) (request : Request) (answered : Option Opening) {old new : Link} {k l : Memory} {e : OciDistributionError} {r : Result Opening OciDistributionError}
+pub next_unasked : (s : Settings) (range : Option ByteRange) (digest : List ℕ) (urls : List (List ℕ)) (i : ℕ) (url : List ℕ) (found : Option Place) (place : Place) (request : Request) (answered : Option Opening) (e : OciDistributionError) {old new : Link} {k l : Memory} {r : Result Opening OciDistributionError}
     → i < length urls → url ≡ get_or urls i url → found ≡ place_of url → found ≡ Some place
     → Meets is_memory (offered s.max_body_bytes range digest request) old new k l (Ok answered) → answered ≡ None → Says {A = Request} (Err e) (ranged_at s range place) → IsErrAnd r (λ x. x ≡ e) → Meets is_memory (tried s range digest (places_of (drop i urls)) request) old new k l r
 unfolding tried
-next_unasked s range digest urls i url found place request answered lt is named here met none says at_exit = at_place s range digest urls i url found place request lt is named here (and_then _ (rw none at met) (refused _ (said _ says) at_exit))
+next_unasked s range digest urls i url found place request answered e lt is named here met none says at_exit = at_place s range digest urls i url found place request lt is named here (and_then _ (rw none at met) (refused _ (said _ says) at_exit))
 
 pub next_asked : (s : Settings) (range : Option ByteRange) (digest : List ℕ) (urls : List (List ℕ)) (i : ℕ) (url : List ℕ) (found : Option Place) (place : Place) (request next : Request) (answered : Option Opening) {p : Row Opening} {old mid new : Link}
     → i < length urls → url ≡ get_or urls i url → found ≡ place_of url → found ≡ Some place
-    → ((k : Memory) → Meets is_memory (offered s.max_body_bytes range digest request) mid new k k (Ok answered)) → answered ≡ None → ranged_at s range place ≡ Ok next → (k : Memory)
+    → ((k : Memory) → Meets is_memory (offered s.max_body_bytes range digest request) mid new k k (Ok answered)) → answered ≡ None → ranged_at s range place ≡ Ok next
     → Leads p (tried s range digest (places_of (drop i urls)) request) old mid → Leads p (tried s range digest (places_of (drop (i + 1) urls)) next) old new
 unfolding tried
-next_asked s range digest urls i url found place request next answered lt is named here met none ranged some leads = record {
+next_asked s range digest urls i url found place request next answered lt is named here met none ranged leads = record {
   met = λ end k l r rest. leads.met end k l r (at_place s range digest urls i url found place request lt is named here (and_then _ (rw none at met k) (and_then _ (said (Ok next) ranged) rest)));
-  told = told_more leads.told (met_told (met some));
+  told = told_more leads.told (met_told (met (fresh 0)));
 }
 
 -- no place is left

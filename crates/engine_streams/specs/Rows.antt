@@ -1,5 +1,5 @@
 -- A blob whose bytes are left to be taken, in the words of the OCI distribution specification ("Pulling blobs").
-use Rattle.std.specs.Prelude.{◌≡◌, ◌≤◌, ◌<◌, ◌⊎◌, ◌×◌, ℕ, Bool, true, false, ◌||◌, List, [], ◌∷◌, length}
+use Rattle.std.specs.Prelude.{◌≡◌, ◌≤◌, ◌<◌, ◌⊎◌, ℕ, Bool, true, false, ◌||◌, List, [], ◌∷◌, length}
 use Rattle.std.specs.Prelude.{Option, Some, None, Result, Ok, Err, if◌then◌else◌}
 use Rattle.json_values.specs.Counts.{Rose}
 use Rattle.oci_transport.specs.Link.{Link, answer_of}
@@ -28,8 +28,8 @@ use Rattle.engine_streams.specs.Ranges.{range_text, onward, with_range}
 use Rattle.engine_streams.specs.Streams.{opening_of}
 use Rattle.engine_streams.specs.declared.head.Digests.{Digests}
 use Rattle.engine_streams.specs.declared.head.Opening.{Opening}
-use Rattle.engine_streams.specs.declared.opened.BlobResponse.{BlobResponse}
-use Rattle.engine_streams.specs.declared.opened.BlobResponse.TheVariants as response
+use Rattle.engine_streams.specs.declared.blobs.BlobResponse.{BlobResponse}
+use Rattle.engine_streams.specs.declared.blobs.BlobResponse.TheVariants as response
 use Rattle.engine_streams.specs.declared.range.ByteRange.{ByteRange}
 use Rattle.engine_streams.specs.declared.stream.SizedStream.{SizedStream}
 

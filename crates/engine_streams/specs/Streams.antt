@@ -62,7 +62,9 @@ NextCause limit gave digests old new refusal.WantOfMemory = Unit {0}
 NextCause limit gave digests old new refusal.TransportFault = Rose old.faults new.faults
 NextCause limit gave digests old new refusal.BodyTooLong =
     (rest : List ℕ) → old.rest ≡ Some rest → limit < length gave + length rest
-NextCause limit gave digests old new e = NothingLeft old new × (compared digests gave ≡ Err e)
+NextCause limit gave digests old new (refusal.DigestError e) =
+    NothingLeft old new × (compared digests gave ≡ Err (refusal.DigestError e))
+NextCause limit gave digests old new e = ⊥
 
 -- What an open stream answers, and what it is then: a piece more, or its end where nothing is left and the bytes
 -- have the digests, or a refusal.

@@ -1,16 +1,16 @@
 // Requests for a blob whose bytes are left to be taken.
-ghost use Rattle.std.specs.Prelude.{◌≡◌, ◌≤◌, List, ℕ, Some, IfOk};
+ghost use Rattle.std.specs.Prelude.{◌≡◌, ◌≤◌, IfOk, IfSome};
 ghost use Rattle.oci_auth.specs.declared.memory.Memory.{Memory};
 ghost use Rattle.oci_transport.specs.Link.{Steady};
 ghost use Rattle.oci_protocol.specs.Runs.{Meets};
 ghost use Rattle.engine_requests.specs.Errors.{is_memory, Says};
-ghost use Rattle.engine_requests.specs.Sources.{layer_in, places_of};
+ghost use Rattle.engine_requests.specs.Sources.{places_of};
 ghost use Rattle.engine_streams.specs.Rows.{asked, offered, tried, ranged_at, IsLeft, Refuses};
 
-use crate::head::{Opening, is_streamed, opening};
+use crate::head::{Opening, is_streamed, read_head};
 use crate::range::{ByteRange, onward, with_range};
 use engine_requests::{
-    Got, LayerDescriptor, OciDistributionError, Place, Settings, asked_at, is_error, place_of,
+    Got, OciDistributionError, Place, Settings, asked_at, is_error, place_of,
     refused_answer,
 };
 use json_values::Text;
@@ -19,13 +19,6 @@ use oci_transport::{
     Answer, AnswerHead, BodyError, LinkError, Request, Transport, read_body,
 };
 use std::alloc::Global;
-
-/// What is asked for: a blob, and which bytes of it where it is not to be the whole.
-#[derive(Clone, Copy)]
-pub struct Sought<'a> {
-    pub digest: &'a str,
-    pub range: Option<ByteRange>,
-}
 
 // Why the answer is refused, whose body is read for it.
 fn refused<T: Transport>(
@@ -61,18 +54,18 @@ fn refused<T: Transport>(
 }
 
 // At the last place.
-#[tactic(none)]
 fn asked<T: Transport>(
     alloc: Global,
     transport: &mut T,
     limit: u64,
-    sought: &Sought,
+    digest: &str,
+    range: &Option<ByteRange>,
     request: &Request,
 ) -> Result<Opening, OciDistributionError>
     ensures run { (k : Memory) → Meets is_memory
-        (asked limit sought.now.range sought.now.digest.now request.now)
+        (asked limit range.now digest.now request.now)
         (T.state transport.old) (T.state transport.new) k k result }
-    ensures left { IfOk result (λ opening. IsLeft sought.now.range sought.now.digest.now opening
+    ensures left { IfOk result (λ opening. IsLeft range.now digest.now opening
         (T.state transport.old) (T.state transport.new)) }
 {
     let reached = match reach(alloc, transport, 10, request) {
@@ -80,27 +73,27 @@ fn asked<T: Transport>(
         Err(LinkError::Failed) => return Err(OciDistributionError::TransportFault),
         Err(LinkError::WantOfMemory) => return Err(OciDistributionError::WantOfMemory),
     };
-    if !is_streamed(&sought.range, reached.head.status) {
+    if !is_streamed(range, reached.head.status) {
         return Err(refused(alloc, transport, limit, reached));
     }
-    let opening = opening(alloc, &sought.range, sought.digest, &reached.head)?;
+    let opening = read_head(alloc, range, digest, &reached.head)?;
     Ok(opening)
 }
 
 // Where another place is left. None where the answer is passed over.
-#[tactic(none)]
 fn offered<T: Transport>(
     alloc: Global,
     transport: &mut T,
     limit: u64,
-    sought: &Sought,
+    digest: &str,
+    range: &Option<ByteRange>,
     request: &Request,
 ) -> Result<Option<Opening>, OciDistributionError>
     ensures run { (k : Memory) → Meets is_memory
-        (offered limit sought.now.range sought.now.digest.now request.now)
+        (offered limit range.now digest.now request.now)
         (T.state transport.old) (T.state transport.new) k k result }
     ensures left { IfOk result (λ found. IfSome found (λ opening.
-        IsLeft sought.now.range sought.now.digest.now opening
+        IsLeft range.now digest.now opening
         (T.state transport.old) (T.state transport.new))) }
 {
     let reached = match reach(alloc, transport, 10, request) {
@@ -111,10 +104,10 @@ fn offered<T: Transport>(
     if is_error(reached.head.status) {
         return Ok(None);
     }
-    if !is_streamed(&sought.range, reached.head.status) {
+    if !is_streamed(range, reached.head.status) {
         return Err(refused(alloc, transport, limit, reached));
     }
-    let opening = opening(alloc, &sought.range, sought.digest, &reached.head)?;
+    let opening = read_head(alloc, range, digest, &reached.head)?;
     Ok(Some(opening))
 }
 
@@ -134,31 +127,34 @@ fn ranged_at(
 }
 
 /// The request, and while its answer is one of an error the URLs in their order.
-#[tactic(none)]
 pub(crate) fn tried<T: Transport>(
     alloc: Global,
     transport: &mut T,
     settings: &Settings,
-    sought: &Sought,
+    digest: &str,
+    range: &Option<ByteRange>,
     urls: &[Text],
     mut request: Request,
 ) -> Result<Opening, OciDistributionError>
     ensures run { (k : Memory) → Meets is_memory
-        (tried settings.now sought.now.range sought.now.digest.now (places_of urls.now) request)
+        (tried settings.now range.now digest.now (places_of urls.now) request)
         (T.state transport.old) (T.state transport.new) k k result }
-    ensures left { IfOk result (λ opening. IsLeft sought.now.range sought.now.digest.now opening
+    ensures left { IfOk result (λ opening. IsLeft range.now digest.now opening
         (T.state transport.old) (T.state transport.new)) }
 {
     let limit = settings.max_body_bytes;
     for url in urls {
-        let Some(place) = place_of(alloc, url.as_str())? else {
+        let place = place_of(alloc, url.as_str())?;
+        let Some(place) = place else {
             continue;
         };
-        if let Some(opening) = offered(alloc, transport, limit, sought, &request)? {
+        let found = offered(alloc, transport, limit, digest, range, &request)?;
+        if let Some(opening) = found {
             return Ok(opening);
         }
-        request = ranged_at(alloc, settings, &sought.range, place)?;
+        let next = ranged_at(alloc, settings, range, place)?;
+        request = next;
     }
-    let opening = asked(alloc, transport, limit, sought, &request)?;
+    let opening = asked(alloc, transport, limit, digest, range, &request)?;
     Ok(opening)
 }

@@ -107,7 +107,7 @@ fn unless_part(part: bool, given: Option<Expected>, own: Expected) -> Option<Dig
 /// What is said of the body: the descriptor's digest is looked at, and then the header's. `DigestError` where one of
 /// them is none, or of an algorithm that is not known.
 #[tactic(auto, unfolding(crate::specs::Heads::opening))]
-pub(crate) fn opening(
+pub(crate) fn read_head(
     alloc: Global,
     range: &Option<ByteRange>,
     digest: &str,

