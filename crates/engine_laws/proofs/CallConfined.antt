@@ -16,6 +16,7 @@ use Rattle.oci_protocol.specs.Proto.{Done, bind, unless_refused, ◌>>=◌}
 use Rattle.oci_protocol.specs.Runs.{Meets, Told}
 use Rattle.oci_protocol.specs.Safe.{Safe}
 use Rattle.oci_protocol.proofs.Safety.{Safe-bind}
+use Rattle.engine_requests.specs.Sources.{Layer}
 use Rattle.engine_requests.specs.Contexts.{Context}
 use Rattle.engine_requests.specs.Requests.{manifest_types}
 use Rattle.engine_requests.specs.declared.error.OciDistributionError.{OciDistributionError}
@@ -65,12 +66,12 @@ text_confined s image a {k = k} {l = l} met = let x = pulling k s image (Some a)
 pub image_confined : (s : Context) (image : Reference) (a : RegistryAuth) (accepted : List (List ℕ)) {old new : Link} {k l : Memory} {r : Result (ImageData) OciDistributionError} → Meets is_memory (pull s image a accepted) old new k l r → Told (Within (pulling k s image (Some a)) s.settings l) old new
 image_confined s image a accepted {k = k} {l = l} met = let x = pulling k s image (Some a) in call_within x s.settings (Ended x s.settings manifest_types) l (image_sound s image a accepted k k [] (keeps_first x)) met
 
-pub blob_confined : (to : Destination) (s : Context) (image : Reference) (digest : List ℕ) {old new : Link} {k l : Memory} {r : Result (List ℕ) OciDistributionError} → Meets is_memory (blob_to to s image digest) old new k l r → Told (Within (pulling k s image None) s.settings l) old new
-blob_confined to s image digest {k = k} {l = l} met = let x = pulling k s image None in call_within x s.settings (Ended x s.settings manifest_types) l (blob_sound to s image digest k None k [] (keeps_first x)) met
+pub blob_confined : (to : Destination) (s : Context) (image : Reference) (layer : Layer) {old new : Link} {k l : Memory} {r : Result (List ℕ) OciDistributionError} → Meets is_memory (blob_to to s image layer) old new k l r → Told (Within (pulling k s image None) s.settings l) old new
+blob_confined to s image layer {k = k} {l = l} met = let x = pulling k s image None in call_within x s.settings (Ended x s.settings manifest_types) l (blob_sound to s image layer k None k [] (keeps_first x)) met
 
 -- into a sink
-pub spilled_confined : (s : Context) (image : Reference) (digest : List ℕ) {old new : Link} {k l : Memory} {before after : Tray} {r : Result (Unit {0}) OciDistributionError} → Spills (pull_blob s image digest) old new k l before after r → Told (Within (pulling k s image None) s.settings l) old new
-spilled_confined s image digest spills = blob_confined IntoSink s image digest spills.met
+pub spilled_confined : (s : Context) (image : Reference) (layer : Layer) {old new : Link} {k l : Memory} {before after : Tray} {r : Result (Unit {0}) OciDistributionError} → Spills (pull_blob s image layer) old new k l before after r → Told (Within (pulling k s image None) s.settings l) old new
+spilled_confined s image layer spills = blob_confined IntoSink s image layer spills.met
 
 -- ---- the call for a token
 

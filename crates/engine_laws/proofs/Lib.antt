@@ -17,6 +17,7 @@ pub mod HeaderCauses
 pub mod ImageCauses
 pub mod KeptTokens
 pub mod ManifestCauses
+pub mod Offering
 pub mod PlainRefusals
 pub mod PreparedRequests
 pub mod SafeKeeps

@@ -9,6 +9,7 @@ use Rattle.oci_auth.specs.declared.auth.RegistryAuth.{RegistryAuth}
 use Rattle.oci_protocol.specs.Runs.{Told}
 use Rattle.engine_requests.specs.Contexts.{Context, within}
 use Rattle.engine_requests.specs.Requests.{manifest_types}
+use Rattle.engine_requests.specs.Sources.{Layer}
 use Rattle.engine_requests.specs.declared.error.OciDistributionError.{OciDistributionError}
 use Rattle.engine_requests.specs.declared.error.OciDistributionError.TheVariants as refusal
 use Rattle.engine_steps.specs.Blobs.{Destination}
@@ -80,8 +81,8 @@ PullRefused client moment image a accepted c now e =
     client.settings image accepted c now e
 
 -- of a blob of its repository, by where the blob goes
-abbrev pub BlobRefused : Destination → Client → ℕ → Reference → List ℕ → List Exchange → ℕ
+abbrev pub BlobRefused : Destination → Client → ℕ → Reference → Layer → List Exchange → ℕ
     → OciDistributionError → Type 0
-BlobRefused to client moment image digest c now e =
-    BlobCause (BlobUrl client.settings image digest) to
-    (BadHeaderOf client moment image None manifest_types) client.settings digest c now e
+BlobRefused to client moment image layer c now e =
+    BlobCause (BlobUrl client.settings image layer) to
+    (BadHeaderOf client moment image None manifest_types) client.settings layer.digest c now e

@@ -3,6 +3,7 @@ ghost use Rattle.std.specs.Prelude.{◌≡◌, Some, None, option_copied};
 ghost use Rattle.engine_requests.specs.declared.settings.Settings.{Settings};
 ghost use Rattle.engine_requests.specs.Contexts.{within};
 ghost use Rattle.engine_requests.specs.Requests.{listed};
+ghost use Rattle.engine_requests.specs.Sources.{described};
 ghost use Rattle.sig_registry.specs.Errors.{is_memory, FaultCounted, NoSinkFault};
 ghost use Rattle.sig_registry.specs.Clients.{Client, Made};
 ghost use Rattle.sig_registry.specs.Confinement.{Stays, StaysWithTag};
@@ -110,7 +111,7 @@ pub trait ClientCapabilities {
         ensures confined { Stays (state self.old) (state self.new) moment image.now (Some auth.now)
             (T.state transport.old) (T.state transport.new) };
 
-    /// The bytes of a blob of the image's repository; a refusal is `RegistryPullError`.
+    /// The bytes of the blob of a descriptor, which may list URLs; a refusal is `RegistryPullError`.
     fn pull_blob<T: Transport>(
         &mut self,
         alloc: Global,
@@ -119,7 +120,7 @@ pub trait ClientCapabilities {
         image: &Reference,
         layer: &OciDescriptor,
     ) -> Result<Blob, SigstoreError>
-        ensures run { (s : Settings) → Made is_memory s (blob_call (within s moment) image.now layer.now.digest)
+        ensures run { (s : Settings) → Made is_memory s (blob_call (within s moment) image.now (described layer.now))
             (state self.old) (state self.new) (T.state transport.old) (T.state transport.new) result }
         ensures fault { FaultCounted (T.state transport.old) (T.state transport.new) result }
         ensures no_sink { NoSinkFault result }

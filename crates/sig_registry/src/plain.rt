@@ -133,7 +133,7 @@ impl ClientCapabilities for OciClient {
     ) -> Result<Blob, SigstoreError> {
         let outcome = self
             .client
-            .pulled_blob(alloc, transport, moment, image, layer.digest.as_str());
+            .pulled_blob(alloc, transport, moment, image, layer);
         worded(alloc, Called::Pull, image, outcome)
     }
 
