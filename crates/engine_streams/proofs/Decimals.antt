@@ -11,11 +11,11 @@ use Rattle.std.proofs.lemmas.Str.Ascii.{IsAscii-from_reads}
 use Rattle.std.proofs.lemmas.Str.Parse.{IsDigitsTest, IsNumeralModel, numerals_by_value, parse_digits}
 use Rattle.engine_streams.specs.Heads.{is_digit, is_decimal, decimal_of}
 
-split : (a b : Bool) → (a && b) ≡ true → (a ≡ true) × (b ≡ true)
+pub split : (a b : Bool) → (a && b) ≡ true → (a ≡ true) × (b ≡ true)
 split true b e = (refl, e)
 split false b e = absurd (cc e)
 
-joined : (a b : Bool) → a ≡ true → b ≡ true → (a && b) ≡ true
+pub joined : (a b : Bool) → a ≡ true → b ≡ true → (a && b) ≡ true
 joined true b a e = e
 joined false b a e = absurd (cc a)
 
@@ -26,7 +26,7 @@ tells_digits = record {
   more = λ c cs k e. joined (is_digit c) (list_all is_digit cs) (joined (nat_le 48 c) (nat_le c 57) (le-leb 48 c k.0) (le-leb c 57 k.1)) e;
 }
 
-numeral : IsNumeralModel (λ ds. list_all is_digit ds ≡ true) (digits_value 10)
+pub numeral : IsNumeralModel (λ ds. list_all is_digit ds ≡ true) (digits_value 10)
 numeral = numerals_by_value (λ ds. list_all is_digit ds ≡ true) tells_digits
 
 all_digits : (text : List ℕ) → is_decimal text ≡ true → (0 < length text) × (list_all is_digit text ≡ true)

@@ -10,14 +10,11 @@ ghost use Rattle.engine_streams.specs.Rows.{asked, offered, tried, ranged_at, Is
 use crate::head::{Opening, is_streamed, read_head};
 use crate::range::{ByteRange, onward, with_range};
 use engine_requests::{
-    Got, OciDistributionError, Place, Settings, asked_at, is_error, place_of,
-    refused_answer,
+    Got, OciDistributionError, Place, Settings, asked_at, is_error, place_of, refused_answer,
 };
 use json_values::Text;
 use oci_protocol::{Reached, reach};
-use oci_transport::{
-    Answer, AnswerHead, BodyError, LinkError, Request, Transport, read_body,
-};
+use oci_transport::{Answer, AnswerHead, BodyError, LinkError, Request, Transport, read_body};
 use std::alloc::Global;
 
 // Why the answer is refused, whose body is read for it.

@@ -33,9 +33,7 @@ fn text_by(alloc: Global, offset: u64, length: Option<u64>) -> Result<Text, OciD
         return Ok(text);
     };
     let Some(end) = offset.checked_add(length) else {
-        return Err(OciDistributionError::GenericError(
-            GenericCause::RangeOverflow,
-        ));
+        return Err(OciDistributionError::GenericError(GenericCause::RangeOverflow));
     };
     let digits = write_decimal(alloc, end.saturating_sub(1))?;
     text.push_str(digits.as_str())?;
