@@ -1,9 +1,9 @@
 -- A request whose answer is taken by its head, or read for its refusal: each outcome.
-use Rattle.std.proofs.Common.{◌≡◌, ◌≤◌, ◌<◌, ◌⊎◌, inl, inr, ℕ, Bool, true, false, arith, List, Option, Some, None, Result, Ok, Err, IfOk, length, refl, sym, ap, ◌∙◌}
-use Rattle.std.specs.Prelude.{MatchBool, ◌||◌, IfSome, if◌then◌else◌}
+use Rattle.std.proofs.Common.{◌≡◌, ◌≤◌, inl, inr, ℕ, Bool, true, false, List, Option, Some, None, Result, Ok, Err, refl, sym, ap, ◌∙◌}
+use Rattle.std.specs.Prelude.{MatchBool, ◌||◌, if◌then◌else◌}
 use Rattle.std.specs.Result.{IsErrAnd}
 use Rattle.std.proofs.lemmas.Result.{err_from_is_err_and}
-use Rattle.oci_transport.specs.Link.{Link, Steady, answer_of}
+use Rattle.oci_transport.specs.Link.{Link, Steady}
 use Rattle.oci_transport.specs.declared.message.Request.{Request}
 use Rattle.oci_transport.specs.declared.message.AnswerHead.{AnswerHead}
 use Rattle.oci_auth.specs.declared.memory.Memory.{Memory}
@@ -15,7 +15,7 @@ use Rattle.oci_protocol.proofs.Following.{reached_headed, reached_answered, reac
 use Rattle.engine_requests.specs.declared.error.OciDistributionError.{OciDistributionError}
 use Rattle.engine_requests.specs.declared.error.OciDistributionError.TheVariants as refusal
 use Rattle.engine_requests.specs.Errors.{is_memory, Says}
-use Rattle.engine_requests.specs.Answers.{refused_answer, is_error}
+use Rattle.engine_requests.specs.Answers.{is_error}
 use Rattle.engine_steps.proofs.Exits.{said}
 use Rattle.engine_steps.proofs.HelperTrees.{reached_untaken}
 use Rattle.engine_streams.specs.Heads.{opening, is_streamed}

@@ -1,14 +1,12 @@
 -- From one place to the next.
-use Rattle.std.proofs.Common.{◌≡◌, ◌<◌, ℕ, ◌+◌, suc, List, [], ◌∷◌, ◌++◌, Option, Some, None, Result, Ok, Err, length, drop, get_or, refl, sym, ap, ◌∙◌, add-one}
+use Rattle.std.proofs.Common.{◌≡◌, ◌<◌, ℕ, ◌+◌, suc, List, [], ◌∷◌, ◌++◌, Option, Some, None, Result, Ok, Err, length, drop, get_or, sym, ap, ◌∙◌, add-one}
 use Rattle.std.proofs.Math.Seq.{drop-cons}
 use Rattle.std.specs.Result.{IsErrAnd}
-use Rattle.std.proofs.lemmas.Result.{err_from_is_err_and}
 use Rattle.oci_transport.specs.Link.{Link}
 use Rattle.oci_transport.specs.declared.message.Request.{Request}
 use Rattle.oci_transport.specs.declared.message.Exchange.{Exchange}
 use Rattle.oci_auth.specs.Memory.{fresh}
 use Rattle.oci_auth.specs.declared.memory.Memory.{Memory}
-use Rattle.oci_protocol.specs.Proto.{Done, ◌>>=◌}
 use Rattle.oci_protocol.specs.Runs.{Meets, Told}
 use Rattle.oci_protocol.proofs.Extending.{Extends-none, Extends-more}
 use Rattle.engine_requests.specs.declared.error.OciDistributionError.{OciDistributionError}
@@ -19,7 +17,7 @@ use Rattle.engine_requests.specs.Sources.{place_of, with_place, places_of}
 use Rattle.engine_steps.specs.Rows.{Row}
 use Rattle.engine_steps.proofs.Attempts.{meets_told}
 use Rattle.engine_steps.proofs.Exits.{and_then, refused, said, done}
-use Rattle.engine_streams.specs.Rows.{asked, offered, or_next, ranged_at, tried, IsLeft}
+use Rattle.engine_streams.specs.Rows.{asked, offered, ranged_at, tried, IsLeft}
 use Rattle.engine_streams.specs.declared.head.Opening.{Opening}
 use Rattle.engine_streams.specs.declared.range.ByteRange.{ByteRange}
 

@@ -1,4 +1,3 @@
-use Rattle.std.proofs.Common.{sym, ◌∙◌}
 use Rattle.std.proofs.lemmas.List.{drop_all}
 use Rattle.engine_steps.proofs.Exits.{wanting, passed_on}
 use Rattle.engine_steps.proofs.HelperTrees.{not_ok}

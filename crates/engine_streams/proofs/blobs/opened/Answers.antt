@@ -1,4 +1,3 @@
-use Rattle.std.proofs.Common.{sym, ◌∙◌}
 use Rattle.engine_steps.proofs.Exits.{refused, and_then, said, passed_on}
 use Rattle.engine_steps.proofs.HelperTrees.{not_ok}
 use Rattle.engine_streams.proofs.Walking.{left_more, met_told}

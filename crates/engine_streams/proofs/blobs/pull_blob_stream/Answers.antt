@@ -1,4 +1,3 @@
-use Rattle.engine_steps.proofs.HelperTrees.{not_ok}
 use Rattle.engine_streams.proofs.Responses.{stream_on, stream_here, left_as}
 use Rattle.engine_streams.proofs.blobs.pull_blob_stream.Goals as goal
 
