@@ -15,7 +15,7 @@ use crate::range::{ByteRange, range_text, with_range};
 use crate::stream::SizedStream;
 use engine_requests::{Call, LayerDescriptor, MANIFEST_TYPES, OciDistributionError, blob_url};
 use engine_steps::{Target, prepared};
-use json_values::{List, Text};
+use json_values::Text;
 use oci_auth::{Memory, RegistryOperation};
 use oci_transport::{Method, Transport};
 use std::alloc::Global;
