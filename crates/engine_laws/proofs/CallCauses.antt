@@ -42,7 +42,7 @@ use Rattle.engine_laws.proofs.ShownTokens.{Carries, HeaderCause, Ended}
 use Rattle.engine_laws.proofs.HeaderCauses.{digest_sound, raw_sound, manifest_sound, found_sound, one_sound, config_sound, text_sound, image_sound, blob_sound}
 
 -- a cause with the values that could not stand in a header
-tight : (T : List ℕ → Type 0) (Of : List ℕ → Answer → OciDistributionError → Type 0) (x : Entry) (s : Settings) (types : List ℕ) (now : ℕ) (c : List Exchange) (e : OciDistributionError) → Loose T Of s types c now e → HeaderCause x s types c e → Cause T Of (BadHeader x s types) s c now e
+pub tight : (T : List ℕ → Type 0) (Of : List ℕ → Answer → OciDistributionError → Type 0) (x : Entry) (s : Settings) (types : List ℕ) (now : ℕ) (c : List Exchange) (e : OciDistributionError) → Loose T Of s types c now e → HeaderCause x s types c e → Cause T Of (BadHeader x s types) s c now e
 tight T Of x s types now c (refusal.GenericError HeaderText) h bad = bad
 tight T Of x s types now c _ h bad = h
 

@@ -43,7 +43,7 @@ use Rattle.engine_laws.proofs.EarlyCauses.{Early, EarlyCause, authorized_early}
 abbrev pub Only : OciDistributionError → {A : Type 0} → Result A OciDistributionError → Type 0
 Only e r = r ≡ Err e
 
-after_refusal : {A B : Type 0} (e : OciDistributionError) (f : A → Row B) (r : Result A OciDistributionError) → r ≡ Err e → Ends (Only e) (unless_refused f r)
+pub after_refusal : {A B : Type 0} (e : OciDistributionError) (f : A → Row B) (r : Result A OciDistributionError) → r ≡ Err e → Ends (Only e) (unless_refused f r)
 unfolding Ends
 after_refusal e f (Ok a) is = absurd (cc is)
 after_refusal {B = B} e f (Err x) is = same x e (cc is) where

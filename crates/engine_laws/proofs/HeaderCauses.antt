@@ -63,7 +63,7 @@ Sound x s types l c p = Safe (Carries x s) (Keeps x) (Ended x s types) l c p
 
 -- ---- ways to ask
 
-whole_sound : (x : Entry) (s : Settings) (types : List ℕ) (n : ℕ) (request : Request) (limit : ℕ) (l : Memory) (c : List Exchange) → Sent x s c request → Keeps x l c → Sound x s types l c (whole n request limit)
+pub whole_sound : (x : Entry) (s : Settings) (types : List ℕ) (n : ℕ) (request : Request) (limit : ℕ) (l : Memory) (c : List Exchange) → Sent x s c request → Keeps x l c → Sound x s types l c (whole n request limit)
 unfolding whole
 whole_sound x s types n request limit l c sent keeps = safe_follow x s (Ended x s types) n request (read_within limit) whole_reply l c sent keeps (λ last d e before after other reply h replies. by_reply last reply (d ++ e ∷ []) h) where
   by_reply : (last : Request) (reply : Reply) (d : List Exchange) → Keeps x l d → Sound x s types l d (whole_reply last reply)
@@ -153,7 +153,7 @@ tried_sound to x s digest (p ∷ ps) request l c sent keeps = offer_sound to x s
 
 -- ---- calls
 
-document_sound : (s : Context) (image : Reference) (k : Memory) (handed : Option RegistryAuth) (url : Parts) (types : List ℕ) (l : Memory) (c : List Exchange) → Keeps (pulling k s image handed) l c → Sound (pulling k s image handed) s.settings types l c (document s image url types)
+pub document_sound : (s : Context) (image : Reference) (k : Memory) (handed : Option RegistryAuth) (url : Parts) (types : List ℕ) (l : Memory) (c : List Exchange) → Keeps (pulling k s image handed) l c → Sound (pulling k s image handed) s.settings types l c (document s image url types)
 unfolding document
 document_sound s image k handed url types l c keeps =
     let x = pulling k s image handed in
@@ -212,10 +212,10 @@ layers_sound s image (x ∷ xs) layers k handed l c keeps = safe_next (pulling k
 -- ---- the document of an index's entry, in the image's repository
 
 same_keeps : (k : Memory) (s : Context) (image : Reference) (digest : List ℕ) (handed : Option RegistryAuth) (l : Memory) (c : List Exchange) → Keeps (pulling k s (entry_reference image digest) handed) l c → Keeps (pulling k s image handed) l c
-same_keeps k s image digest handed l c h = record { credentials = λ a is. h.credentials a is; tokens = λ token is. h.tokens token is; added = λ key moment token is. h.added key moment token is }
+same_keeps k s image digest handed l c h = record { credentials = λ a is. h.credentials a is; tokens = λ token is. h.tokens token is; added = λ key moment token is. h.added key moment token is; stored = λ registry a is. h.stored registry a is }
 
 other_keeps : (k : Memory) (s : Context) (image : Reference) (digest : List ℕ) (handed : Option RegistryAuth) (l : Memory) (c : List Exchange) → Keeps (pulling k s image handed) l c → Keeps (pulling k s (entry_reference image digest) handed) l c
-other_keeps k s image digest handed l c h = record { credentials = λ a is. h.credentials a is; tokens = λ token is. h.tokens token is; added = λ key moment token is. h.added key moment token is }
+other_keeps k s image digest handed l c h = record { credentials = λ a is. h.credentials a is; tokens = λ token is. h.tokens token is; added = λ key moment token is. h.added key moment token is; stored = λ registry a is. h.stored registry a is }
 
 same_cause : (k : Memory) (s : Context) (image : Reference) (digest : List ℕ) (handed : Option RegistryAuth) (types : List ℕ) (c : List Exchange) (e : OciDistributionError) → HeaderCause (pulling k s (entry_reference image digest) handed) s.settings types c e → HeaderCause (pulling k s image handed) s.settings types c e
 same_cause k s image digest handed types c (refusal.GenericError HeaderText) h = h

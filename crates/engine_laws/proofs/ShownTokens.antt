@@ -420,7 +420,7 @@ safe_ready x s types p f l c h each = Safe-bind (Carries x s) (Keeps x) (Ready x
 -- credentials that are handed in are stored
 pub store_safe : (x : Entry) (s : Settings) (types : List ℕ) (a : RegistryAuth) (l : Memory) (c : List Exchange) → x.handed ≡ Some a → Keeps x l c → Safe (Carries x s) (Keeps x) (Ended x s types) l c (store x.image a)
 unfolding store Safe bind
-store_safe x s types a l c handed keeps = let kept = keeps_stored x l c (resolved_registry x.image) a handed keeps in (kept, kept)
+store_safe x s types a l c handed keeps = let kept = keeps_stored x l c a handed keeps in (kept, kept)
 
 -- a step with no request, whose refusal is another one
 pub plain_step : {A B : Type 0} (x : Entry) (s : Settings) (types : List ℕ) (r : Result A OciDistributionError) (f : A → Row B) (l : Memory) (c : List Exchange) → Plain r → ((a : A) → r ≡ Ok a → Safe (Carries x s) (Keeps x) (Ended x s types) l c (f a)) → Safe (Carries x s) (Keeps x) (Ended x s types) l c (Done r >>= f)

@@ -109,8 +109,22 @@ pub fn pull_referrers<T: Transport>(
         (T.state transport.old) (T.state transport.new) memory.old memory.new result }
 {
     let digest = digest_given(alloc, call.image)?;
-    let digest = digest.as_str();
-    let got = referrers_asked(alloc, transport, memory, call, digest, artifact_type)?;
-    let index = referrers_by(alloc, transport, memory, call, digest, artifact_type, got)?;
+    let got = referrers_asked(
+        alloc,
+        transport,
+        memory,
+        call,
+        digest.as_str(),
+        artifact_type,
+    )?;
+    let index = referrers_by(
+        alloc,
+        transport,
+        memory,
+        call,
+        digest.as_str(),
+        artifact_type,
+        got,
+    )?;
     Ok(index)
 }

@@ -5,6 +5,7 @@ mod client;
 mod config;
 mod config_files;
 mod manifests;
+mod referrers;
 mod source;
 
 pub use client::Client;

@@ -96,7 +96,7 @@ impl ClientCapabilities for OciClient {
             auth,
             RegistryOperation::Pull,
         );
-        worded(alloc, Called::FetchManifest, image, given)?;
+        let _token = worded(alloc, Called::FetchManifest, image, given)?;
         let outcome = self
             .client
             .pull_referrers(alloc, transport, moment, image, artifact_type);
