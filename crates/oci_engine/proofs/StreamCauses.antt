@@ -217,7 +217,7 @@ tried_causes T s range digest (p ∷ ps) early request accepts = Shows-each Any 
 
 -- ---- the whole row
 
-abbrev Streamed : Option ByteRange → (List ℕ → Type 0) → Settings → List ℕ → ℕ → List Exchange → ℕ → OciDistributionError → Type 0
+abbrev pub Streamed : Option ByteRange → (List ℕ → Type 0) → Settings → List ℕ → ℕ → List Exchange → ℕ → OciDistributionError → Type 0
 Streamed range T s digest m c n e = StreamCause range T AnyValue s digest c n e
 
 loosened : (range : Option ByteRange) (T : List ℕ → Type 0) (s : Settings) (digest : List ℕ) (m n : ℕ) (c : List Exchange) (e : OciDistributionError) → Shown T s digest m c n e → Streamed range T s digest m c n e
@@ -248,7 +248,7 @@ range_overflows (Some range) e is = by_step (into_err (text_by range.offset rang
 overflow_cause : (range : Option ByteRange) (T : List ℕ → Type 0) (s : Settings) (digest : List ℕ) (m : ℕ) (e : OciDistributionError) → (e ≡ refusal.GenericError RangeOverflow) × Overflows range → Streamed range T s digest m [] m e
 overflow_cause range T s digest m e h = subst (λ (x : OciDistributionError). Streamed range T s digest m [] m x) (sym h.0) (h.1, refl)
 
-opened_causes : (s : Context) (image : Reference) (layer : Layer) (range : Option ByteRange) → Shows (ByAnswer Any (Streamed range (BlobUrl s.settings image layer) s.settings layer.digest)) (opened s image layer range)
+pub opened_causes : (s : Context) (image : Reference) (layer : Layer) (range : Option ByteRange) → Shows (ByAnswer Any (Streamed range (BlobUrl s.settings image layer) s.settings layer.digest)) (opened s image layer range)
 unfolding opened
 opened_causes s image layer range = Shows-step (ByAnswer Any (Streamed range T s.settings layer.digest)) (range_text range) _
     (λ text is. Shows-more (ByAnswer Any (Shown T s.settings layer.digest)) (ByAnswer Any (Streamed range T s.settings layer.digest)) _ (after text) (λ m n c r h. by_loosened range T s.settings layer.digest m n c r h))
@@ -272,11 +272,11 @@ opened_causes s image layer range = Shows-step (ByAnswer Any (Streamed range T s
 
 -- ---- a call
 
-stream_free : (range : Option ByteRange) (T : List ℕ → Type 0) (Bad : List Exchange → Type 0) (s : Settings) (digest : List ℕ) (now : ℕ) (c : List Exchange) (e : OciDistributionError) → is_memory e ≡ true → StreamCause range T Bad s digest c now e
+pub stream_free : (range : Option ByteRange) (T : List ℕ → Type 0) (Bad : List Exchange → Type 0) (s : Settings) (digest : List ℕ) (now : ℕ) (c : List Exchange) (e : OciDistributionError) → is_memory e ≡ true → StreamCause range T Bad s digest c now e
 stream_free range T Bad s digest now c refusal.WantOfMemory is = tt
 stream_free range T Bad s digest now c _ is = absurd (cc is)
 
-tight_stream : (range : Option ByteRange) (T : List ℕ → Type 0) (x : Entry) (s : Settings) (digest : List ℕ) (now : ℕ) (c : List Exchange) (e : OciDistributionError) → StreamCause range T AnyValue s digest c now e → HeaderCause x s manifest_types c e → StreamCause range T (BadHeader x s manifest_types) s digest c now e
+pub tight_stream : (range : Option ByteRange) (T : List ℕ → Type 0) (x : Entry) (s : Settings) (digest : List ℕ) (now : ℕ) (c : List Exchange) (e : OciDistributionError) → StreamCause range T AnyValue s digest c now e → HeaderCause x s manifest_types c e → StreamCause range T (BadHeader x s manifest_types) s digest c now e
 tight_stream range T x s digest now c (refusal.GenericError HeaderText) h bad = bad
 tight_stream range T x s digest now c _ h bad = h
 

@@ -13,6 +13,9 @@ use Rattle.engine_streams.specs.declared.range.ByteRange.{ByteRange}
 use Rattle.oci_engine.specs.Refusals.{BadHeaderOf}
 use Rattle.oci_engine.specs.declared.client.Client.{Client}
 
+abbrev pub range_of : ℕ → Option ℕ → ByteRange
+range_of offset length = record { offset = offset; length = length }
+
 -- the range ends past the greatest place
 abbrev pub Overflows : Option ByteRange → Type 0
 Overflows None = ⊥
