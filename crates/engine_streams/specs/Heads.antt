@@ -1,5 +1,6 @@
 -- What the head of a blob's answer says of its body (OCI distribution specification, "Pulling blobs").
-use Rattle.std.specs.Prelude.{ℕ, ◌^◌, Bool, true, false, ◌&&◌, ◌||◌, ◌==◌, List, Option, Some, None, Result, Ok, option_and_then}
+use Rattle.std.specs.Prelude.{ℕ, ◌^◌, Bool, true, false, ◌&&◌, ◌||◌, ◌==◌, List, option_and_then}
+use Rattle.std.specs.Prelude.{Option, Some, None, Result, Ok, Err}
 use Rattle.std.specs.Prelude.{codes, length, nat_le, nat_lt, if◌then◌else◌}
 use Rattle.std.specs.List.{list_all}
 use Rattle.std.specs.Str.Parse.{digits_value}
@@ -56,7 +57,7 @@ opening range digest head = do
     digests = unless_part (is_part range head.status) header own;
   })
 
--- whether the body of an answer of this status is streamed: one of success, and 200 and 206 alone where a part was asked for
+-- whether the body of an answer of this status is streamed: one of success, and of a part 200 and 206 alone
 abbrev pub is_streamed : Option ByteRange → ℕ → Bool
 is_streamed None status = is_success status
 is_streamed (Some range) status = status == 200 || status == 206

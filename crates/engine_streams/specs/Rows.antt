@@ -70,8 +70,10 @@ abbrev pub some_opening : Result Opening OciDistributionError → Result (Option
 some_opening (Ok o) = Ok (Some o)
 some_opening (Err e) = Err e
 
-unfoldable pub opening_unless_error : Option ByteRange → List ℕ → AnswerHead → Result (Option Opening) OciDistributionError
-opening_unless_error range digest head = if is_error head.status then Ok None else some_opening (opening range digest head)
+unfoldable pub opening_unless_error : Option ByteRange → List ℕ → AnswerHead
+    → Result (Option Opening) OciDistributionError
+opening_unless_error range digest head =
+    if is_error head.status then Ok None else some_opening (opening range digest head)
 
 -- the request while another place is left: an answer of an error is passed over
 abbrev pub offered : ℕ → Option ByteRange → List ℕ → Request → Row (Option Opening)

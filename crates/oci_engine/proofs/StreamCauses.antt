@@ -39,7 +39,7 @@ use Rattle.engine_steps.specs.Rows.{Row, prepared}
 use Rattle.engine_laws.specs.Causes.{UnfitUrl, BlobUrl, BadHeader, LastAnswer, AnswerCause, AskedDigest, Claimed}
 use Rattle.engine_laws.specs.Held.{Entry, pulling}
 use Rattle.engine_laws.proofs.BlobCauses.{OfUrls, places_are, each_more, unfit_as, unfit_is, made_accepts, not_expected}
-use Rattle.engine_laws.proofs.DocumentCauses.{answer_cause, cause_later, early_cause, early_shown, header_refused, heard_answer, heard_failed, heard_long, into_err, status_cause, url_cause}
+use Rattle.engine_laws.proofs.DocumentCauses.{answer_cause, cause_later, early_cause, early_shown, header_refused, heard_answer, heard_failed, heard_long, status_cause, url_cause}
 use Rattle.engine_laws.proofs.EarlyCauses.{AnyValue, Loose, EarlyCause, Early, request_early, prepared_causes}
 use Rattle.engine_laws.proofs.FaultCounts.{fault_rose, refusal_both}
 use Rattle.engine_laws.proofs.KeptTokens.{Keeps, keeps_first}
@@ -107,27 +107,21 @@ expected_cause digest answer address text e claimed = by_result (digest_expected
   by_result (Ok x) is bad = absurd (cc bad)
   by_result (Err d) is bad = let same : refusal.DigestError d ≡ e = cc bad in subst (AnswerCause (AskedDigest digest) address answer) same (not_expected digest answer text d claimed is)
 
+-- which of two steps was refused
+by_err : {A B : Type 0} (P : Type 0) (r : Result A OciDistributionError) (f : A → Result B OciDistributionError) (e : OciDistributionError) → (r into f) ≡ Err e → (r ≡ Err e → P) → ((a : A) → r ≡ Ok a → f a ≡ Err e → P) → P
+by_err P (Ok a) f e is first second = second a refl is
+by_err P (Err x) f e is first second = let same : x ≡ e = cc is in first (ap Err same)
+
 given_cause : (digest : List ℕ) (answer : Answer) (address : List ℕ) (value : Option (List ℕ)) (e : OciDistributionError) → header_digest answer.headers ≡ Ok value → given value ≡ Err e → AnswerCause (AskedDigest digest) address answer e
 given_cause digest answer address None e named is = absurd (cc is)
-given_cause digest answer address (Some text) e named is = by_step (into_err (expected text) (λ x. Ok (Some x)) e is) where
-  by_step : (expected text ≡ Err e) ⊎ ((x : Expected) × (expected text ≡ Ok x) × (◌≡◌ {A = Result (Option Expected) OciDistributionError} (Ok (Some x)) (Err e))) → AnswerCause (AskedDigest digest) address answer e
-  by_step (inl bad) = expected_cause digest answer address text e (inr named) bad
-  by_step (inr (x, good, bad)) = absurd (cc bad)
+given_cause digest answer address (Some text) e named is = by_err (AnswerCause (AskedDigest digest) address answer e) (expected text) (λ x. Ok (Some x)) e is (expected_cause digest answer address text e (inr named)) (λ x good bad. absurd (cc bad))
 
 opening_cause : (range : Option ByteRange) (digest : List ℕ) → MadeCause digest (opening range digest)
 unfolding opening
-opening_cause range digest head body address e is = by_own (into_err (expected digest) _ e is) where
-  by_given : (value : Option (List ℕ)) → header_digest head.headers ≡ Ok value → (given value ≡ Err e) ⊎ _ → AnswerCause (AskedDigest digest) address (answer_of head body) e
-  by_given value named (inl bad) = given_cause digest (answer_of head body) address value e named bad
-  by_given value named (inr (header, good, bad)) = absurd (cc bad)
-
-  by_value : (header_digest head.headers ≡ Err e) ⊎ _ → AnswerCause (AskedDigest digest) address (answer_of head body) e
-  by_value (inl bad) = header_refused (AskedDigest digest) address (answer_of head body) e bad
-  by_value (inr (value, named, bad)) = by_given value named (into_err (given value) _ e bad)
-
-  by_own : (expected digest ≡ Err e) ⊎ _ → AnswerCause (AskedDigest digest) address (answer_of head body) e
-  by_own (inl bad) = expected_cause digest (answer_of head body) address digest e (inl refl) bad
-  by_own (inr (own, good, bad)) = by_value (into_err (header_digest head.headers) _ e bad)
+opening_cause range digest head body address e is =
+    by_err (AnswerCause (AskedDigest digest) address (answer_of head body) e) (expected digest) _ e is (expected_cause digest (answer_of head body) address digest e (inl refl)) (λ own good rest.
+    by_err (AnswerCause (AskedDigest digest) address (answer_of head body) e) (header_digest head.headers) _ e rest (header_refused (AskedDigest digest) address (answer_of head body) e) (λ value named last.
+    by_err (AnswerCause (AskedDigest digest) address (answer_of head body) e) (given value) _ e last (given_cause digest (answer_of head body) address value e named) (λ header good bad. absurd (cc bad))))
 
 some_err : (r : Result Opening OciDistributionError) (e : OciDistributionError) → some_opening r ≡ Err e → r ≡ Err e
 some_err (Ok o) e is = absurd (cc is)
@@ -240,10 +234,7 @@ by_overflows range (Some n) e has is = to_overflows range n e has is
 
 range_overflows : (range : Option ByteRange) (e : OciDistributionError) → range_text range ≡ Err e → (e ≡ refusal.GenericError RangeOverflow) × Overflows range
 range_overflows None e is = absurd (cc is)
-range_overflows (Some range) e is = by_step (into_err (text_by range.offset range.length) (λ text. Ok (Some text)) e is) where
-  by_step : (text_by range.offset range.length ≡ Err e) ⊎ ((text : List ℕ) × (text_by range.offset range.length ≡ Ok text) × (◌≡◌ {A = Result (Option (List ℕ)) OciDistributionError} (Ok (Some text)) (Err e))) → (e ≡ refusal.GenericError RangeOverflow) × Overflows (Some range)
-  by_step (inl bad) = by_overflows range range.length e refl bad
-  by_step (inr (text, good, bad)) = absurd (cc bad)
+range_overflows (Some range) e is = by_err ((e ≡ refusal.GenericError RangeOverflow) × Overflows (Some range)) (text_by range.offset range.length) (λ text. Ok (Some text)) e is (by_overflows range range.length e refl) (λ text good bad. absurd (cc bad))
 
 overflow_cause : (range : Option ByteRange) (T : List ℕ → Type 0) (s : Settings) (digest : List ℕ) (m : ℕ) (e : OciDistributionError) → (e ≡ refusal.GenericError RangeOverflow) × Overflows range → Streamed range T s digest m [] m e
 overflow_cause range T s digest m e h = subst (λ (x : OciDistributionError). Streamed range T s digest m [] m x) (sym h.0) (h.1, refl)

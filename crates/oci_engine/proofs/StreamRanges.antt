@@ -3,6 +3,7 @@ use Rattle.std.proofs.Common.{◌≡◌, ◌<◌, ◌≤◌, ◌+◌, ◌-◌, �
 use Rattle.std.specs.Prelude.{◌&&◌, decimal, nat_lt, slice_get, sum_by, if◌then◌else◌}
 use Rattle.std.specs.List.{list_all}
 use Rattle.std.proofs.lemmas.Bool.{ltb-true}
+use Rattle.std.proofs.lemmas.Bool.Decides.{nat_tests}
 use Rattle.std.proofs.lemmas.Fmt.{digits_decimal}
 use Rattle.std.proofs.lemmas.List.Folds.{list_all-append}
 use Rattle.std.specs.FinMap as map
@@ -31,7 +32,7 @@ use Rattle.engine_streams.proofs.Decimals.{split, joined, numeral}
 -- ---- it can stand
 
 digit_stands : (b : ℕ) → is_digit b ≡ true → is_value_byte b ≡ true
-digit_stands b h = grind arith
+digit_stands b h = grind (arith, nat_tests, h)
 
 digits_stand : (xs : List ℕ) → list_all is_digit xs ≡ true → is_header_value xs ≡ true
 digits_stand [] h = refl

@@ -21,7 +21,7 @@ abbrev pub Overflows : Option ByteRange → Type 0
 Overflows None = ⊥
 Overflows (Some range) = (n : ℕ) × (range.length ≡ Some n) × (2 ^ 64 ≤ range.offset + n)
 
--- that, before any request; or what the last answer shows, a text that is no URL, or a value that cannot stand in a header
+-- that, before any request; or what the last answer shows, a text that is no URL, a value that cannot stand there
 abbrev pub StreamCause : Option ByteRange → (List ℕ → Type 0) → (List Exchange → Type 0) → Settings → List ℕ
     → List Exchange → ℕ → OciDistributionError → Type 0
 StreamCause range Text Bad s digest c now (refusal.GenericError RangeOverflow) = Overflows range × (c ≡ [])

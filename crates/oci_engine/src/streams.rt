@@ -2,7 +2,8 @@
 ghost use Rattle.std.specs.Prelude.{◌≡◌, [], Some, None, IfOk};
 ghost use Rattle.oci_protocol.specs.Runs.{Meets};
 ghost use Rattle.engine_requests.specs.Errors.{is_memory};
-ghost use Rattle.engine_streams.specs.Rows.{blob_stream, blob_stream_partial, opening_in, response_in, stream_in, IsLeft};
+ghost use Rattle.engine_streams.specs.Rows.{blob_stream, blob_stream_partial, opening_in, response_in};
+ghost use Rattle.engine_streams.specs.Rows.{stream_in, IsLeft};
 ghost use Rattle.engine_streams.specs.Streams.{IsOpen, opening_of};
 ghost use Rattle.oci_engine.specs.Confinement.{Stays};
 ghost use Rattle.oci_engine.specs.Refusals.{RefusedFor, FaultCounted, at_moment};
@@ -48,8 +49,8 @@ impl Client {
         engine_streams::pull_blob_stream(alloc, transport, &mut self.memory, &call, &layer)
     }
 
-    /// Bytes of a blob from the offset on, and no more than the length where one is given, piece by piece. A registry may
-    /// answer the whole blob. `RangeOverflow`, with no request, where offset and length pass 2^64 - 1.
+    /// Bytes of a blob from the offset on, and no more than the length where one is given, piece by piece. A registry
+    /// may answer the whole blob. `RangeOverflow`, with no request, where offset and length pass 2^64 - 1.
     pub fn pull_blob_stream_partial<T: Transport, L: AsLayerDescriptor>(
         &mut self,
         alloc: Global,
