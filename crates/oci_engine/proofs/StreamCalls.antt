@@ -19,12 +19,12 @@ use Rattle.engine_requests.specs.declared.error.OciDistributionError.TheVariants
 use Rattle.engine_requests.specs.declared.settings.Settings.{Settings}
 use Rattle.engine_steps.specs.Rows.{Row}
 use Rattle.engine_laws.specs.Causes.{BlobUrl, BadHeader}
-use Rattle.engine_laws.specs.Confined.{Confined, Within}
+use Rattle.engine_laws.specs.Confined.{Within}
 use Rattle.engine_laws.specs.Held.{Entry, pulling}
+use Rattle.engine_laws.proofs.CallConfined.{call_within}
 use Rattle.engine_laws.proofs.FaultCounts.{fault_rose, refusal_both}
 use Rattle.engine_laws.proofs.HeaderCauses.{Sound}
-use Rattle.engine_laws.proofs.KeptTokens.{Keeps, keeps_first, keeps_more}
-use Rattle.engine_laws.proofs.SafeKeeps.{Meets-within}
+use Rattle.engine_laws.proofs.KeptTokens.{Keeps, keeps_first}
 use Rattle.engine_laws.proofs.ShownTokens.{Carries, Ended, safe_done, safe_next}
 use Rattle.engine_streams.specs.Rows.{opened, blob_stream, Response, by_digests, blob_stream_partial, opening_in, response_in}
 use Rattle.engine_streams.specs.declared.blobs.BlobResponse.{BlobResponse}
@@ -36,13 +36,10 @@ use Rattle.oci_engine.proofs.StreamRanges.{IsSmall}
 use Rattle.oci_engine.proofs.StreamSafety.{opened_sound}
 use Rattle.oci_engine.specs.StreamRefusals.{StreamCause}
 
-within_call : {A : Type 0} (x : Entry) (s : Settings) (l : Memory) {p : Row A} {old new : Link} {r : Result A OciDistributionError} → Sound x s manifest_types x.kept [] p → Meets is_memory p old new x.kept l r → Told (Within x s l) old new
-within_call x s l h met = Meets-within (Confined x s) (Keeps x) (Ended x s manifest_types) (Within x s l) (keeps_more x) (keeps_first x) (λ c confined keeps. record { confined = confined; kept = keeps.added }) h met
-
 -- ---- a whole blob
 
 pub stream_confined : (s : Context) (image : Reference) (layer : Layer) {old new : Link} {k l : Memory} {r : Result Opening OciDistributionError} → Meets is_memory (blob_stream s image layer) old new k l r → Told (Within (pulling k s image None) s.settings l) old new
-stream_confined s image layer {k = k} {l = l} met = let x = pulling k s image None in within_call x s.settings l (opened_sound s image layer None k None k [] tt (keeps_first x)) met
+stream_confined s image layer {k = k} {l = l} met = let x = pulling k s image None in call_within x s.settings (Ended x s.settings manifest_types) l (opened_sound s image layer None k None k [] tt (keeps_first x)) met
 
 pub stream_reason : (s : Context) (image : Reference) (layer : Layer) {old new : Link} {k l : Memory} (r : Result SizedStream OciDistributionError) → Meets is_memory (blob_stream s image layer) old new k l (opening_in r) → IfErr r (λ e. Told (λ c. StreamCause None (BlobUrl s.settings image layer) (BadHeader (pulling k s image None) s.settings manifest_types) s.settings layer.digest c new.faults e) old new)
 stream_reason s image layer (Ok stream) met = tt
@@ -65,7 +62,7 @@ partial_causes s image layer range = Shows-each (λ m c n o. Unit {0}) (λ m c n
     (λ m n c o h. Shows-done (λ start d end r. ByAnswer (λ m c n response. Unit {0}) (Streamed (Some range) (BlobUrl s.settings image layer) s.settings layer.digest) m (c ++ d) end r) (Ok (by_digests o o.digests)) (λ m. tt))
 
 pub partial_confined : (s : Context) (image : Reference) (layer : Layer) (range : ByteRange) {old new : Link} {k l : Memory} {r : Result Response OciDistributionError} → range.offset < 2 ^ 64 → Meets is_memory (blob_stream_partial s image layer range) old new k l r → Told (Within (pulling k s image None) s.settings l) old new
-partial_confined s image layer range {k = k} {l = l} small met = within_call (pulling k s image None) s.settings l (partial_sound s image layer range k small) met
+partial_confined s image layer range {k = k} {l = l} small met = call_within (pulling k s image None) s.settings (Ended (pulling k s image None) s.settings manifest_types) l (partial_sound s image layer range k small) met
 
 part_reason : (s : Context) (image : Reference) (layer : Layer) (range : ByteRange) {old new : Link} {k l : Memory} {r : Result Response OciDistributionError} → range.offset < 2 ^ 64 → Meets is_memory (blob_stream_partial s image layer range) old new k l r → IfErr r (λ e. Told (λ c. StreamCause (Some range) (BlobUrl s.settings image layer) (BadHeader (pulling k s image None) s.settings manifest_types) s.settings layer.digest c new.faults e) old new)
 part_reason s image layer range {k = k} small met =

@@ -79,24 +79,24 @@ never_piped limit n false is = cc is
 abbrev MadeCause : {A : Type 0} → List ℕ → (AnswerHead → Result A OciDistributionError) → Type 0
 MadeCause digest made = (head : AnswerHead) (body address : List ℕ) (e : OciDistributionError) → made head ≡ Err e → AnswerCause (AskedDigest digest) address (answer_of head body) e
 
-judged_causes : {A : Type 0} (T : List ℕ → Type 0) (s : Settings) (digest : List ℕ) (takes : AnswerHead → Bool) (made : AnswerHead → Result A OciDistributionError) (request : Request) → first_of (codes "accept") request.headers ≡ Some manifest_types → ((head : AnswerHead) → takes head ≡ false → head.status ≢ 200) → MadeCause digest made → Shows (ByAnswer (Any {A}) (Shown T s digest)) (judged s.max_body_bytes takes made request)
+judged_causes : {A : Type 0} (T : List ℕ → Type 0) (s : Settings) (digest : List ℕ) (takes : AnswerHead → Bool) (made : AnswerHead → Result A OciDistributionError) (request : Request) → first_of (codes "accept") request.headers ≡ Some manifest_types → ((head : AnswerHead) → takes head ≡ false → head.status ≢ 200) → MadeCause digest made → Shows (ByAnswer (Any {A = A}) (Shown T s digest)) (judged s.max_body_bytes takes made request)
 unfolding judged judged_reading
-judged_causes {A} T s digest takes made request accepts other cause = Shows-follow (ByAnswer Any (Shown T s digest)) 10 request (judged_reading s.max_body_bytes takes) (judged_reply made) by_reply where
-  by_made : (m after : ℕ) (c : List Exchange) (address : List ℕ) (head : AnswerHead) (body : List ℕ) (r : Result A OciDistributionError) → made head ≡ r → LastAnswer c address (answer_of head body) → ByAnswer Any (Shown T s digest) m c after r
+judged_causes {A} T s digest takes made request accepts other cause = Shows-follow (ByAnswer (Any {A = A}) (Shown T s digest)) 10 request (judged_reading s.max_body_bytes takes) (judged_reply made) by_reply where
+  by_made : (m after : ℕ) (c : List Exchange) (address : List ℕ) (head : AnswerHead) (body : List ℕ) (r : Result A OciDistributionError) → made head ≡ r → LastAnswer c address (answer_of head body) → ByAnswer (Any {A = A}) (Shown T s digest) m c after r
   by_made m after c address head body (Ok a) is last = tt
   by_made m after c address head body (Err e) is last = answer_cause T (AskedDigest digest) s manifest_types after c address (answer_of head body) e last (cause head body address e is)
 
-  by_reply : (k l : Memory) (m after o : ℕ) (c d : List Exchange) (last : Request) (reply : Reply) (r : Result A OciDistributionError) → Heard 10 request (judged_reading s.max_body_bytes takes) m c after last reply → Runs (judged_reply made last reply) k after d o l r → ByAnswer Any (Shown T s digest) m (c ++ d) o r
+  by_reply : (k l : Memory) (m after o : ℕ) (c d : List Exchange) (last : Request) (reply : Reply) (r : Result A OciDistributionError) → Heard 10 request (judged_reading s.max_body_bytes takes) m c after last reply → Runs (judged_reply made last reply) k after d o l r → ByAnswer (Any {A = A}) (Shown T s digest) m (c ++ d) o r
   by_reply k l m after o c d last (Headed head) r h run =
       let b = h.replies.reply_is in
-      done_run (λ start d o r. ByAnswer Any (Shown T s digest) m (c ++ d) o r) (made head) k l after o d r
-      (subst (λ x. ByAnswer Any (Shown T s digest) m x after (made head)) (sym (append-nil c)) (by_made m after c last.url head b.0 (made head) refl (heard_answer h manifest_types accepts (answer_of head b.0) b.1 h.settles))) run
+      done_run (λ start d o r. ByAnswer (Any {A = A}) (Shown T s digest) m (c ++ d) o r) (made head) k l after o d r
+      (subst (λ x. ByAnswer (Any {A = A}) (Shown T s digest) m x after (made head)) (sym (append-nil c)) (by_made m after c last.url head b.0 (made head) refl (heard_answer h manifest_types accepts (answer_of head b.0) b.1 h.settles))) run
   by_reply k l m after o c d last (Answered answer) r h run =
       let b = h.replies.reply_is in
-      done_run (λ start d o r. ByAnswer Any (Shown T s digest) m (c ++ d) o r) (Err (refused_answer last.url answer)) k l after o d r
-      (subst (λ x. ByAnswer Any (Shown T s digest) m x after (Err (refused_answer last.url answer))) (sym (append-nil c)) (answer_cause T (AskedDigest digest) s manifest_types after c last.url answer (refused_answer last.url answer) (heard_answer h manifest_types accepts answer b.1 h.settles) (status_cause (AskedDigest digest) last.url answer (other (head_part answer) (reads_not s.max_body_bytes b.0 (takes (head_part answer)) b.2))))) run
-  by_reply k l m after o c d last Failed r h run = done_run (λ start d o r. ByAnswer Any (Shown T s digest) m (c ++ d) o r) (Err refusal.TransportFault) k l after o d r (rw append-nil (heard_failed h manifest_types accepts)) run
-  by_reply k l m after o c d last TooLong r h run = done_run (λ start d o r. ByAnswer Any (Shown T s digest) m (c ++ d) o r) (Err refusal.BodyTooLong) k l after o d r (rw append-nil (heard_long h manifest_types s.max_body_bytes accepts (λ n head is. limit_is s.max_body_bytes n (takes head) is))) run
+      done_run (λ start d o r. ByAnswer (Any {A = A}) (Shown T s digest) m (c ++ d) o r) (Err (refused_answer last.url answer)) k l after o d r
+      (subst (λ x. ByAnswer (Any {A = A}) (Shown T s digest) m x after (Err (refused_answer last.url answer))) (sym (append-nil c)) (answer_cause T (AskedDigest digest) s manifest_types after c last.url answer (refused_answer last.url answer) (heard_answer h manifest_types accepts answer b.1 h.settles) (status_cause (AskedDigest digest) last.url answer (other (head_part answer) (reads_not s.max_body_bytes b.0 (takes (head_part answer)) b.2))))) run
+  by_reply k l m after o c d last Failed r h run = done_run (λ start d o r. ByAnswer (Any {A = A}) (Shown T s digest) m (c ++ d) o r) (Err refusal.TransportFault) k l after o d r (rw append-nil (heard_failed h manifest_types accepts)) run
+  by_reply k l m after o c d last TooLong r h run = done_run (λ start d o r. ByAnswer (Any {A = A}) (Shown T s digest) m (c ++ d) o r) (Err refusal.BodyTooLong) k l after o d r (rw append-nil (heard_long h manifest_types s.max_body_bytes accepts (λ n head is. limit_is s.max_body_bytes n (takes head) is))) run
   by_reply k l m after o c d last SinkFailed r h run = let b = h.replies.reply_is in absurd (never_piped s.max_body_bytes b.1 (takes (head_part b.0)) b.3)
 
 -- ---- what a head says
@@ -196,18 +196,21 @@ ranged_place_accepts s range p next is =
     let made = into_ok (asked_at s p) (with_range (onward range)) next is in
     ranged_accepts (onward range) made.0 next (made_accepts s p made.0 made.1) made.2
 
-later : {A : Type 0} (T : List ℕ → Type 0) (s : Settings) (digest : List ℕ) (m start o : ℕ) (c d : List Exchange) (r : Result A OciDistributionError) → ByAnswer (Any {A}) (Shown T s digest) start d o r → ByAnswer (Any {A}) (Shown T s digest) m (c ++ d) o r
+later : {A : Type 0} (T : List ℕ → Type 0) (s : Settings) (digest : List ℕ) (m start o : ℕ) (c d : List Exchange) (r : Result A OciDistributionError) → ByAnswer (Any {A = A}) (Shown T s digest) start d o r → ByAnswer (Any {A = A}) (Shown T s digest) m (c ++ d) o r
 later T s digest m start o c d (Ok a) h = tt
 later T s digest m start o c d (Err e) h = cause_later T T (AnswerCause (AskedDigest digest)) (AnswerCause (AskedDigest digest)) s manifest_types o c d e (λ text h. h) (λ address answer h. h) h
+
+-- an answer that was found, or what comes next
+found_causes : (T : List ℕ → Type 0) (s : Settings) (digest : List ℕ) (next : Row Opening) → Shows (ByAnswer Any (Shown T s digest)) next → (m : ℕ) (c : List Exchange) (found : Option Opening) → Shows (λ start d o r. ByAnswer Any (Shown T s digest) m (c ++ d) o r) (or_next next found)
+found_causes T s digest next h m c (Some o) = Shows-done (λ start d o r. ByAnswer Any (Shown T s digest) m (c ++ d) o r) (Ok o) (λ m. tt)
+found_causes T s digest next h m c None = Shows-more (ByAnswer Any (Shown T s digest)) (λ start d o r. ByAnswer Any (Shown T s digest) m (c ++ d) o r) next h (λ start o d r h. later T s digest m start o c d r h)
 
 tried_causes : (T : List ℕ → Type 0) (s : Settings) (range : Option ByteRange) (digest : List ℕ) (places : List Place) → EachPlace (λ p. Early T (ranged_at s range p)) places → (request : Request) → first_of (codes "accept") request.headers ≡ Some manifest_types → Shows (ByAnswer Any (Shown T s digest)) (tried s range digest places request)
 unfolding tried
 tried_causes T s range digest [] early request accepts = judged_causes T s digest (streams range) (opening range digest) request accepts (not_taken range) (opening_cause range digest)
-tried_causes T s range digest (p ∷ ps) early request accepts = Shows-each Any Any (Shown T s digest) (offered s.max_body_bytes range digest request) _ (judged_causes T s digest (streams_or_passes range) (opening_unless_error range digest) request accepts (not_passed range) (unless_cause range digest)) (λ m n c found h. by_found m c found) where
-  by_found : (m : ℕ) (c : List Exchange) (found : Option Opening) → Shows (λ start d o r. ByAnswer Any (Shown T s digest) m (c ++ d) o r) (or_next (Done (ranged_at s range p) >>= tried s range digest ps) found)
-  by_found m c (Some o) = Shows-done (λ start d o r. ByAnswer Any (Shown T s digest) m (c ++ d) o r) (Ok o) (λ m. tt)
-  by_found m c None = Shows-more (ByAnswer Any (Shown T s digest)) (λ start d o r. ByAnswer Any (Shown T s digest) m (c ++ d) o r) (Done (ranged_at s range p) >>= tried s range digest ps)
-      (Shows-step (ByAnswer Any (Shown T s digest)) (ranged_at s range p) (tried s range digest ps) (λ next is. tried_causes T s range digest ps early.1 next (ranged_place_accepts s range p next is)) (λ e is m. early_is T s digest m (ranged_at s range p) e early.0 is)) (λ start o d r h. later T s digest m start o c d r h)
+tried_causes T s range digest (p ∷ ps) early request accepts = Shows-each Any Any (Shown T s digest) (offered s.max_body_bytes range digest request) _ (judged_causes T s digest (streams_or_passes range) (opening_unless_error range digest) request accepts (not_passed range) (unless_cause range digest))
+    (λ m n c found h. found_causes T s digest (Done (ranged_at s range p) >>= tried s range digest ps)
+    (Shows-step (ByAnswer Any (Shown T s digest)) (ranged_at s range p) (tried s range digest ps) (λ next is. tried_causes T s range digest ps early.1 next (ranged_place_accepts s range p next is)) (λ e is m. early_is T s digest m (ranged_at s range p) e early.0 is)) m c found)
 
 -- ---- the whole row
 

@@ -110,13 +110,17 @@ place_ranged x s range (Unfit text) l c small keeps = tt
 
 -- ---- the rows
 
+-- an answer that was found, or what comes next
+found_sound : (x : Entry) (s : Settings) (next : Row Opening) (l : Memory) (c : List Exchange) (found : Option Opening) → Keeps x l c → Sound x s manifest_types l c next → Sound x s manifest_types l c (or_next next found)
+found_sound x s next l c (Some o) keeps rest = safe_done x s (Ended x s manifest_types) l c (Ok o) keeps
+found_sound x s next l c None keeps rest = rest
+
 tried_sound : (x : Entry) (s : Settings) (range : Option ByteRange) (digest : List ℕ) (places : List Place) (request : Request) (l : Memory) (c : List Exchange) → IsSmall range → Sent x s c request → Keeps x l c → Sound x s manifest_types l c (tried s range digest places request)
 unfolding tried
 tried_sound x s range digest [] request l c small sent keeps = judged_sound x s manifest_types s.max_body_bytes (streams range) (opening range digest) request l c (opening_plain range digest) sent keeps
-tried_sound x s range digest (p ∷ ps) request l c small sent keeps = safe_next x s manifest_types (offered s.max_body_bytes range digest request) _ l c (judged_sound x s manifest_types s.max_body_bytes (streams_or_passes range) (opening_unless_error range digest) request l c (unless_plain range digest) sent keeps) by_found where
-  by_found : (l : Memory) (c : List Exchange) (found : Option Opening) → Keeps x l c → Sound x s manifest_types l c (or_next (Done (ranged_at s range p) >>= tried s range digest ps) found)
-  by_found l c (Some o) keeps = safe_done x s (Ended x s manifest_types) l c (Ok o) keeps
-  by_found l c None keeps = safe_ready x s manifest_types (Done (ranged_at s range p)) (tried s range digest ps) l c (safe_done x s (Ready x s manifest_types) l c (ranged_at s range p) (place_ranged x s range p l c small keeps)) (λ l c next keeps sent. tried_sound x s range digest ps next l c small sent keeps)
+tried_sound x s range digest (p ∷ ps) request l c small sent keeps = safe_next x s manifest_types (offered s.max_body_bytes range digest request) _ l c (judged_sound x s manifest_types s.max_body_bytes (streams_or_passes range) (opening_unless_error range digest) request l c (unless_plain range digest) sent keeps)
+    (λ l c found keeps. found_sound x s (Done (ranged_at s range p) >>= tried s range digest ps) l c found keeps
+    (safe_ready x s manifest_types (Done (ranged_at s range p)) (tried s range digest ps) l c (safe_done x s (Ready x s manifest_types) l c (ranged_at s range p) (place_ranged x s range p l c small keeps)) (λ l c next keeps sent. tried_sound x s range digest ps next l c small sent keeps)))
 
 -- what is so of each answer is so beside what the protocol keeps to
 Safe-both : {K A : Type 0} (P : K → List Exchange → Request → Type 0) (I : K → List Exchange → Type 0) (Q : K → List Exchange → A → Type 0) (E : A → Type 0) (p : Proto K A) (k : K) (seen : List Exchange) → Safe P I Q k seen p → Ends E p → Safe P I (λ k seen a. Q k seen a × E a) k seen p
