@@ -18,8 +18,8 @@ fn with_dashes(alloc: Global, text: &str) -> Result<String, AllocError>
         .collect(alloc)
 }
 
-// The tag under which a digest's signatures stand.
-fn signature_tag(alloc: Global, digest: &str) -> Result<Text, AllocError>
+/// The tag under which a digest's signatures stand.
+pub(crate) fn signature_tag(alloc: Global, digest: &str) -> Result<Text, AllocError>
     ensures { IfOk result (λ tag. tag ≡ signature_tag digest.now) }
 {
     let dashes = with_dashes(alloc, digest)?;
