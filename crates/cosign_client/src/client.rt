@@ -23,7 +23,7 @@ ghost use Rattle.cosign_client.specs.Triangulated.{tag_shown, triangulated};
 ghost use Rattle.cosign_client.specs.Verified.{is_unconstrained, verified};
 
 use crate::found::TrustedLayers;
-use crate::references::signature_tag;
+use crate::references::oci_tag_reference;
 use crate::refusal::PullRefusal;
 use crate::search::search;
 use crate::terms::{Asked, Terms};
@@ -78,10 +78,8 @@ impl Client {
             image.reference(),
             &auth,
         )?;
-        let tag = signature_tag(alloc, digest.as_str())?;
-        let registry = Text::new(alloc, image.registry())?;
-        let repository = Text::new(alloc, image.repository())?;
-        Ok((OciReference::with_tag(registry, repository, tag), digest))
+        let tag = oci_tag_reference(alloc, image, digest.as_str())?;
+        Ok((tag, digest))
     }
 
     /// The digest of an image, the signature layers that stand in its repository, and why others do not. `moment` is in
