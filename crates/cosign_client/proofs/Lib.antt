@@ -1,4 +1,4 @@
-pub mod Bundles
+pub mod BundleParts
 pub mod Causes
 pub mod Chains
 pub mod Confinement
@@ -13,5 +13,5 @@ pub mod Images
 pub mod LayerTexts
 pub mod Leads
 pub mod Reading
-pub mod Referrers
+pub mod ReferrerRows
 pub mod Refusals

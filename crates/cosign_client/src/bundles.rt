@@ -86,7 +86,7 @@ fn add_bundle<V: SignatureVerifier, O: Offline>(
 }
 
 /// What each bundle gives for the image of this digest, in their order, behind what is there.
-#[tactic(auto, using(crate::proofs::Bundles::bundles_next, crate::proofs::Bundles::bundles_end))]
+#[tactic(auto, using(crate::proofs::BundleParts::bundles_next, crate::proofs::BundleParts::bundles_end))]
 pub(crate) fn add_bundles<V: SignatureVerifier, O: Offline>(
     alloc: Global,
     trusted: &Trusted<'_, V, O>,

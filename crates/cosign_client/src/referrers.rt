@@ -165,14 +165,14 @@ fn each_referrer<C: ClientCapabilities, T: Transport, V: SignatureVerifier, O: O
     Ok(part)
 }
 
-// The refused listing is skipped.
-fn skip_listing(part: Part, error: SigstoreError) -> Result<Part, SigstoreError>
-    ensures { Says result (behind part (Source Referrers) (Err error)) }
+// A refused listing is skipped.
+fn skip_listing(part: Part, refused: SigstoreError) -> Result<Part, SigstoreError>
+    ensures { Says result (behind part (Source Referrers) (Err refused)) }
 {
-    if error.is_memory() {
-        return Err(error);
+    if refused.is_memory() {
+        return Err(refused);
     }
-    let cause = Skipped::Source(SourceKind::Referrers, SkipCause::Refused(error));
+    let cause = Skipped::Source(SourceKind::Referrers, SkipCause::Refused(refused));
     let part = add_skipped(part, cause)?;
     Ok(part)
 }

@@ -1,7 +1,7 @@
 use Rattle.std.proofs.Common.{refl}
 use Rattle.std.proofs.lemmas.List.{drop_all}
 use Rattle.cosign_client.proofs.Exits.{and_then, refused}
-use Rattle.cosign_client.proofs.Referrers.{referrers_end, referrers_next}
+use Rattle.cosign_client.proofs.ReferrerRows.{referrers_end, referrers_next}
 use Rattle.cosign_client.proofs.referrers.each_referrer.Goals as goal
 
 pub returns-in_err-referrer : goal.returns-in_err-referrer
