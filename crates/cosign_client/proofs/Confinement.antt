@@ -259,6 +259,17 @@ image_row_confines k s image source a accepted = let x = pulling k s source (Som
 plain_registry : (image : Reference) → mirror_of image ≡ None → (if bytes_eq image.registry (codes "docker.io") then codes "index.docker.io" else image.registry) ≡ resolved_registry image
 plain_registry image direct = sym (ap (λ m. unwrap_or m (if bytes_eq image.registry (codes "docker.io") then codes "index.docker.io" else image.registry)) direct)
 
+-- the host at which a registry answers is that at which it answers itself
+abbrev answering : List ℕ → List ℕ
+answering registry = if bytes_eq registry (codes "docker.io") then codes "index.docker.io" else registry
+
+answering_by : (b : Bool) (registry : List ℕ) → bytes_eq registry (codes "docker.io") ≡ b → answering (if b then codes "index.docker.io" else registry) ≡ (if b then codes "index.docker.io" else registry)
+answering_by true registry is = refl
+answering_by false registry is = ap (λ c. if c then codes "index.docker.io" else registry) is
+
+answering_again : (registry : List ℕ) → answering (answering registry) ≡ answering registry
+answering_again registry = answering_by (bytes_eq registry (codes "docker.io")) registry refl
+
 tag_layers_confine : (k : Memory) (trust : Trust) (d : List ℕ) (s : Context) (tag : Reference) (a : RegistryAuth) → Confines (pulling k s tag (Some a)) s.settings (tag_layers trust d s tag a)
 unfolding tag_layers
 tag_layers_confine k trust d s tag a = let x = pulling k s tag (Some a) in
