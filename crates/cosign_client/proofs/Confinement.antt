@@ -1,6 +1,6 @@
 -- The calls show credentials and tokens to the image's registry and to the realm that it names, and to nobody else, in
 -- each of their parts.
-use Rattle.std.proofs.Common.{◌≡◌, inl, inr, ℕ, Bool, true, false, List, [], ◌∷◌, ◌++◌, Option, Some, None, Result, Ok, Err, codes, refl, sym, ap, subst, ◌∙◌}
+use Rattle.std.proofs.Common.{◌≡◌, ◌⊎◌, inl, inr, ℕ, Bool, true, false, List, [], ◌∷◌, ◌++◌, Option, Some, None, Result, Ok, Err, codes, refl, sym, ap, subst, ◌∙◌}
 use Rattle.std.specs.Prelude.{if◌then◌else◌, bytes_eq, unwrap_or}
 use Rattle.std.specs.FinMap as map
 use Rattle.url.specs.Parts.{Parts, serialize}
@@ -83,11 +83,12 @@ pub record Confines {A : Type 0} (x : Entry) (s : Settings) (p : Proto Memory A)
 pub confines_by : {A : Type 0} (x : Entry) (s : Settings) (Q : Memory → List Exchange → A → Type 0) (p : Proto Memory A) → ((l : Memory) (c : List Exchange) → Keeps x l c → Safe (Carries x s) (Keeps x) Q l c p) → Confines x s p
 confines_by x s Q p h = record { safe = λ l c keeps. Safe-held (Carries x s) (Keeps x) Q p l c (keeps_more x) keeps (h l c keeps) }
 
+done_safe : {A : Type 0} (x : Entry) (s : Settings) (a : A) (l : Memory) (c : List Exchange) → Keeps x l c → Safe (Carries x s) (Keeps x) (λ l c (a : A). Keeps x l c) l c (Done a)
+unfolding Safe
+done_safe x s a l c keeps = keeps
+
 pub confines_done : {A : Type 0} (x : Entry) (s : Settings) (a : A) → Confines x s (Done a)
-confines_done {A} x s a = record { safe = safe_done } where
-  safe_done : (l : Memory) (c : List Exchange) → Keeps x l c → Safe (Carries x s) (Keeps x) (λ l c (a : A). Keeps x l c) l c (Done a)
-  unfolding Safe
-  safe_done l c keeps = keeps
+confines_done x s a = record { safe = λ l c keeps. done_safe x s a l c keeps }
 
 pub confines_bind : {A B : Type 0} (x : Entry) (s : Settings) (p : Proto Memory A) (f : A → Proto Memory B) → Confines x s p → ((a : A) → Confines x s (f a)) → Confines x s (bind p f)
 confines_bind {A} {B} x s p f h each = record { safe = λ l c keeps. Safe-bind (Carries x s) (Keeps x) (λ l c (a : A). Keeps x l c) (λ l c (b : B). Keeps x l c) p f l c (h.safe l c keeps) (λ l c a keeps. (each a).safe l c keeps) }

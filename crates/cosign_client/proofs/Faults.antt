@@ -8,6 +8,8 @@ use Rattle.json_values.specs.Counts.{Rose}
 use Rattle.oci_names.specs.declared.reference.Reference.{Reference}
 use Rattle.oci_names.specs.References.{whole_text, reads_back}
 use Rattle.oci_auth.specs.declared.auth.RegistryAuth.{RegistryAuth}
+use Rattle.oci_auth.specs.declared.token_type.RegistryOperation.{RegistryOperation}
+use Rattle.oci_auth.specs.declared.token_type.RegistryOperation.TheVariants as operation
 use Rattle.oci_digests.specs.Names.{digest_text}
 use Rattle.oci_digests.specs.declared.digester.Algorithm.TheVariants.{Sha256}
 use Rattle.oci_digests.specs.declared.error.DigestError.TheVariants as digest_refusal
@@ -29,7 +31,8 @@ use Rattle.engine_requests.specs.declared.error.OciDistributionError.{OciDistrib
 use Rattle.engine_requests.specs.declared.error.OciDistributionError.TheVariants as engine_refusal
 use Rattle.engine_requests.specs.Errors.{is_memory as engine_is_memory}
 use Rattle.engine_requests.specs.Requests.{manifest_types}
-use Rattle.engine_steps.specs.Rows.{Row as Engine}
+use Rattle.engine_steps.specs.Rows.{Row as Engine, token_given}
+use Rattle.engine_pull.specs.Referrers.{pull_referrers}
 use Rattle.engine_pull.specs.Pulls.{pull_manifest}
 use Rattle.engine_pull.specs.Images.{pull}
 use Rattle.engine_pull.specs.declared.image.ImageData.{ImageData}
@@ -38,6 +41,8 @@ use Rattle.engine_laws.proofs.EarlyCauses.{Loose}
 use Rattle.engine_laws.proofs.ImageCauses.{RowCause, image_causes}
 use Rattle.engine_laws.proofs.ManifestCauses.{manifest_causes}
 use Rattle.engine_laws.proofs.CallCauses.{manifest_fault, image_fault}
+use Rattle.engine_laws.proofs.TokenCauses.{given_shown, token_fault}
+use Rattle.engine_laws.specs.TokenCauses.{TokenCause}
 use Rattle.sig_registry.specs.declared.error.SigstoreError.{SigstoreError}
 use Rattle.sig_registry.specs.declared.error.SigstoreError.TheVariants as sigstore
 use Rattle.sig_registry.specs.declared.wording.Called.{Called}
@@ -171,8 +176,44 @@ pub image_call_counts : (s : Context) (image : Reference) (a : RegistryAuth) (ac
 unfolding image_call
 image_call_counts s image a accepted = words_count Pull image (pull s image a accepted) (image_counts s image a accepted)
 
+pub wider : (m n o : ℕ) (e : SigstoreError) → m ≤ n → SincereWords n o e → SincereWords m o e
+wider m n o e le h = record { falls = omega (arith, le, h.falls); no_memory = h.no_memory; fault = λ is. let rose : Rose n o = h.fault is in omega (arith, le, rose) }
+
+-- a step, and then what it leads to
+pub call_later : {A : Type 0} (m n o : ℕ) (r : Result A SigstoreError) → m ≤ n → CallCounts n o r → CallCounts m o r
+call_later m n o (Ok a) le h = omega (arith, le, h)
+call_later m n o (Err e) le h = wider m n o e le h
+
+pub call_next : {A B : Type 0} (p : Row A) (f : A → Row B) → Counts CallCounts p → ((a : A) → Counts CallCounts (f a)) → Counts CallCounts (p >>= f)
+call_next {A} {B} p f h each = Counts-bind CallCounts CallCounts p (unless_refused f) h leads where
+  leads : (m n : ℕ) (r : Result A SigstoreError) → CallCounts m n r → Counts (λ t q b. t ≡ n → CallCounts m q b) (unless_refused f r)
+  leads m n (Ok a) at = Counts-more CallCounts (λ t q b. t ≡ n → CallCounts m q b) (f a) (each a) (λ t q b h same. call_later m t q b (rw same at) h)
+  leads m n (Err e) at = Counts-done (λ t q b. t ≡ n → CallCounts m q b) (Err e) (λ q same. rw same at)
+
+-- ---- the referrers are listed, with a token that is got first
+
+token_memory : (s : Settings) (image : Reference) (a : RegistryAuth) (c : List Exchange) (n : ℕ) (e : OciDistributionError) → TokenCause s image a c n e → engine_is_memory e ≡ false → in_engine e ≡ false
+token_memory s image a c n engine_refusal.WantOfMemory h other = absurd (cc other)
+token_memory s image a c n engine_refusal.SinkFault h other = absurd h
+token_memory s image a c n (engine_refusal.DigestError digest_refusal.WantOfMemory) h other = absurd h
+token_memory s image a c n _ h other = refl
+
+token_counts : (s : Context) (image : Reference) (a : RegistryAuth) (op : RegistryOperation) → Counts EngineCounts (token_given s image a op)
+token_counts s image a op = record { counts = λ k l m n c r run. by_result k l m n c r run } where
+  by_result : (k l : Kept) (m n : ℕ) (c : List Exchange) (r : Result (Option (List ℕ)) OciDistributionError) → Runs (token_given s image a op) k m c n l r → EngineCounts m n r
+  by_result k l m n c (Ok found) run = Runs-count (token_given s image a op) k l m n c (Ok found) run
+  by_result k l m n c (Err e) run = record {
+    falls = Runs-count (token_given s image a op) k l m n c (Err e) run;
+    no_memory = token_memory s.settings image a c n e ((given_shown s image a op).shows k l m n c (Err e) run);
+    fault = fault_of (token_given s image a op) k l m n c e run (λ old new met. token_fault s image a op met refl);
+  }
+
+listing_counts : (s : Context) (image : Reference) (kind : Option (List ℕ)) → Counts EngineCounts (pull_referrers s image kind)
+listing_counts s image kind = ?
+
 pub referrers_call_counts : (s : Context) (image : Reference) (a : RegistryAuth) (kind : Option (List ℕ)) → Counts CallCounts (referrers_call s image a kind)
-referrers_call_counts s image a kind = ?
+unfolding referrers_call
+referrers_call_counts s image a kind = call_next (in_words FetchManifest image (token_given s image a operation.Pull)) _ (words_count FetchManifest image (token_given s image a operation.Pull) (token_counts s image a operation.Pull)) (λ u. words_count PullManifest image (pull_referrers s image kind) (listing_counts s image kind))
 
 -- ---- what is skipped
 
@@ -260,9 +301,6 @@ bundles_quiet trust d (x ∷ xs) = let text = digest_text Sha256 x.content in la
 abbrev TagCounts : ℕ → ℕ → Result Part SigstoreError → Type 0
 TagCounts m n (Ok part) = Counted m n part.skipped
 TagCounts m n (Err e) = SincereWords m n e
-
-pub wider : (m n o : ℕ) (e : SigstoreError) → m ≤ n → SincereWords n o e → SincereWords m o e
-wider m n o e le h = record { falls = omega (arith, le, h.falls); no_memory = h.no_memory; fault = λ is. let rose : Rose n o = h.fault is in omega (arith, le, rose) }
 
 image_then : (m n o : ℕ) (trust : Trust) (d : List ℕ) (document : OciManifest) (r : Result ImageData SigstoreError) → m ≤ n → CallCounts n o r → Counts {K = Kept} (λ t p b. t ≡ o → TagCounts m p b) (unless_refused (λ image. Done (Ok (document_part trust d document image))) r)
 image_then m n o trust d document (Ok image) le call = Counts-done (λ t p b. t ≡ o → TagCounts m p b) (Ok (document_part trust d document image)) (λ p same. rw same (document_quiet trust d document image m o (omega (arith, le, call))))

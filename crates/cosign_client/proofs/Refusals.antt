@@ -80,7 +80,7 @@ use Rattle.cosign_client.specs.declared.refusal.PullRefusal.{PullRefusal}
 use Rattle.cosign_client.specs.declared.refusal.PullRefusal.TheVariants as refusal
 use Rattle.cosign_client.specs.declared.verified.Standing.{Standing}
 use Rattle.cosign_client.proofs.Counts.{Counts, Counts-done, Counts-more, Counts-bind, Meets-counts}
-use Rattle.cosign_client.proofs.Faults.{Sincere, EngineCounts, fault_of, SincereWords, CallCounts, worded_counts, words_count, manifest_call_counts, image_call_counts, referrers_call_counts, wider}
+use Rattle.cosign_client.proofs.Faults.{Sincere, EngineCounts, fault_of, SincereWords, CallCounts, worded_counts, words_count, manifest_call_counts, image_call_counts, referrers_call_counts, call_later as later, call_next as next}
 
 -- ---- calls of the engine
 
@@ -242,17 +242,6 @@ layers_bytes types [] = tt
 layers_bytes types (x ∷ xs) = types_bytes types (x ∷ xs)
 
 -- ---- rows of calls
-
-later : {A : Type 0} (m n o : ℕ) (r : Result A SigstoreError) → m ≤ n → CallCounts n o r → CallCounts m o r
-later m n o (Ok a) le h = omega (arith, le, h)
-later m n o (Err e) le h = wider m n o e le h
-
--- a step, and then what it leads to
-next : {A B : Type 0} (p : Row A) (f : A → Row B) → Counts CallCounts p → ((a : A) → Counts CallCounts (f a)) → Counts CallCounts (p >>= f)
-next {A} {B} p f h each = Counts-bind CallCounts CallCounts p (unless_refused f) h leads where
-  leads : (m n : ℕ) (r : Result A SigstoreError) → CallCounts m n r → Counts (λ t q b. t ≡ n → CallCounts m q b) (unless_refused f r)
-  leads m n (Ok a) at = Counts-more CallCounts (λ t q b. t ≡ n → CallCounts m q b) (f a) (each a) (λ t q b h same. later m t q b (rw same at) h)
-  leads m n (Err e) at = Counts-done (λ t q b. t ≡ n → CallCounts m q b) (Err e) (λ q same. rw same at)
 
 answered : {A : Type 0} (a : A) → Counts {K = Kept} {A = Result A SigstoreError} CallCounts (Done (Ok a))
 answered a = Counts-done CallCounts (Ok a) (λ m. omega arith)
