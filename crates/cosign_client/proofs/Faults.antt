@@ -1,5 +1,5 @@
 -- What is skipped holds no want of memory and no fault of a sink, and no more faults than the transport had.
-use Rattle.std.proofs.Common.{◌≡◌, ◌≤◌, ◌+◌, ◌-◌, ◌^◌, min, ℕ, Bool, true, false, cond, List, [], ◌∷◌, ◌++◌, Option, Some, None, Result, Ok, Err, IfOk, IfErr, refl, sym, ap, ◌∙◌, subst, arith, zero-add}
+use Rattle.std.proofs.Common.{◌≡◌, ◌≤◌, ◌+◌, ◌-◌, ◌^◌, min, inl, inr, ℕ, Bool, true, false, cond, List, [], ◌∷◌, ◌++◌, Option, Some, None, Result, Ok, Err, IfOk, IfErr, refl, sym, ap, ◌∙◌, subst, arith, zero-add}
 use Rattle.std.specs.Prelude.{if◌then◌else◌, find, MatchBool, count_by, unwrap_or}
 use Rattle.std.specs.FinMap as map_of
 use Rattle.std.proofs.lemmas.List.Elements.{All-push, All-cons, All-append}
@@ -43,6 +43,9 @@ use Rattle.engine_laws.proofs.ManifestCauses.{manifest_causes}
 use Rattle.engine_laws.proofs.CallCauses.{manifest_fault, image_fault}
 use Rattle.engine_laws.proofs.TokenCauses.{given_shown, token_fault}
 use Rattle.engine_laws.specs.TokenCauses.{TokenCause}
+use Rattle.engine_laws.specs.Held.{Entry, pulling}
+use Rattle.engine_laws.specs.Referrers.{ReferrersCause}
+use Rattle.engine_laws.proofs.ReferrersCauses.{referrers_causes, referrers_no_sink, referrers_fault}
 use Rattle.sig_registry.specs.declared.error.SigstoreError.{SigstoreError}
 use Rattle.sig_registry.specs.declared.error.SigstoreError.TheVariants as sigstore
 use Rattle.sig_registry.specs.declared.wording.Called.{Called}
@@ -208,8 +211,23 @@ token_counts s image a op = record { counts = λ k l m n c r run. by_result k l 
     fault = fault_of (token_given s image a op) k l m n c e run (λ old new met. token_fault s image a op met refl);
   }
 
+-- the refusals of the list hold no want of memory and no fault of a sink
+listing_memory : (x : Entry) (s : Settings) (c : List Exchange) (n : ℕ) (e : OciDistributionError) → ReferrersCause x s c n e → engine_is_memory e ≡ false → in_engine e ≡ false
+listing_memory x s c n engine_refusal.WantOfMemory h other = absurd (cc other)
+listing_memory x s c n engine_refusal.SinkFault h other = absurd (referrers_no_sink x s c n h)
+listing_memory x s c n (engine_refusal.DigestError digest_refusal.WantOfMemory) (inl h) other = absurd h.cause.holds
+listing_memory x s c n (engine_refusal.DigestError digest_refusal.WantOfMemory) (inr h) other = absurd h.after.holds.1
+listing_memory x s c n _ h other = refl
+
 listing_counts : (s : Context) (image : Reference) (kind : Option (List ℕ)) → Counts EngineCounts (pull_referrers s image kind)
-listing_counts s image kind = ?
+listing_counts s image kind = record { counts = λ k l m n c r run. by_result k l m n c r run } where
+  by_result : (k l : Kept) (m n : ℕ) (c : List Exchange) (r : Result OciImageIndex OciDistributionError) → Runs (pull_referrers s image kind) k m c n l r → EngineCounts m n r
+  by_result k l m n c (Ok index) run = Runs-count (pull_referrers s image kind) k l m n c (Ok index) run
+  by_result k l m n c (Err e) run = let cause = (referrers_causes s image kind).shows k l m n c (Err e) run in record {
+    falls = Runs-count (pull_referrers s image kind) k l m n c (Err e) run;
+    no_memory = listing_memory (pulling cause.0 s image None) s.settings c n e cause.1;
+    fault = fault_of (pull_referrers s image kind) k l m n c e run (λ old new met. referrers_fault s image kind met refl);
+  }
 
 pub referrers_call_counts : (s : Context) (image : Reference) (a : RegistryAuth) (kind : Option (List ℕ)) → Counts CallCounts (referrers_call s image a kind)
 unfolding referrers_call
