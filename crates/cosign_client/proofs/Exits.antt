@@ -228,6 +228,6 @@ pub tag_same : (image tag : Reference) (digest : List ℕ) → registry_of tag �
 tag_same image tag digest registry mirror repository name none = λ i. record { registry = registry i; mirror = mirror i; repository = repository i; tag = name i; digest = none i }
 
 -- a refusal is shown as it is, at the exit of a `?`
-pub shown_refusal : {x : SigstoreError} {r : Result (OciReference × List ℕ) SigstoreError} → IsErrAnd r (λ y. y ≡ x) → IsErrAnd (tag_shown r) (λ y. y ≡ x)
-shown_refusal {x} {Ok found} h = absurd h
-shown_refusal {x} {Err e} h = h
+pub shown_refusal : {x : SigstoreError} (r : Result (OciReference × List ℕ) SigstoreError) → IsErrAnd r (λ y. y ≡ x) → IsErrAnd (tag_shown r) (λ y. y ≡ x)
+shown_refusal (Ok found) h = absurd h
+shown_refusal (Err e) h = h

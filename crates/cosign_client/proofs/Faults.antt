@@ -373,7 +373,7 @@ refused_onward part place n o e memory fault h = by_memory (is_memory e) refl wh
   by_memory false is m begins = one_more m n o part.skipped (place (Refused e)) h.falls begins (memory ∙ h.no_memory is) (λ wrong. h.fault (sym fault ∙ wrong))
 
 referrer_onward : (trust : Trust) (d digest : List ℕ) (part : Part) (n o : ℕ) (r : Result ImageData SigstoreError) → CallCounts n o r → Onward part n o (behind part (Referrer digest) (referrer_part trust d r))
-referrer_onward trust d digest part n o (Ok image) le m begins = both m n o part.skipped (bundles_part trust d image.layers).skipped begins (bundles_quiet trust d image.layers n o le)
+referrer_onward trust d digest part n o (Ok image) le = λ m begins. both m n o part.skipped (bundles_part trust d image.layers).skipped begins (bundles_quiet trust d image.layers n o le)
 referrer_onward trust d digest part n o (Err e) h = refused_onward part (Referrer digest) n o e refl refl h
 
 referrer_by_onward : (trust : Trust) (d : List ℕ) (s : Context) (referrer : Reference) (a : RegistryAuth) (digest : List ℕ) (part : Part) (b : Bool) → Counts (Onward part) (referrer_by trust d s referrer a digest part b)
@@ -390,13 +390,16 @@ referrer_row_onward trust d s source a digest part = referrer_by_onward trust d 
 onward_then : (part more : Part) (m n o : ℕ) (r : Result Part SigstoreError) → Onward part m n (let b : Result Part SigstoreError = Ok more in b) → Onward more n o r → Onward part m o r
 onward_then part more m n o r first rest base begins = rest base (first base begins)
 
+-- the first referrer, and then those behind it
+more_onward : (part : Part) (rest : Part → Row Part) → ((more : Part) → Counts (Onward more) (rest more)) → (m n : ℕ) (r : Result Part SigstoreError) → Onward part m n r → Counts (λ t o b. t ≡ n → Onward part m o b) (unless_refused rest r)
+more_onward part rest each m n (Ok more) first = Counts-more (Onward more) (λ t o b. t ≡ n → Onward part m o b) (rest more) (each more) (λ t o b h same. onward_then part more m n o b first (rw same at h))
+more_onward part rest each m n (Err e) first = Counts-done (λ t o b. t ≡ n → Onward part m o b) (Err e) (λ o same base begins. tt)
+
 referrers_onward : (trust : Trust) (d : List ℕ) (s : Context) (source : Reference) (a : RegistryAuth) (xs : List ImageIndexEntry) (part : Part) → Counts (Onward part) (referrers_row trust d s source a xs part)
 unfolding referrers_row
 referrers_onward trust d s source a [] part = Counts-done (Onward part) (Ok part) (λ n m begins. begins)
-referrers_onward trust d s source a (x ∷ xs) part = Counts-bind (Onward part) (Onward part) (referrer_row trust d s source a x.digest part) _ (referrer_row_onward trust d s source a x.digest part) by_answer where
-  by_answer : (m n : ℕ) (r : Result Part SigstoreError) → Onward part m n r → Counts (λ t o b. t ≡ n → Onward part m o b) (unless_refused (λ more. referrers_row trust d s source a xs more) r)
-  by_answer m n (Ok more) first = Counts-more (Onward more) (λ t o b. t ≡ n → Onward part m o b) (referrers_row trust d s source a xs more) (referrers_onward trust d s source a xs more) (λ t o b rest same. onward_then part more m n o b first (rw same at rest))
-  by_answer m n (Err e) first = Counts-done (λ t o b. t ≡ n → Onward part m o b) (Err e) (λ o same base begins. tt)
+referrers_onward trust d s source a (x ∷ xs) part = Counts-bind (Onward part) (Onward part) (referrer_row trust d s source a x.digest part) _ (referrer_row_onward trust d s source a x.digest part)
+    (λ m n r first. more_onward part (λ more. referrers_row trust d s source a xs more) (λ more. referrers_onward trust d s source a xs more) m n r first)
 
 listed_onward : (trust : Trust) (d : List ℕ) (s : Context) (source : Reference) (a : RegistryAuth) (part : Part) (m n : ℕ) (r : Result OciImageIndex SigstoreError) → CallCounts m n r → Counts (λ t o b. t ≡ n → Onward part m o b) (listed_row trust d s source a part r)
 listed_onward trust d s source a part m n (Ok index) le = Counts-more (Onward part) (λ t o b. t ≡ n → Onward part m o b) (referrers_row trust d s source a index.manifests part) (referrers_onward trust d s source a index.manifests part)

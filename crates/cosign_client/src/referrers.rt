@@ -7,7 +7,7 @@ ghost use Rattle.cosign_layers.specs.Trust.{trust_of};
 ghost use Rattle.sig_registry.specs.Calls.{image_call};
 ghost use Rattle.sig_registry.specs.Clients.{Made};
 ghost use Rattle.sig_registry.specs.Errors.{is_memory, Says};
-ghost use Rattle.cosign_client.specs.Part.{appended, skipping};
+ghost use Rattle.cosign_client.specs.Part.{appended, bundles_part, skipping};
 ghost use Rattle.cosign_client.specs.Search.{behind, bundle_type, referrer_part, referrer_by, referrer_row};
 ghost use Rattle.cosign_client.specs.Search.{referrers_row, referrers_source};
 ghost use Rattle.cosign_client.specs.declared.found.Skipped.TheVariants.{Source, Referrer};
@@ -17,7 +17,7 @@ use crate::bundles::add_bundles;
 use crate::found::{Part, SkipCause, Skipped, SourceKind};
 use crate::references::digest_reference;
 use crate::terms::{Asked, Referred};
-use cosign_layers::{Offline, SignatureVerifier};
+use cosign_layers::{Offline, SignatureVerifier, Trusted};
 use json_values::{List, Text};
 use oci_engine::ImageData;
 use oci_manifests::ImageIndexEntry;
@@ -65,32 +65,57 @@ fn add_skipped(mut part: Part, cause: Skipped) -> Result<Part, AllocError>
     Ok(part)
 }
 
+// The bundles of a referrer that was pulled, behind what is there.
+fn add_pulled<V: SignatureVerifier, O: Offline>(
+    alloc: Global,
+    trusted: &Trusted<'_, V, O>,
+    source: &str,
+    image: &ImageData,
+    part: Part,
+) -> Result<Part, AllocError>
+    ensures { IfOk result (λ more. more ≡ appended part
+        (bundles_part (trust_of V.valid O.vouched trusted.now) source.now image.now.layers)) }
+{
+    let layers = image.layers.as_slice();
+    add_bundles(alloc, trusted, source, layers, part)
+}
+
+// A referrer that was not pulled is skipped.
+fn skip_referrer(
+    alloc: Global,
+    digest: &str,
+    error: SigstoreError,
+    part: Part,
+) -> Result<Part, SigstoreError>
+    ensures { Says result (behind part (Referrer digest.now) (Err error)) }
+{
+    if error.is_memory() {
+        return Err(error);
+    }
+    let digest = Text::new(alloc, digest)?;
+    let cause = Skipped::Referrer(digest, SkipCause::Refused(error));
+    let part = add_skipped(part, cause)?;
+    Ok(part)
+}
+
 // The bundles of a referrer, or why it was not pulled, behind what is there.
 fn add_referrer<V: SignatureVerifier, O: Offline>(
     alloc: Global,
-    referred: &Referred<'_, V, O>,
+    trusted: &Trusted<'_, V, O>,
+    source: &str,
     digest: &str,
     image: Result<ImageData, SigstoreError>,
     part: Part,
 ) -> Result<Part, SigstoreError>
     ensures { Says result (behind part (Referrer digest.now)
-        (referrer_part (trust_of V.valid O.vouched referred.now.trusted.now) referred.now.digest.now image)) }
+        (referrer_part (trust_of V.valid O.vouched trusted.now) source.now image)) }
 {
     match image {
         Ok(image) => {
-            let layers = image.layers.as_slice();
-            let part = add_bundles(alloc, referred.trusted, referred.digest, layers, part)?;
+            let part = add_pulled(alloc, trusted, source, &image, part)?;
             Ok(part)
         }
-        Err(error) => {
-            if error.is_memory() {
-                return Err(error);
-            }
-            let digest = Text::new(alloc, digest)?;
-            let cause = Skipped::Referrer(digest, SkipCause::Refused(error));
-            let part = add_skipped(part, cause)?;
-            Ok(part)
-        }
+        Err(error) => skip_referrer(alloc, digest, error, part),
     }
 }
 
@@ -113,7 +138,7 @@ fn referrer_by<C: ClientCapabilities, T: Transport, V: SignatureVerifier, O: Off
     let reads_back = referrer.image.reads_back(alloc)?;
     if reads_back {
         let image = pull_bundles(alloc, client, transport, referrer);
-        return add_referrer(alloc, referred, digest, image, part);
+        return add_referrer(alloc, referred.trusted, referred.digest, digest, image, part);
     }
     let digest = Text::new(alloc, digest)?;
     let text = referrer.image.whole(alloc)?;

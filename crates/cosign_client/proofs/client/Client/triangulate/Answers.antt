@@ -9,15 +9,15 @@ use Rattle.cosign_client.proofs.Exits.{and_then, refused, wanting, meets_wanting
 use Rattle.cosign_client.proofs.client.Client.triangulate.Goals as goal
 
 pub returns-in_err-auth-clause-run : goal.returns-in_err-auth-clause-run
-returns-in_err-auth-clause-run g c = meets_wanting _ refl (shown_refusal c.from_residual.ensures.1)
+returns-in_err-auth-clause-run g c = meets_wanting _ refl (shown_refusal _ c.from_residual.ensures.1)
 
 pub returns-in_err-digest-clause-run : goal.returns-in_err-digest-clause-run
 unfolding triangulated
-returns-in_err-digest-clause-run g c = ((refused _ (rw (c.reference.ensures.inner, c.in_ok-auth.ensures) at (c.in_err-digest.ensures.run (client_state c.args.self.now).settings)) (shown_refusal c.from_residual-in_err-digest.ensures.1)).made refl).1
+returns-in_err-digest-clause-run g c = ((refused _ (rw (c.reference.ensures.inner, c.in_ok-auth.ensures) at (c.in_err-digest.ensures.run (client_state c.args.self.now).settings)) (shown_refusal _ c.from_residual-in_err-digest.ensures.1)).made refl).1
 
 pub returns-in_err-tag-clause-run : goal.returns-in_err-tag-clause-run
 unfolding triangulated
-returns-in_err-tag-clause-run g c = ((and_then _ (rw (c.reference.ensures.inner, c.in_ok-auth.ensures) at (c.in_ok-digest.ensures.run (client_state c.args.self.now).settings)) (wanting _ refl (shown_refusal c.from_residual-in_err-tag.ensures.1))).made refl).1
+returns-in_err-tag-clause-run g c = ((and_then _ (rw (c.reference.ensures.inner, c.in_ok-auth.ensures) at (c.in_ok-digest.ensures.run (client_state c.args.self.now).settings)) (wanting _ refl (shown_refusal _ c.from_residual-in_err-tag.ensures.1))).made refl).1
 
 pub returns-clause-run : goal.returns-clause-run
 unfolding triangulated
