@@ -1,7 +1,7 @@
 -- The calls show credentials and tokens to the image's registry and to the realm that it names, and to nobody else, in
 -- each of their parts.
 use Rattle.std.proofs.Common.{◌≡◌, ◌⊎◌, inl, inr, ℕ, Bool, true, false, List, [], ◌∷◌, ◌++◌, Option, Some, None, Result, Ok, Err, codes, refl, sym, ap, subst, ◌∙◌}
-use Rattle.std.specs.Prelude.{if◌then◌else◌, bytes_eq, nat_eq, unwrap_or}
+use Rattle.std.specs.Prelude.{if◌then◌else◌, bytes_eq, unwrap_or}
 use Rattle.std.specs.FinMap as map
 use Rattle.url.specs.Parts.{Parts, serialize}
 use Rattle.url.specs.Setters.{append_query_pairs}
@@ -11,7 +11,7 @@ use Rattle.oci_transport.specs.Urls.{request_url}
 use Rattle.oci_transport.specs.declared.message.Request.{Request}
 use Rattle.oci_transport.specs.declared.message.Exchange.{Exchange}
 use Rattle.oci_names.specs.declared.reference.Reference.{Reference}
-use Rattle.oci_names.specs.References.{repository_of, resolved_registry, mirror_of, digest_of, whole_text, reads_back}
+use Rattle.oci_names.specs.References.{repository_of, resolved_registry, mirror_of, whole_text, reads_back}
 use Rattle.oci_auth.specs.Caches.{key_of, token_at}
 use Rattle.oci_auth.specs.Keys.{Key, under}
 use Rattle.oci_auth.specs.declared.auth.RegistryAuth.{RegistryAuth}
@@ -33,22 +33,20 @@ use Rattle.oci_protocol.proofs.Safety.{Safe-bind}
 use Rattle.engine_requests.specs.Addresses.{scheme_for, registry_text, base_text}
 use Rattle.engine_requests.specs.Contexts.{Context}
 use Rattle.engine_requests.specs.Index.{entry_found, entry_reference}
-use Rattle.engine_requests.specs.Referrers.{digest_given, referrers_in, fallback_reference}
 use Rattle.engine_requests.specs.Requests.{manifest_types}
 use Rattle.engine_requests.specs.Tokens.{allowed, realm_url, with_service}
-use Rattle.engine_requests.specs.declared.answers.Got.{Got}
 use Rattle.engine_requests.specs.declared.settings.Settings.{Settings}
 use Rattle.engine_steps.specs.Blobs.{IntoMemory}
 use Rattle.engine_steps.specs.Rows.{Row as Engine, token_given}
 use Rattle.engine_pull.specs.Images.{pull, layers_accepted, layer_of}
 use Rattle.engine_pull.specs.Pulls.{fetch_manifest_digest, pull_manifest, pull_manifest_raw, held_blob}
-use Rattle.engine_pull.specs.Referrers.{referrers_asked, referrers_tagged, referrers_by, pull_referrers}
+use Rattle.engine_pull.specs.Referrers.{pull_referrers}
 use Rattle.engine_laws.specs.Confined.{ToRegistry, ToRealm, MayCarry, Confined, KeptOrAdded, StoredOrHanded, Within}
 use Rattle.engine_laws.specs.Held.{Entry, pulling, IsAuth, OfAuth, WasKept, GivenIn, IsHeld}
 use Rattle.engine_laws.proofs.CallConfined.{Any, given_safe}
 use Rattle.engine_laws.proofs.Confining.{each_more}
 use Rattle.engine_laws.proofs.KeptTokens.{Keeps, keeps_first, keeps_more}
-use Rattle.engine_laws.proofs.ReferrersConfined.{asked_sound, tagged_sound}
+use Rattle.engine_laws.proofs.ReferrersSound.{referrers_sound, same_registry}
 use Rattle.engine_laws.proofs.SafeKeeps.{Lasts, Meets-within}
 use Rattle.engine_laws.proofs.SafeMore.{Safe-map}
 use Rattle.engine_laws.proofs.HeaderCauses.{digest_sound, raw_sound, manifest_sound, image_sound, blob_sound}
@@ -270,41 +268,14 @@ image_row_confines k s image source a accepted = let x = pulling k s source (Som
 plain_registry : (image : Reference) → mirror_of image ≡ None → (if bytes_eq image.registry (codes "docker.io") then codes "index.docker.io" else image.registry) ≡ resolved_registry image
 plain_registry image direct = sym (ap (λ m. unwrap_or m (if bytes_eq image.registry (codes "docker.io") then codes "index.docker.io" else image.registry)) direct)
 
--- the host at which a registry answers is that at which it answers itself
-abbrev answering : List ℕ → List ℕ
-answering registry = if bytes_eq registry (codes "docker.io") then codes "index.docker.io" else registry
+-- ---- the list of referrers
 
-answering_by : (b : Bool) (registry : List ℕ) → bytes_eq registry (codes "docker.io") ≡ b → answering (if b then codes "index.docker.io" else registry) ≡ (if b then codes "index.docker.io" else registry)
-answering_by true registry is = refl
-answering_by false registry is = ap (λ c. if c then codes "index.docker.io" else registry) is
-
-answering_again : (registry : List ℕ) → answering (answering registry) ≡ answering registry
-answering_again registry = answering_by (bytes_eq registry (codes "docker.io")) registry refl
-
--- ---- the list of referrers, where the tag that stands for it is at the same registry
-
-tag_list_confines : (k : Memory) (s : Context) (source : Reference) (a : RegistryAuth) (digest : List ℕ) (kind : Option (List ℕ)) → answering (resolved_registry source) ≡ resolved_registry source → Confines (pulling k s source (Some a)) s.settings (referrers_tagged s source digest kind)
-tag_list_confines k s source a digest kind same = let z = pulling k s (fallback_reference source digest) (Some a) in
-    confines_same k s source (fallback_reference source digest) (Some a) same refl s.settings (referrers_tagged s source digest kind) (confines_by z s.settings (Ended z s.settings manifest_types) (referrers_tagged s source digest kind) (tagged_sound s source digest kind k (Some a)))
-
-list_by_confines : (k : Memory) (s : Context) (source : Reference) (a : RegistryAuth) (digest : List ℕ) (kind : Option (List ℕ)) → answering (resolved_registry source) ≡ resolved_registry source → (got : Got) → Confines (pulling k s source (Some a)) s.settings (referrers_by s source digest kind got)
-list_by_confines k s source a digest kind same got = by_status (nat_eq got.answer.status 404) where
-  by_status : (b : Bool) → Confines (pulling k s source (Some a)) s.settings (if b then referrers_tagged s source digest kind else Done (referrers_in got))
-  by_status true = tag_list_confines k s source a digest kind same
-  by_status false = confines_done _ s.settings (referrers_in got)
-
-list_confines : (k : Memory) (s : Context) (source : Reference) (a : RegistryAuth) (kind : Option (List ℕ)) → answering (resolved_registry source) ≡ resolved_registry source → Confines (pulling k s source (Some a)) s.settings (pull_referrers s source kind)
-unfolding pull_referrers
-list_confines k s source a kind same = let x = pulling k s source (Some a) in
-    confines_next x s.settings (Done (digest_given (digest_of source))) _ (confines_done x s.settings _) (λ digest.
-    confines_next x s.settings (referrers_asked s source digest kind) _ (confines_by x s.settings (Ended x s.settings manifest_types) (referrers_asked s source digest kind) (asked_sound s source digest kind k (Some a))) (λ got.
-    list_by_confines k s source a digest kind same got))
-
-referrers_call_confines : (k : Memory) (s : Context) (source : Reference) (a : RegistryAuth) (kind : Option (List ℕ)) → answering (resolved_registry source) ≡ resolved_registry source → Confines (pulling k s source (Some a)) s.settings (referrers_call s source a kind)
+-- a reference without a mirror: the tag that stands for the list is at the same registry
+referrers_call_confines : (k : Memory) (s : Context) (source : Reference) (a : RegistryAuth) (kind : Option (List ℕ)) → mirror_of source ≡ None → Confines (pulling k s source (Some a)) s.settings (referrers_call s source a kind)
 unfolding referrers_call
-referrers_call_confines k s source a kind same = let x = pulling k s source (Some a) in
+referrers_call_confines k s source a kind direct = let x = pulling k s source (Some a) in
     confines_next x s.settings (in_words calls.FetchManifest source (token_given s source a Pull)) _ (words_confine x s.settings calls.FetchManifest source (token_given s source a Pull) (confines_by x s.settings (Any x) (token_given s source a Pull) (given_safe k s source a Pull))) (λ u.
-    words_confine x s.settings calls.PullManifest source (pull_referrers s source kind) (list_confines k s source a kind same))
+    words_confine x s.settings calls.PullManifest source (pull_referrers s source kind) (confines_by x s.settings (Ended x s.settings manifest_types) (pull_referrers s source kind) (λ l c keeps. referrers_sound s source kind k (Some a) l c (λ digest is. same_registry source digest direct) keeps)))
 
 -- ---- the sources
 
@@ -342,7 +313,7 @@ module _ (k : Memory) (s : Context) (image : Reference) (a : RegistryAuth) (dire
   referrers_confine trust d (x ∷ xs) part = confines_next (pulling k s image (Some a)) s.settings (referrer_row trust d s (digest_reference image d) a x.digest part) _ (referrer_confines trust d x.digest part) (λ more. referrers_confine trust d xs more)
 
   listing_confines : (d : List ℕ) → OfImage (referrers_call s (digest_reference image d) a None)
-  listing_confines d = let source = digest_reference image d in confines_same k s image source (Some a) (plain_registry image direct) refl s.settings (referrers_call s source a None) (referrers_call_confines k s source a None (answering_again image.registry))
+  listing_confines d = let source = digest_reference image d in confines_same k s image source (Some a) (plain_registry image direct) refl s.settings (referrers_call s source a None) (referrers_call_confines k s source a None refl)
 
   listed_confines : (trust : Trust) (d : List ℕ) (part : Part) (r : Result OciImageIndex SigstoreError) → OfImage (listed_row trust d s (digest_reference image d) a part r)
   listed_confines trust d part (Ok index) = referrers_confine trust d index.manifests part
