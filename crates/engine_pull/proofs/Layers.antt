@@ -16,7 +16,7 @@ use Rattle.engine_steps.proofs.Exits.{done}
 use Rattle.engine_pull.specs.Pulls.{held_blob}
 use Rattle.engine_pull.specs.Images.{layer_of, pull_layers}
 
-at_next : {A : Type 0} (xs : List A) (i : ℕ) (x : A) → i < length xs → x ≡ get_or xs i x → drop i xs ≡ x ∷ drop (i + 1) xs
+pub at_next : {A : Type 0} (xs : List A) (i : ℕ) (x : A) → i < length xs → x ≡ get_or xs i x → drop i xs ≡ x ∷ drop (i + 1) xs
 at_next {A} xs i x lt is = rw add-one (drop-cons xs i x lt ∙ ap (λ (y : A). y ∷ drop (suc i) xs) (sym is))
 
 pub layers_end : (s : Context) (image : Reference) (xs : List OciDescriptor) (layers : List ImageLayer) (link : Link) (k : Memory) → xs ≡ [] → Meets is_memory (pull_layers s image xs layers) link link k k (Ok layers)
