@@ -44,7 +44,8 @@ impl ClientBuilder {
             return Ok(self);
         }
         let ClientBuilder {
-            oci_client_config, ..
+            oci_client_config,
+            ..
         } = self;
         Ok(ClientBuilder {
             oci_client_config,

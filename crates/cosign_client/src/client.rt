@@ -71,13 +71,9 @@ impl Client {
             (Some (registry_auth auth.now)) (T.state transport.old) (T.state transport.new) }
     {
         let auth = auth.to_registry(alloc)?;
-        let digest = self.registry_client.fetch_manifest_digest(
-            alloc,
-            transport,
-            moment,
-            image.reference(),
-            &auth,
-        )?;
+        let digest = self
+            .registry_client
+            .fetch_manifest_digest(alloc, transport, moment, image.reference(), &auth)?;
         let tag = oci_tag_reference(alloc, image, digest.as_str())?;
         Ok((tag, digest))
     }

@@ -138,7 +138,14 @@ fn referrer_by<C: ClientCapabilities, T: Transport, V: SignatureVerifier, O: Off
     let reads_back = referrer.image.reads_back(alloc)?;
     if reads_back {
         let image = pull_bundles(alloc, client, transport, referrer);
-        return add_referrer(alloc, referred.trusted, referred.digest, digest, image, part);
+        return add_referrer(
+            alloc,
+            referred.trusted,
+            referred.digest,
+            digest,
+            image,
+            part,
+        );
     }
     let digest = Text::new(alloc, digest)?;
     let text = referrer.image.whole(alloc)?;
@@ -185,7 +192,14 @@ fn each_referrer<C: ClientCapabilities, T: Transport, V: SignatureVerifier, O: O
         (C.state client.old) (C.state client.new) (T.state transport.old) (T.state transport.new) result }
 {
     for entry in entries {
-        part = referrer(alloc, client, transport, referred, entry.digest.as_str(), part)?;
+        part = referrer(
+            alloc,
+            client,
+            transport,
+            referred,
+            entry.digest.as_str(),
+            part,
+        )?;
     }
     Ok(part)
 }
@@ -203,7 +217,12 @@ fn skip_listing(part: Part, refused: SigstoreError) -> Result<Part, SigstoreErro
 }
 
 /// What refers to a digest as a source of signatures, behind what is there.
-pub(crate) fn referrers_source<C: ClientCapabilities, T: Transport, V: SignatureVerifier, O: Offline>(
+pub(crate) fn referrers_source<
+    C: ClientCapabilities,
+    T: Transport,
+    V: SignatureVerifier,
+    O: Offline,
+>(
     alloc: Global,
     client: &mut C,
     transport: &mut T,
