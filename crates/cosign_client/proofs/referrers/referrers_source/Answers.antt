@@ -7,7 +7,7 @@ use Rattle.cosign_client.proofs.referrers.referrers_source.Goals as goal
 
 pub returns-in-Ok : goal.returns-in-Ok
 unfolding referrers_source
-returns-in-Ok g c = λ s. caught _ (rw c.in-Ok.is at (c.pull_referrers-listed.ensures.run s)) (rw c.as_slice.ensures at (c.each_referrer.ensures s))
+returns-in-Ok g c = λ s. caught _ (rw c.in-Ok.is at (c.pull_referrers-listed.ensures.run s)) (rw c.as_slice-entries.ensures at (c.each_referrer.ensures s))
 
 pub returns-in-Err : goal.returns-in-Err
 unfolding referrers_source
