@@ -170,8 +170,8 @@ opened_sound s image layer range k handed l c small keeps =
     Safe-bind (Carries x s.settings) (Keeps x) (λ l c r. Ready x s.settings manifest_types l c r × IfRoom r) (Ended x s.settings manifest_types) (prepared s image Pull Get url manifest_types) (unless_refused (λ request. Done (with_range text request) >>= tried s.settings range layer.digest (places_of layer.urls))) l c
     (Safe-both (Carries x s.settings) (Keeps x) (Ready x s.settings manifest_types) IfRoom (prepared s image Pull Get url manifest_types) l c (prepared_safe x s.settings Get url manifest_types l c keeps) (prepared_room s image Pull Get url manifest_types))
     (by_request text (range_is range text small text_is)))) where
-  by_request : (text : Option (List ℕ)) → Stands text → (l : Memory) (c : List Exchange) (r : Result Request OciDistributionError) → Ready (pulling k s image handed) s.settings manifest_types l c r × IfRoom r → Sound (pulling k s image handed) s.settings manifest_types l c (unless_refused (λ request. Done (with_range text request) >>= tried s.settings range layer.digest (places_of layer.urls)) r)
-  by_request text stands l c (Ok request) h =
-      let x = pulling k s image handed in
-      safe_ready x s.settings manifest_types (Done (with_range text request)) (tried s.settings range layer.digest (places_of layer.urls)) l c (safe_done x s.settings (Ready x s.settings manifest_types) l c (with_range text request) (ranged_ready x s.settings manifest_types l c text request stands h.1 h.0.0 h.0.1)) (λ l c ranged keeps sent. tried_sound x s.settings range layer.digest (places_of layer.urls) ranged l c small sent keeps)
-  by_request text stands l c (Err e) h = safe_done (pulling k s image handed) s.settings (Ended (pulling k s image handed) s.settings manifest_types) l c (Err e) h.0
+      by_request : (text : Option (List ℕ)) → Stands text → (l : Memory) (c : List Exchange) (r : Result Request OciDistributionError) → Ready (pulling k s image handed) s.settings manifest_types l c r × IfRoom r → Sound (pulling k s image handed) s.settings manifest_types l c (unless_refused (λ request. Done (with_range text request) >>= tried s.settings range layer.digest (places_of layer.urls)) r)
+      by_request text stands l c (Ok request) h =
+          let x = pulling k s image handed in
+          safe_ready x s.settings manifest_types (Done (with_range text request)) (tried s.settings range layer.digest (places_of layer.urls)) l c (safe_done x s.settings (Ready x s.settings manifest_types) l c (with_range text request) (ranged_ready x s.settings manifest_types l c text request stands h.1 h.0.0 h.0.1)) (λ l c ranged keeps sent. tried_sound x s.settings range layer.digest (places_of layer.urls) ranged l c small sent keeps)
+      by_request text stands l c (Err e) h = safe_done (pulling k s image handed) s.settings (Ended (pulling k s image handed) s.settings manifest_types) l c (Err e) h.0
