@@ -15,7 +15,7 @@ use Rattle.oci_names.specs.declared.reference.Reference.{Reference}
 use Rattle.oci_names.specs.References.{digest_of, tag_of}
 use Rattle.oci_digests.specs.Names.{Names, digest_text, name_of, hash_of}
 use Rattle.oci_digests.specs.Checks.{header_digest as digest_in, is_header_text, and_then, validated}
-use Rattle.oci_digests.specs.Parts.{parts_of, named_algorithm}
+use Rattle.oci_digests.specs.Parts.{parts_of, named_by, named_algorithm}
 use Rattle.oci_digests.specs.declared.digester.Algorithm.{Algorithm}
 use Rattle.oci_digests.specs.declared.digester.Algorithm.TheVariants.{Sha256, Sha384, Sha512}
 use Rattle.oci_digests.specs.declared.error.DigestError.{DigestError}
@@ -41,6 +41,7 @@ use Rattle.engine_requests.specs.declared.blobs.Expected.{Expected}
 use Rattle.engine_requests.specs.declared.blobs.Plan.{Plan}
 use Rattle.engine_requests.specs.declared.blobs.Plan.TheVariants.{Refuse, Judge, Pour}
 use Rattle.engine_requests.specs.declared.error.OciDistributionError.{OciDistributionError}
+use Rattle.engine_requests.specs.declared.error.OciDistributionError.TheVariants as engine_refusal
 use Rattle.engine_requests.specs.declared.settings.Settings.{Settings}
 use Rattle.engine_requests.specs.Addresses.{manifest_name, manifest_text, blob_text, url_read}
 use Rattle.engine_requests.specs.Answers.{accepted, or_digest_error, header_digest, body_digest, answer_digest, document_in, agreed, fits_reference, refused_answer, is_success}
@@ -120,8 +121,8 @@ pub record IsGood (digest body : List ℕ) (x : Answer) : Type 0 where
   pub names : first_of digest_header x.headers ≡ Some digest
   pub body_is : x.body ≡ body
 
-header_is : {digest bytes body : List ℕ} {x : Answer} → Names digest bytes → IsGood digest body x → header_digest x.headers ≡ Ok (Some digest)
-header_is {digest} {bytes} named good = ap (λ o. or_digest_error (digest_in o)) good.names ∙ ap or_digest_error (digest_in_is digest bytes named)
+header_is : (digest bytes : List ℕ) {body : List ℕ} {x : Answer} → Names digest bytes → IsGood digest body x → header_digest x.headers ≡ Ok (Some digest)
+header_is digest bytes named good = ap (λ o. or_digest_error (digest_in o)) good.names ∙ ap or_digest_error (digest_in_is digest bytes named)
 
 accepted_is : (url : List ℕ) (x : Answer) → x.status ≡ 200 → accepted url x ≡ Ok x
 accepted_is url x is = ap (λ n. if nat_eq n 200 then Ok x else Err (refused_answer url x)) is
@@ -139,7 +140,7 @@ body_is_named bytes digest (Some own) named other =
 pub document_is : (image : Reference) (got : Got) (digest bytes : List ℕ) → Names digest bytes → NoOther (digest_of image) digest → IsGood digest bytes got.answer → document_in image got ≡ Ok (bytes, digest)
 document_is image got digest bytes named other good =
     ap (λ r. r into λ x. answer_digest image x into λ d. Ok (x.body, d)) (accepted_is got.url got.answer good.status)
-    ∙ ap (λ r. (r into λ header. body_digest got.answer.body header (digest_of image)) into λ d. Ok (got.answer.body, d)) (header_is named good)
+    ∙ ap (λ r. (r into λ header. body_digest got.answer.body header (digest_of image)) into λ d. Ok (got.answer.body, d)) (header_is digest bytes named good)
     ∙ ap (λ (b : List ℕ). body_digest b (Some digest) (digest_of image) into λ d. Ok (b, d)) good.body_is
     ∙ ap (λ r. r into λ d. Ok (bytes, d)) (body_is_named bytes digest (digest_of image) named other)
 
@@ -153,7 +154,10 @@ agrees digest o parts is =
     ∙ ap (λ b. if b then Err (digest_refusal.VerificationError digest digest) else Ok digest) (never_other (bytes_eq parts.0 parts.0) (bytes_eq digest digest) ((bytes_eq-Decides digest digest).1 refl))
 
 named_parts : (digest bytes : List ℕ) → Names digest bytes → (parts : List ℕ × List ℕ) × (parts_of digest ≡ Some parts)
-named_parts digest bytes named = ?
+named_parts digest bytes (a, is) = by_parts (parts_of digest) (ap named_algorithm is ∙ algorithm_named a (encode_lower (hash_of a bytes))) where
+  by_parts : (o : Option (List ℕ × List ℕ)) → named_by o ≡ Ok a → (parts : List ℕ × List ℕ) × (o ≡ Some parts)
+  by_parts None wrong = absurd (cc wrong)
+  by_parts (Some parts) right = (parts, refl)
 
 fits_is : (digest bytes : List ℕ) (reference : Option (List ℕ)) → Names digest bytes → NoOther reference digest → fits_reference digest reference ≡ Ok digest
 fits_is digest bytes None named other = refl
@@ -171,3 +175,147 @@ document_good method digest bytes document named content get = subst (λ m. IsGo
 
 head_good : (digest bytes : List ℕ) (document : ShelfDocument) → Names digest bytes → IsGood digest [] (document_answer Head digest (Some document))
 head_good digest bytes document named = record { status = refl; names = type_keeps (with_digest digest) document.media_type ∙ digest_first digest (digest_value digest bytes named); body_is = refl }
+
+colon_in : (a : Algorithm) (bytes : List ℕ) → list_any is_colon (digest_text a bytes) ≡ true
+colon_in Sha256 bytes = refl
+colon_in Sha384 bytes = refl
+colon_in Sha512 bytes = refl
+
+-- a digest is its own name
+pub digest_itself : (shelf : Shelf) (digest bytes : List ℕ) → Names digest bytes → digest_named shelf digest ≡ Some digest
+digest_itself shelf digest bytes (a, is) = ap (λ b. if b then Some digest else map.get shelf.tags digest) (ap (list_any is_colon) is ∙ colon_in a bytes)
+
+blob_good : (digest blob : List ℕ) → Names digest blob → IsGood digest blob (bytes_answer (with_digest digest) (Some blob))
+blob_good digest blob named = record { status = refl; names = digest_first digest (digest_value digest blob named); body_is = refl }
+
+-- ---- how a blob's answer is read
+
+abbrev own_expected : List ℕ → Algorithm → Expected
+own_expected digest a = record { text = digest; algorithm = a }
+
+expected_is : (digest : List ℕ) (a : Algorithm) (bytes : List ℕ) → digest ≡ digest_text a bytes → digest_expected digest ≡ Ok (own_expected digest a)
+expected_is digest a bytes is = ap (λ r. and_then r (λ b. Ok (own_expected digest b))) (ap named_algorithm is ∙ algorithm_named a (encode_lower (hash_of a bytes)))
+
+plan_is : (digest : List ℕ) (a : Algorithm) (bytes : List ℕ) (x : Answer) → digest ≡ digest_text a bytes → IsGood digest bytes x → plan_of digest (head_part x) ≡ Pour (Some (own_expected digest a)) (own_expected digest a)
+unfolding plan_of
+plan_is digest a bytes x is good =
+    ap (λ o. planned (and_then (digest_in o) (plan_by (is_success x.status) digest))) good.names
+    ∙ ap (λ r. planned (and_then r (plan_by (is_success x.status) digest))) (digest_in_is digest bytes (a, is))
+    ∙ ap (λ n. planned (plan_by (is_success n) digest (Some digest))) good.status
+    ∙ ap (λ r. planned (and_then (and_then r (λ e. Ok (Some e))) (λ given. and_then r (λ own. Ok (pouring true given own))))) (expected_is digest a bytes is)
+
+compared_is : (digest : List ℕ) (a : Algorithm) (bytes : List ℕ) → digest ≡ digest_text a bytes → compared (own_expected digest a) bytes ≡ Ok tt
+compared_is digest a bytes is = by_test (bytes_eq digest (digest_text a bytes)) ((bytes_eq-Decides digest (digest_text a bytes)).1 is) where
+  by_test : (b : Bool) → b ≡ true → (let r : Result (Unit {0}) OciDistributionError = if b then Ok tt else Err (engine_refusal.DigestError (digest_refusal.VerificationError digest (digest_text a bytes))) in r) ≡ Ok tt
+  by_test true is = refl
+  by_test false is = absurd (cc is)
+
+blob_read : (digest url : List ℕ) (a : Algorithm) (bytes : List ℕ) (x : Answer) → digest ≡ digest_text a bytes → IsGood digest bytes x → read_by url x (plan_of digest (head_part x)) ≡ Ok bytes
+blob_read digest url a bytes x is good =
+    ap (read_by url x) (plan_is digest a bytes x is good)
+    ∙ ap (λ (body : List ℕ). (compared (own_expected digest a) body and compared (own_expected digest a) body) and Ok body) good.body_is
+    ∙ ap (λ r. (r and r) and Ok bytes) (compared_is digest a bytes is)
+
+-- ---- the rows
+
+module _ {s : Settings} {registry : List ℕ} {shelf : Shelf} (home : Home s registry shelf) (short : IsShort s shelf) (image : Reference) (at : IsAt registry shelf image) (a : RegistryAuth) (can : CanBeShown a) (moment : ℕ) where
+  abbrev I : Memory → Type 0
+  I k = Settled registry shelf.repository a k
+
+  abbrev ctx : Context
+  ctx = record { settings = s; moment = moment }
+
+  abbrev limit : ℕ
+  limit = s.max_body_bytes
+
+  whole_gives : (request : Request) (x : Answer) (digest bytes : List ℕ) → answer shelf request ≡ x → IsGood digest bytes x → length bytes ≤ limit → Gives I (answer shelf) (λ got. IsGood digest bytes got.answer) (whole 10 request limit)
+  unfolding whole read_within Comes
+  whole_gives request x digest bytes is good le = record {
+    gives = λ k h. Comes-follow (answer shelf) (λ l r. I l × Yields (λ got. IsGood digest bytes got.answer) r) 10 request (read_within limit) whole_reply x k is (stands_200 10 request x good.status) tt
+        (subst (λ reply. Comes (answer shelf) (λ l r. I l × Yields (λ got. IsGood digest bytes got.answer) r) (whole_reply request reply) k) (sym (within_reads limit x (subst (λ (b : List ℕ). length b ≤ limit) (sym good.body_is) le))) (h, good));
+  }
+
+  attempt_gives : (request : Request) (x : Answer) (digest bytes : List ℕ) → answer shelf request ≡ x → Names digest bytes → IsGood digest bytes x → length bytes ≤ limit → Gives I (answer shelf) (λ (b : List ℕ). b ≡ bytes) (attempt IntoMemory limit digest request)
+  unfolding attempt blob_reading Comes
+  attempt_gives request x digest bytes is (alg, named) good le = record {
+    gives = λ k h.
+        let reading : blob_reading IntoMemory limit digest (head_part x) ≡ Within limit = ap (reading_by IntoMemory limit) (plan_is digest alg bytes x named good) in
+        Comes-follow (answer shelf) (λ l r. I l × Yields (λ (b : List ℕ). b ≡ bytes) r) 10 request (blob_reading IntoMemory limit digest) (blob_reply digest) x k is (stands_200 10 request x good.status)
+        (subst IsHeld (sym reading) tt)
+        (subst (λ (way : Reading). Comes (answer shelf) (λ l r. I l × Yields (λ (b : List ℕ). b ≡ bytes) r) (blob_reply digest request (reply_of way x)) k) (sym reading)
+        (subst (λ reply. Comes (answer shelf) (λ l r. I l × Yields (λ (b : List ℕ). b ≡ bytes) r) (blob_reply digest request reply) k) (sym (within_reads limit x (subst (λ (b : List ℕ). length b ≤ limit) (sym good.body_is) le)))
+        (h, yields_ok (λ (b : List ℕ). b ≡ bytes) (read_by request.url x (plan_of digest (head_part x))) bytes (blob_read digest request.url alg bytes x named good) refl)));
+  }
+
+  named_gives : (request : Request) (x : Answer) (digest bytes : List ℕ) → answer shelf request ≡ x → Names digest bytes → IsGood digest [] x → Gives I (answer shelf) (λ n. (got : Got) × (n ≡ ByHeader digest got) × (got.answer.status ≡ 200)) (named_after 10 request limit)
+  unfolding named_after named_reading Comes
+  named_gives request x digest bytes is named good = record {
+    gives = λ k h.
+        let P : Named → Type 0 = λ n. (got : Got) × (n ≡ ByHeader digest got) × (got.answer.status ≡ 200) in
+        let reading : named_reading limit (head_part x) ≡ Within limit = ap (reading_named limit) (header_is digest bytes named good) in
+        let got : Got = record { url = request.url; answer = x } in
+        Comes-follow (answer shelf) (λ l r. I l × Yields P r) 10 request (named_reading limit) named_reply x k is (stands_200 10 request x good.status)
+        (subst IsHeld (sym reading) tt)
+        (subst (λ (way : Reading). Comes (answer shelf) (λ l r. I l × Yields P r) (named_reply request (reply_of way x)) k) (sym reading)
+        (subst (λ reply. Comes (answer shelf) (λ l r. I l × Yields P r) (named_reply request reply) k) (sym (within_reads limit x (subst (λ (b : List ℕ). length b ≤ limit) (sym good.body_is) (omega arith))))
+        (h, yields_ok P (read_named got (header_digest x.headers)) (ByHeader digest got) (ap (read_named got) (header_is digest bytes named good)) (got, refl, good.status))));
+  }
+
+  abbrev name_of_image : List ℕ
+  name_of_image = manifest_name (digest_of image) (tag_of image)
+
+  -- the document of the image's digest or tag is at its URL
+  shelf_document : (method : Method) (digest bytes : List ℕ) (has : HasDocument shelf digest bytes) (request : Request) → Segment name_of_image → digest_named shelf name_of_image ≡ Some digest → is_get_or_head method ≡ true → IsFor method (front_of s registry ++ item_path shelf.repository (codes "manifests") name_of_image) request → answer shelf request ≡ document_answer method digest (Some has.document)
+  shelf_document method digest bytes has request segment points get is =
+      answers_manifest home request name_of_image segment is.url_is ∙ ap (λ m. manifest_answer shelf m name_of_image) is.method_is
+      ∙ ap (λ b. if b then digest_answer shelf method (digest_named shelf name_of_image) else not_found) get ∙ ap (digest_answer shelf method) points ∙ ap (document_answer method digest) has.there
+
+  has_short : (digest bytes : List ℕ) (has : HasDocument shelf digest bytes) → length bytes ≤ limit
+  has_short digest bytes has = subst (λ (b : List ℕ). length b ≤ limit) has.content (short.documents digest has.document has.there)
+
+  manifests_plain : Segment name_of_image → PlainPath (item_path shelf.repository (codes "manifests") name_of_image)
+  manifests_plain segment = item_plain shelf.repository (codes "manifests") name_of_image home.path (109, codes "anifests", refl, refl, refl) segment
+
+  document_gives : (digest bytes types : List ℕ) (url : Parts) → HasDocument shelf digest bytes → Segment name_of_image → digest_named shelf name_of_image ≡ Some digest → NoOther (digest_of image) digest → is_header_value types ≡ true
+      → serialize url ≡ front_of s registry ++ item_path shelf.repository (codes "manifests") name_of_image → Gives I (answer shelf) (λ found. found ≡ (bytes, digest)) (document ctx image url types)
+  unfolding document
+  document_gives digest bytes types url has segment points other listed text =
+      Gives-next _ (prepared_gives home image at a can moment Get url types listed) (λ request is.
+      Gives-next _ (whole_gives request (document_answer Get digest (Some has.document)) digest bytes (shelf_document Get digest bytes has request segment points refl (record { method_is = is.method_is; url_is = is.url_is ∙ text })) (document_good Get digest bytes has.document has.named has.content refl) (has_short digest bytes has)) (λ got good.
+      Gives-done (document_in image got) (yields_ok (λ found. found ≡ (bytes, digest)) (document_in image got) (bytes, digest) (document_is image got digest bytes has.named other good) refl)))
+
+  -- the document of the image, with credentials that are handed in
+  pub raw_gives : (digest bytes types : List ℕ) → HasDocument shelf digest bytes → Segment name_of_image → digest_named shelf name_of_image ≡ Some digest → NoOther (digest_of image) digest → is_header_value types ≡ true → Gives I (answer shelf) (λ found. found ≡ (bytes, digest)) (pull_manifest_raw ctx image a types)
+  unfolding pull_manifest_raw manifest_document
+  raw_gives digest bytes types has segment points other listed =
+      Gives-next _ (store_gives home image at a can moment) (λ u stored_is.
+      Gives-next _ (Gives-done (url_read (manifest_text s image)) (url_reads home (manifest_text s image) (item_path shelf.repository (codes "manifests") name_of_image) (manifest_text_is home at) (manifests_plain segment))) (λ url is.
+      document_gives digest bytes types url has segment points other listed is.text_is))
+
+  fitting : (digest bytes : List ℕ) (url : Parts) (got : Got) → Names digest bytes → NoOther (digest_of image) digest → got.answer.status ≡ 200 → Gives I (answer shelf) (λ (d : List ℕ). d ≡ digest) (digest_by ctx image url (ByHeader digest got))
+  fitting digest bytes url got named other good =
+      Gives-next _ (Gives-done (accepted got.url got.answer) (yields_ok (λ (x : Answer). Unit {0}) (accepted got.url got.answer) got.answer (accepted_is got.url got.answer good) tt)) (λ x u.
+      Gives-done (fits_reference digest (digest_of image)) (yields_ok (λ (d : List ℕ). d ≡ digest) (fits_reference digest (digest_of image)) digest (fits_is digest bytes (digest_of image) named other) refl))
+
+  -- its digest
+  pub digest_gives : (digest bytes : List ℕ) → HasDocument shelf digest bytes → Segment name_of_image → digest_named shelf name_of_image ≡ Some digest → NoOther (digest_of image) digest → Gives I (answer shelf) (λ (d : List ℕ). d ≡ digest) (fetch_manifest_digest ctx image a)
+  unfolding fetch_manifest_digest
+  digest_gives digest bytes has segment points other =
+      Gives-next _ (store_gives home image at a can moment) (λ u stored_is.
+      Gives-next _ (Gives-done (url_read (manifest_text s image)) (url_reads home (manifest_text s image) (item_path shelf.repository (codes "manifests") name_of_image) (manifest_text_is home at) (manifests_plain segment))) (λ url is.
+      Gives-next _ (prepared_gives home image at a can moment Head url manifest_types refl) (λ request made.
+      Gives-next _ (named_gives request (document_answer Head digest (Some has.document)) digest bytes (shelf_document Head digest bytes has request segment points refl (record { method_is = made.method_is; url_is = made.url_is ∙ is.text_is })) has.named (head_good digest bytes has.document has.named)) (λ n found.
+      subst (λ n. Gives I (answer shelf) (λ (d : List ℕ). d ≡ digest) (digest_by ctx image url n)) (sym found.1) (fitting digest bytes url found.0 has.named other found.2)))))
+
+  -- a blob
+  pub blob_gives : (digest : List ℕ) → HasBlob shelf digest → Gives I (answer shelf) (λ (b : List ℕ). Names digest b) (held_blob ctx image digest)
+  unfolding blob_to
+  blob_gives digest has =
+      let segment = named_segment digest has.blob has.named in
+      Gives-next _ (Gives-done (url_read (blob_text s image digest)) (url_reads home (blob_text s image digest) (item_path shelf.repository (codes "blobs") digest) (blob_text_is home at digest) (item_plain shelf.repository (codes "blobs") digest home.path (98, codes "lobs", refl, refl, refl) segment))) (λ url is.
+      Gives-next _ (prepared_gives home image at a can moment Get url manifest_types refl) (λ request made.
+      Gives-more (λ (b : List ℕ). Names digest b)
+      (attempt_gives request (bytes_answer (with_digest digest) (Some has.blob)) digest has.blob
+      (answers_blob home request digest segment (made.url_is ∙ is.text_is) ∙ ap (λ m. blob_answer shelf m digest) made.method_is ∙ ap (bytes_answer (with_digest digest)) has.there)
+      has.named (blob_good digest has.blob has.named) (short.blobs digest has.blob has.there))
+      (λ b same. subst (Names digest) (sym same) has.named)))

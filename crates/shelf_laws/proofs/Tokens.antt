@@ -98,7 +98,7 @@ module _ {s : Settings} {registry : List ℕ} {shelf : Shelf} (home : Home s reg
   abbrev ctx : Context
   ctx = record { settings = s; moment = moment }
 
-  store_gives : Gives I (answer shelf) (λ u. Unit {0}) (store image a)
+  pub store_gives : Gives I (answer shelf) (λ u. Unit {0}) (store image a)
   unfolding store Comes bind
   store_gives = record { gives = λ k h. (subst (λ (r : List ℕ). Settled registry shelf.repository a (stored k r a)) (sym at.registry_is) (settled_stored registry shelf.repository a k h), tt) }
 
