@@ -12,3 +12,4 @@ pub mod LayerTexts
 pub mod Leads
 pub mod Reading
 pub mod Refusals
+pub mod ShelfPulls

@@ -14,7 +14,7 @@ use Rattle.oci_protocol.specs.Ends.{UnlessMemory}
 use Rattle.oci_protocol.specs.Follow.{unread_if, turned, go_if, turn, follow}
 use Rattle.oci_protocol.specs.Drive.{reply_of}
 use Rattle.oci_protocol.proofs.Laws.{Runs-count}
-use Rattle.shelf_laws.specs.Comes.{IsHeld, Comes, Yields, Gives, Stays}
+use Rattle.shelf_laws.specs.Comes.{IsHeld, Comes, Yields, OrMemory, Gives, Stays, Reaches}
 
 -- ---- steps
 
@@ -76,6 +76,36 @@ module _ {K : Type 0} {I : K → Type 0} {table : Request → Answer} where
     by_result : (r : Result A E) → Stays I table (unless_refused f r)
     by_result (Ok a) = next a
     by_result (Err e) = Stays-done (Err e)
+
+-- ---- steps whose answer may be that memory was wanting
+
+module _ {K : Type 0} {I : K → Type 0} {table : Request → Answer} where
+  pub Reaches-done : {A : Type 0} {Q : A → Type 0} (a : A) → Q a → Reaches I table Q (Done a)
+  unfolding Comes
+  Reaches-done a h = record { reaches = λ k is. (is, h) }
+
+  pub Reaches-bind : {A B : Type 0} {P : A → Type 0} {Q : B → Type 0} {p : Proto K A} (f : A → Proto K B) → Reaches I table P p → ((a : A) → P a → Reaches I table Q (f a)) → Reaches I table Q (bind p f)
+  Reaches-bind {A} {B} {P} {Q} {p} f h next = record { reaches = λ k is. Comes-bind table (λ l a. I l × P a) (λ l b. I l × Q b) p f k (h.reaches k is) (λ l a found. (next a found.1).reaches l found.0) }
+
+  pub Reaches-gives : {A E : Type 0} {P : A → Type 0} {p : Proto K (Result A E)} → Gives I table P p → Reaches I table (Yields P) p
+  Reaches-gives h = record { reaches = h.gives }
+
+  pub Reaches-stays : {A : Type 0} {p : Proto K A} → Stays I table p → Reaches I table (λ a. Unit {0}) p
+  Reaches-stays {A} {p} h = record { reaches = λ k is. Comes-more table (λ l a. I l) (λ l a. I l × Unit {0}) p k (h.stays k is) (λ l a stays. (stays, tt)) }
+
+  -- a part that is not refused, and then what its answer gives
+  pub Reaches-after : {A B E : Type 0} {P : A → Type 0} {Q : Result B E → Type 0} {p : Proto K (Result A E)} (f : A → Proto K (Result B E)) → Gives I table P p → ((a : A) → P a → Reaches I table Q (f a)) → Reaches I table Q (p >>= f)
+  Reaches-after {A} {B} {E} {P} {Q} {p} f h next = Reaches-bind (unless_refused f) (Reaches-gives h) by_result where
+    by_result : (r : Result A E) → Yields P r → Reaches I table Q (unless_refused f r)
+    by_result (Ok a) is = next a is
+    by_result (Err e) is = absurd is
+
+  -- a part where memory may be wanting, and then what its answer gives
+  pub Reaches-next : {A B E : Type 0} {of_memory : E → Bool} {P : A → Type 0} {Q : B → Type 0} {p : Proto K (Result A E)} (f : A → Proto K (Result B E)) → Reaches I table (OrMemory of_memory P) p → ((a : A) → P a → Reaches I table (OrMemory of_memory Q) (f a)) → Reaches I table (OrMemory of_memory Q) (p >>= f)
+  Reaches-next {A} {B} {E} {of_memory} {P} {Q} {p} f h next = Reaches-bind (unless_refused f) h by_result where
+    by_result : (r : Result A E) → OrMemory of_memory P r → Reaches I table (OrMemory of_memory Q) (unless_refused f r)
+    by_result (Ok a) is = next a is
+    by_result (Err e) is = Reaches-done (Err e) is
 
 -- ---- requests
 

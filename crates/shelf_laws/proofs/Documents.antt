@@ -308,14 +308,12 @@ module _ {s : Settings} {registry : List ℕ} {shelf : Shelf} (home : Home s reg
       subst (λ n. Gives I (answer shelf) (λ (d : List ℕ). d ≡ digest) (digest_by ctx image url n)) (sym found.1) (fitting digest bytes url found.0 has.named other found.2)))))
 
   -- a blob
-  pub blob_gives : (digest : List ℕ) → HasBlob shelf digest → Gives I (answer shelf) (λ (b : List ℕ). Names digest b) (held_blob ctx image digest)
+  pub blob_gives : (digest : List ℕ) (has : HasBlob shelf digest) → Gives I (answer shelf) (λ (b : List ℕ). b ≡ has.blob) (held_blob ctx image digest)
   unfolding blob_to
   blob_gives digest has =
       let segment = named_segment digest has.blob has.named in
       Gives-next _ (Gives-done (url_read (blob_text s image digest)) (url_reads home (blob_text s image digest) (item_path shelf.repository (codes "blobs") digest) (blob_text_is home at digest) (item_plain shelf.repository (codes "blobs") digest home.path (98, codes "lobs", refl, refl, refl) segment))) (λ url is.
       Gives-next _ (prepared_gives home image at a can moment Get url manifest_types refl) (λ request made.
-      Gives-more (λ (b : List ℕ). Names digest b)
-      (attempt_gives request (bytes_answer (with_digest digest) (Some has.blob)) digest has.blob
+      attempt_gives request (bytes_answer (with_digest digest) (Some has.blob)) digest has.blob
       (answers_blob home request digest segment (made.url_is ∙ is.text_is) ∙ ap (λ m. blob_answer shelf m digest) made.method_is ∙ ap (bytes_answer (with_digest digest)) has.there)
-      has.named (blob_good digest has.blob has.named) (short.blobs digest has.blob has.there))
-      (λ b same. subst (Names digest) (sym same) has.named)))
+      has.named (blob_good digest has.blob has.named) (short.blobs digest has.blob has.there)))

@@ -1,5 +1,5 @@
 -- What a protocol comes to where each request is answered by a table and nothing fails.
-use Rattle.std.specs.Prelude.{ℕ, Result, Ok, Err}
+use Rattle.std.specs.Prelude.{◌≡◌, ℕ, Bool, true, Result, Ok, Err}
 use Rattle.oci_transport.specs.declared.message.Request.{Request}
 use Rattle.oci_transport.specs.declared.message.Answer.{Answer}
 use Rattle.oci_protocol.specs.Proto.{Reading, Unread, Within, Piped, Proto, Done, Ask, Recall, Keep}
@@ -36,3 +36,13 @@ pub record Gives {K A E : Type 0} (I : K → Type 0) (table : Request → Answer
 -- it stays so of what is kept, whatever the answer
 pub record Stays {K A : Type 0} (I : K → Type 0) (table : Request → Answer) (p : Proto K A) : Type 0 where
   pub stays : (k : K) → I k → Comes table (λ l r. I l) p k
+
+-- an answer of which this is so, or an error of memory
+abbrev pub OrMemory : {A E : Type 0} → (E → Bool) → (A → Type 0) → Result A E → Type 0
+OrMemory of_memory P (Ok a) = P a
+OrMemory of_memory P (Err e) = of_memory e ≡ true
+
+-- where this is so of what is kept, that is so of the answer, and it stays so of what is kept
+pub record Reaches {K A : Type 0} (I : K → Type 0) (table : Request → Answer) (Q : A → Type 0) (p : Proto K A)
+    : Type 0 where
+  pub reaches : (k : K) → I k → Comes table (λ l a. I l × Q a) p k

@@ -1,5 +1,5 @@
 -- Which images a shelf has (OCI image specification, "Image Manifest", "Image Index").
-use Rattle.std.specs.Prelude.{◌≡◌, ◌<◌, ◌≤◌, ℕ, List, length, Some, Ok, Contains}
+use Rattle.std.specs.Prelude.{◌≡◌, ◌<◌, ◌≤◌, ℕ, List, [], length, map as each, unwrap_or, Some, Ok, Contains}
 use Rattle.std.specs.List.{All}
 use Rattle.std.specs.FinMap as map
 use Rattle.oci_digests.specs.Names.{Names}
@@ -7,11 +7,13 @@ use Rattle.oci_manifests.specs.declared.document.OciManifest.{OciManifest}
 use Rattle.oci_manifests.specs.declared.document.OciManifest.TheVariants.{Image, ImageIndex}
 use Rattle.oci_manifests.specs.declared.manifest.OciImageManifest.{OciImageManifest}
 use Rattle.oci_manifests.specs.declared.descriptor.OciDescriptor.{OciDescriptor}
+use Rattle.oci_manifests.specs.declared.blob.ImageLayer.{ImageLayer}
 use Rattle.oci_link.specs.declared.shelf.Shelf.{Shelf}
 use Rattle.oci_link.specs.declared.shelf.ShelfDocument.{ShelfDocument}
 use Rattle.engine_requests.specs.declared.settings.Settings.{Settings}
 use Rattle.engine_requests.specs.Documents.{document_read}
 use Rattle.engine_requests.specs.Index.{entry_found}
+use Rattle.engine_pull.specs.Images.{layer_of}
 
 -- no document, blob or list of referrers is longer than a body may be
 pub record IsShort (s : Settings) (shelf : Shelf) : Type 0 where
@@ -64,3 +66,11 @@ pub record ImageOn (s : Settings) (shelf : Shelf) (digest : List ℕ) (accepted 
   pub manifest : OciImageManifest
   pub leads : LeadsTo s shelf document manifest
   pub blobs : HasBlobs shelf accepted manifest
+
+-- what the shelf has under the digest of a layer
+abbrev pub layer_on : Shelf → OciDescriptor → ImageLayer
+layer_on shelf x = layer_of x (unwrap_or (map.get shelf.blobs x.digest) [])
+
+-- the layers that a pull of these descriptors gives
+abbrev pub layers_on : Shelf → List OciDescriptor → List ImageLayer
+layers_on shelf xs = each (layer_on shelf) xs
