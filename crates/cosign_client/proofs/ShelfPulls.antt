@@ -23,6 +23,8 @@ use Rattle.oci_manifests.specs.declared.manifest.OciImageManifest.{OciImageManif
 use Rattle.oci_manifests.specs.declared.descriptor.OciDescriptor.{OciDescriptor}
 use Rattle.oci_manifests.specs.declared.blob.ImageLayer.{ImageLayer}
 use Rattle.oci_transport.specs.Link.{Link}
+use Rattle.oci_transport.specs.declared.message.Request.{Request}
+use Rattle.oci_transport.specs.declared.message.Answer.{Answer}
 use Rattle.oci_protocol.specs.Proto.{Proto, Done, bind, ◌>>=◌, ◌>>◌}
 use Rattle.oci_protocol.specs.Runs.{Meets}
 use Rattle.oci_protocol.specs.Ends.{UnlessMemory}
@@ -72,14 +74,10 @@ use Rattle.cosign_client.specs.References.{dashed, with_dashes, signature_tag, t
 use Rattle.cosign_client.specs.Refusal.{is_memory}
 use Rattle.cosign_client.specs.Search.{payload_type, document_part, tag_layers, or_skipped, tag_by, tag_source, trusted_layers, searched}
 use Rattle.cosign_client.specs.Verified.{Whole, constrained, is_unconstrained, readable_by, readable, as_whole, part_of, stands_by, standing_by, standing, verified_image, after_standing, after_search, verified}
-use Rattle.cosign_client.specs.declared.found.Part.{Part}
 use Rattle.cosign_client.specs.declared.found.SourceKind.TheVariants.{Tag as ByTag}
 use Rattle.cosign_client.specs.declared.found.TrustedLayers.{TrustedLayers}
-use Rattle.cosign_client.specs.declared.pull.Pulled.{Pulled}
-use Rattle.cosign_client.specs.declared.pull.PulledManifest.{PulledManifest}
 use Rattle.cosign_client.specs.declared.refusal.PullRefusal.{PullRefusal}
 use Rattle.cosign_client.specs.declared.refusal.PullRefusal.TheVariants as refusal
-use Rattle.cosign_client.specs.declared.verified.Standing.{Standing}
 use Rattle.cosign_client.specs.Shelves.{IsSha256, digest_on, read_on, HasSignature, IsAsked, ValidShelf, AnswersFrom, IsSettled, OkOrMemory}
 
 -- ---- some layer stands
@@ -115,13 +113,13 @@ stood p trust d layers x layer reads passes (y ∷ xs) (suc k) lt is =
 
 -- ---- calls in words
 
-module _ {I : Kept → Type 0} {shelf : Shelf} where
-  words_give : {A : Type 0} {P : A → Type 0} {p : Engine A} (called : Called) (image : Reference) → Gives I (answer shelf) P p → Gives I (answer shelf) P (in_words called image p)
+module _ {I : Kept → Type 0} {table : Request → Answer} where
+  words_give : {A : Type 0} {P : A → Type 0} {p : Engine A} (called : Called) (image : Reference) → Gives I table P p → Gives I table P (in_words called image p)
   unfolding in_words
   words_give called image h = Gives-caught (λ r. Done (worded called (whole_text image) r)) h (λ a is. Gives-done (Ok a) is)
 
   -- a step with no request, which is not refused
-  said : {A : Type 0} (called : Called) (text : List ℕ) (r : Result A OciDistributionError) (a : A) → r ≡ Ok a → Gives I (answer shelf) (λ (x : A). x ≡ a) (let p : Row A = Done (worded called text r) in p)
+  said : {A : Type 0} (called : Called) (text : List ℕ) (r : Result A OciDistributionError) (a : A) → r ≡ Ok a → Gives I table (λ (x : A). x ≡ a) (let p : Row A = Done (worded called text r) in p)
   said called text r a is = Gives-done (worded called text r) (yields_ok (λ x. x ≡ a) (worded called text r) a (ap (λ (x : Result _ OciDistributionError). worded called text x) is) refl)
 
 -- ---- the document of the image's digest
@@ -190,7 +188,7 @@ module _ {V : Type 0} {H : V → Type 0} (meaning : Meaning V H) (s : Settings) 
   digest_back : reads_back (digest_reference image digest) ≡ true
   digest_back = digest_reads_back image spelling digest (ap is_digest digest_is ∙ sha256_is_digest first) (ap digest_refusal digest_is ∙ sha256_is_known first)
 
-  signatures_on : ImageOn s shelf valid.signatures (payload_type ∷ [])
+  abbrev signatures_on : ImageOn s shelf valid.signatures (payload_type ∷ [])
   signatures_on = record { first = valid.signed.0; there = valid.signed.1; document = Image valid.manifest; reads = valid.signed.2; manifest = valid.manifest; leads = refl; blobs = valid.payloads }
 
   -- ---- the search
@@ -242,10 +240,10 @@ module _ {V : Type 0} {H : V → Type 0} (meaning : Meaning V H) (s : Settings) 
   unfolding blob_call
   blob_row_gives x has = Gives-more (λ (b : List ℕ). Unit {0}) (words_give Pull source (blob_gives home valid.short source at_digest a can moment x has)) (λ b is. tt)
 
-  layers_row_give : (xs : List OciDescriptor) (before : List ImageLayer) → All (HasLayer shelf accepted) xs → Gives I (answer shelf) (λ (layers : List ImageLayer). Unit {0}) (layers_row ctx source xs before)
+  layers_row_give : (xs : List OciDescriptor) (given : List ImageLayer) → All (HasLayer shelf accepted) xs → Gives I (answer shelf) (λ (layers : List ImageLayer). Unit {0}) (layers_row ctx source xs given)
   unfolding layers_row
-  layers_row_give [] before all = Gives-done (Ok before) tt
-  layers_row_give (x ∷ xs) before all = Gives-next _ (blob_row_gives x.digest (All-head (HasLayer shelf accepted) x xs all).0) (λ content u. layers_row_give xs (before ++ layer_of x content ∷ []) (All-tail (HasLayer shelf accepted) x xs all))
+  layers_row_give [] given all = Gives-done (Ok given) tt
+  layers_row_give (x ∷ xs) given all = Gives-next _ (blob_row_gives x.digest (All-head (HasLayer shelf accepted) x xs all).0) (λ content u. layers_row_give xs (given ++ layer_of x content ∷ []) (All-tail (HasLayer shelf accepted) x xs all))
 
   blobs_row_gives : Gives I (answer shelf) (λ p. Unit {0}) (blobs_row ctx source accepted valid.image_on.manifest)
   unfolding blobs_row
@@ -256,10 +254,11 @@ module _ {V : Type 0} {H : V → Type 0} (meaning : Meaning V H) (s : Settings) 
       Gives-next _ (layers_row_give valid.image_on.manifest.layers [] has.layers) (λ layers u.
       Gives-done (Ok (config_of valid.image_on.manifest content, layers)) tt)))
 
-  abbrev Chosen : PulledManifest → Type 0
-  Chosen chosen = chosen.manifest ≡ valid.image_on.manifest
+  -- the row comes to an answer of which this is so
+  abbrev From : {A E : Type 0} → Proto Kept (Result A E) → (A → Type 0) → Type 0
+  From p P = Gives I (answer shelf) P p
 
-  chosen_gives : (document : OciManifest) → LeadsTo s shelf document valid.image_on.manifest → Gives I (answer shelf) Chosen (manifest_row ctx source a first document)
+  chosen_gives : (document : OciManifest) → LeadsTo s shelf document valid.image_on.manifest → From (manifest_row ctx source a first document) (λ chosen. chosen.manifest ≡ valid.image_on.manifest)
   unfolding entry_row entry_call document_call
   chosen_gives (Image own) leads = Gives-done (Ok (record { bytes = first; manifest = own; entry = None })) leads
   chosen_gives (ImageIndex index) (entry, is, (bytes, has, reads)) =
@@ -272,13 +271,13 @@ module _ {V : Type 0} {H : V → Type 0} (meaning : Meaning V H) (s : Settings) 
       Gives-next _ (said Pull (whole_text source) (entry_in e found.0) valid.image_on.manifest (ap (λ (t : List ℕ). document_read t before entry_manifest e) known ∙ ap (λ r. r before entry_manifest e) reads)) (λ manifest chosen.
       Gives-done (Ok (record { bytes = found.0; manifest = manifest; entry = Some e })) chosen)))
 
-  image_gives : Gives I (answer shelf) (λ (pulled : Pulled). Unit {0}) (image_row ctx image source a accepted)
+  image_gives : Gives I (answer shelf) (λ pulled. Unit {0}) (image_row ctx image source a accepted)
   unfolding image_row document_call
   image_gives =
       Gives-next _ (words_give Pull source (raw_gives home valid.short source at_digest a can moment digest first manifest_types valid.image_on.there points_source.plain points_source.points points_source.other refl)) (λ found known.
-      subst (λ (p : List ℕ × List ℕ). Gives I (answer shelf) (λ (pulled : Pulled). Unit {0}) (after_document ctx image source a accepted p.0)) (sym known)
+      subst (λ (p : List ℕ × List ℕ). Gives I (answer shelf) (λ pulled. Unit {0}) (after_document ctx image source a accepted p.0)) (sym known)
       (Gives-next _ (said Pull (whole_text source) (document_in image first) valid.image_on.document document_ok) (λ document same.
-      Gives-next _ (subst (λ (t : OciManifest). Gives I (answer shelf) Chosen (manifest_row ctx source a first t)) (sym same) (chosen_gives valid.image_on.document valid.image_on.leads)) (λ chosen is.
+      Gives-next _ (subst (λ (t : OciManifest). From (manifest_row ctx source a first t) (λ chosen. chosen.manifest ≡ valid.image_on.manifest)) (sym same) (chosen_gives valid.image_on.document valid.image_on.leads)) (λ chosen is.
       Gives-next _ (subst (λ (m : OciImageManifest). Gives I (answer shelf) (λ p. Unit {0}) (blobs_row ctx source accepted m)) (sym is) blobs_row_gives) (λ blobs u.
       Gives-done (Ok (record { first = first; chosen = chosen; config = blobs.0; layers = blobs.1 })) tt)))))
 
@@ -297,11 +296,14 @@ module _ {V : Type 0} {H : V → Type 0} (meaning : Meaning V H) (s : Settings) 
   standing_is : (found : TrustedLayers) (layer : SignatureLayer) → find (stands_by meaning) found.collected ≡ Some layer → standing meaning found ≡ Ok (record { digest = found.digest; signature = layer })
   standing_is found layer is = ap (standing_by found) is
 
+  standing_gives : (found : TrustedLayers) (layer : SignatureLayer) → find (stands_by meaning) found.collected ≡ Some layer → found.digest ≡ digest → From (let p : Whole _ = Done (standing meaning found) in p) (λ stood. stood.digest ≡ digest)
+  standing_gives found layer is known = Gives-done (standing meaning found) (subst (Yields _) (sym (standing_is found layer is)) known)
+
   found_gives : (found : TrustedLayers) → Found found → Gives I (answer shelf) (λ (v : VerifiedImage). Unit {0}) (after_search meaning ctx image a accepted found)
   unfolding after_search Has
   found_gives found (known, (layer, is)) =
-      Gives-next _ (Gives-done (standing meaning found) (yields_ok (λ (x : Standing). x.digest ≡ digest) (standing meaning found) (record { digest = found.digest; signature = layer }) (standing_is found layer is) known)) (λ stood same.
-      Gives-next _ (subst (λ (t : List ℕ). Gives I (answer shelf) (λ (pulled : Pulled). Unit {0}) (part_of (image_row ctx image (digest_reference image t) a accepted))) (sym same) (part_gives image_gives)) (λ pulled u.
+      Gives-next _ (standing_gives found layer is known) (λ stood same.
+      Gives-next _ (subst (λ (t : List ℕ). Gives I (answer shelf) (λ pulled. Unit {0}) (part_of (image_row ctx image (digest_reference image t) a accepted))) (sym same) (part_gives image_gives)) (λ pulled u.
       Gives-done (Ok (verified_image stood pulled)) tt))
 
   pub verified_gives : Gives I (answer shelf) (λ (v : VerifiedImage). Unit {0}) (verified meaning ctx image a accepted)
@@ -321,15 +323,16 @@ module _ {V : Type 0} {H : V → Type 0} (meaning : Meaning V H) (s : Settings) 
   unfolding answering
   table_of = record { answer = λ place request. refl; never = λ place. refl }
 
-  answered : {l : Kept} (r : Result VerifiedImage PullRefusal) → UnlessMemory is_memory (λ r. I l × Yields (λ v. Unit {0}) r) r → OkOrMemory r
-  answered (Ok v) h = tt
-  answered (Err e) h = by_memory (is_memory e) refl h where
-    by_memory : (b : Bool) → is_memory e ≡ b → MatchBool b (Unit {0}) (I _ × ⊥) → e ≡ refusal.WantOfMemory
-    by_memory true is h = memory_is e is
-    by_memory false is h = absurd h.1
+  by_memory : (b : Bool) (e : PullRefusal) (P : Type 0) → is_memory e ≡ b → MatchBool b (Unit {0}) (P × ⊥) → e ≡ refusal.WantOfMemory
+  by_memory true e P is h = memory_is e is
+  by_memory false e P is h = absurd h.1
+
+  answered : (l : Kept) (r : Result VerifiedImage PullRefusal) → UnlessMemory is_memory (λ r. I l × Yields (λ (v : VerifiedImage). Unit {0}) r) r → OkOrMemory r
+  answered l (Ok v) h = tt
+  answered l (Err e) h = by_memory (is_memory e) e (I l) refl h
 
   -- over a shelf that is valid a client that is settled gets the image, or memory is wanting
   pub completed : {old new : Link} {k l : Kept} (r : Result VerifiedImage PullRefusal) → AnswersFrom shelf old → IsSettled image a k → Meets is_memory (verified meaning ctx image a accepted) old new k l r → OkOrMemory r
   completed {old} {new} {k} {l} r from settled met =
-      answered {l = l} r (Meets-comes (answer shelf) (λ l r. I l × Yields (λ v. Unit {0}) r) (answering shelf) (verified meaning ctx image a accepted) from.before old new k l r table_of from.answers from.told from.faults
+      answered l r (Meets-comes (answer shelf) (λ l r. I l × Yields (λ v. Unit {0}) r) (answering shelf) (verified meaning ctx image a accepted) from.before old new k l r table_of from.answers from.told from.faults
       (verified_gives.gives k (subst (λ (t : List ℕ). Settled registry t a k) valid.asked.repository_is settled)) met)
