@@ -7,3 +7,5 @@ mod calls;
 mod indexes;
 #[cfg(test)]
 mod references;
+#[cfg(test)]
+mod referrers;
