@@ -9,6 +9,7 @@ use Rattle.oci_manifests.specs.declared.blob.ImageLayer.{ImageLayer}
 use Rattle.oci_manifests.specs.declared.manifest.OciImageManifest.{OciImageManifest}
 use Rattle.oci_manifests.specs.declared.document.OciManifest.{OciManifest}
 use Rattle.oci_manifests.specs.declared.document.OciManifest.TheVariants.{Image, ImageIndex}
+use Rattle.oci_manifests.specs.declared.index.OciImageIndex.{OciImageIndex}
 use Rattle.oci_manifests.specs.declared.index_entry.ImageIndexEntry.{ImageIndexEntry}
 use Rattle.engine_requests.specs.Index.{entry_found, entry_reference}
 use Rattle.oci_transport.specs.Link.{Link}
@@ -32,23 +33,25 @@ use Rattle.sig_registry.specs.declared.wording.Called.{Called}
 use Rattle.sig_registry.specs.declared.wording.Called.TheVariants.{FetchManifest, Pull, PullManifest}
 use Rattle.sig_registry.specs.Errors.{is_memory as of_memory, worded, refusal as call_refusal}
 use Rattle.sig_registry.specs.Clients.{Kept, Row}
-use Rattle.sig_registry.specs.Calls.{in_words, digest_call, document_call, blob_call}
+use Rattle.sig_registry.specs.Calls.{in_words, digest_call, image_call, document_call, blob_call, referrers_call}
 use Rattle.cosign_layers.specs.Standing.{Meaning}
 use Rattle.cosign_layers.specs.Trust.{Trust}
 use Rattle.cosign_layers.specs.declared.layer.SignatureLayer.{SignatureLayer}
 use Rattle.cosign_chain.specs.declared.image.VerifiedImage.{VerifiedImage}
 use Rattle.cosign_client.specs.Causes.{SearchCause, Found, NoneStands, PullCause}
 use Rattle.cosign_client.specs.Image.{document_in, entry_in, with_image, layers_row, blobs_row, entry_call, entry_row, manifest_row, image_row}
-use Rattle.cosign_client.specs.Part.{skipping}
+use Rattle.cosign_client.specs.Part.{skipping, appended}
 use Rattle.cosign_client.specs.Points.{Point, point, Ran}
 use Rattle.cosign_client.specs.References.{tag_reference, digest_reference, or_not_valid, reading_back}
 use Rattle.cosign_client.specs.Refusal.{is_memory, refused_as}
-use Rattle.cosign_client.specs.Search.{tag_layers, or_skipped, tag_by, tag_source, trusted_layers, searched}
+use Rattle.cosign_client.specs.Search.{bundle_type, tag_layers, or_skipped, tag_by, tag_source, behind, referrer_part, referrer_by, referrer_row, referrers_row, listed_row, referrers_source, trusted_layers, searched}
 use Rattle.cosign_client.specs.Verified.{Whole, constrained, is_unconstrained, readable, readable_by, as_whole, part_of, stands_by, standing_by, standing, verified_image, after_search, verified}
 use Rattle.cosign_client.specs.declared.found.Part.{Part}
+use Rattle.cosign_client.specs.declared.found.SkipCause.{SkipCause}
 use Rattle.cosign_client.specs.declared.found.SkipCause.TheVariants.{Refused}
-use Rattle.cosign_client.specs.declared.found.Skipped.TheVariants.{Source}
-use Rattle.cosign_client.specs.declared.found.SourceKind.TheVariants.{Tag}
+use Rattle.cosign_client.specs.declared.found.Skipped.{Skipped}
+use Rattle.cosign_client.specs.declared.found.Skipped.TheVariants.{Source, Referrer}
+use Rattle.cosign_client.specs.declared.found.SourceKind.TheVariants.{Tag, Referrers}
 use Rattle.cosign_client.specs.declared.found.TrustedLayers.{TrustedLayers}
 use Rattle.cosign_client.specs.declared.pull.Pulled.{Pulled}
 use Rattle.cosign_client.specs.declared.refusal.PullRefusal.{PullRefusal}
@@ -185,12 +188,48 @@ tag_memory : (trust : Trust) (s : Context) (image : Reference) (a : RegistryAuth
 unfolding tag_source
 tag_memory trust s image a d = by_memory_only trust d s (tag_reference image d) a (reads_back (tag_reference image d))
 
+-- and so is a referrer
+behind_memory : (part : Part) (place : SkipCause → Skipped) (r : Result Part SigstoreError) → OnRefusal IsMemory (behind part place r)
+behind_memory part place (Ok more) = tt
+behind_memory part place (Err e) = by_memory (of_memory e) refl where
+  by_memory : (b : Bool) → of_memory e ≡ b → OnRefusal {A = Part} IsMemory (if b then Err e else Ok (appended part (skipping (place (Refused e)))))
+  by_memory true is = is
+  by_memory false is = tt
+
+referrer_by_memory : (trust : Trust) (d : List ℕ) (s : Context) (referrer : Reference) (a : RegistryAuth) (digest : List ℕ) (part : Part) (b : Bool) → Ends (OnRefusal IsMemory) (referrer_by trust d s referrer a digest part b)
+unfolding Ends
+referrer_by_memory trust d s referrer a digest part true = Ends-bind (λ r. Unit {0}) (OnRefusal IsMemory) (image_call s referrer a (bundle_type ∷ [])) _ (any_ends (image_call s referrer a (bundle_type ∷ []))) (λ r u. behind_memory part (Referrer digest) (referrer_part trust d r))
+referrer_by_memory trust d s referrer a digest part false = tt
+
+referrer_memory : (trust : Trust) (d : List ℕ) (s : Context) (source : Reference) (a : RegistryAuth) (digest : List ℕ) (part : Part) → Ends (OnRefusal IsMemory) (referrer_row trust d s source a digest part)
+unfolding referrer_row
+referrer_memory trust d s source a digest part = referrer_by_memory trust d s (digest_reference source digest) a digest part (reads_back (digest_reference source digest))
+
+referrers_memory : (trust : Trust) (d : List ℕ) (s : Context) (source : Reference) (a : RegistryAuth) (xs : List ImageIndexEntry) (part : Part) → Ends (OnRefusal IsMemory) (referrers_row trust d s source a xs part)
+unfolding referrers_row
+referrers_memory trust d s source a [] part = done_own IsMemory (Ok part) tt
+referrers_memory trust d s source a (x ∷ xs) part = next_own IsMemory (referrer_row trust d s source a x.digest part) (λ more. referrers_row trust d s source a xs more) (referrer_memory trust d s source a x.digest part) (λ more. referrers_memory trust d s source a xs more)
+
+listed_memory : (trust : Trust) (d : List ℕ) (s : Context) (source : Reference) (a : RegistryAuth) (part : Part) (r : Result OciImageIndex SigstoreError) → Ends (OnRefusal IsMemory) (listed_row trust d s source a part r)
+listed_memory trust d s source a part (Ok index) = referrers_memory trust d s source a index.manifests part
+listed_memory trust d s source a part (Err e) = done_own IsMemory (behind part (Source Referrers) (Err e)) (behind_memory part (Source Referrers) (Err e))
+
+source_memory_only : (trust : Trust) (d : List ℕ) (s : Context) (source : Reference) (a : RegistryAuth) (part : Part) → Ends (OnRefusal IsMemory) (referrers_source trust d s source a part)
+unfolding referrers_source
+source_memory_only trust d s source a part = Ends-bind (λ r. Unit {0}) (OnRefusal IsMemory) (referrers_call s source a None) (listed_row trust d s source a part) (any_ends (referrers_call s source a None)) (λ r u. listed_memory trust d s source a part r)
+
 -- what comes after a digest that was answered
 abbrev pub rest_of : Trust → Context → Reference → RegistryAuth → List ℕ → Row TrustedLayers
-rest_of trust s image a digest = tag_source trust s image a digest >>= λ part. Done (Ok (trusted_layers digest part))
+rest_of trust s image a digest = do
+  tag ← tag_source trust s image a digest
+  found ← referrers_source trust digest s (digest_reference image digest) a tag
+  Done (Ok (trusted_layers digest found))
 
 rest_memory : (trust : Trust) (s : Context) (image : Reference) (a : RegistryAuth) (digest : List ℕ) → Ends (OnRefusal IsMemory) (rest_of trust s image a digest)
-rest_memory trust s image a digest = next_own IsMemory (tag_source trust s image a digest) (λ part. Done (Ok (trusted_layers digest part))) (tag_memory trust s image a digest) (λ part. done_own IsMemory (Ok (trusted_layers digest part)) tt)
+rest_memory trust s image a digest =
+    next_own IsMemory (tag_source trust s image a digest) _ (tag_memory trust s image a digest) (λ tag.
+    next_own IsMemory (referrers_source trust digest s (digest_reference image digest) a tag) _ (source_memory_only trust digest s (digest_reference image digest) a tag) (λ found.
+    done_own IsMemory (Ok (trusted_layers digest found)) tt))
 
 -- ---- the search
 

@@ -9,6 +9,8 @@ use Rattle.oci_manifests.specs.declared.document.OciManifest.{OciManifest}
 use Rattle.oci_manifests.specs.declared.document.OciManifest.TheVariants.{Image, ImageIndex}
 use Rattle.oci_manifests.specs.declared.descriptor.OciDescriptor.{OciDescriptor}
 use Rattle.oci_manifests.specs.declared.blob.ImageLayer.{ImageLayer}
+use Rattle.oci_manifests.specs.declared.index.OciImageIndex.{OciImageIndex}
+use Rattle.oci_manifests.specs.declared.index_entry.ImageIndexEntry.{ImageIndexEntry}
 use Rattle.oci_transport.specs.declared.message.Exchange.{Exchange}
 use Rattle.oci_transport.specs.declared.message.Method.{Method}
 use Rattle.oci_transport.specs.Link.{Link}
@@ -26,7 +28,7 @@ use Rattle.engine_laws.proofs.DocumentAnswers.{body_after}
 use Rattle.sig_registry.specs.declared.error.SigstoreError.{SigstoreError}
 use Rattle.sig_registry.specs.Errors.{is_memory}
 use Rattle.sig_registry.specs.Clients.{Kept, Row}
-use Rattle.sig_registry.specs.Calls.{digest_call, manifest_call, image_call}
+use Rattle.sig_registry.specs.Calls.{digest_call, manifest_call, image_call, referrers_call}
 use Rattle.cosign_layers.specs.Checks.{input}
 use Rattle.cosign_layers.specs.Constraint.{has_no_item}
 use Rattle.cosign_layers.specs.Layer.{LayerOf, Named}
@@ -37,7 +39,8 @@ use Rattle.cosign_layers.specs.declared.layer.SignatureLayer.{SignatureLayer}
 use Rattle.cosign_layers.specs.declared.rejection.LayerRejection.{LayerRejection}
 use Rattle.cosign_layers.proofs.Layers.{gives}
 use Rattle.cosign_layers.proofs.Supports.{stands_for}
-use Rattle.oci_digests.specs.Names.{Names}
+use Rattle.oci_digests.specs.Names.{Names, digest_text}
+use Rattle.oci_digests.specs.declared.digester.Algorithm.TheVariants.{Sha256}
 use Rattle.oci_platforms.specs.Promise.{Picks}
 use Rattle.oci_platforms.specs.declared.promise.ResolverPromise.{ResolverPromise}
 use Rattle.cosign_chain.specs.Chain.{Chain, FirstIsManifest, FirstIsIndex, LeadsToManifest}
@@ -45,17 +48,19 @@ use Rattle.cosign_chain.specs.Links.{Links as HasLinks}
 use Rattle.cosign_chain.specs.declared.image.VerifiedImage.{VerifiedImage}
 use Rattle.cosign_chain.proofs.LinkTests.{chain_links}
 use Rattle.cosign_client.specs.Image.{image_row}
-use Rattle.cosign_client.specs.Part.{skipping, layer_part, named_layer, read_layer, descriptor_part, descriptors_part}
+use Rattle.cosign_client.specs.Part.{skipping, appended, layer_part, named_layer, read_layer, descriptor_part, descriptors_part, read_bundle, bundle_part, bundles_part}
 use Rattle.cosign_client.specs.References.{tag_reference, digest_reference, reading_back}
 use Rattle.cosign_client.specs.Refusal.{is_memory as of_refusal}
-use Rattle.cosign_client.specs.Search.{payload_type, document_part, tag_layers, or_skipped, tag_by, tag_source, trusted_layers, searched}
+use Rattle.cosign_client.specs.Search.{payload_type, document_part, tag_layers, or_skipped, tag_by, tag_source, bundle_type, behind, referrer_part, referrer_by, referrer_row, referrers_row, listed_row, referrers_source, trusted_layers, searched}
 use Rattle.cosign_client.specs.Sound.{EachBody, Backed, Sound}
 use Rattle.cosign_client.specs.Verified.{Whole, constrained, is_unconstrained, readable, as_whole, part_of, stands_by, standing_by, standing, manifest_digests, verified_image, after_search, verified}
 use Rattle.cosign_client.specs.declared.found.Part.{Part}
+use Rattle.cosign_client.specs.declared.found.SkipCause.{SkipCause}
 use Rattle.cosign_client.specs.declared.found.SkipCause.TheVariants.{Refused}
-use Rattle.cosign_client.specs.declared.found.Skipped.TheVariants.{Source}
+use Rattle.cosign_client.specs.declared.found.Skipped.{Skipped}
+use Rattle.cosign_client.specs.declared.found.Skipped.TheVariants.{Source, Referrer}
 use Rattle.cosign_client.specs.declared.found.SourceKind.{SourceKind}
-use Rattle.cosign_client.specs.declared.found.SourceKind.TheVariants.{Tag}
+use Rattle.cosign_client.specs.declared.found.SourceKind.TheVariants.{Tag, Referrers}
 use Rattle.cosign_client.specs.declared.found.TrustedLayers.{TrustedLayers}
 use Rattle.cosign_client.specs.declared.pull.Pulled.{Pulled}
 use Rattle.cosign_client.specs.declared.refusal.PullRefusal.{PullRefusal}
@@ -113,15 +118,15 @@ read_fits trust d x (Some pulled) layer is =
     let g = gives trust d (input kinds.Payload pulled.content x.digest (unwrap_or x.annotations map_of.empty)) (Ok layer) is in
     record { layer_of = g.layer_of; about = g.is_named }
 
-layer_fits : (trust : Trust) (d name : List ℕ) (r : Result SignatureLayer LayerRejection) → ((layer : SignatureLayer) → r ≡ Ok layer → Fits trust d layer) → PartFits trust d (layer_part Tag name r)
-layer_fits trust d name (Ok layer) fits = (fits layer refl, tt)
-layer_fits trust d name (Err cause) fits = tt
+layer_fits : (trust : Trust) (d : List ℕ) (kind : SourceKind) (name : List ℕ) (r : Result SignatureLayer LayerRejection) → ((layer : SignatureLayer) → r ≡ Ok layer → Fits trust d layer) → PartFits trust d (layer_part kind name r)
+layer_fits trust d kind name (Ok layer) fits = (fits layer refl, tt)
+layer_fits trust d kind name (Err cause) fits = tt
 
 descriptors_fit : (trust : Trust) (d : List ℕ) (layers : List ImageLayer) (xs : List OciDescriptor) → PartFits trust d (descriptors_part trust d layers xs)
 descriptors_fit trust d layers [] = tt
 descriptors_fit trust d layers (x ∷ xs) =
     both_fit trust d (descriptor_part trust d layers x).collected (descriptors_part trust d layers xs).collected
-    (layer_fits trust d x.digest (read_layer trust d x (named_layer x.digest layers)) (λ layer is. read_fits trust d x (named_layer x.digest layers) layer is))
+    (layer_fits trust d Tag x.digest (read_layer trust d x (named_layer x.digest layers)) (λ layer is. read_fits trust d x (named_layer x.digest layers) layer is))
     (descriptors_fit trust d layers xs)
 
 document_fits : (trust : Trust) (d : List ℕ) (document : OciManifest) (image : ImageData) → PartFits trust d (document_part trust d document image)
@@ -162,6 +167,58 @@ source_ends : (trust : Trust) (s : Context) (image : Reference) (a : RegistryAut
 unfolding tag_source
 source_ends trust s image a d = by_ends trust d s (tag_reference image d) a (reads_back (tag_reference image d))
 
+-- ---- the layers of the referrers
+
+bundle_fits : (trust : Trust) (d text : List ℕ) (x : ImageLayer) (layer : SignatureLayer) → read_bundle trust d text x ≡ Ok layer → Fits trust d layer
+bundle_fits trust d text x layer is =
+    let g = gives trust d (input kinds.Bundle x.content text (unwrap_or x.annotations map_of.empty)) (Ok layer) is in
+    record { layer_of = g.layer_of; about = g.is_named }
+
+bundles_fit : (trust : Trust) (d : List ℕ) (xs : List ImageLayer) → PartFits trust d (bundles_part trust d xs)
+bundles_fit trust d [] = tt
+bundles_fit trust d (x ∷ xs) = let text = digest_text Sha256 x.content in
+    both_fit trust d (bundle_part trust d x).collected (bundles_part trust d xs).collected
+    (layer_fits trust d Referrers text (read_bundle trust d text x) (λ layer is. bundle_fits trust d text x layer is))
+    (bundles_fit trust d xs)
+
+referrer_fits : (trust : Trust) (d : List ℕ) (r : Result ImageData SigstoreError) → OnAnswer (PartFits trust d) (referrer_part trust d r)
+referrer_fits trust d (Ok image) = bundles_fit trust d image.layers
+referrer_fits trust d (Err e) = tt
+
+behind_fits : (trust : Trust) (d : List ℕ) (part : Part) (place : SkipCause → Skipped) (r : Result Part SigstoreError) → PartFits trust d part → OnAnswer (PartFits trust d) r → OnAnswer (PartFits trust d) (behind part place r)
+behind_fits trust d part place (Ok more) h k = both_fit trust d part.collected more.collected h k
+behind_fits trust d part place (Err e) h k = by_memory (is_memory e) where
+  by_memory : (b : Bool) → OnAnswer (PartFits trust d) (if b then Err e else Ok (appended part (skipping (place (Refused e)))))
+  by_memory true = tt
+  by_memory false = both_fit trust d part.collected [] h tt
+
+referrer_by_ends : (trust : Trust) (d : List ℕ) (s : Context) (referrer : Reference) (a : RegistryAuth) (digest : List ℕ) (part : Part) (b : Bool) → PartFits trust d part → Ends (OnAnswer (PartFits trust d)) (referrer_by trust d s referrer a digest part b)
+unfolding Ends
+referrer_by_ends trust d s referrer a digest part false h = both_fit trust d part.collected [] h tt
+referrer_by_ends trust d s referrer a digest part true h = Ends-bind (λ r. Unit {0}) (OnAnswer (PartFits trust d)) (image_call s referrer a (bundle_type ∷ [])) _ (Ends-any (λ r. Unit {0}) (image_call s referrer a (bundle_type ∷ [])) (λ r. tt))
+    (λ r u. behind_fits trust d part (Referrer digest) (referrer_part trust d r) h (referrer_fits trust d r))
+
+referrer_ends : (trust : Trust) (d : List ℕ) (s : Context) (source : Reference) (a : RegistryAuth) (digest : List ℕ) (part : Part) → PartFits trust d part → Ends (OnAnswer (PartFits trust d)) (referrer_row trust d s source a digest part)
+unfolding referrer_row
+referrer_ends trust d s source a digest part h = referrer_by_ends trust d s (digest_reference source digest) a digest part (reads_back (digest_reference source digest)) h
+
+referrers_end : (trust : Trust) (d : List ℕ) (s : Context) (source : Reference) (a : RegistryAuth) (xs : List ImageIndexEntry) (part : Part) → PartFits trust d part → Ends (OnAnswer (PartFits trust d)) (referrers_row trust d s source a xs part)
+unfolding referrers_row
+referrers_end trust d s source a [] part h = done_ends (PartFits trust d) part h
+referrers_end trust d s source a (x ∷ xs) part h = Ends-next (PartFits trust d) (PartFits trust d) (referrer_row trust d s source a x.digest part) (λ more. referrers_row trust d s source a xs more) (referrer_ends trust d s source a x.digest part h) (λ more fit. referrers_end trust d s source a xs more fit)
+
+refused_ends : {A : Type 0} (Q : A → Type 0) (r : Result A SigstoreError) → OnAnswer Q r → Ends {K = Kept} (OnAnswer Q) (Done r)
+unfolding Ends
+refused_ends Q r h = h
+
+listed_ends : (trust : Trust) (d : List ℕ) (s : Context) (source : Reference) (a : RegistryAuth) (part : Part) (r : Result OciImageIndex SigstoreError) → PartFits trust d part → Ends (OnAnswer (PartFits trust d)) (listed_row trust d s source a part r)
+listed_ends trust d s source a part (Ok index) h = referrers_end trust d s source a index.manifests part h
+listed_ends trust d s source a part (Err e) h = refused_ends (PartFits trust d) (behind part (Source Referrers) (Err e)) (behind_fits trust d part (Source Referrers) (Err e) h tt)
+
+referrers_source_ends : (trust : Trust) (d : List ℕ) (s : Context) (source : Reference) (a : RegistryAuth) (part : Part) → PartFits trust d part → Ends (OnAnswer (PartFits trust d)) (referrers_source trust d s source a part)
+unfolding referrers_source
+referrers_source_ends trust d s source a part h = Ends-bind (λ r. Unit {0}) (OnAnswer (PartFits trust d)) (referrers_call s source a None) (listed_row trust d s source a part) (Ends-any (λ r. Unit {0}) (referrers_call s source a None) (λ r. tt)) (λ r u. listed_ends trust d s source a part r h)
+
 -- ---- the search
 
 -- the digest was answered, and what was found fits it
@@ -173,18 +230,18 @@ fits_seen : (trust : Trust) (d : List ℕ) (m n : ℕ) (c : List Exchange) (r : 
 fits_seen trust d m n c (Ok part) h = h
 fits_seen trust d m n c (Err e) h = tt
 
-source_shows : (trust : Trust) (s : Context) (image : Reference) (a : RegistryAuth) (d : List ℕ) → Shows (Seen (λ c part. PartFits trust d part)) (tag_source trust s image a d)
-source_shows trust s image a d = record {
-  shows = λ k l m n c r run. fits_seen trust d m n c r (Runs-ends (OnAnswer (PartFits trust d)) (tag_source trust s image a d) k l m n c r (source_ends trust s image a d) run);
-}
+part_shows : (trust : Trust) (d : List ℕ) (p : Row Part) → Ends (OnAnswer (PartFits trust d)) p → Shows (Seen (λ c part. PartFits trust d part)) p
+part_shows trust d p h = record { shows = λ k l m n c r run. fits_seen trust d m n c r (Runs-ends (OnAnswer (PartFits trust d)) p k l m n c r h run) }
 
 search_shows : (trust : Trust) (s : Context) (image : Reference) (a : RegistryAuth) → Shows (Seen (Found trust s.settings image)) (searched trust s image a)
 unfolding searched
 search_shows trust s image a =
     next_seen (Answered s.settings image) (Found trust s.settings image) (digest_call s image a) _ (digest_call_shows s image a) (λ c digest answered.
     step_seen (λ d found. Found trust s.settings image (c ++ d) found) (reading_back (digest_reference image digest)) _ (λ u is.
-    next_seen (λ d part. PartFits trust digest part) (λ d found. Found trust s.settings image (c ++ d) found) (tag_source trust s image a digest) _ (source_shows trust s image a digest) (λ d part fit.
-    done_seen (λ e found. Found trust s.settings image (c ++ (d ++ e)) found) (trusted_layers digest part) (record { answered = answered_before s.settings image c (d ++ []) digest answered; fit = fit }))))
+    next_seen (λ d part. PartFits trust digest part) (λ d found. Found trust s.settings image (c ++ d) found) (tag_source trust s image a digest) _ (part_shows trust digest (tag_source trust s image a digest) (source_ends trust s image a digest)) (λ d tag fit.
+    next_seen (λ e part. PartFits trust digest part) (λ e found. Found trust s.settings image (c ++ (d ++ e)) found) (referrers_source trust digest s (digest_reference image digest) a tag) _
+    (part_shows trust digest (referrers_source trust digest s (digest_reference image digest) a tag) (referrers_source_ends trust digest s (digest_reference image digest) a tag fit)) (λ e part fit.
+    done_seen (λ f found. Found trust s.settings image (c ++ (d ++ (e ++ f))) found) (trusted_layers digest part) (record { answered = answered_before s.settings image c (d ++ (e ++ [])) digest answered; fit = fit })))))
 
 -- ---- the pull
 

@@ -33,7 +33,7 @@ layers_next moment source xs i x layers lt is rest = rw (at_next xs i x lt is) r
 
 -- ---- what the descriptors give
 
-joined_part : (p q r : Part) → appended (appended p q) r ≡ appended p (appended q r)
+pub joined_part : (p q r : Part) → appended (appended p q) r ≡ appended p (appended q r)
 joined_part p q r = λ i. record { collected = append_assoc p.collected q.collected r.collected i; skipped = append_assoc p.skipped q.skipped r.skipped i }
 
 pub alone : (p : Part) → appended p nothing ≡ p

@@ -1,5 +1,5 @@
 -- The exits of a call that is a row of other calls.
-use Rattle.std.proofs.Common.{◌≡◌, Bool, true, false, ℕ, List, Result, Ok, Err, refl, sym, ap, subst, ◌∙◌}
+use Rattle.std.proofs.Common.{◌≡◌, Bool, true, false, ℕ, List, Some, None, Result, Ok, Err, refl, sym, ap, subst, ◌∙◌}
 use Rattle.std.specs.Prelude.{MatchBool}
 use Rattle.std.specs.Result.{IsErrAnd}
 use Rattle.std.proofs.lemmas.Result.{err_from_is_err_and}
@@ -17,11 +17,15 @@ use Rattle.cosign_client.specs.declared.refusal.PullRefusal.{PullRefusal}
 use Rattle.cosign_client.specs.Refusal.{is_memory as of_refusal, refused_as, Says as SaysWhole}
 use Rattle.cosign_chain.specs.declared.image.VerifiedImage.{VerifiedImage}
 use Rattle.cosign_client.specs.Image.{with_image}
+use Rattle.cosign_client.specs.References.{signature_tag, tag_reference}
+use Rattle.cosign_client.specs.Triangulated.{tag_shown}
 use Rattle.cosign_client.specs.Verified.{as_whole, constrained, part_of, readable_by, stood_image, verified_image}
 use Rattle.cosign_client.specs.declared.pull.Pulled.{Pulled}
 use Rattle.cosign_client.specs.declared.verified.Standing.{Standing}
 use Rattle.cosign_client.specs.declared.refusal.PullRefusal.TheVariants as refusal
 use Rattle.oci_names.specs.declared.reference.Reference.{Reference}
+use Rattle.oci_names.specs.References.{registry_of, repository_of, mirror_of, tag_of, digest_of}
+use Rattle.sig_registry.specs.declared.reference.OciReference.{OciReference}
 use Rattle.sig_registry.specs.Errors.{is_memory, Says, worded}
 use Rattle.sig_registry.specs.Clients.{Kept, Client, Made}
 
@@ -216,3 +220,14 @@ not_empty true u is so = absurd (cc is)
 pub readable_not : {P : Type 0} (image : Reference) (b : Bool) (u : Unit {0}) → readable_by image b ≡ Ok u → b ≡ false → P
 readable_not image true u is so = absurd (cc so)
 readable_not image false u is so = absurd (cc is)
+
+-- ---- references for users
+
+-- a reference with these parts is that of the signature tag
+pub tag_same : (image tag : Reference) (digest : List ℕ) → registry_of tag ≡ registry_of image → mirror_of tag ≡ None → repository_of tag ≡ repository_of image → tag_of tag ≡ Some (signature_tag digest) → digest_of tag ≡ None → tag ≡ tag_reference image digest
+tag_same image tag digest registry mirror repository name none = λ i. record { registry = registry i; mirror = mirror i; repository = repository i; tag = name i; digest = none i }
+
+-- a refusal is shown as it is, at the exit of a `?`
+pub shown_refusal : {x : SigstoreError} (r : Result (OciReference × List ℕ) SigstoreError) → IsErrAnd r (λ y. y ≡ x) → IsErrAnd (tag_shown r) (λ y. y ≡ x)
+shown_refusal (Ok found) h = absurd h
+shown_refusal (Err e) h = h

@@ -1,17 +1,23 @@
 -- What is skipped holds no want of memory and no fault of a sink, and no more faults than the transport had.
-use Rattle.std.proofs.Common.{◌≡◌, ◌≤◌, ◌+◌, ◌-◌, ◌^◌, min, ℕ, Bool, true, false, cond, List, [], ◌∷◌, ◌++◌, Option, Some, None, Result, Ok, Err, IfOk, IfErr, refl, sym, ap, ◌∙◌, subst, arith, zero-add}
+use Rattle.std.proofs.Common.{◌≡◌, ◌≤◌, ◌+◌, ◌-◌, ◌^◌, min, inl, inr, ℕ, Bool, true, false, cond, List, [], ◌∷◌, ◌++◌, Option, Some, None, Result, Ok, Err, IfOk, IfErr, refl, sym, ap, ◌∙◌, subst, arith, zero-add}
 use Rattle.std.specs.Prelude.{if◌then◌else◌, find, MatchBool, count_by, unwrap_or}
 use Rattle.std.specs.FinMap as map_of
-use Rattle.std.proofs.lemmas.List.Elements.{All-push, All-cons}
+use Rattle.std.proofs.lemmas.List.Elements.{All-push, All-cons, All-append}
 use Rattle.std.proofs.lemmas.List.Sums.{sum_by-append}
 use Rattle.json_values.specs.Counts.{Rose}
 use Rattle.oci_names.specs.declared.reference.Reference.{Reference}
 use Rattle.oci_names.specs.References.{whole_text, reads_back}
 use Rattle.oci_auth.specs.declared.auth.RegistryAuth.{RegistryAuth}
+use Rattle.oci_auth.specs.declared.token_type.RegistryOperation.{RegistryOperation}
+use Rattle.oci_auth.specs.declared.token_type.RegistryOperation.TheVariants as operation
+use Rattle.oci_digests.specs.Names.{digest_text}
+use Rattle.oci_digests.specs.declared.digester.Algorithm.TheVariants.{Sha256}
 use Rattle.oci_digests.specs.declared.error.DigestError.TheVariants as digest_refusal
 use Rattle.oci_manifests.specs.declared.document.OciManifest.{OciManifest}
 use Rattle.oci_manifests.specs.declared.document.OciManifest.TheVariants.{Image, ImageIndex}
 use Rattle.oci_manifests.specs.declared.descriptor.OciDescriptor.{OciDescriptor}
+use Rattle.oci_manifests.specs.declared.index.OciImageIndex.{OciImageIndex}
+use Rattle.oci_manifests.specs.declared.index_entry.ImageIndexEntry.{ImageIndexEntry}
 use Rattle.oci_manifests.specs.declared.blob.ImageLayer.{ImageLayer}
 use Rattle.oci_transport.specs.Link.{Link}
 use Rattle.oci_transport.specs.declared.message.Exchange.{Exchange}
@@ -25,7 +31,8 @@ use Rattle.engine_requests.specs.declared.error.OciDistributionError.{OciDistrib
 use Rattle.engine_requests.specs.declared.error.OciDistributionError.TheVariants as engine_refusal
 use Rattle.engine_requests.specs.Errors.{is_memory as engine_is_memory}
 use Rattle.engine_requests.specs.Requests.{manifest_types}
-use Rattle.engine_steps.specs.Rows.{Row as Engine}
+use Rattle.engine_steps.specs.Rows.{Row as Engine, token_given}
+use Rattle.engine_pull.specs.Referrers.{pull_referrers}
 use Rattle.engine_pull.specs.Pulls.{pull_manifest}
 use Rattle.engine_pull.specs.Images.{pull}
 use Rattle.engine_pull.specs.declared.image.ImageData.{ImageData}
@@ -34,13 +41,18 @@ use Rattle.engine_laws.proofs.EarlyCauses.{Loose}
 use Rattle.engine_laws.proofs.ImageCauses.{RowCause, image_causes}
 use Rattle.engine_laws.proofs.ManifestCauses.{manifest_causes}
 use Rattle.engine_laws.proofs.CallCauses.{manifest_fault, image_fault}
+use Rattle.engine_laws.proofs.TokenCauses.{given_shown, token_fault}
+use Rattle.engine_laws.specs.TokenCauses.{TokenCause}
+use Rattle.engine_laws.specs.Held.{Entry, pulling}
+use Rattle.engine_laws.specs.Referrers.{ReferrersCause}
+use Rattle.engine_laws.proofs.ReferrersCauses.{referrers_causes, referrers_no_sink, referrers_fault}
 use Rattle.sig_registry.specs.declared.error.SigstoreError.{SigstoreError}
 use Rattle.sig_registry.specs.declared.error.SigstoreError.TheVariants as sigstore
 use Rattle.sig_registry.specs.declared.wording.Called.{Called}
 use Rattle.sig_registry.specs.declared.wording.Called.TheVariants.{FetchManifest, Pull, PullManifest}
 use Rattle.sig_registry.specs.Errors.{is_memory, worded, refusal as call_refusal}
 use Rattle.sig_registry.specs.Clients.{Kept, Row}
-use Rattle.sig_registry.specs.Calls.{in_words, digest_call, manifest_call, image_call}
+use Rattle.sig_registry.specs.Calls.{in_words, digest_call, manifest_call, image_call, referrers_call}
 use Rattle.cosign_layers.specs.Checks.{input, Input, layer_read}
 use Rattle.cosign_layers.specs.Rejection.{is_memory as is_layer_memory}
 use Rattle.cosign_layers.specs.Standing.{Meaning}
@@ -52,22 +64,25 @@ use Rattle.cosign_layers.specs.declared.rejection.LayerRejection.TheVariants.{Wa
 use Rattle.cosign_layers.proofs.Layers.{never_memory}
 use Rattle.cosign_chain.specs.declared.image.VerifiedImage.{VerifiedImage}
 use Rattle.cosign_client.specs.Image.{image_row}
-use Rattle.cosign_client.specs.Part.{skipping, layer_part, named_layer, read_layer, descriptor_part, descriptors_part}
+use Rattle.cosign_client.specs.Part.{skipping, appended, layer_part, named_layer, read_layer, descriptor_part, descriptors_part, read_bundle, bundle_part, bundles_part}
 use Rattle.cosign_client.specs.References.{tag_reference, digest_reference, reading_back}
 use Rattle.cosign_client.specs.Refusal.{is_memory as of_refusal, refused_as}
-use Rattle.cosign_client.specs.Search.{payload_type, document_part, tag_layers, or_skipped, tag_by, tag_source, trusted_layers, searched}
+use Rattle.cosign_client.specs.Search.{payload_type, document_part, tag_layers, or_skipped, tag_by, tag_source, bundle_type, behind, referrer_part, referrer_by, referrer_row, referrers_row, listed_row, referrers_source, trusted_layers, searched}
 use Rattle.cosign_client.specs.Skips.{in_engine, in_refusal, holds_memory_or_sink, HoldsNoMemoryNorSink, is_engine_fault, is_refused_fault, is_fault, CountsFaults, OnSkipped}
 use Rattle.cosign_client.specs.Verified.{constrained, is_unconstrained, readable, readable_by, as_whole, part_of, stands_by, standing_by, standing, verified_image, after_search, verified}
 use Rattle.cosign_client.specs.declared.found.Part.{Part}
+use Rattle.cosign_client.specs.declared.found.SkipCause.{SkipCause}
 use Rattle.cosign_client.specs.declared.found.SkipCause.TheVariants.{NotAReference, FoundIndex, Refused}
 use Rattle.cosign_client.specs.declared.found.Skipped.{Skipped}
-use Rattle.cosign_client.specs.declared.found.Skipped.TheVariants.{Source, Layer}
-use Rattle.cosign_client.specs.declared.found.SourceKind.TheVariants.{Tag}
+use Rattle.cosign_client.specs.declared.found.Skipped.TheVariants.{Source, Referrer, Layer}
+use Rattle.cosign_client.specs.declared.found.SourceKind.{SourceKind}
+use Rattle.cosign_client.specs.declared.found.SourceKind.TheVariants.{Tag, Referrers}
 use Rattle.cosign_client.specs.declared.found.TrustedLayers.{TrustedLayers}
 use Rattle.cosign_client.specs.declared.pull.Pulled.{Pulled}
 use Rattle.cosign_client.specs.declared.refusal.PullRefusal.{PullRefusal}
 use Rattle.cosign_client.specs.declared.refusal.PullRefusal.TheVariants as refusal
 use Rattle.cosign_client.specs.declared.verified.Standing.{Standing}
+use Rattle.cosign_client.proofs.Causes.{rest_of}
 use Rattle.cosign_client.proofs.Counts.{Counts, Counts-any, Counts-done, Counts-more, Counts-bind, Meets-counts, silent, Runs-meets}
 
 -- ---- refusals of the engine
@@ -164,6 +179,60 @@ pub image_call_counts : (s : Context) (image : Reference) (a : RegistryAuth) (ac
 unfolding image_call
 image_call_counts s image a accepted = words_count Pull image (pull s image a accepted) (image_counts s image a accepted)
 
+pub wider : (m n o : ℕ) (e : SigstoreError) → m ≤ n → SincereWords n o e → SincereWords m o e
+wider m n o e le h = record { falls = omega (arith, le, h.falls); no_memory = h.no_memory; fault = λ is. let rose : Rose n o = h.fault is in omega (arith, le, rose) }
+
+-- a step, and then what it leads to
+pub call_later : {A : Type 0} (m n o : ℕ) (r : Result A SigstoreError) → m ≤ n → CallCounts n o r → CallCounts m o r
+call_later m n o (Ok a) le h = omega (arith, le, h)
+call_later m n o (Err e) le h = wider m n o e le h
+
+pub call_next : {A B : Type 0} (p : Row A) (f : A → Row B) → Counts CallCounts p → ((a : A) → Counts CallCounts (f a)) → Counts CallCounts (p >>= f)
+call_next {A} {B} p f h each = Counts-bind CallCounts CallCounts p (unless_refused f) h leads where
+  leads : (m n : ℕ) (r : Result A SigstoreError) → CallCounts m n r → Counts (λ t q b. t ≡ n → CallCounts m q b) (unless_refused f r)
+  leads m n (Ok a) at = Counts-more CallCounts (λ t q b. t ≡ n → CallCounts m q b) (f a) (each a) (λ t q b h same. call_later m t q b (rw same at) h)
+  leads m n (Err e) at = Counts-done (λ t q b. t ≡ n → CallCounts m q b) (Err e) (λ q same. rw same at)
+
+-- ---- the referrers are listed, with a token that is got first
+
+token_memory : (s : Settings) (image : Reference) (a : RegistryAuth) (c : List Exchange) (n : ℕ) (e : OciDistributionError) → TokenCause s image a c n e → engine_is_memory e ≡ false → in_engine e ≡ false
+token_memory s image a c n engine_refusal.WantOfMemory h other = absurd (cc other)
+token_memory s image a c n engine_refusal.SinkFault h other = absurd h
+token_memory s image a c n (engine_refusal.DigestError digest_refusal.WantOfMemory) h other = absurd h
+token_memory s image a c n _ h other = refl
+
+token_counts : (s : Context) (image : Reference) (a : RegistryAuth) (op : RegistryOperation) → Counts EngineCounts (token_given s image a op)
+token_counts s image a op = record { counts = λ k l m n c r run. by_result k l m n c r run } where
+  by_result : (k l : Kept) (m n : ℕ) (c : List Exchange) (r : Result (Option (List ℕ)) OciDistributionError) → Runs (token_given s image a op) k m c n l r → EngineCounts m n r
+  by_result k l m n c (Ok found) run = Runs-count (token_given s image a op) k l m n c (Ok found) run
+  by_result k l m n c (Err e) run = record {
+    falls = Runs-count (token_given s image a op) k l m n c (Err e) run;
+    no_memory = token_memory s.settings image a c n e ((given_shown s image a op).shows k l m n c (Err e) run);
+    fault = fault_of (token_given s image a op) k l m n c e run (λ old new met. token_fault s image a op met refl);
+  }
+
+-- the refusals of the list hold no want of memory and no fault of a sink
+listing_memory : (x : Entry) (s : Settings) (c : List Exchange) (n : ℕ) (e : OciDistributionError) → ReferrersCause x s c n e → engine_is_memory e ≡ false → in_engine e ≡ false
+listing_memory x s c n engine_refusal.WantOfMemory h other = absurd (cc other)
+listing_memory x s c n engine_refusal.SinkFault h other = absurd (referrers_no_sink x s c n h)
+listing_memory x s c n (engine_refusal.DigestError digest_refusal.WantOfMemory) (inl h) other = absurd h.cause.holds
+listing_memory x s c n (engine_refusal.DigestError digest_refusal.WantOfMemory) (inr h) other = absurd h.after.holds.1
+listing_memory x s c n _ h other = refl
+
+listing_counts : (s : Context) (image : Reference) (kind : Option (List ℕ)) → Counts EngineCounts (pull_referrers s image kind)
+listing_counts s image kind = record { counts = λ k l m n c r run. by_result k l m n c r run } where
+  by_result : (k l : Kept) (m n : ℕ) (c : List Exchange) (r : Result OciImageIndex OciDistributionError) → Runs (pull_referrers s image kind) k m c n l r → EngineCounts m n r
+  by_result k l m n c (Ok index) run = Runs-count (pull_referrers s image kind) k l m n c (Ok index) run
+  by_result k l m n c (Err e) run = let cause = (referrers_causes s image kind).shows k l m n c (Err e) run in record {
+    falls = Runs-count (pull_referrers s image kind) k l m n c (Err e) run;
+    no_memory = listing_memory (pulling cause.0 s image None) s.settings c n e cause.1;
+    fault = fault_of (pull_referrers s image kind) k l m n c e run (λ old new met. referrers_fault s image kind met refl);
+  }
+
+pub referrers_call_counts : (s : Context) (image : Reference) (a : RegistryAuth) (kind : Option (List ℕ)) → Counts CallCounts (referrers_call s image a kind)
+unfolding referrers_call
+referrers_call_counts s image a kind = call_next (in_words FetchManifest image (token_given s image a operation.Pull)) _ (words_count FetchManifest image (token_given s image a operation.Pull) (token_counts s image a operation.Pull)) (λ u. words_count PullManifest image (pull_referrers s image kind) (listing_counts s image kind))
+
 -- ---- what is skipped
 
 -- from this count to that one
@@ -229,26 +298,27 @@ read_memory : (trust : Trust) (d : List ℕ) (x : OciDescriptor) (o : Option Ima
 read_memory trust d x None cause is = let same : LayerNotPulled ≡ cause = cc is in subst (λ y. is_layer_memory y ≡ false) same refl
 read_memory trust d x (Some layer) cause is = layer_memory trust d (input kinds.Payload layer.content x.digest (unwrap_or x.annotations map_of.empty)) cause is
 
-layer_quiet : (name : List ℕ) (r : Result SignatureLayer LayerRejection) (rest : List Skipped) → ((x : LayerRejection) → r ≡ Err x → is_layer_memory x ≡ false) → Quiet rest → Quiet ((layer_part Tag name r).skipped ++ rest)
-layer_quiet name (Ok layer) rest memory h = h
-layer_quiet name (Err cause) rest memory h = quiet_cons (Layer Tag name cause) rest (memory cause refl) refl h
+layer_quiet : (kind : SourceKind) (name : List ℕ) (r : Result SignatureLayer LayerRejection) (rest : List Skipped) → ((x : LayerRejection) → r ≡ Err x → is_layer_memory x ≡ false) → Quiet rest → Quiet ((layer_part kind name r).skipped ++ rest)
+layer_quiet kind name (Ok layer) rest memory h = h
+layer_quiet kind name (Err cause) rest memory h = quiet_cons (Layer kind name cause) rest (memory cause refl) refl h
 
 descriptors_quiet : (trust : Trust) (d : List ℕ) (layers : List ImageLayer) (xs : List OciDescriptor) → Quiet (descriptors_part trust d layers xs).skipped
 descriptors_quiet trust d layers [] = quiet_none
-descriptors_quiet trust d layers (x ∷ xs) = layer_quiet x.digest (read_layer trust d x (named_layer x.digest layers)) (descriptors_part trust d layers xs).skipped (λ cause is. read_memory trust d x (named_layer x.digest layers) cause is) (descriptors_quiet trust d layers xs)
+descriptors_quiet trust d layers (x ∷ xs) = layer_quiet Tag x.digest (read_layer trust d x (named_layer x.digest layers)) (descriptors_part trust d layers xs).skipped (λ cause is. read_memory trust d x (named_layer x.digest layers) cause is) (descriptors_quiet trust d layers xs)
 
 document_quiet : (trust : Trust) (d : List ℕ) (document : OciManifest) (image : ImageData) → Quiet (document_part trust d document image).skipped
 document_quiet trust d (ImageIndex index) image = quiet_one (Source Tag FoundIndex) refl refl
 document_quiet trust d (Image manifest) image = descriptors_quiet trust d image.layers manifest.layers
+
+bundles_quiet : (trust : Trust) (d : List ℕ) (xs : List ImageLayer) → Quiet (bundles_part trust d xs).skipped
+bundles_quiet trust d [] = quiet_none
+bundles_quiet trust d (x ∷ xs) = let text = digest_text Sha256 x.content in layer_quiet Referrers text (read_bundle trust d text x) (bundles_part trust d xs).skipped (λ cause is. layer_memory trust d (input kinds.Bundle x.content text (unwrap_or x.annotations map_of.empty)) cause is) (bundles_quiet trust d xs)
 
 -- ---- the tag as a source
 
 abbrev TagCounts : ℕ → ℕ → Result Part SigstoreError → Type 0
 TagCounts m n (Ok part) = Counted m n part.skipped
 TagCounts m n (Err e) = SincereWords m n e
-
-pub wider : (m n o : ℕ) (e : SigstoreError) → m ≤ n → SincereWords n o e → SincereWords m o e
-wider m n o e le h = record { falls = omega (arith, le, h.falls); no_memory = h.no_memory; fault = λ is. let rose : Rose n o = h.fault is in omega (arith, le, rose) }
 
 image_then : (m n o : ℕ) (trust : Trust) (d : List ℕ) (document : OciManifest) (r : Result ImageData SigstoreError) → m ≤ n → CallCounts n o r → Counts {K = Kept} (λ t p b. t ≡ o → TagCounts m p b) (unless_refused (λ image. Done (Ok (document_part trust d document image))) r)
 image_then m n o trust d document (Ok image) le call = Counts-done (λ t p b. t ≡ o → TagCounts m p b) (Ok (document_part trust d document image)) (λ p same. rw same (document_quiet trust d document image m o (omega (arith, le, call))))
@@ -282,21 +352,86 @@ source_counts : (trust : Trust) (s : Context) (image : Reference) (a : RegistryA
 unfolding tag_source
 source_counts trust s image a d = by_counts trust d s (tag_reference image d) a (reads_back (tag_reference image d))
 
+-- ---- the referrers as a source
+
+-- what was skipped before, and then more of it
+both : (m n o : ℕ) (xs ys : List Skipped) → Counted m n xs → Counted n o ys → Counted m o (xs ++ ys)
+both m n o xs ys h k = record {
+  no_memory = All-append (λ cause. holds_memory_or_sink cause ≡ false) xs ys h.no_memory k.no_memory;
+  faults = subst (λ t. min (m + t) (2 ^ 64 - 1) ≤ o) (sym (sum_by-append (λ x. cond (is_fault x) 1 0) xs ys)) (omega (arith, h.faults, k.faults));
+}
+
+-- what is skipped in the end is counted from where the count of what was there begins
+abbrev Onward : Part → ℕ → ℕ → Result Part SigstoreError → Type 0
+Onward part n o r = (m : ℕ) → Counted m n part.skipped → OnAnswer (λ more. Counted m o more.skipped) r
+
+-- one cause more
+refused_onward : (part : Part) (place : SkipCause → Skipped) (n o : ℕ) (e : SigstoreError) → holds_memory_or_sink (place (Refused e)) ≡ in_refusal e → is_fault (place (Refused e)) ≡ is_refused_fault e → SincereWords n o e → Onward part n o (behind part place (Err e))
+refused_onward part place n o e memory fault h = by_memory (is_memory e) refl where
+  by_memory : (b : Bool) → is_memory e ≡ b → Onward part n o (if b then Err e else Ok (appended part (skipping (place (Refused e)))))
+  by_memory true is m begins = tt
+  by_memory false is m begins = one_more m n o part.skipped (place (Refused e)) h.falls begins (memory ∙ h.no_memory is) (λ wrong. h.fault (sym fault ∙ wrong))
+
+referrer_onward : (trust : Trust) (d digest : List ℕ) (part : Part) (n o : ℕ) (r : Result ImageData SigstoreError) → CallCounts n o r → Onward part n o (behind part (Referrer digest) (referrer_part trust d r))
+referrer_onward trust d digest part n o (Ok image) le = λ m begins. both m n o part.skipped (bundles_part trust d image.layers).skipped begins (bundles_quiet trust d image.layers n o le)
+referrer_onward trust d digest part n o (Err e) h = refused_onward part (Referrer digest) n o e refl refl h
+
+referrer_by_onward : (trust : Trust) (d : List ℕ) (s : Context) (referrer : Reference) (a : RegistryAuth) (digest : List ℕ) (part : Part) (b : Bool) → Counts (Onward part) (referrer_by trust d s referrer a digest part b)
+referrer_by_onward trust d s referrer a digest part true = Counts-bind CallCounts (Onward part) (image_call s referrer a (bundle_type ∷ [])) _ (image_call_counts s referrer a (bundle_type ∷ []))
+    (λ m n r at. Counts-done (λ t p b. t ≡ n → Onward part m p b) (behind part (Referrer digest) (referrer_part trust d r)) (λ p same. rw same (referrer_onward trust d digest part m n r at)))
+referrer_by_onward trust d s referrer a digest part false = let cause = Referrer digest (NotAReference (whole_text referrer)) in
+    Counts-done (Onward part) (Ok (appended part (skipping cause))) (λ n m begins. one_more m n n part.skipped cause (omega arith) begins refl (λ wrong. absurd (cc wrong)))
+
+referrer_row_onward : (trust : Trust) (d : List ℕ) (s : Context) (source : Reference) (a : RegistryAuth) (digest : List ℕ) (part : Part) → Counts (Onward part) (referrer_row trust d s source a digest part)
+unfolding referrer_row
+referrer_row_onward trust d s source a digest part = referrer_by_onward trust d s (digest_reference source digest) a digest part (reads_back (digest_reference source digest))
+
+-- from what is there to more, and from that on
+onward_then : (part more : Part) (m n o : ℕ) (r : Result Part SigstoreError) → Onward part m n (let b : Result Part SigstoreError = Ok more in b) → Onward more n o r → Onward part m o r
+onward_then part more m n o r first rest base begins = rest base (first base begins)
+
+-- the first referrer, and then those behind it
+more_onward : (part : Part) (rest : Part → Row Part) → ((more : Part) → Counts (Onward more) (rest more)) → (m n : ℕ) (r : Result Part SigstoreError) → Onward part m n r → Counts (λ t o b. t ≡ n → Onward part m o b) (unless_refused rest r)
+more_onward part rest each m n (Ok more) first = Counts-more (Onward more) (λ t o b. t ≡ n → Onward part m o b) (rest more) (each more) (λ t o b h same. onward_then part more m n o b first (rw same at h))
+more_onward part rest each m n (Err e) first = Counts-done (λ t o b. t ≡ n → Onward part m o b) (Err e) (λ o same base begins. tt)
+
+referrers_onward : (trust : Trust) (d : List ℕ) (s : Context) (source : Reference) (a : RegistryAuth) (xs : List ImageIndexEntry) (part : Part) → Counts (Onward part) (referrers_row trust d s source a xs part)
+unfolding referrers_row
+referrers_onward trust d s source a [] part = Counts-done (Onward part) (Ok part) (λ n m begins. begins)
+referrers_onward trust d s source a (x ∷ xs) part = Counts-bind (Onward part) (Onward part) (referrer_row trust d s source a x.digest part) _ (referrer_row_onward trust d s source a x.digest part)
+    (λ m n r first. more_onward part (λ more. referrers_row trust d s source a xs more) (λ more. referrers_onward trust d s source a xs more) m n r first)
+
+listed_onward : (trust : Trust) (d : List ℕ) (s : Context) (source : Reference) (a : RegistryAuth) (part : Part) (m n : ℕ) (r : Result OciImageIndex SigstoreError) → CallCounts m n r → Counts (λ t o b. t ≡ n → Onward part m o b) (listed_row trust d s source a part r)
+listed_onward trust d s source a part m n (Ok index) le = Counts-more (Onward part) (λ t o b. t ≡ n → Onward part m o b) (referrers_row trust d s source a index.manifests part) (referrers_onward trust d s source a index.manifests part)
+    (λ t o b rest same base begins. rest base (rw same (later base m n part.skipped le begins)))
+listed_onward trust d s source a part m n (Err e) h = Counts-done (λ t o b. t ≡ n → Onward part m o b) (behind part (Source Referrers) (Err e)) (λ o same. rw same (refused_onward part (Source Referrers) m n e refl refl h))
+
+referrers_source_onward : (trust : Trust) (d : List ℕ) (s : Context) (source : Reference) (a : RegistryAuth) (part : Part) → Counts (Onward part) (referrers_source trust d s source a part)
+unfolding referrers_source
+referrers_source_onward trust d s source a part = Counts-bind CallCounts (Onward part) (referrers_call s source a None) (listed_row trust d s source a part) (referrers_call_counts s source a None) (λ m n r at. listed_onward trust d s source a part m n r at)
+
 -- ---- the search
 
 abbrev SearchCounts : ℕ → ℕ → Result TrustedLayers SigstoreError → Type 0
 SearchCounts m n r = OnAnswer (λ found. Counted m n found.skipped) r
 
-part_then : (m n o : ℕ) (digest : List ℕ) (r : Result Part SigstoreError) → m ≤ n → SourceCounts n o r → Counts {K = Kept} (λ t p b. t ≡ o → SearchCounts m p b) (unless_refused (λ part. Done (Ok (trusted_layers digest part))) r)
-part_then m n o digest (Ok part) le h = Counts-done (λ t p b. t ≡ o → SearchCounts m p b) (Ok (trusted_layers digest part)) (λ p same. rw same (earlier m n o part.skipped le h))
-part_then m n o digest (Err e) le h = Counts-done (λ t p b. t ≡ o → SearchCounts m p b) (Err e) (λ p same. tt)
+found_then : (m n : ℕ) (digest : List ℕ) (r : Result Part SigstoreError) → SourceCounts m n r → Counts {K = Kept} (λ t p b. t ≡ n → SearchCounts m p b) (unless_refused (λ found. Done (Ok (trusted_layers digest found))) r)
+found_then m n digest (Ok part) h = Counts-done (λ t p b. t ≡ n → SearchCounts m p b) (Ok (trusted_layers digest part)) (λ p same. rw same h)
+found_then m n digest (Err e) h = Counts-done (λ t p b. t ≡ n → SearchCounts m p b) (Err e) (λ p same. tt)
 
-after_digest : (m n : ℕ) (trust : Trust) (s : Context) (image : Reference) (a : RegistryAuth) (digest : List ℕ) (r : Result (Unit {0}) SigstoreError) → m ≤ n → Counts (λ t p b. t ≡ n → SearchCounts m p b) (unless_refused (λ u. tag_source trust s image a digest >>= λ part. Done (Ok (trusted_layers digest part))) r)
+-- the referrers, behind what the tag gave
+after_tag : (m n o : ℕ) (trust : Trust) (s : Context) (image : Reference) (a : RegistryAuth) (digest : List ℕ) (r : Result Part SigstoreError) → m ≤ n → SourceCounts n o r
+    → Counts (λ t p b. t ≡ o → SearchCounts m p b) (unless_refused (λ tag. referrers_source trust digest s (digest_reference image digest) a tag >>= λ found. Done (Ok (trusted_layers digest found))) r)
+after_tag m n o trust s image a digest (Err e) le h = Counts-done (λ t p b. t ≡ o → SearchCounts m p b) (Err e) (λ p same. tt)
+after_tag m n o trust s image a digest (Ok tag) le h = Counts-bind (Onward tag) (λ t p b. t ≡ o → SearchCounts m p b) (referrers_source trust digest s (digest_reference image digest) a tag) _ (referrers_source_onward trust digest s (digest_reference image digest) a tag)
+    (λ t p r at. record { counts = λ k l u q c b run same begins. (found_then m p digest r (at m (rw begins (earlier m n o tag.skipped le h)))).counts k l u q c b run same })
+
+after_digest : (m n : ℕ) (trust : Trust) (s : Context) (image : Reference) (a : RegistryAuth) (digest : List ℕ) (r : Result (Unit {0}) SigstoreError) → m ≤ n → Counts (λ t p b. t ≡ n → SearchCounts m p b) (unless_refused (λ u. rest_of trust s image a digest) r)
 after_digest m n trust s image a digest (Err e) le = Counts-done (λ t p b. t ≡ n → SearchCounts m p b) (Err e) (λ p same. tt)
 after_digest m n trust s image a digest (Ok u) le = Counts-bind SourceCounts (λ t p b. t ≡ n → SearchCounts m p b) (tag_source trust s image a digest) _ (source_counts trust s image a digest)
-    (λ t p r at. record { counts = λ k l u q c b run same begins. (part_then m t p digest r (rw begins le) at).counts k l u q c b run same })
+    (λ t p r at. record { counts = λ k l u q c b run same begins. (after_tag m t p trust s image a digest r (rw begins le) at).counts k l u q c b run same })
 
-digest_then : (m n : ℕ) (trust : Trust) (s : Context) (image : Reference) (a : RegistryAuth) (r : Result (List ℕ) SigstoreError) → m ≤ n → Counts (λ t p b. t ≡ n → SearchCounts m p b) (unless_refused (λ digest. Done (reading_back (digest_reference image digest)) >>= (λ u. tag_source trust s image a digest >>= λ part. Done (Ok (trusted_layers digest part)))) r)
+digest_then : (m n : ℕ) (trust : Trust) (s : Context) (image : Reference) (a : RegistryAuth) (r : Result (List ℕ) SigstoreError) → m ≤ n → Counts (λ t p b. t ≡ n → SearchCounts m p b) (unless_refused (λ digest. Done (reading_back (digest_reference image digest)) >>= (λ u. rest_of trust s image a digest)) r)
 unfolding bind
 digest_then m n trust s image a (Err e) le = Counts-done (λ t p b. t ≡ n → SearchCounts m p b) (Err e) (λ p same. tt)
 digest_then m n trust s image a (Ok digest) le = after_digest m n trust s image a digest (reading_back (digest_reference image digest)) le

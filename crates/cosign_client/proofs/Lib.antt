@@ -1,5 +1,7 @@
+pub mod BundleParts
 pub mod Causes
 pub mod Chains
+pub mod Confinement
 pub mod Counts
 pub mod Descriptors
 pub mod DigestStep
@@ -11,5 +13,6 @@ pub mod Images
 pub mod LayerTexts
 pub mod Leads
 pub mod Reading
+pub mod ReferrerRows
 pub mod Refusals
 pub mod ShelfPulls

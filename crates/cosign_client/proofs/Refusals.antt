@@ -38,10 +38,12 @@ use Rattle.engine_requests.specs.Requests.{manifest_types}
 use Rattle.engine_requests.specs.Index.{entry_named, entry_found, entry_manifest, entry_reference}
 use Rattle.oci_platforms.specs.Promise.{lists, resolved}
 use Rattle.oci_platforms.specs.declared.promise.ResolverPromise.{ResolverPromise}
+use Rattle.oci_manifests.specs.declared.index.OciImageIndex.{OciImageIndex}
 use Rattle.oci_manifests.specs.declared.index_entry.ImageIndexEntry.{ImageIndexEntry}
 use Rattle.engine_steps.specs.Blobs.{IntoMemory}
 use Rattle.engine_steps.specs.Rows.{Row as Engine}
 use Rattle.engine_pull.specs.Pulls.{fetch_manifest_digest, pull_manifest_raw, held_blob}
+use Rattle.engine_pull.specs.declared.image.ImageData.{ImageData}
 use Rattle.engine_pull.specs.Images.{is_accepted, all_accepted, layers_accepted, layer_of, config_of}
 use Rattle.oci_engine.specs.Causes.{AnswerCause, BlobUrl, ManifestUrl, OwnDigest}
 use Rattle.engine_laws.proofs.BlobCauses.{blob_causes}
@@ -54,29 +56,31 @@ use Rattle.sig_registry.specs.declared.error.SigstoreError.TheVariants as sigsto
 use Rattle.sig_registry.specs.declared.wording.Called.TheVariants.{FetchManifest, Pull}
 use Rattle.sig_registry.specs.Errors.{is_memory, worded, registry_refusal, FaultCounted as SearchFaultCounted, NoSinkFault as NoSinkInSearch}
 use Rattle.sig_registry.specs.Clients.{Kept, Row}
-use Rattle.sig_registry.specs.Calls.{digest_call, manifest_call, image_call, document_call, blob_call}
+use Rattle.sig_registry.specs.Calls.{digest_call, manifest_call, image_call, document_call, blob_call, referrers_call}
 use Rattle.cosign_layers.specs.Standing.{Meaning}
 use Rattle.cosign_layers.specs.Trust.{Trust}
 use Rattle.cosign_layers.specs.declared.layer.SignatureLayer.{SignatureLayer}
 use Rattle.cosign_chain.specs.declared.image.VerifiedImage.{VerifiedImage}
 use Rattle.cosign_client.specs.Image.{named_by_reference, document_in, entry_in, with_image, layers_row, blobs_row, entry_call, entry_row, manifest_row, image_row}
-use Rattle.cosign_client.specs.Part.{skipping}
+use Rattle.cosign_client.specs.Part.{skipping, appended}
 use Rattle.cosign_client.specs.References.{tag_reference, digest_reference, or_not_valid, reading_back}
 use Rattle.cosign_client.specs.Refusal.{is_memory as of_refusal, refused_as, client_refusal, FaultCounted, NoSinkFault}
-use Rattle.cosign_client.specs.Search.{payload_type, document_part, tag_layers, or_skipped, tag_by, tag_source, trusted_layers, searched}
+use Rattle.cosign_client.specs.Search.{payload_type, document_part, tag_layers, or_skipped, tag_by, tag_source, bundle_type, behind, referrer_part, referrer_by, referrer_row, referrers_row, listed_row, referrers_source, trusted_layers, searched}
 use Rattle.cosign_client.specs.Skips.{in_engine, in_refusal, is_engine_fault, is_refused_fault}
 use Rattle.cosign_client.specs.Verified.{Whole, constrained, is_unconstrained, readable, readable_by, as_whole, part_of, stands_by, standing_by, standing, verified_image, after_search, verified}
 use Rattle.cosign_client.specs.declared.found.Part.{Part}
+use Rattle.cosign_client.specs.declared.found.SkipCause.{SkipCause}
 use Rattle.cosign_client.specs.declared.found.SkipCause.TheVariants.{Refused}
-use Rattle.cosign_client.specs.declared.found.Skipped.TheVariants.{Source}
-use Rattle.cosign_client.specs.declared.found.SourceKind.TheVariants.{Tag}
+use Rattle.cosign_client.specs.declared.found.Skipped.{Skipped}
+use Rattle.cosign_client.specs.declared.found.Skipped.TheVariants.{Source, Referrer}
+use Rattle.cosign_client.specs.declared.found.SourceKind.TheVariants.{Tag, Referrers}
 use Rattle.cosign_client.specs.declared.found.TrustedLayers.{TrustedLayers}
 use Rattle.cosign_client.specs.declared.pull.Pulled.{Pulled}
 use Rattle.cosign_client.specs.declared.refusal.PullRefusal.{PullRefusal}
 use Rattle.cosign_client.specs.declared.refusal.PullRefusal.TheVariants as refusal
 use Rattle.cosign_client.specs.declared.verified.Standing.{Standing}
 use Rattle.cosign_client.proofs.Counts.{Counts, Counts-done, Counts-more, Counts-bind, Meets-counts}
-use Rattle.cosign_client.proofs.Faults.{Sincere, EngineCounts, fault_of, SincereWords, CallCounts, worded_counts, words_count, manifest_call_counts, image_call_counts, wider}
+use Rattle.cosign_client.proofs.Faults.{Sincere, EngineCounts, fault_of, SincereWords, CallCounts, worded_counts, words_count, manifest_call_counts, image_call_counts, referrers_call_counts, call_later as later, call_next as next}
 
 -- ---- calls of the engine
 
@@ -239,17 +243,6 @@ layers_bytes types (x ∷ xs) = types_bytes types (x ∷ xs)
 
 -- ---- rows of calls
 
-later : {A : Type 0} (m n o : ℕ) (r : Result A SigstoreError) → m ≤ n → CallCounts n o r → CallCounts m o r
-later m n o (Ok a) le h = omega (arith, le, h)
-later m n o (Err e) le h = wider m n o e le h
-
--- a step, and then what it leads to
-next : {A B : Type 0} (p : Row A) (f : A → Row B) → Counts CallCounts p → ((a : A) → Counts CallCounts (f a)) → Counts CallCounts (p >>= f)
-next {A} {B} p f h each = Counts-bind CallCounts CallCounts p (unless_refused f) h leads where
-  leads : (m n : ℕ) (r : Result A SigstoreError) → CallCounts m n r → Counts (λ t q b. t ≡ n → CallCounts m q b) (unless_refused f r)
-  leads m n (Ok a) at = Counts-more CallCounts (λ t q b. t ≡ n → CallCounts m q b) (f a) (each a) (λ t q b h same. later m t q b (rw same at) h)
-  leads m n (Err e) at = Counts-done (λ t q b. t ≡ n → CallCounts m q b) (Err e) (λ q same. rw same at)
-
 answered : {A : Type 0} (a : A) → Counts {K = Kept} {A = Result A SigstoreError} CallCounts (Done (Ok a))
 answered a = Counts-done CallCounts (Ok a) (λ m. omega arith)
 
@@ -328,6 +321,39 @@ tag_counts : (trust : Trust) (s : Context) (image : Reference) (a : RegistryAuth
 unfolding tag_source
 tag_counts trust s image a d = by_counts trust d s (tag_reference image d) a (reads_back (tag_reference image d))
 
+image_behind : (trust : Trust) (d : List ℕ) (m n : ℕ) (r : Result ImageData SigstoreError) → CallCounts m n r → CallCounts m n (referrer_part trust d r)
+image_behind trust d m n (Ok image) h = h
+image_behind trust d m n (Err e) h = h
+
+behind_refusal : (part : Part) (place : SkipCause → Skipped) (m n : ℕ) (r : Result Part SigstoreError) → CallCounts m n r → CallCounts m n (behind part place r)
+behind_refusal part place m n (Ok more) h = h
+behind_refusal part place m n (Err e) h = by_memory (is_memory e) where
+  by_memory : (b : Bool) → CallCounts m n (if b then Err e else Ok (appended part (skipping (place (Refused e)))))
+  by_memory true = h
+  by_memory false = h.falls
+
+referrer_by_counts : (trust : Trust) (d : List ℕ) (s : Context) (referrer : Reference) (a : RegistryAuth) (digest : List ℕ) (part : Part) (b : Bool) → Counts CallCounts (referrer_by trust d s referrer a digest part b)
+referrer_by_counts trust d s referrer a digest part true = Counts-bind CallCounts CallCounts (image_call s referrer a (bundle_type ∷ [])) _ (image_call_counts s referrer a (bundle_type ∷ []))
+    (λ m n r at. Counts-done (λ t p b. t ≡ n → CallCounts m p b) (behind part (Referrer digest) (referrer_part trust d r)) (λ p same. rw same (behind_refusal part (Referrer digest) m n (referrer_part trust d r) (image_behind trust d m n r at))))
+referrer_by_counts trust d s referrer a digest part false = answered _
+
+referrer_counts : (trust : Trust) (d : List ℕ) (s : Context) (source : Reference) (a : RegistryAuth) (digest : List ℕ) (part : Part) → Counts CallCounts (referrer_row trust d s source a digest part)
+unfolding referrer_row
+referrer_counts trust d s source a digest part = referrer_by_counts trust d s (digest_reference source digest) a digest part (reads_back (digest_reference source digest))
+
+referrers_counts : (trust : Trust) (d : List ℕ) (s : Context) (source : Reference) (a : RegistryAuth) (xs : List ImageIndexEntry) (part : Part) → Counts CallCounts (referrers_row trust d s source a xs part)
+unfolding referrers_row
+referrers_counts trust d s source a [] part = answered part
+referrers_counts trust d s source a (x ∷ xs) part = next (referrer_row trust d s source a x.digest part) (λ more. referrers_row trust d s source a xs more) (referrer_counts trust d s source a x.digest part) (λ more. referrers_counts trust d s source a xs more)
+
+listed_counts : (trust : Trust) (d : List ℕ) (s : Context) (source : Reference) (a : RegistryAuth) (part : Part) (m n : ℕ) (r : Result OciImageIndex SigstoreError) → CallCounts m n r → Counts (λ t q b. t ≡ n → CallCounts m q b) (listed_row trust d s source a part r)
+listed_counts trust d s source a part m n (Ok index) at = Counts-more CallCounts (λ t q b. t ≡ n → CallCounts m q b) (referrers_row trust d s source a index.manifests part) (referrers_counts trust d s source a index.manifests part) (λ t q b h same. later m t q b (rw same at) h)
+listed_counts trust d s source a part m n (Err e) at = Counts-done (λ t q b. t ≡ n → CallCounts m q b) (behind part (Source Referrers) (Err e)) (λ q same. rw same (behind_refusal part (Source Referrers) m n (Err e) at))
+
+referrers_source_counts : (trust : Trust) (d : List ℕ) (s : Context) (source : Reference) (a : RegistryAuth) (part : Part) → Counts CallCounts (referrers_source trust d s source a part)
+unfolding referrers_source
+referrers_source_counts trust d s source a part = Counts-bind CallCounts CallCounts (referrers_call s source a None) (listed_row trust d s source a part) (referrers_call_counts s source a None) (λ m n r at. listed_counts trust d s source a part m n r at)
+
 back_counts : (image : Reference) → Counts {K = Kept} CallCounts (Done (reading_back image))
 back_counts image = Counts-done CallCounts (reading_back image) (λ m. by_back m (reads_back image)) where
   by_back : (m : ℕ) (b : Bool) → CallCounts m m (or_not_valid image b)
@@ -339,7 +365,8 @@ unfolding searched
 search_counts trust s image a =
     next (digest_call s image a) _ (digest_call_counts s image a) (λ digest.
     next (Done (reading_back (digest_reference image digest))) _ (back_counts (digest_reference image digest)) (λ u.
-    next (tag_source trust s image a digest) _ (tag_counts trust s image a digest) (λ part. answered (trusted_layers digest part))))
+    next (tag_source trust s image a digest) _ (tag_counts trust s image a digest) (λ tag.
+    next (referrers_source trust digest s (digest_reference image digest) a tag) _ (referrers_source_counts trust digest s (digest_reference image digest) a tag) (λ found. answered (trusted_layers digest found)))))
 
 words_fault : (m n : ℕ) (e : SigstoreError) → SincereWords m n e → registry_refusal e ≡ Some engine_refusal.TransportFault → Rose m n
 words_fault m n (sigstore.OciReferenceNotValidError text) h is = absurd (cc is)

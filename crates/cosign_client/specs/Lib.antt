@@ -1,3 +1,4 @@
+pub mod Builder
 pub mod Causes
 pub mod DigestStep
 pub mod Image
@@ -12,4 +13,5 @@ pub mod Skips
 pub mod Sound
 pub mod State
 pub mod Terms
+pub mod Triangulated
 pub mod Verified

@@ -1,7 +1,8 @@
 -- What a source of signatures gives: layers that were read, and why others were not.
 use Rattle.std.specs.Prelude.{ℕ, List, [], ◌∷◌, ◌++◌, find, Option, Some, None, Result, Ok, Err, unwrap_or}
 use Rattle.std.specs.FinMap as map_of
-use Rattle.oci_digests.specs.Names.{names}
+use Rattle.oci_digests.specs.Names.{names, digest_text}
+use Rattle.oci_digests.specs.declared.digester.Algorithm.TheVariants.{Sha256}
 use Rattle.oci_manifests.specs.declared.descriptor.OciDescriptor.{OciDescriptor}
 use Rattle.oci_manifests.specs.declared.blob.ImageLayer.{ImageLayer}
 use Rattle.cosign_layers.specs.Checks.{input, layer_read}
@@ -14,7 +15,7 @@ use Rattle.cosign_client.specs.declared.found.Part.{Part}
 use Rattle.cosign_client.specs.declared.found.Skipped.{Skipped}
 use Rattle.cosign_client.specs.declared.found.Skipped.TheVariants.{Layer}
 use Rattle.cosign_client.specs.declared.found.SourceKind.{SourceKind}
-use Rattle.cosign_client.specs.declared.found.SourceKind.TheVariants.{Tag}
+use Rattle.cosign_client.specs.declared.found.SourceKind.TheVariants.{Tag, Referrers}
 
 abbrev pub nothing : Part
 nothing = record { collected = []; skipped = [] }
@@ -50,3 +51,19 @@ abbrev pub descriptors_part : Trust → List ℕ → List ImageLayer → List Oc
 descriptors_part trust d layers [] = nothing
 descriptors_part trust d layers (x ∷ xs) =
     appended (descriptor_part trust d layers x) (descriptors_part trust d layers xs)
+
+-- the signature layer of a bundle that a referrer has, by its SHA-256 text and with its annotations
+abbrev pub read_bundle : Trust → List ℕ → List ℕ → ImageLayer → Result SignatureLayer LayerRejection
+read_bundle trust d text layer =
+    layer_read trust d (input kinds.Bundle layer.content text (unwrap_or layer.annotations map_of.empty))
+
+-- what a bundle gives for the image of digest d
+abbrev pub bundle_part : Trust → List ℕ → ImageLayer → Part
+bundle_part trust d layer =
+    let text = digest_text Sha256 layer.content in
+    layer_part Referrers text (read_bundle trust d text layer)
+
+-- what each bundle gives, in order
+abbrev pub bundles_part : Trust → List ℕ → List ImageLayer → Part
+bundles_part trust d [] = nothing
+bundles_part trust d (x ∷ xs) = appended (bundle_part trust d x) (bundles_part trust d xs)

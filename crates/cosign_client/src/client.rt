@@ -1,5 +1,5 @@
 //! The client that users hold.
-ghost use Rattle.std.specs.Prelude.{◌≡◌, true, false, Err, IfOk, IfErr, IsTrue};
+ghost use Rattle.std.specs.Prelude.{◌≡◌, true, false, Some, Err, IfOk, IfErr, IsTrue};
 ghost use Rattle.engine_requests.specs.Contexts.{within};
 ghost use Rattle.oci_link.specs.declared.shelf.Shelf.{Shelf};
 ghost use Rattle.oci_names.specs.References.{whole_text, reads_back};
@@ -8,6 +8,7 @@ ghost use Rattle.oci_protocol.specs.Runs.{Meets, Told};
 ghost use Rattle.cosign_chain.specs.Chain.{Chain};
 ghost use Rattle.cosign_chain.specs.Links.{Links};
 ghost use Rattle.cosign_layers.specs.Standing.{meaning};
+ghost use Rattle.sig_registry.specs.Confinement.{Stays};
 ghost use Rattle.sig_registry.specs.Conversions.{registry_auth};
 ghost use Rattle.sig_registry.specs.Direct.{reference_in};
 ghost use Rattle.sig_registry.specs.Errors.{is_memory as of_memory};
@@ -20,9 +21,11 @@ ghost use Rattle.cosign_client.specs.Search.{searched};
 ghost use Rattle.cosign_client.specs.Shelves.{AnswersFrom, IsSettled, OkOrMemory, ValidShelf};
 ghost use Rattle.cosign_client.specs.Skips.{CountsFaults, HoldsNoMemoryNorSink, OnSkipped};
 ghost use Rattle.cosign_client.specs.Sound.{Backed};
+ghost use Rattle.cosign_client.specs.Triangulated.{tag_shown, triangulated};
 ghost use Rattle.cosign_client.specs.Verified.{is_unconstrained, verified};
 
 use crate::found::TrustedLayers;
+use crate::references::oci_tag_reference;
 use crate::refusal::PullRefusal;
 use crate::search::search;
 use crate::terms::{Asked, Terms};
@@ -31,7 +34,7 @@ use cosign_chain::VerifiedImage;
 use cosign_layers::{LogKeys, Offline, PullPolicy, SignatureVerifier, Trusted};
 use json_values::Text;
 use oci_transport::Transport;
-use sig_registry::{Auth, OciClient, OciReference, SigstoreError};
+use sig_registry::{Auth, ClientCapabilities, OciClient, OciReference, SigstoreError};
 use std::alloc::Global;
 
 /// Pulls images only where a trusted signature stands for them.
@@ -44,6 +47,38 @@ pub struct Client {
 
 impl Client {
     ghost use Rattle.cosign_client.specs.State.{client_state, trusts};
+
+    /// The reference of the image's signature tag, and the digest that was answered for the image. Nothing is asked
+    /// for under the tag, and its reference need not read back. `moment` is in seconds since 1970.
+    ///
+    /// The call is refused where the digest is not answered (`RegistryFetchManifestError`).
+    pub fn triangulate<T: Transport>(
+        &mut self,
+        alloc: Global,
+        transport: &mut T,
+        moment: u64,
+        image: &OciReference,
+        auth: &Auth,
+    ) -> Result<(OciReference, Text), SigstoreError>
+        ensures run { Meets of_memory
+            (triangulated (within (client_state self.old).settings moment) (reference_in image.now)
+            (registry_auth auth.now))
+            (T.state transport.old) (T.state transport.new)
+            (client_state self.old).kept (client_state self.new).kept (tag_shown result) }
+        ensures settings { (client_state self.new).settings ≡ (client_state self.old).settings }
+        ensures keys { self.new.rekor_pub_keys ≡ self.old.rekor_pub_keys }
+        ensures fault { SearchFaultCounted (T.state transport.old) (T.state transport.new) result }
+        ensures no_sink { NoSinkInSearch result }
+        ensures confined { Stays (client_state self.old) (client_state self.new) moment (reference_in image.now)
+            (Some (registry_auth auth.now)) (T.state transport.old) (T.state transport.new) }
+    {
+        let auth = auth.to_registry(alloc)?;
+        let digest = self
+            .registry_client
+            .fetch_manifest_digest(alloc, transport, moment, image.reference(), &auth)?;
+        let tag = oci_tag_reference(alloc, image, digest.as_str())?;
+        Ok((tag, digest))
+    }
 
     /// The digest of an image, the signature layers that stand in its repository, and why others do not. `moment` is in
     /// seconds since 1970. Where no log's key is known, a layer has no log entry.
@@ -85,6 +120,8 @@ impl Client {
         ensures no_memory { IfOk result (λ found. HoldsNoMemoryNorSink found.skipped) }
         ensures faults { IfOk result (λ found. CountsFaults
             (T.state transport.old).faults (T.state transport.new).faults found.skipped) }
+        ensures confined { Stays (client_state self.old) (client_state self.new) moment (reference_in source_image.now)
+            (Some (registry_auth auth.now)) (T.state transport.old) (T.state transport.new) }
     {
         let auth = auth.to_registry(alloc)?;
         let asked = Asked {
@@ -167,6 +204,8 @@ impl Client {
         ensures no_memory { IfErr result (λ e. OnSkipped HoldsNoMemoryNorSink e) }
         ensures faults { IfErr result (λ e. OnSkipped
             (CountsFaults (T.state transport.old).faults (T.state transport.new).faults) e) }
+        ensures confined { Stays (client_state self.old) (client_state self.new) moment (reference_in image.now)
+            (Some (registry_auth auth.now)) (T.state transport.old) (T.state transport.new) }
         ensures completes { (shelf : Shelf) → AnswersFrom shelf (T.state transport.old)
             → IsSettled (reference_in image.now) (registry_auth auth.now) (client_state self.old).kept
             → ValidShelf (meaning policy.now (λ b. accepts (b.vtable, b.value))

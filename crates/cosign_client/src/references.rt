@@ -1,12 +1,13 @@
 //! The references that the search and the pull ask for, in the image's repository.
 ghost use Rattle.std.specs.Prelude.{◌≡◌, IfOk, string_bytes};
+ghost use Rattle.sig_registry.specs.Direct.{reference_in};
 ghost use Rattle.sig_registry.specs.Errors.{Says};
 ghost use Rattle.cosign_client.specs.References.{with_dashes, signature_tag, tag_reference};
 ghost use Rattle.cosign_client.specs.References.{digest_reference, reading_back};
 
 use json_values::Text;
 use oci_names::Reference;
-use sig_registry::SigstoreError;
+use sig_registry::{OciReference, SigstoreError};
 use std::alloc::{AllocError, Global};
 
 // No tag has a colon, so a dash stands for it.
@@ -40,6 +41,22 @@ pub(crate) fn tag_reference(
     let registry = Text::new(alloc, image.registry())?;
     let repository = Text::new(alloc, image.repository())?;
     Ok(Reference::with_tag(registry, repository, tag))
+}
+
+/// The same, for users.
+#[tactic(auto, using(crate::proofs::Exits::tag_same))]
+pub(crate) fn oci_tag_reference(
+    alloc: Global,
+    image: &OciReference,
+    digest: &str,
+) -> Result<OciReference, AllocError>
+    ensures { IfOk result (λ tag. reference_in tag ≡ tag_reference (reference_in image.now) digest.now) }
+{
+    let tag = signature_tag(alloc, digest)?;
+    let registry = Text::new(alloc, image.registry())?;
+    let repository = Text::new(alloc, image.repository())?;
+    let reference = OciReference::with_tag(registry, repository, tag);
+    Ok(reference)
 }
 
 /// The reference of a digest in the image's repository.

@@ -12,7 +12,8 @@ ghost use Rattle.cosign_client.specs.Search.{searched, tag_by, tag_layers, tag_s
 use crate::found::{Part, SkipCause, Skipped, SourceKind, TrustedLayers};
 use crate::part::{descriptors_part, skipping};
 use crate::references::{digest_reference, reading_back, tag_reference};
-use crate::terms::Asked;
+use crate::referrers::referrers_source;
+use crate::terms::{Asked, Referred};
 use cosign_layers::{Offline, SignatureVerifier, Trusted};
 use json_values::{List, Text};
 use oci_engine::ImageData;
@@ -188,8 +189,16 @@ pub(crate) fn search<C: ClientCapabilities, T: Transport, V: SignatureVerifier, 
     )?;
     let source = digest_reference(alloc, asked.image, digest.as_str())?;
     reading_back(alloc, &source)?;
-    let part = tag_source(alloc, client, transport, asked, trusted, digest.as_str())?;
-    let Part { collected, skipped } = part;
+    let tag = tag_source(alloc, client, transport, asked, trusted, digest.as_str())?;
+    let referred = Referred {
+        moment: asked.moment,
+        image: &source,
+        auth: asked.auth,
+        digest: digest.as_str(),
+        trusted,
+    };
+    let found = referrers_source(alloc, client, transport, &referred, tag)?;
+    let Part { collected, skipped } = found;
     Ok(TrustedLayers {
         digest,
         collected,

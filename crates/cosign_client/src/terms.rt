@@ -12,6 +12,17 @@ pub(crate) struct Asked<'a> {
     pub auth: &'a RegistryAuth,
 }
 
+/// Whose referrers are asked for: a digest, the reference by it, and what a call is made with; and whom the reader of
+/// their layers trusts.
+#[derive(Drop)]
+pub(crate) struct Referred<'a, V, O> {
+    pub moment: u64,
+    pub image: &'a Reference,
+    pub auth: &'a RegistryAuth,
+    pub digest: &'a str,
+    pub trusted: &'a Trusted<'a, V, O>,
+}
+
 /// By which terms an image is pulled: the media types of its layers, the policy, and whom the reader trusts.
 #[derive(Drop)]
 pub(crate) struct Terms<'a, V, O> {

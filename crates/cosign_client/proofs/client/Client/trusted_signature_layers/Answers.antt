@@ -5,6 +5,7 @@ use Rattle.cosign_client.proofs.Exits.{meets_wanting}
 use Rattle.sig_registry.specs.Conversions.{registry_auth}
 use Rattle.sig_registry.specs.Direct.{reference_in}
 use Rattle.cosign_client.proofs.Causes.{search_cause}
+use Rattle.cosign_client.proofs.Confinement.{search_confined}
 use Rattle.cosign_client.proofs.DigestStep.{search_decided}
 use Rattle.cosign_client.proofs.Faults.{search_no_memory, search_faults}
 use Rattle.cosign_client.proofs.Refusals.{search_fault, search_no_sink}
@@ -54,3 +55,9 @@ returns-in_err-auth-clause-no_sink g c = search_no_sink (trusts (g.V.SignatureVe
 
 pub returns-clause-no_sink : goal.returns-clause-no_sink
 returns-clause-no_sink g c = search_no_sink (trusts (g.V.SignatureVerifier.valid c.args.verifier.now) (g.O.Offline.vouched c.args.judge.now) c.args.self.now) _ _ (registry_auth c.args.auth.now) c.search.result (rw (c.reference.ensures.inner, c.in_ok-auth.ensures) at ((c.search.ensures (client_state c.args.self.now).settings).made refl).1)
+
+pub returns-in_err-auth-clause-confined : goal.returns-in_err-auth-clause-confined
+returns-in_err-auth-clause-confined g c = search_confined (trusts (g.V.SignatureVerifier.valid c.args.verifier.now) (g.O.Offline.vouched c.args.judge.now) c.args.self.now) (within (client_state c.args.self.now).settings c.args.moment) (reference_in c.args.source_image.now) (registry_auth c.args.auth.now) c.from_residual.result c.args.source_image.now.direct (meets_wanting {k = (client_state c.args.self.now).kept} {link = g.T.Transport.state c.args.transport.now} _ refl c.from_residual.ensures.1)
+
+pub returns-clause-confined : goal.returns-clause-confined
+returns-clause-confined g c = search_confined (trusts (g.V.SignatureVerifier.valid c.args.verifier.now) (g.O.Offline.vouched c.args.judge.now) c.args.self.now) (within (client_state c.args.self.now).settings c.args.moment) (reference_in c.args.source_image.now) (registry_auth c.args.auth.now) c.search.result c.args.source_image.now.direct (returns-clause-run g c)

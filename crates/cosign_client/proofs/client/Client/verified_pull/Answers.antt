@@ -6,6 +6,7 @@ use Rattle.cosign_layers.specs.Standing.{Meaning, meaning}
 use Rattle.cosign_client.specs.State.{client_state, trusts}
 use Rattle.cosign_client.proofs.Causes.{pull_cause}
 use Rattle.cosign_client.proofs.Chains.{chain_of, links_of, backed_of}
+use Rattle.cosign_client.proofs.Confinement.{pull_confined}
 use Rattle.cosign_client.proofs.DigestStep.{unread_refused, pull_decided}
 use Rattle.cosign_client.proofs.Faults.{pull_no_memory, pull_faults}
 use Rattle.cosign_client.proofs.Refusals.{pull_fault, pull_no_sink}
@@ -53,3 +54,6 @@ returns-clause-no_sink g c = pull_no_sink (meaning c.args.policy.now (λ b. (goa
 
 pub returns-clause-completes : goal.returns-clause-completes
 returns-clause-completes g c = λ shelf from settled valid. completed (meaning c.args.policy.now (λ b. (goal.VerificationConstraint-dyn g (b.vtable, b.value)).accepts b.value) (trusts (g.V.SignatureVerifier.valid c.args.verifier.now) (g.O.Offline.vouched c.args.judge.now) c.args.self.now)) (client_state c.args.self.now).settings (reference_in c.args.image.now) (registry_auth c.args.auth.now) c.args.accepted_media_types.now shelf valid c.args.moment c.pull_verified.result from settled (returns-clause-run g c)
+
+pub returns-clause-confined : goal.returns-clause-confined
+returns-clause-confined g c = pull_confined (meaning c.args.policy.now (λ b. (goal.VerificationConstraint-dyn g (b.vtable, b.value)).accepts b.value) (trusts (g.V.SignatureVerifier.valid c.args.verifier.now) (g.O.Offline.vouched c.args.judge.now) c.args.self.now)) (within (client_state c.args.self.now).settings c.args.moment) (reference_in c.args.image.now) (registry_auth c.args.auth.now) c.args.accepted_media_types.now c.pull_verified.result c.args.image.now.direct (returns-clause-run g c)

@@ -1,0 +1,36 @@
+use Rattle.std.proofs.Common.{refl, ap}
+use Rattle.engine_requests.specs.Contexts.{within}
+use Rattle.sig_registry.specs.Conversions.{registry_auth}
+use Rattle.sig_registry.specs.Direct.{reference_in}
+use Rattle.cosign_client.specs.State.{client_state}
+use Rattle.cosign_client.specs.Triangulated.{triangulated}
+use Rattle.cosign_client.proofs.Confinement.{triangulated_confined}
+use Rattle.cosign_client.proofs.Exits.{and_then, refused, wanting, meets_wanting, shown_refusal, done}
+use Rattle.cosign_client.proofs.client.Client.triangulate.Goals as goal
+
+pub returns-in_err-auth-clause-run : goal.returns-in_err-auth-clause-run
+returns-in_err-auth-clause-run g c = meets_wanting _ refl (shown_refusal _ c.from_residual.ensures.1)
+
+pub returns-in_err-digest-clause-run : goal.returns-in_err-digest-clause-run
+unfolding triangulated
+returns-in_err-digest-clause-run g c = ((refused _ (rw (c.reference.ensures.inner, c.in_ok-auth.ensures) at (c.in_err-digest.ensures.run (client_state c.args.self.now).settings)) (shown_refusal _ c.from_residual-in_err-digest.ensures.1)).made refl).1
+
+pub returns-in_err-tag-clause-run : goal.returns-in_err-tag-clause-run
+unfolding triangulated
+returns-in_err-tag-clause-run g c = ((and_then _ (rw (c.reference.ensures.inner, c.in_ok-auth.ensures) at (c.in_ok-digest.ensures.run (client_state c.args.self.now).settings)) (wanting _ refl (shown_refusal _ c.from_residual-in_err-tag.ensures.1))).made refl).1
+
+pub returns-clause-run : goal.returns-clause-run
+unfolding triangulated
+returns-clause-run g c = ((and_then _ (rw (c.reference.ensures.inner, c.in_ok-auth.ensures) at (c.in_ok-digest.ensures.run (client_state c.args.self.now).settings)) (rw (c.as_str.ensures) at (rw c.in_ok-tag.ensures done))).made refl).1
+
+pub returns-in_err-auth-clause-confined : goal.returns-in_err-auth-clause-confined
+returns-in_err-auth-clause-confined g c = triangulated_confined (within (client_state c.args.self.now).settings c.args.moment) (reference_in c.args.image.now) (registry_auth c.args.auth.now) _ c.args.image.now.direct (returns-in_err-auth-clause-run g c)
+
+pub returns-in_err-digest-clause-confined : goal.returns-in_err-digest-clause-confined
+returns-in_err-digest-clause-confined g c = triangulated_confined (within (client_state c.args.self.now).settings c.args.moment) (reference_in c.args.image.now) (registry_auth c.args.auth.now) _ c.args.image.now.direct (returns-in_err-digest-clause-run g c)
+
+pub returns-in_err-tag-clause-confined : goal.returns-in_err-tag-clause-confined
+returns-in_err-tag-clause-confined g c = triangulated_confined (within (client_state c.args.self.now).settings c.args.moment) (reference_in c.args.image.now) (registry_auth c.args.auth.now) _ c.args.image.now.direct (returns-in_err-tag-clause-run g c)
+
+pub returns-clause-confined : goal.returns-clause-confined
+returns-clause-confined g c = triangulated_confined (within (client_state c.args.self.now).settings c.args.moment) (reference_in c.args.image.now) (registry_auth c.args.auth.now) _ c.args.image.now.direct (returns-clause-run g c)

@@ -1,0 +1,32 @@
+-- What a client is built of, and the client that comes of it.
+use Rattle.std.specs.Prelude.{ℕ, List, if◌then◌else◌, unwrap_or}
+use Rattle.std.specs.FinMap.{FinMap, empty, entries}
+use Rattle.json_values.specs.Places.{by_bytes}
+use Rattle.oci_auth.specs.Memory.{fresh}
+use Rattle.oci_engine.specs.Clients.{settings_of}
+use Rattle.sig_registry.specs.Clients.{Client as Shown}
+use Rattle.sig_registry.specs.Config.{oci_config}
+use Rattle.sig_registry.specs.declared.config.ClientConfig.{ClientConfig}
+use Rattle.cosign_layers.specs.Constraint.{has_no_item}
+use Rattle.cosign_client.specs.declared.builder.ClientBuilder.{ClientBuilder}
+
+abbrev pub config_of : ClientBuilder → ClientConfig
+config_of b = b.oci_client_config
+
+-- the keys of logs by their ids
+abbrev pub Keys : Type 0
+Keys = FinMap by_bytes (List ℕ)
+
+abbrev pub keys_of : ClientBuilder → Keys
+keys_of b = unwrap_or b.rekor_pub_keys empty
+
+-- the given keys, where there are any
+abbrev pub keys_or : Keys → Keys → Keys
+keys_or given kept = if has_no_item (entries given) then kept else given
+
+-- the client of a configuration, which keeps nothing yet
+abbrev pub fresh_client : ClientConfig → Shown
+fresh_client config = record {
+  settings = settings_of (oci_config config);
+  kept = fresh (oci_config config).default_token_expiration_secs;
+}
