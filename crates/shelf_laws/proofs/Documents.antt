@@ -29,7 +29,7 @@ use Rattle.oci_transport.specs.declared.message.Method.{Method}
 use Rattle.oci_transport.specs.declared.message.Method.TheVariants.{Get, Head}
 use Rattle.oci_auth.specs.declared.auth.RegistryAuth.{RegistryAuth}
 use Rattle.oci_auth.specs.declared.memory.Memory.{Memory}
-use Rattle.oci_protocol.specs.Proto.{Reading, Within, Answered, Done, read_within, ◌>>=◌, ◌>>◌}
+use Rattle.oci_protocol.specs.Proto.{Reading, Unread, Within, Answered, Done, read_within, ◌>>=◌, ◌>>◌}
 use Rattle.oci_protocol.specs.Runs.{head_part}
 use Rattle.oci_protocol.specs.Drive.{reply_of}
 use Rattle.oci_link.specs.PlainPaths.{Segment, PlainPath}
@@ -44,14 +44,17 @@ use Rattle.engine_requests.specs.declared.error.OciDistributionError.{OciDistrib
 use Rattle.engine_requests.specs.declared.error.OciDistributionError.TheVariants as engine_refusal
 use Rattle.engine_requests.specs.declared.settings.Settings.{Settings}
 use Rattle.engine_requests.specs.Addresses.{manifest_name, manifest_text, blob_text, url_read}
-use Rattle.engine_requests.specs.Answers.{accepted, or_digest_error, header_digest, body_digest, answer_digest, document_in, agreed, fits_reference, refused_answer, is_success}
+use Rattle.engine_requests.specs.Answers.{accepted, or_digest_error, header_digest, body_digest, answer_digest, document_in, agreed, fits_reference, refused_answer, is_success, is_error}
 use Rattle.engine_requests.specs.Blobs.{digest_expected, given_expected, pouring, plan_by, planned, plan_in, plan_of, compared, given_compared, both_compared}
 use Rattle.engine_requests.specs.Contexts.{Context}
 use Rattle.engine_requests.specs.Errors.{◌>>=◌ as ◌into◌, ◌>>◌ as ◌and◌}
 use Rattle.engine_requests.specs.Requests.{manifest_types}
+use Rattle.engine_requests.specs.Sources.{Layer, places_of, asked_at}
+use Rattle.engine_requests.specs.declared.sources.Place.{Place}
 use Rattle.engine_steps.specs.declared.asking.Named.{Named}
 use Rattle.engine_steps.specs.declared.asking.Named.TheVariants.{ByHeader, Unnamed}
 use Rattle.engine_steps.specs.Rows.{Row, whole_reply, whole, reading_named, named_reading, read_named, named_reply, named_after, prepared, store}
+use Rattle.engine_steps.specs.Offers.{offer_reading, offer_reply, offer, tried}
 use Rattle.engine_steps.specs.Blobs.{IntoMemory, reading_by, blob_reading, read_by, blob_reply, attempt}
 use Rattle.engine_pull.specs.Pulls.{document, manifest_document, pull_manifest_raw, digest_by, fetch_manifest_digest, blob_to, held_blob}
 use Rattle.shelf_laws.specs.Comes.{Comes, Yields, Gives, IsHeld}
@@ -247,6 +250,25 @@ module _ {s : Settings} {registry : List ℕ} {shelf : Shelf} (home : Home s reg
         (h, yields_ok (λ (b : List ℕ). b ≡ bytes) (read_by request.url x (plan_of digest (head_part x))) bytes (blob_read digest request.url alg bytes x named good) refl)));
   }
 
+  offer_gives : (request : Request) (x : Answer) (digest bytes : List ℕ) (next : Row (List ℕ)) → answer shelf request ≡ x → Names digest bytes → IsGood digest bytes x → length bytes ≤ limit → Gives I (answer shelf) (λ (b : List ℕ). b ≡ bytes) (offer IntoMemory limit digest next request)
+  unfolding offer offer_reading blob_reading Comes
+  offer_gives request x digest bytes next is (alg, named) good le = record {
+    gives = λ k h.
+        let own : Reading = blob_reading IntoMemory limit digest (head_part x) in
+        let reading : offer_reading IntoMemory limit digest (head_part x) ≡ Within limit = ap (λ n. if is_error n then Unread else own) good.status ∙ ap (reading_by IntoMemory limit) (plan_is digest alg bytes x named good) in
+        Comes-follow (answer shelf) (λ l r. I l × Yields (λ (b : List ℕ). b ≡ bytes) r) 10 request (offer_reading IntoMemory limit digest) (offer_reply digest next) x k is (stands_200 10 request x good.status)
+        (subst IsHeld (sym reading) tt)
+        (subst (λ (way : Reading). Comes (answer shelf) (λ l r. I l × Yields (λ (b : List ℕ). b ≡ bytes) r) (offer_reply digest next request (reply_of way x)) k) (sym reading)
+        (subst (λ reply. Comes (answer shelf) (λ l r. I l × Yields (λ (b : List ℕ). b ≡ bytes) r) (offer_reply digest next request reply) k) (sym (within_reads limit x (subst (λ (b : List ℕ). length b ≤ limit) (sym good.body_is) le)))
+        (h, yields_ok (λ (b : List ℕ). b ≡ bytes) (read_by request.url x (plan_of digest (head_part x))) bytes (blob_read digest request.url alg bytes x named good) refl)));
+  }
+
+  -- the shelf's answer is taken, whatever other places there are
+  tried_gives : (places : List Place) (request : Request) (x : Answer) (digest bytes : List ℕ) → answer shelf request ≡ x → Names digest bytes → IsGood digest bytes x → length bytes ≤ limit → Gives I (answer shelf) (λ (b : List ℕ). b ≡ bytes) (tried IntoMemory s digest places request)
+  unfolding tried
+  tried_gives [] request x digest bytes is named good le = attempt_gives request x digest bytes is named good le
+  tried_gives (p ∷ ps) request x digest bytes is named good le = offer_gives request x digest bytes (Done (asked_at s p) >>= (λ next. tried IntoMemory s digest ps next)) is named good le
+
   named_gives : (request : Request) (x : Answer) (digest bytes : List ℕ) → answer shelf request ≡ x → Names digest bytes → IsGood digest [] x → Gives I (answer shelf) (λ n. (got : Got) × (n ≡ ByHeader digest got) × (got.answer.status ≡ 200)) (named_after 10 request limit)
   unfolding named_after named_reading Comes
   named_gives request x digest bytes is named good = record {
@@ -308,12 +330,13 @@ module _ {s : Settings} {registry : List ℕ} {shelf : Shelf} (home : Home s reg
       subst (λ n. Gives I (answer shelf) (λ (d : List ℕ). d ≡ digest) (digest_by ctx image url n)) (sym found.1) (fitting digest bytes url found.0 has.named other found.2)))))
 
   -- a blob
-  pub blob_gives : (digest : List ℕ) (has : HasBlob shelf digest) → Gives I (answer shelf) (λ (b : List ℕ). b ≡ has.blob) (held_blob ctx image digest)
+  pub blob_gives : (layer : Layer) (has : HasBlob shelf layer.digest) → Gives I (answer shelf) (λ (b : List ℕ). b ≡ has.blob) (held_blob ctx image layer)
   unfolding blob_to
-  blob_gives digest has =
+  blob_gives layer has =
+      let digest : List ℕ = layer.digest in
       let segment = named_segment digest has.blob has.named in
       Gives-next _ (Gives-done (url_read (blob_text s image digest)) (url_reads home (blob_text s image digest) (item_path shelf.repository (codes "blobs") digest) (blob_text_is home at digest) (item_plain shelf.repository (codes "blobs") digest home.path (98, codes "lobs", refl, refl, refl) segment))) (λ url is.
       Gives-next _ (prepared_gives home image at a can moment Get url manifest_types refl) (λ request made.
-      attempt_gives request (bytes_answer (with_digest digest) (Some has.blob)) digest has.blob
+      tried_gives (places_of layer.urls) request (bytes_answer (with_digest digest) (Some has.blob)) digest has.blob
       (answers_blob home request digest segment (made.url_is ∙ is.text_is) ∙ ap (λ m. blob_answer shelf m digest) made.method_is ∙ ap (bytes_answer (with_digest digest)) has.there)
       has.named (blob_good digest has.blob has.named) (short.blobs digest has.blob has.there)))

@@ -23,6 +23,7 @@ use Rattle.engine_requests.specs.Contexts.{Context}
 use Rattle.engine_requests.specs.Documents.{document_read}
 use Rattle.engine_requests.specs.Index.{entry_found, entry_manifest, entry_reference}
 use Rattle.engine_requests.specs.Requests.{manifest_types}
+use Rattle.engine_requests.specs.Sources.{described}
 use Rattle.engine_requests.specs.declared.error.OciDistributionError.{OciDistributionError}
 use Rattle.engine_requests.specs.declared.error.OciDistributionError.TheVariants as refusal
 use Rattle.engine_requests.specs.declared.settings.Settings.{Settings}
@@ -109,7 +110,7 @@ module _ {s : Settings} {registry : List ℕ} {shelf : Shelf} (home : Home s reg
   layers_give image accepted [] before at all = Gives-done (Ok before) (sym (append-nil before))
   layers_give image accepted (x ∷ xs) before at all =
       let has = (All-head (HasLayer shelf accepted) x xs all).0 in
-      Gives-next _ (blob_gives home short image at a can moment x.digest has) (λ content is.
+      Gives-next _ (blob_gives home short image at a can moment (described x) has) (λ content is.
       let same : layer_of x content ≡ layer_on shelf x = ap (layer_of x) (is ∙ blob_on x.digest has) in
       Gives-more (λ layers. layers ≡ before ++ layers_on shelf (x ∷ xs)) (layers_give image accepted xs (before ++ layer_of x content ∷ []) at (All-tail (HasLayer shelf accepted) x xs all)) (λ layers known.
       known ∙ append_assoc before (layer_of x content ∷ []) (layers_on shelf xs) ∙ ap (λ (l : ImageLayer). before ++ l ∷ layers_on shelf xs) same))
@@ -119,7 +120,7 @@ module _ {s : Settings} {registry : List ℕ} {shelf : Shelf} (home : Home s reg
   pull_gives image digest accepted on at points =
       let has = on.blobs in
       Gives-next _ (Gives-next _ (manifest_gives image digest on.first on.document at points on.there on.reads) (λ found is. subst (λ (p : OciManifest × List ℕ). Gives I (answer shelf) (λ found. found.0 ≡ on.manifest) (manifest_by ctx image a p.0 p.1)) (sym is) (by_document image digest on.document on.manifest at on.leads))) (λ found is.
-      Gives-next _ (subst (λ (m : OciImageManifest). Gives I (answer shelf) (λ (b : List ℕ). b ≡ has.config.blob) (held_blob ctx image m.config.digest)) (sym is) (blob_gives home short image at a can moment on.manifest.config.digest has.config)) (λ config known.
+      Gives-next _ (subst (λ (m : OciImageManifest). Gives I (answer shelf) (λ (b : List ℕ). b ≡ has.config.blob) (held_blob ctx image (described m.config))) (sym is) (blob_gives home short image at a can moment (described on.manifest.config) has.config)) (λ config known.
       Gives-next _ (Gives-done (layers_accepted accepted found.0.layers) (yields_ok (λ u. Unit {0}) (layers_accepted accepted found.0.layers) tt (ap (λ (m : OciImageManifest). layers_accepted accepted m.layers) is ∙ types_accepted shelf accepted on.manifest.layers has.some has.layers) tt)) (λ u checked.
       Gives-next _ (subst (λ (m : OciImageManifest). Gives I (answer shelf) (λ layers. layers ≡ layers_on shelf on.manifest.layers) (pull_layers ctx image m.layers [])) (sym is) (layers_give image accepted on.manifest.layers [] at has.layers)) (λ layers same.
       Gives-done (Ok (record { layers = layers; digest = Some found.1; config = config_of found.0 config; manifest = Some found.0 })) same))))

@@ -42,10 +42,10 @@ use Rattle.engine_requests.specs.Addresses.{registry_text, base_text, url_read, 
 use Rattle.engine_requests.specs.Contexts.{Context}
 use Rattle.engine_requests.specs.Requests.{request_of}
 use Rattle.engine_requests.specs.Tokens.{wanted, wanted_in}
-use Rattle.engine_steps.specs.Rows.{Row, head_reply, head_after, recalled, keep, store, fetched, registry_asked, token_step, with_kept, taken, token_asked, kept_or_asked, token_by, token_for, goes_to, token_where, authorized, prepared}
+use Rattle.engine_steps.specs.Rows.{Row, head_reply, head_after, recalled, keep, store, fetched, registry_asked, token_step, with_kept, taken, token_asked, kept_or_asked, token_by, token_for, goes_to, token_where, authorized, prepared, kept_text, token_given}
 use Rattle.shelf_laws.specs.Comes.{Comes, Yields, Gives}
 use Rattle.shelf_laws.specs.Home.{front_of, Home, IsAt, CanBeShown, shown_unasked, NoneBut, IsToken, Settled}
-use Rattle.shelf_laws.proofs.Coming.{Comes-follow, Comes-bind, Gives-done, Gives-next, Gives-caught}
+use Rattle.shelf_laws.proofs.Coming.{Comes-follow, Comes-bind, Gives-done, Gives-next, Gives-more, Gives-caught}
 use Rattle.shelf_laws.proofs.Places.{answers_base, base_text_is, registry_text_is, goes_home}
 use Rattle.shelf_laws.proofs.PlainNames.{base_plain}
 use Rattle.shelf_laws.proofs.Requests.{yields_ok, CanStand, IsFor, request_made, bare_made, IsUrl, url_reads, stands_200}
@@ -173,3 +173,25 @@ module _ {s : Settings} {registry : List ℕ} {shelf : Shelf} (home : Home s reg
   unfolding prepared
   prepared_gives method url types listed =
       Gives-next _ (authorized_gives url) (λ token shown. Gives-done (request_of s method url (Some types) token) (request_made s method url types token home.agent listed (can_show a token can shown)))
+
+  -- ---- credentials that are handed in for a token
+
+  step_gives : Gives I (answer shelf) Shown (token_step s image a Pull)
+  step_gives = by_kind a refl where
+    by_kind : (b : RegistryAuth) → a ≡ b → Gives I (answer shelf) Shown (token_step s image b Pull)
+    by_kind (Bearer text) is = Gives-done (Ok (Some (shown.Bearer (Token text)))) (inr (sym (ap shown_unasked is)))
+    by_kind (Basic user password) is = Gives-more Shown (subst (λ b. Gives I (answer shelf) (λ (o : Option RegistryTokenType). o ≡ None) (registry_asked s image b Pull)) is asked_nothing) (λ o none. inl none)
+    by_kind Anonymous is = Gives-more Shown (subst (λ b. Gives I (answer shelf) (λ (o : Option RegistryTokenType). o ≡ None) (registry_asked s image b Pull)) is asked_nothing) (λ o none. inl none)
+
+  own_kept : (token : RegistryTokenType) → Some token ≡ shown_unasked a → Gives (λ k. Settled (resolved_registry image) (repository_of image) a k) (answer shelf) (λ (o : Option (List ℕ)). Unit {0}) (kept_text moment key (Some token))
+  unfolding Comes bind
+  own_kept token own = record { gives = λ k h. (settled_kept (resolved_registry image) (repository_of image) a k token moment own h, tt) }
+
+  text_kept : (o : Option RegistryTokenType) → Shown o → Gives I (answer shelf) (λ (t : Option (List ℕ)). Unit {0}) (kept_text moment key o)
+  text_kept None h = Gives-done (Ok None) tt
+  text_kept (Some token) (inl none) = absurd (cc none)
+  text_kept (Some token) (inr own) = spelled (own_kept token own)
+
+  pub given_gives : Gives I (answer shelf) (λ (t : Option (List ℕ)). Unit {0}) (token_given ctx image a Pull)
+  unfolding token_given
+  given_gives = Gives-next _ store_gives (λ u stored_is. Gives-next _ step_gives (λ o h. text_kept o h))
