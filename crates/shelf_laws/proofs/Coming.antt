@@ -1,6 +1,6 @@
 -- Steps of a protocol over a table, and what a call over such a transport answers.
 use Rattle.std.specs.Prelude.{nat_lt, MatchBool}
-use Rattle.std.proofs.Common.{◌≡◌, Bool, true, false, if◌then◌else◌, ◌≢◌, ◌<◌, ◌≤◌, ◌+◌, ◌^◌, ◌-◌, ℕ, suc, zero, List, [], ◌∷◌, Option, Some, None, Result, Ok, Err, length, refl, sym, ap, subst, ◌∙◌, arith}
+use Rattle.std.proofs.Common.{◌≡◌, Bool, true, false, if◌then◌else◌, ◌<◌, ◌≤◌, ◌^◌, ◌-◌, ℕ, suc, zero, List, [], ◌∷◌, Option, Some, None, Result, Ok, Err, length, refl, sym, ap, subst, ◌∙◌, arith}
 use Rattle.std.proofs.lemmas.Bool.{le-ltb, lt-ltb}
 use Rattle.oci_transport.specs.Link.{Link, Answering, AnsweredBy, NeverFails}
 use Rattle.oci_transport.specs.Redirects.{redirected}
@@ -89,6 +89,12 @@ module _ {K : Type 0} {I : K → Type 0} {table : Request → Answer} where
 
   pub Reaches-gives : {A E : Type 0} {P : A → Type 0} {p : Proto K (Result A E)} → Gives I table P p → Reaches I table (Yields P) p
   Reaches-gives h = record { reaches = h.gives }
+
+  pub Reaches-strict : {A E : Type 0} (of_memory : E → Bool) {P : A → Type 0} {p : Proto K (Result A E)} → Gives I table P p → Reaches I table (OrMemory of_memory P) p
+  Reaches-strict {A} {E} of_memory {P} {p} h = record { reaches = λ k is. Comes-more table (λ l r. I l × Yields P r) (λ l r. I l × OrMemory of_memory P r) p k (h.gives k is) (λ l r found. (found.0, by_result r found.1)) } where
+    by_result : (r : Result A E) → Yields P r → OrMemory of_memory P r
+    by_result (Ok a) is = is
+    by_result (Err e) is = absurd is
 
   pub Reaches-stays : {A : Type 0} {p : Proto K A} → Stays I table p → Reaches I table (λ a. Unit {0}) p
   Reaches-stays {A} {p} h = record { reaches = λ k is. Comes-more table (λ l a. I l) (λ l a. I l × Unit {0}) p k (h.stays k is) (λ l a stays. (stays, tt)) }

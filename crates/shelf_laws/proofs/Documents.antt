@@ -1,11 +1,10 @@
 -- Documents and blobs of a shelf, as the rows that pull them answer.
-use Rattle.std.specs.Prelude.{codes, not, nat_lt, nat_eq, nat_le, bytes_eq, slice_get, unwrap_or, IsTrue, if◌then◌else◌}
-use Rattle.std.specs.List.{list_all, list_any}
+use Rattle.std.specs.Prelude.{codes, not, nat_lt, nat_eq, nat_le, bytes_eq, slice_get, unwrap_or, if◌then◌else◌}
+use Rattle.std.specs.List.{list_any}
 use Rattle.std.specs.FinMap as map
 use Rattle.std.specs.FinMap.{get-empty, get-insert}
-use Rattle.std.specs.Cmp.{eq_by_cmp_equiv}
 use Rattle.std.specs.Cmp.Lexicographic.{nat_list_cmp_total}
-use Rattle.std.proofs.Common.{◌≡◌, ◌≤◌, ℕ, zero, suc, Bool, true, false, cond, ◌&&◌, ◌||◌, ◌==◌, List, [], ◌∷◌, ◌++◌, length, Option, Some, None, Result, Ok, Err, refl, sym, ap, ◌∙◌, subst, arith}
+use Rattle.std.proofs.Common.{◌≡◌, ◌≤◌, ℕ, Bool, true, false, ◌&&◌, ◌||◌, ◌==◌, List, [], ◌∷◌, ◌++◌, length, Option, Some, None, Result, Ok, Err, refl, sym, ap, ◌∙◌, subst, arith}
 use Rattle.std.proofs.lemmas.Bool.Decides.{nat_tests}
 use Rattle.std.proofs.lemmas.Slice.Eq.{bytes_eq-Decides}
 use Rattle.url.specs.Parts.{Parts, serialize}
@@ -14,57 +13,54 @@ use Rattle.hex.specs.Hex.{encode_lower}
 use Rattle.oci_names.specs.declared.reference.Reference.{Reference}
 use Rattle.oci_names.specs.References.{digest_of, tag_of}
 use Rattle.oci_digests.specs.Names.{Names, digest_text, name_of, hash_of}
-use Rattle.oci_digests.specs.Checks.{header_digest as digest_in, is_header_text, and_then, validated}
+use Rattle.oci_digests.specs.Checks.{header_digest as digest_in, is_header_text, and_then}
 use Rattle.oci_digests.specs.Parts.{parts_of, named_by, named_algorithm}
 use Rattle.oci_digests.specs.declared.digester.Algorithm.{Algorithm}
 use Rattle.oci_digests.specs.declared.digester.Algorithm.TheVariants.{Sha256, Sha384, Sha512}
-use Rattle.oci_digests.specs.declared.error.DigestError.{DigestError}
 use Rattle.oci_digests.specs.declared.error.DigestError.TheVariants as digest_refusal
 use Rattle.oci_digests.proofs.Validated.{algorithm_named, is_validated}
 use Rattle.oci_transport.specs.Headers.{Fields, values_of, first_of, added, held, is_header_value, digest_header}
 use Rattle.oci_transport.specs.declared.message.Request.{Request}
 use Rattle.oci_transport.specs.declared.message.Answer.{Answer}
-use Rattle.oci_transport.specs.declared.message.AnswerHead.{AnswerHead}
 use Rattle.oci_transport.specs.declared.message.Method.{Method}
 use Rattle.oci_transport.specs.declared.message.Method.TheVariants.{Get, Head}
 use Rattle.oci_auth.specs.declared.auth.RegistryAuth.{RegistryAuth}
 use Rattle.oci_auth.specs.declared.memory.Memory.{Memory}
-use Rattle.oci_protocol.specs.Proto.{Reading, Unread, Within, Answered, Done, read_within, ◌>>=◌, ◌>>◌}
+use Rattle.oci_protocol.specs.Proto.{Reading, Unread, Within, Done, read_within, ◌>>=◌}
 use Rattle.oci_protocol.specs.Runs.{head_part}
 use Rattle.oci_protocol.specs.Drive.{reply_of}
 use Rattle.oci_link.specs.PlainPaths.{Segment, PlainPath}
-use Rattle.oci_link.specs.Table.{answer, with_header, with_digest, found, not_found, document_answer, digest_answer, digest_named, manifest_answer, is_colon, bytes_answer, blob_answer, is_get_or_head, is_get}
+use Rattle.oci_link.specs.Table.{answer, with_header, with_digest, not_found, document_answer, digest_answer, digest_named, manifest_answer, is_colon, bytes_answer, blob_answer, is_get_or_head}
 use Rattle.oci_link.specs.declared.shelf.Shelf.{Shelf}
 use Rattle.oci_link.specs.declared.shelf.ShelfDocument.{ShelfDocument}
 use Rattle.engine_requests.specs.declared.answers.Got.{Got}
 use Rattle.engine_requests.specs.declared.blobs.Expected.{Expected}
-use Rattle.engine_requests.specs.declared.blobs.Plan.{Plan}
-use Rattle.engine_requests.specs.declared.blobs.Plan.TheVariants.{Refuse, Judge, Pour}
+use Rattle.engine_requests.specs.declared.blobs.Plan.TheVariants.{Pour}
 use Rattle.engine_requests.specs.declared.error.OciDistributionError.{OciDistributionError}
 use Rattle.engine_requests.specs.declared.error.OciDistributionError.TheVariants as engine_refusal
 use Rattle.engine_requests.specs.declared.settings.Settings.{Settings}
 use Rattle.engine_requests.specs.Addresses.{manifest_name, manifest_text, blob_text, url_read}
 use Rattle.engine_requests.specs.Answers.{accepted, or_digest_error, header_digest, body_digest, answer_digest, document_in, agreed, fits_reference, refused_answer, is_success, is_error}
-use Rattle.engine_requests.specs.Blobs.{digest_expected, given_expected, pouring, plan_by, planned, plan_in, plan_of, compared, given_compared, both_compared}
+use Rattle.engine_requests.specs.Blobs.{digest_expected, pouring, plan_by, planned, plan_of, compared}
 use Rattle.engine_requests.specs.Contexts.{Context}
 use Rattle.engine_requests.specs.Errors.{◌>>=◌ as ◌into◌, ◌>>◌ as ◌and◌}
 use Rattle.engine_requests.specs.Requests.{manifest_types}
 use Rattle.engine_requests.specs.Sources.{Layer, places_of, asked_at}
 use Rattle.engine_requests.specs.declared.sources.Place.{Place}
 use Rattle.engine_steps.specs.declared.asking.Named.{Named}
-use Rattle.engine_steps.specs.declared.asking.Named.TheVariants.{ByHeader, Unnamed}
-use Rattle.engine_steps.specs.Rows.{Row, whole_reply, whole, reading_named, named_reading, read_named, named_reply, named_after, prepared, store}
+use Rattle.engine_steps.specs.declared.asking.Named.TheVariants.{ByHeader}
+use Rattle.engine_steps.specs.Rows.{Row, whole_reply, whole, reading_named, named_reading, read_named, named_reply, named_after}
 use Rattle.engine_steps.specs.Offers.{offer_reading, offer_reply, offer, tried}
 use Rattle.engine_steps.specs.Blobs.{IntoMemory, reading_by, blob_reading, read_by, blob_reply, attempt}
 use Rattle.engine_pull.specs.Pulls.{document, manifest_document, pull_manifest_raw, digest_by, fetch_manifest_digest, blob_to, held_blob}
 use Rattle.shelf_laws.specs.Comes.{Comes, Yields, Gives, IsHeld}
 use Rattle.shelf_laws.specs.Home.{front_of, Home, IsAt, CanBeShown, Settled}
 use Rattle.shelf_laws.specs.Shelves.{IsShort, HasDocument, HasBlob}
-use Rattle.shelf_laws.proofs.Coming.{Comes-follow, Gives-done, Gives-next, Gives-more}
-use Rattle.shelf_laws.proofs.DigestTexts.{and_both, digest_all, is_lower_digit, digits_of_hash}
+use Rattle.shelf_laws.proofs.Coming.{Comes-follow, Gives-done, Gives-next}
+use Rattle.shelf_laws.proofs.DigestTexts.{digest_all, is_lower_digit}
 use Rattle.shelf_laws.proofs.PlainNames.{digest_segment, item_plain}
 use Rattle.shelf_laws.proofs.Places.{item_path, answers_manifest, answers_blob, manifest_text_is, blob_text_is}
-use Rattle.shelf_laws.proofs.Requests.{yields_ok, none_held, IsFor, IsUrl, url_reads, stands_200, within_reads}
+use Rattle.shelf_laws.proofs.Requests.{yields_ok, none_held, IsFor, url_reads, stands_200, within_reads}
 use Rattle.shelf_laws.proofs.Tokens.{prepared_gives, store_gives}
 
 -- ---- the digest of an answer

@@ -1,8 +1,8 @@
 -- Images of a shelf, as the rows that pull them answer.
-use Rattle.std.specs.Prelude.{bytes_eq, unwrap_or, slice_index_or, Contains, if◌then◌else◌}
+use Rattle.std.specs.Prelude.{bytes_eq, unwrap_or, slice_index_or, if◌then◌else◌}
 use Rattle.std.specs.List.{All}
 use Rattle.std.specs.FinMap as map
-use Rattle.std.proofs.Common.{◌≡◌, ◌<◌, ℕ, zero, suc, Bool, true, false, List, [], ◌∷◌, ◌++◌, length, Option, Some, None, Result, Ok, Err, refl, sym, ap, ◌∙◌, subst, arith, append_assoc, append-nil}
+use Rattle.std.proofs.Common.{◌≡◌, ◌<◌, ℕ, zero, suc, Bool, true, false, List, [], ◌∷◌, ◌++◌, length, Option, Some, None, Ok, Err, refl, sym, ap, ◌∙◌, subst, arith, append_assoc, append-nil}
 use Rattle.std.proofs.lemmas.Slice.Eq.{bytes_eq-Decides}
 use Rattle.std.proofs.lemmas.List.Elements.{All-head, All-tail}
 use Rattle.oci_names.specs.declared.reference.Reference.{Reference}
@@ -14,7 +14,6 @@ use Rattle.oci_manifests.specs.declared.document.OciManifest.TheVariants.{Image,
 use Rattle.oci_manifests.specs.declared.manifest.OciImageManifest.{OciImageManifest}
 use Rattle.oci_manifests.specs.declared.descriptor.OciDescriptor.{OciDescriptor}
 use Rattle.oci_manifests.specs.declared.blob.ImageLayer.{ImageLayer}
-use Rattle.oci_protocol.specs.Proto.{Done, ◌>>=◌, ◌>>◌}
 use Rattle.oci_link.specs.PlainPaths.{Segment}
 use Rattle.oci_link.specs.Table.{answer, digest_named}
 use Rattle.oci_link.specs.declared.shelf.Shelf.{Shelf}
@@ -24,16 +23,15 @@ use Rattle.engine_requests.specs.Documents.{document_read}
 use Rattle.engine_requests.specs.Index.{entry_found, entry_manifest, entry_reference}
 use Rattle.engine_requests.specs.Requests.{manifest_types}
 use Rattle.engine_requests.specs.Sources.{described}
-use Rattle.engine_requests.specs.declared.error.OciDistributionError.{OciDistributionError}
 use Rattle.engine_requests.specs.declared.error.OciDistributionError.TheVariants as refusal
 use Rattle.engine_requests.specs.declared.settings.Settings.{Settings}
 use Rattle.engine_pull.specs.declared.image.ImageData.{ImageData}
 use Rattle.engine_pull.specs.Pulls.{pull_manifest, held_blob}
 use Rattle.engine_pull.specs.Manifests.{pull_entry, manifest_by, pull_image_manifest_and_list_digest}
 use Rattle.engine_pull.specs.Images.{is_accepted, all_accepted, layers_accepted, layer_of, config_of, pull_layers, pull}
-use Rattle.shelf_laws.specs.Comes.{Yields, Gives}
+use Rattle.shelf_laws.specs.Comes.{Gives}
 use Rattle.shelf_laws.specs.Home.{Home, IsAt, CanBeShown, Settled}
-use Rattle.shelf_laws.specs.Shelves.{IsShort, HasDocument, HasBlob, HasLayer, HasBlobs, LeadsTo, ImageOn, layer_on, layers_on}
+use Rattle.shelf_laws.specs.Shelves.{IsShort, HasDocument, HasBlob, HasLayer, LeadsTo, ImageOn, layer_on, layers_on}
 use Rattle.shelf_laws.proofs.Coming.{Gives-done, Gives-next, Gives-more}
 use Rattle.shelf_laws.proofs.Documents.{NoOther, digest_itself, named_segment, raw_gives, blob_gives}
 use Rattle.shelf_laws.proofs.Requests.{yields_ok}

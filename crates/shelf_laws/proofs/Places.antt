@@ -1,24 +1,23 @@
 -- Which URLs the requests for a shelf's repository have, and what the shelf answers there.
-use Rattle.std.specs.Prelude.{codes, not, bytes_eq, IsTrue}
-use Rattle.std.specs.List.{list_all}
+use Rattle.std.specs.Prelude.{codes, not, bytes_eq}
 use Rattle.std.specs.FinMap as map
-use Rattle.std.proofs.Common.{◌≡◌, ℕ, Bool, true, false, cond, ◌&&◌, ◌==◌, List, [], ◌∷◌, ◌++◌, Option, Some, None, Result, Ok, refl, sym, ap, ◌∙◌, subst, append_assoc, append-nil}
+use Rattle.std.proofs.Common.{◌≡◌, ℕ, Bool, true, false, cond, ◌&&◌, List, [], ◌∷◌, ◌++◌, Option, Some, None, refl, ap, ◌∙◌, append_assoc, append-nil}
 use Rattle.std.proofs.lemmas.Bool.{eq-eqb}
 use Rattle.std.proofs.lemmas.Slice.Eq.{bytes_eq-Decides}
-use Rattle.url.specs.Parts.{Parts, serialize}
+use Rattle.url.specs.Parts.{Parts}
 use Rattle.oci_names.specs.declared.reference.Reference.{Reference}
-use Rattle.oci_names.specs.References.{repository_of, tag_of, digest_of, resolved_registry, namespace_of}
+use Rattle.oci_names.specs.References.{repository_of, tag_of, digest_of, namespace_of}
 use Rattle.oci_transport.specs.declared.message.Request.{Request}
-use Rattle.oci_transport.specs.Urls.{request_url, host_of, port_of, same_text, same_port, same_place, targets}
+use Rattle.oci_transport.specs.Urls.{host_of, port_of, same_text, same_port, same_place, targets}
 use Rattle.oci_link.specs.PlainPaths.{PlainPath, Segment, Scheme, ReadsAs}
-use Rattle.oci_link.specs.Table.{answer, manifest_answer, blob_answer, referrers_answer, is_get, found, not_found}
+use Rattle.oci_link.specs.Table.{answer, manifest_answer, blob_answer, is_get, found, not_found}
 use Rattle.oci_link.specs.declared.shelf.Shelf.{Shelf}
 use Rattle.oci_link.specs.Paths.{path_of}
-use Rattle.oci_link.proofs.ShelfAnswers.{path_of-at, answer-base, answer-manifest, answer-blob, answer-referrers}
+use Rattle.oci_link.proofs.ShelfAnswers.{path_of-at, answer-base, answer-manifest, answer-blob}
 use Rattle.engine_requests.specs.declared.settings.ClientProtocol.{ClientProtocol}
 use Rattle.engine_requests.specs.declared.settings.ClientProtocol.TheVariants.{Http, Https, HttpsExcept}
 use Rattle.engine_requests.specs.declared.settings.Settings.{Settings}
-use Rattle.engine_requests.specs.Addresses.{is_listed, scheme_for, registry_text, base_text, manifest_name, manifest_text, blob_text, mirrored, url_read, url_or}
+use Rattle.engine_requests.specs.Addresses.{is_listed, scheme_for, registry_text, base_text, manifest_name, manifest_text, blob_text, mirrored}
 use Rattle.shelf_laws.specs.Home.{front_of, Home, IsAt}
 use Rattle.shelf_laws.proofs.DigestTexts.{and_both}
 use Rattle.shelf_laws.proofs.PlainNames.{base_plain, item_plain, plain_asks_nothing, domain_slashless}

@@ -1,12 +1,12 @@
 -- Repositories, tags and digests are plain paths, and a domain has no slash.
-use Rattle.std.specs.Prelude.{codes, not, nat_lt, nat_le, IsTrue}
+use Rattle.std.specs.Prelude.{codes, not}
 use Rattle.std.specs.List.{list_all}
 use Rattle.std.specs.Char.{is_ascii_alphanumeric, is_ascii_digit}
-use Rattle.std.proofs.Common.{◌≡◌, ◌≢◌, inl, inr, ◌⊎◌, ℕ, zero, suc, Bool, true, false, ◌&&◌, ◌||◌, ◌==◌, List, [], ◌∷◌, ◌++◌, length, refl, sym, ap, ◌∙◌, subst, arith, append_assoc}
+use Rattle.std.proofs.Common.{◌≡◌, inl, inr, ℕ, Bool, true, ◌==◌, List, [], ◌∷◌, ◌++◌, refl, sym, ap, ◌∙◌, subst, arith, append_assoc}
 use Rattle.std.proofs.lemmas.Bool.Decides.{nat_tests}
-use Rattle.oci_names.specs.Grammar.{is_path_letter, is_tag_start, is_tag_byte}
+use Rattle.oci_names.specs.Grammar.{is_path_letter, is_tag_byte}
 use Rattle.oci_names.specs.Words.{Run, Joined, Dashes, DomainComponent, Host, Domain, PathSeparator, PathComponent, Path, Tag}
-use Rattle.oci_digests.specs.Names.{name_of, hash_of, digest_text}
+use Rattle.oci_digests.specs.Names.{hash_of, digest_text}
 use Rattle.oci_digests.specs.declared.digester.Algorithm.{Algorithm}
 use Rattle.oci_digests.specs.declared.digester.Algorithm.TheVariants.{Sha256, Sha384, Sha512}
 use Rattle.hex.specs.Hex.{encode_lower}
@@ -96,7 +96,6 @@ pub item_plain : (repository kind name : List ℕ) → Path repository → Segme
 item_plain repository kind name path is named =
     PlainPath.more (codes "v2") (47 ∷ (repository ++ (47 ∷ (kind ++ 47 ∷ name)))) (118, codes "2", refl, refl, refl)
     (under repository (47 ∷ (kind ++ 47 ∷ name)) path (PlainPath.more kind (47 ∷ name) is (word name named)))
-
 
 -- no byte of a plain path is a question mark
 other_byte : (b : ℕ) → is_segment_byte b ≡ true → not (b == 63) ≡ true

@@ -2,10 +2,10 @@
 use Rattle.std.specs.Prelude.{codes, IfSome, if◌then◌else◌}
 use Rattle.std.specs.List.{list_all, list_any}
 use Rattle.std.specs.FinMap as map
-use Rattle.std.proofs.Common.{◌≡◌, ◌⊎◌, inl, inr, ℕ, Bool, true, false, ◌||◌, ◌==◌, List, [], ◌∷◌, ◌++◌, Option, Some, None, refl, sym, ap, ◌∙◌, subst, arith}
+use Rattle.std.proofs.Common.{◌≡◌, ℕ, Bool, true, false, ◌||◌, List, [], ◌∷◌, ◌++◌, Option, Some, None, refl, sym, ap, ◌∙◌, subst, arith}
 use Rattle.std.proofs.lemmas.Bool.Decides.{nat_tests}
 use Rattle.oci_names.specs.Grammar.{is_tag_start, is_tag_byte}
-use Rattle.oci_names.specs.References.{digest_of, tag_of, resolved_registry, repository_of}
+use Rattle.oci_names.specs.References.{digest_of, tag_of}
 use Rattle.oci_names.specs.Words.{Tag, Encoded}
 use Rattle.oci_names.specs.declared.reference.Reference.{Reference}
 use Rattle.oci_link.specs.PlainPaths.{Segment}

@@ -1,23 +1,21 @@
 -- What a reference that reads back is made of, and that others of its repository read back too.
-use Rattle.std.specs.Prelude.{bytes_eq, codes, not, nat_lt, nat_le, is_none, unwrap_or, IfSome, if◌then◌else◌}
+use Rattle.std.specs.Prelude.{bytes_eq, codes, not, nat_lt, is_none, unwrap_or, IfSome, if◌then◌else◌}
 use Rattle.std.specs.List.{list_all, list_any}
 use Rattle.std.specs.Option.{option_map_or}
 use Rattle.std.specs.Char.{is_ascii_hexdigit}
-use Rattle.std.proofs.Common.{◌≡◌, ◌≢◌, ◌⊎◌, inl, inr, ◌*◌, ◌<◌, ◌≤◌, ℕ, zero, suc, Bool, true, false, cond, ◌&&◌, ◌||◌, ◌==◌, List, [], ◌∷◌, ◌++◌, length, get_or, Option, Some, None, Result, Ok, Err, refl, sym, ap, ◌∙◌, subst, arith, append_assoc, append-nil, length-append}
-use Rattle.std.proofs.lemmas.Bool.{eq-eqb, le-leb}
+use Rattle.std.proofs.Common.{◌≡◌, inl, inr, ◌*◌, ℕ, zero, suc, Bool, true, false, ◌&&◌, ◌==◌, List, [], ◌∷◌, ◌++◌, length, Option, Some, None, Ok, Err, refl, sym, ap, ◌∙◌, subst, arith, append_assoc, append-nil, length-append}
 use Rattle.std.proofs.lemmas.Bool.Decides.{nat_tests}
-use Rattle.std.proofs.lemmas.Slice.Eq.{bytes_eq-Decides}
 use Rattle.hex.specs.Hex.{lower_digits, encode_with, encode_lower}
 use Rattle.sha2.proofs.Facts256.{length-sha256}
-use Rattle.oci_names.specs.Grammar.{before, after, is_path_letter, is_tag_start, is_tag_byte, is_domain, is_digest, is_hexadecimal, is_algorithm}
-use Rattle.oci_names.specs.Parts.{Parts, parts_of, domain_in, rest_in, is_domain_part, is_grammatical, registry_named, library_for, repository_named, tag_named, digits_of, digest_refusal, refusal_of, marked, is_slash}
-use Rattle.oci_names.specs.References.{reference_named, reference_of, whole_text, resolved_registry, namespace_of, reads_back}
-use Rattle.oci_names.specs.Words.{Run, Joined, Dashes, Domain, PathSeparator, PathComponent, Path, Tag, Encoded, InGrammar}
+use Rattle.oci_names.specs.Grammar.{before, after, is_path_letter, is_tag_byte, is_digest}
+use Rattle.oci_names.specs.Parts.{Parts, parts_of, domain_in, rest_in, is_domain_part, is_grammatical, registry_named, library_for, repository_named, tag_named, digest_refusal, refusal_of, marked, is_slash}
+use Rattle.oci_names.specs.References.{reference_named, reference_of, whole_text, resolved_registry, reads_back}
+use Rattle.oci_names.specs.Words.{Run, Domain, PathSeparator, PathComponent, Path, Tag, Encoded, InGrammar}
 use Rattle.oci_names.specs.declared.parse_error.ParseError.{ParseError}
-use Rattle.oci_names.specs.declared.parse_error.ParseError.TheVariants.{NameEmpty, ReferenceInvalidFormat, NameTooLong, DigestUnsupported, DigestInvalidLength}
+use Rattle.oci_names.specs.declared.parse_error.ParseError.TheVariants.{NameEmpty, ReferenceInvalidFormat, NameTooLong, DigestInvalidLength}
 use Rattle.oci_names.specs.declared.reference.Reference.{Reference}
 use Rattle.oci_names.proofs.Cuts.{Lacks, before-Lacks, before-at, after-Lacks, after-at}
-use Rattle.oci_names.proofs.PartWords.{domain, is_domain_from, encoded, in_grammar, is_in_grammar}
+use Rattle.oci_names.proofs.PartWords.{domain, encoded, in_grammar, is_in_grammar}
 use Rattle.oci_names.proofs.ReadsBack.{reads_back-means, reads_back-from}
 use Rattle.oci_digests.specs.Names.{digest_text, hash_of}
 use Rattle.oci_digests.specs.declared.digester.Algorithm.TheVariants.{Sha256}

@@ -1,9 +1,9 @@
 -- The requests that can be made, and how an answer of status 200 comes.
-use Rattle.std.specs.Prelude.{codes, nat_lt, sum_by, slice_get, unwrap_or, IsTrue, if◌then◌else◌}
+use Rattle.std.specs.Prelude.{codes, nat_lt, sum_by, unwrap_or, IsTrue, if◌then◌else◌}
 use Rattle.std.specs.FinMap as map
 use Rattle.std.specs.FinMap.{entries-insert, len-entries, len-empty, get-empty, get-insert, put}
 use Rattle.std.specs.Cmp.Lexicographic.{nat_list_cmp_total}
-use Rattle.std.proofs.Common.{◌≡◌, ◌≤◌, ℕ, zero, suc, Bool, true, false, cond, ◌&&◌, ◌==◌, List, [], ◌∷◌, ◌++◌, length, Option, Some, None, Result, Ok, Err, refl, sym, ap, ◌∙◌, subst, arith}
+use Rattle.std.proofs.Common.{◌≡◌, ◌≤◌, ℕ, zero, suc, Bool, true, false, ◌&&◌, List, [], ◌∷◌, ◌++◌, length, Option, Some, None, Result, Ok, Err, refl, sym, ap, ◌∙◌, subst}
 use Rattle.std.proofs.lemmas.Bool.{le-ltb}
 use Rattle.std.proofs.lemmas.List.{nil_from_length}
 use Rattle.url.specs.Parts.{Parts, serialize}
@@ -13,21 +13,18 @@ use Rattle.oci_transport.specs.Redirects.{may_follow, is_redirect_status, redire
 use Rattle.oci_transport.specs.Urls.{request_url}
 use Rattle.oci_transport.specs.declared.message.Request.{Request}
 use Rattle.oci_transport.specs.declared.message.Answer.{Answer}
-use Rattle.oci_transport.specs.declared.message.AnswerHead.{AnswerHead}
 use Rattle.oci_transport.specs.declared.message.Method.{Method}
 use Rattle.oci_auth.specs.Credentials.{authorization_of}
 use Rattle.oci_auth.specs.declared.token_type.RegistryTokenType.{RegistryTokenType}
-use Rattle.oci_protocol.specs.Proto.{Reading, Within, Reply, Answered, TooLong}
-use Rattle.oci_protocol.specs.Runs.{head_part}
+use Rattle.oci_protocol.specs.Proto.{Within, Answered, TooLong}
 use Rattle.oci_protocol.specs.Drive.{reply_of}
 use Rattle.oci_link.specs.PlainPaths.{PlainPath}
 use Rattle.oci_link.specs.declared.shelf.Shelf.{Shelf}
-use Rattle.engine_requests.specs.declared.error.OciDistributionError.{OciDistributionError}
 use Rattle.engine_requests.specs.declared.error.OciDistributionError.TheVariants as refusal
 use Rattle.engine_requests.specs.declared.error.GenericCause.TheVariants.{HeaderText}
 use Rattle.engine_requests.specs.declared.settings.Settings.{Settings}
 use Rattle.engine_requests.specs.Addresses.{url_or, url_read}
-use Rattle.engine_requests.specs.Requests.{with_header, with_accept, with_token, headers_of, bare_request, request_of}
+use Rattle.engine_requests.specs.Requests.{with_header, with_token, request_of}
 use Rattle.shelf_laws.specs.Comes.{Yields}
 use Rattle.shelf_laws.specs.Home.{front_of, Home}
 use Rattle.shelf_laws.proofs.Coming.{Stands}

@@ -1,6 +1,6 @@
 -- Rows that may answer anything over a shelf leave a client settled.
-use Rattle.std.specs.Prelude.{IsTrue, bytes_eq, codes, unwrap_or, nat_eq, if◌then◌else◌}
-use Rattle.std.proofs.Common.{◌≡◌, ap, ◌∙◌, is_some, ◌⊎◌, inl, inr, ℕ, Bool, true, false, List, [], ◌∷◌, ◌++◌, Option, Some, None, Result, Ok, Err, refl, sym, subst}
+use Rattle.std.specs.Prelude.{bytes_eq, codes, unwrap_or, nat_eq, if◌then◌else◌}
+use Rattle.std.proofs.Common.{◌≡◌, ap, ◌∙◌, is_some, ℕ, Bool, true, false, List, [], ◌∷◌, ◌++◌, Option, Some, None, refl}
 use Rattle.url.specs.Parts.{Parts}
 use Rattle.oci_names.specs.declared.reference.Reference.{Reference}
 use Rattle.oci_names.specs.References.{digest_of, namespace_of, resolved_registry}
@@ -16,31 +16,31 @@ use Rattle.oci_transport.specs.declared.message.Request.{Request}
 use Rattle.oci_transport.specs.declared.message.AnswerHead.{AnswerHead}
 use Rattle.oci_transport.specs.declared.message.Method.{Method}
 use Rattle.oci_transport.specs.declared.message.Method.TheVariants.{Get}
-use Rattle.oci_protocol.specs.Proto.{Reading, Unread, Reply, Headed, Answered, Failed, TooLong, SinkFailed, Proto, Done, bind, read_within, ◌>>=◌, ◌>>◌}
+use Rattle.oci_protocol.specs.Proto.{Unread, Reply, Headed, Answered, Failed, TooLong, SinkFailed, Done, read_within, ◌>>=◌}
 use Rattle.oci_link.specs.Table.{answer}
 use Rattle.oci_link.specs.declared.shelf.Shelf.{Shelf}
 use Rattle.engine_requests.specs.declared.blobs.Plan.{Plan}
 use Rattle.engine_requests.specs.declared.blobs.Plan.TheVariants.{Refuse, Judge, Pour}
 use Rattle.engine_requests.specs.Addresses.{manifest_text, blob_text, url_read}
-use Rattle.engine_requests.specs.Answers.{document_in, is_error}
+use Rattle.engine_requests.specs.Answers.{is_error}
 use Rattle.engine_requests.specs.Blobs.{plan_of}
 use Rattle.engine_requests.specs.Contexts.{Context}
 use Rattle.engine_requests.specs.Documents.{document_read}
 use Rattle.engine_requests.specs.Index.{entry_found, entry_manifest, entry_reference}
 use Rattle.engine_requests.specs.Requests.{manifest_types}
-use Rattle.engine_requests.specs.Referrers.{digest_given, referrers_url, referrers_in, fallback_reference, tagged_index}
+use Rattle.engine_requests.specs.Referrers.{digest_given, referrers_url, referrers_in, fallback_reference}
 use Rattle.engine_requests.specs.Sources.{Layer, described, places_of, asked_at}
 use Rattle.engine_requests.specs.declared.answers.Got.{Got}
 use Rattle.engine_requests.specs.declared.sources.Place.{Place}
 use Rattle.engine_requests.specs.declared.settings.Settings.{Settings}
-use Rattle.engine_steps.specs.Rows.{Row, whole_reply, whole, prepared, store}
+use Rattle.engine_steps.specs.Rows.{Row, whole_reply, whole, prepared}
 use Rattle.engine_steps.specs.Offers.{offer_reading, offer_reply, offer, tried}
 use Rattle.engine_steps.specs.Blobs.{IntoMemory, reading_by, blob_reading, blob_reply, attempt}
 use Rattle.engine_pull.specs.Pulls.{document, manifest_document, pull_manifest_raw, manifest_asked, pull_manifest, blob_to, held_blob}
 use Rattle.engine_pull.specs.Manifests.{pull_entry, manifest_by, pull_image_manifest_and_list_digest}
-use Rattle.engine_pull.specs.Referrers.{referrers_asked, referrers_tagged, referrers_by, pull_referrers}
+use Rattle.engine_pull.specs.Referrers.{referrers_asked, referrers_tagged, pull_referrers}
 use Rattle.engine_pull.specs.Images.{layers_accepted, layer_of, pull_layers, pull}
-use Rattle.shelf_laws.specs.Comes.{IsHeld, Gives, Stays}
+use Rattle.shelf_laws.specs.Comes.{IsHeld, Stays}
 use Rattle.shelf_laws.specs.Home.{Home, IsAt, CanBeShown, Settled}
 use Rattle.shelf_laws.proofs.Coming.{Gives-stays, Stays-done, Stays-bind, Stays-next, Stays-follow}
 use Rattle.shelf_laws.proofs.Tokens.{store_gives, prepared_gives}

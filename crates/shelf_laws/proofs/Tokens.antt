@@ -1,19 +1,18 @@
 -- The token of a request to a shelf: what is kept, or what the credentials are by themselves.
-use Rattle.std.specs.Prelude.{codes, nat_le, slice_get, unwrap_or, IsTrue, if◌then◌else◌, option_and_then}
+use Rattle.std.specs.Prelude.{codes, nat_le, slice_get, unwrap_or, option_and_then}
 use Rattle.std.specs.Option.{option_map_or}
 use Rattle.std.specs.FinMap as map
 use Rattle.std.specs.FinMap.{get-empty, get-insert}
 use Rattle.std.specs.Cmp.{eq_by_cmp_equiv}
 use Rattle.std.specs.Cmp.Lexicographic.{nat_list_cmp_total}
-use Rattle.std.proofs.Common.{◌≡◌, ◌⊎◌, inl, inr, ℕ, zero, Bool, true, false, cond, ◌&&◌, List, [], ◌∷◌, ◌++◌, is_some, Option, Some, None, Result, Ok, Err, refl, sym, ap, ◌∙◌, subst}
+use Rattle.std.proofs.Common.{◌≡◌, inl, inr, ℕ, Bool, true, false, cond, List, [], ◌++◌, is_some, Option, Some, None, Ok, refl, sym, ap, ◌∙◌, subst}
 use Rattle.url.specs.Parts.{Parts, serialize}
 use Rattle.json_values.specs.Places.{by_bytes}
 use Rattle.oci_names.specs.declared.reference.Reference.{Reference}
 use Rattle.oci_names.specs.References.{repository_of, resolved_registry}
 use Rattle.oci_transport.specs.Headers.{Fields, first_of, is_header_value}
-use Rattle.oci_transport.specs.Urls.{request_url, targets}
+use Rattle.oci_transport.specs.Urls.{request_url}
 use Rattle.oci_transport.specs.declared.message.Request.{Request}
-use Rattle.oci_transport.specs.declared.message.Answer.{Answer}
 use Rattle.oci_transport.specs.declared.message.AnswerHead.{AnswerHead}
 use Rattle.oci_transport.specs.declared.message.Method.{Method}
 use Rattle.oci_transport.specs.declared.message.Method.TheVariants.{Get}
@@ -26,29 +25,26 @@ use Rattle.oci_auth.specs.declared.token.RegistryToken.TheVariants.{Token}
 use Rattle.oci_auth.specs.declared.token_type.RegistryOperation.TheVariants.{Pull}
 use Rattle.oci_auth.specs.declared.token_type.RegistryTokenType.{RegistryTokenType}
 use Rattle.oci_auth.specs.declared.token_type.RegistryTokenType.TheVariants as shown
-use Rattle.oci_auth.specs.Caches.{key_of, kept_until, kept_token, with_token, given_at, token_at}
+use Rattle.oci_auth.specs.Caches.{key_of, kept_until, kept_token, given_at, token_at}
 use Rattle.oci_auth.specs.Keys.{Key, under, kept_under, inserted}
 use Rattle.oci_auth.specs.Memory.{stored}
 use Rattle.oci_auth.proofs.Places.{is_kept}
-use Rattle.oci_protocol.specs.Proto.{read_none, Headed, Done, bind, ◌>>=◌}
-use Rattle.oci_protocol.specs.Runs.{head_part}
+use Rattle.oci_protocol.specs.Proto.{read_none, bind}
 use Rattle.oci_link.specs.Table.{answer, found, not_found, is_get}
 use Rattle.oci_link.specs.declared.shelf.Shelf.{Shelf}
-use Rattle.engine_requests.specs.declared.error.OciDistributionError.{OciDistributionError}
 use Rattle.engine_requests.specs.declared.settings.Settings.{Settings}
-use Rattle.engine_requests.specs.declared.tokens.Wanted.{Wanted}
 use Rattle.engine_requests.specs.declared.tokens.Wanted.TheVariants as wants
 use Rattle.engine_requests.specs.Addresses.{registry_text, base_text, url_read, url_or}
 use Rattle.engine_requests.specs.Contexts.{Context}
 use Rattle.engine_requests.specs.Requests.{request_of}
 use Rattle.engine_requests.specs.Tokens.{wanted, wanted_in}
-use Rattle.engine_steps.specs.Rows.{Row, head_reply, head_after, recalled, keep, store, fetched, registry_asked, token_step, with_kept, taken, token_asked, kept_or_asked, token_by, token_for, goes_to, token_where, authorized, prepared, kept_text, token_given}
+use Rattle.engine_steps.specs.Rows.{Row, head_reply, head_after, store, fetched, registry_asked, token_step, with_kept, taken, token_asked, kept_or_asked, token_by, token_for, goes_to, token_where, authorized, prepared, kept_text, token_given}
 use Rattle.shelf_laws.specs.Comes.{Comes, Yields, Gives}
 use Rattle.shelf_laws.specs.Home.{front_of, Home, IsAt, CanBeShown, shown_unasked, NoneBut, IsToken, Settled}
-use Rattle.shelf_laws.proofs.Coming.{Comes-follow, Comes-bind, Gives-done, Gives-next, Gives-more, Gives-caught}
-use Rattle.shelf_laws.proofs.Places.{answers_base, base_text_is, registry_text_is, goes_home}
+use Rattle.shelf_laws.proofs.Coming.{Comes-follow, Gives-done, Gives-next, Gives-more, Gives-caught}
+use Rattle.shelf_laws.proofs.Places.{answers_base, base_text_is, registry_text_is}
 use Rattle.shelf_laws.proofs.PlainNames.{base_plain}
-use Rattle.shelf_laws.proofs.Requests.{yields_ok, CanStand, IsFor, request_made, bare_made, IsUrl, url_reads, stands_200}
+use Rattle.shelf_laws.proofs.Requests.{yields_ok, CanStand, IsFor, request_made, bare_made, url_reads}
 
 -- ---- what is kept
 

@@ -1,5 +1,5 @@
 -- What a protocol comes to where each request is answered by a table and nothing fails.
-use Rattle.std.specs.Prelude.{◌≡◌, ℕ, Bool, true, Result, Ok, Err}
+use Rattle.std.specs.Prelude.{◌≡◌, Bool, true, Result, Ok, Err}
 use Rattle.oci_transport.specs.declared.message.Request.{Request}
 use Rattle.oci_transport.specs.declared.message.Answer.{Answer}
 use Rattle.oci_protocol.specs.Proto.{Reading, Unread, Within, Piped, Proto, Done, Ask, Recall, Keep}
