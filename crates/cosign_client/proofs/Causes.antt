@@ -21,6 +21,7 @@ use Rattle.oci_protocol.specs.Runs.{Runs, Meets, Told, Performs, Breaks}
 use Rattle.oci_protocol.proofs.Ends.{Ends-any, Ends-bind, Runs-ends}
 use Rattle.oci_protocol.proofs.Keeping.{ShowsKept-run, ShowsKept-done, ShowsKept-more, ShowsKept-both, ShowsKept-bind, ShowsKept-step}
 use Rattle.engine_requests.specs.Contexts.{Context}
+use Rattle.engine_requests.specs.Sources.{Layer, described}
 use Rattle.engine_requests.specs.declared.error.OciDistributionError.{OciDistributionError}
 use Rattle.engine_requests.specs.Errors.{is_memory as engine_is_memory}
 use Rattle.engine_requests.specs.Requests.{manifest_types}
@@ -113,9 +114,9 @@ done_own : {A E : Type 0} (Q : E → Type 0) (r : Result A E) → OnRefusal Q r 
 unfolding Ends
 done_own Q r h = h
 
-blob_own : (s : Context) (image : Reference) (digest : List ℕ) → Ends (OnRefusal (IsOwn Pull)) (blob_call s image digest)
+blob_own : (s : Context) (image : Reference) (layer : Layer) → Ends (OnRefusal (IsOwn Pull)) (blob_call s image layer)
 unfolding blob_call
-blob_own s image digest = words_own Pull image (held_blob s image digest)
+blob_own s image layer = words_own Pull image (held_blob s image layer)
 
 document_own : (s : Context) (image : Reference) (a : RegistryAuth) (types : List ℕ) → Ends (OnRefusal (IsOwn Pull)) (document_call s image a types)
 unfolding document_call
@@ -124,12 +125,12 @@ document_own s image a types = words_own Pull image (pull_manifest_raw s image a
 layers_own : (s : Context) (source : Reference) (xs : List OciDescriptor) (layers : List ImageLayer) → Ends (OnRefusal (IsOwn Pull)) (layers_row s source xs layers)
 unfolding layers_row
 layers_own s source [] layers = done_own (IsOwn Pull) (Ok layers) tt
-layers_own s source (x ∷ xs) layers = next_own (IsOwn Pull) (blob_call s source x.digest) (λ content. layers_row s source xs (layers ++ layer_of x content ∷ [])) (blob_own s source x.digest) (λ content. layers_own s source xs (layers ++ layer_of x content ∷ []))
+layers_own s source (x ∷ xs) layers = next_own (IsOwn Pull) (blob_call s source (described x)) (λ content. layers_row s source xs (layers ++ layer_of x content ∷ [])) (blob_own s source (described x)) (λ content. layers_own s source xs (layers ++ layer_of x content ∷ []))
 
 blobs_own : (s : Context) (source : Reference) (accepted : List (List ℕ)) (manifest : OciImageManifest) → Ends (OnRefusal (IsOwn Pull)) (blobs_row s source accepted manifest)
 unfolding blobs_row
 blobs_own s source accepted manifest =
-    next_own (IsOwn Pull) (blob_call s source manifest.config.digest) _ (blob_own s source manifest.config.digest) (λ content.
+    next_own (IsOwn Pull) (blob_call s source (described manifest.config)) _ (blob_own s source (described manifest.config)) (λ content.
     next_own (IsOwn Pull) (Done (worded Pull (whole_text source) (layers_accepted accepted manifest.layers))) _ (done_own (IsOwn Pull) _ (worded_own Pull (whole_text source) (layers_accepted accepted manifest.layers))) (λ u.
     next_own (IsOwn Pull) (layers_row s source manifest.layers []) _ (layers_own s source manifest.layers []) (λ layers.
     done_own (IsOwn Pull) (Ok _) tt)))

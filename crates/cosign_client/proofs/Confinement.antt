@@ -32,6 +32,7 @@ use Rattle.oci_protocol.specs.Safe.{Safe}
 use Rattle.oci_protocol.proofs.Safety.{Safe-bind}
 use Rattle.engine_requests.specs.Addresses.{scheme_for, registry_text, base_text}
 use Rattle.engine_requests.specs.Contexts.{Context}
+use Rattle.engine_requests.specs.Sources.{Layer, described}
 use Rattle.engine_requests.specs.Index.{entry_found, entry_reference}
 use Rattle.engine_requests.specs.Requests.{manifest_types}
 use Rattle.engine_requests.specs.Tokens.{allowed, realm_url, with_service}
@@ -215,21 +216,21 @@ document_confines : (k : Memory) (s : Context) (image : Reference) (a : Registry
 unfolding document_call
 document_confines k s image a types = let x = pulling k s image (Some a) in words_confine x s.settings calls.Pull image (pull_manifest_raw s image a types) (confines_by x s.settings (Ended x s.settings types) (pull_manifest_raw s image a types) (raw_sound s image a types k))
 
-blob_confines : (k : Memory) (s : Context) (image : Reference) (handed : Option RegistryAuth) (digest : List ℕ) → Confines (pulling k s image handed) s.settings (blob_call s image digest)
+blob_confines : (k : Memory) (s : Context) (image : Reference) (handed : Option RegistryAuth) (layer : Layer) → Confines (pulling k s image handed) s.settings (blob_call s image layer)
 unfolding blob_call
-blob_confines k s image handed digest = let x = pulling k s image handed in words_confine x s.settings calls.Pull image (held_blob s image digest) (confines_by x s.settings (Ended x s.settings manifest_types) (held_blob s image digest) (blob_sound IntoMemory s image digest k handed))
+blob_confines k s image handed layer = let x = pulling k s image handed in words_confine x s.settings calls.Pull image (held_blob s image layer) (confines_by x s.settings (Ended x s.settings manifest_types) (held_blob s image layer) (blob_sound IntoMemory s image layer k handed))
 
 -- ---- the image of a digest
 
 layers_confine : (k : Memory) (s : Context) (source : Reference) (handed : Option RegistryAuth) (xs : List OciDescriptor) (layers : List ImageLayer) → Confines (pulling k s source handed) s.settings (layers_row s source xs layers)
 unfolding layers_row
 layers_confine k s source handed [] layers = confines_done _ s.settings (Ok layers)
-layers_confine k s source handed (x ∷ xs) layers = confines_next (pulling k s source handed) s.settings (blob_call s source x.digest) _ (blob_confines k s source handed x.digest) (λ content. layers_confine k s source handed xs (layers ++ layer_of x content ∷ []))
+layers_confine k s source handed (x ∷ xs) layers = confines_next (pulling k s source handed) s.settings (blob_call s source (described x)) _ (blob_confines k s source handed (described x)) (λ content. layers_confine k s source handed xs (layers ++ layer_of x content ∷ []))
 
 blobs_confine : (k : Memory) (s : Context) (source : Reference) (handed : Option RegistryAuth) (accepted : List (List ℕ)) (manifest : OciImageManifest) → Confines (pulling k s source handed) s.settings (blobs_row s source accepted manifest)
 unfolding blobs_row
 blobs_confine k s source handed accepted manifest = let x = pulling k s source handed in
-    confines_next x s.settings (blob_call s source manifest.config.digest) _ (blob_confines k s source handed manifest.config.digest) (λ content.
+    confines_next x s.settings (blob_call s source (described manifest.config)) _ (blob_confines k s source handed (described manifest.config)) (λ content.
     confines_next x s.settings (Done (worded calls.Pull (whole_text source) (layers_accepted accepted manifest.layers))) _ (confines_done x s.settings _) (λ u.
     confines_next x s.settings (layers_row s source manifest.layers []) _ (layers_confine k s source handed manifest.layers []) (λ layers.
     confines_done x s.settings _)))

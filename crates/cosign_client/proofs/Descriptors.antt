@@ -7,6 +7,7 @@ use Rattle.oci_manifests.specs.declared.descriptor.OciDescriptor.{OciDescriptor}
 use Rattle.oci_manifests.specs.declared.blob.ImageLayer.{ImageLayer}
 use Rattle.oci_protocol.specs.Proto.{◌>>=◌}
 use Rattle.engine_requests.specs.Contexts.{within}
+use Rattle.engine_requests.specs.Sources.{described}
 use Rattle.engine_requests.specs.declared.settings.Settings.{Settings}
 use Rattle.engine_pull.specs.Images.{layer_of}
 use Rattle.sig_registry.specs.declared.error.SigstoreError.{SigstoreError}
@@ -27,7 +28,7 @@ unfolding layers_row
 layers_end moment source xs layers h = rw h done
 
 pub layers_next : {s : Settings} (moment : ℕ) (source : Reference) (xs : List OciDescriptor) (i : ℕ) (x : OciDescriptor) (layers : List ImageLayer) {c e : Client} {old new : Link} {r : Result (List ImageLayer) SigstoreError} → i < length xs → x ≡ get_or xs i x
-    → Made is_memory s (blob_call (within s moment) source x.digest >>= (λ content. layers_row (within s moment) source (drop (i + 1) xs) (layers ++ layer_of x content ∷ []))) c e old new r → Made is_memory s (layers_row (within s moment) source (drop i xs) layers) c e old new r
+    → Made is_memory s (blob_call (within s moment) source (described x) >>= (λ content. layers_row (within s moment) source (drop (i + 1) xs) (layers ++ layer_of x content ∷ []))) c e old new r → Made is_memory s (layers_row (within s moment) source (drop i xs) layers) c e old new r
 unfolding layers_row
 layers_next moment source xs i x layers lt is rest = rw (at_next xs i x lt is) rest
 

@@ -7,7 +7,10 @@ use Rattle.oci_transport.specs.Link.{Link}
 use Rattle.oci_protocol.specs.Proto.{Proto, Done, bind, unless_refused, ◌>>=◌}
 use Rattle.oci_protocol.specs.Runs.{Meets, Breaks, Performs}
 use Rattle.oci_protocol.proofs.Laws.{Meets-next, Meets-refused, Meets-ok, Meets-err, Meets-memory, Meets-caught, Breaks-first, Breaks-start, Performs-done}
+use Rattle.engine_requests.specs.Contexts.{Context}
 use Rattle.engine_requests.specs.declared.settings.Settings.{Settings}
+use Rattle.oci_auth.specs.declared.auth.RegistryAuth.{RegistryAuth}
+use Rattle.sig_registry.specs.Calls.{digest_call}
 use Rattle.sig_registry.specs.declared.error.SigstoreError.{SigstoreError}
 use Rattle.sig_registry.specs.declared.error.SigstoreError.TheVariants as sigstore
 use Rattle.engine_requests.specs.declared.error.OciDistributionError.{OciDistributionError}
@@ -18,7 +21,7 @@ use Rattle.cosign_client.specs.Refusal.{is_memory as of_refusal, refused_as, Say
 use Rattle.cosign_chain.specs.declared.image.VerifiedImage.{VerifiedImage}
 use Rattle.cosign_client.specs.Image.{with_image}
 use Rattle.cosign_client.specs.References.{signature_tag, tag_reference}
-use Rattle.cosign_client.specs.Triangulated.{tag_shown}
+use Rattle.cosign_client.specs.Triangulated.{tag_shown, triangulated}
 use Rattle.cosign_client.specs.Verified.{as_whole, constrained, part_of, readable_by, stood_image, verified_image}
 use Rattle.cosign_client.specs.declared.pull.Pulled.{Pulled}
 use Rattle.cosign_client.specs.declared.verified.Standing.{Standing}
@@ -228,6 +231,11 @@ pub tag_same : (image tag : Reference) (digest : List ℕ) → registry_of tag �
 tag_same image tag digest registry mirror repository name none = λ i. record { registry = registry i; mirror = mirror i; repository = repository i; tag = name i; digest = none i }
 
 -- a refusal is shown as it is, at the exit of a `?`
-pub shown_refusal : {x : SigstoreError} (r : Result (OciReference × List ℕ) SigstoreError) → IsErrAnd r (λ y. y ≡ x) → IsErrAnd (tag_shown r) (λ y. y ≡ x)
-shown_refusal (Ok found) h = absurd h
-shown_refusal (Err e) h = h
+pub shown_refusal : (x : SigstoreError) (r : Result (OciReference × List ℕ) SigstoreError) → IsErrAnd r (λ y. y ≡ x) → IsErrAnd (tag_shown r) (λ y. y ≡ x)
+shown_refusal x (Ok found) h = absurd h
+shown_refusal x (Err e) h = h
+
+-- the reference of the tag of the digest that was answered
+pub tag_made : {t : Settings} (s : Context) (image : Reference) (a : RegistryAuth) {c d : Client} {old new : Link} (digest : List ℕ) (tag : Reference) → Made is_memory t (digest_call s image a) c d old new (Ok digest) → tag ≡ tag_reference image digest → Made is_memory t (triangulated s image a) c d old new (Ok (tag, digest))
+unfolding triangulated
+tag_made s image a digest tag first is = and_then _ first (rw is done)

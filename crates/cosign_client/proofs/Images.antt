@@ -25,6 +25,7 @@ use Rattle.oci_protocol.specs.Proto.{Proto, Done, ◌>>=◌}
 use Rattle.oci_protocol.specs.Shows.{Shows, WhereOk}
 use Rattle.oci_protocol.proofs.Showing.{Shows-done, Shows-more, Shows-bind, Shows-next, Shows-step}
 use Rattle.engine_requests.specs.Contexts.{Context}
+use Rattle.engine_requests.specs.Sources.{Layer, described}
 use Rattle.engine_requests.specs.declared.error.OciDistributionError.{OciDistributionError}
 use Rattle.engine_requests.specs.declared.error.OciDistributionError.TheVariants as engine_refusal
 use Rattle.engine_requests.specs.Errors.{is_memory as engine_is_memory, ◌>>=◌ as ◌before◌}
@@ -92,9 +93,9 @@ document_call_shows s image a types = words_show (IsDocument image) Pull image (
 abbrev IsBlob : List ℕ → List Exchange → List ℕ → Type 0
 IsBlob digest c bytes = Body c bytes × Names digest bytes × LastBody c bytes
 
-blob_call_shows : (s : Context) (image : Reference) (digest : List ℕ) → Shows (Seen (IsBlob digest)) (blob_call s image digest)
+blob_call_shows : (s : Context) (image : Reference) (layer : Layer) → Shows (Seen (IsBlob layer.digest)) (blob_call s image layer)
 unfolding blob_call
-blob_call_shows s image digest = words_show (IsBlob digest) Pull image (held_blob s image digest) (blob_shows IntoMemory s image digest)
+blob_call_shows s image layer = words_show (IsBlob layer.digest) Pull image (held_blob s image layer) (blob_shows IntoMemory s image layer)
 
 -- a step, and what it leads to, after what was seen before
 pub next_seen : {A B E : Type 0} (P : List Exchange → A → Type 0) (Q : List Exchange → B → Type 0) (p : Proto Kept (Result A E)) (f : A → Proto Kept (Result B E)) → Shows (Seen P) p → ((c : List Exchange) (a : A) → P c a → Shows (Seen (λ d b. Q (c ++ d) b)) (f a)) → Shows (Seen Q) (p >>= f)
@@ -163,7 +164,7 @@ one_more x xs got content c d all blob rest = record {
 layers_show : (s : Context) (source : Reference) (xs : List OciDescriptor) (got : List ImageLayer) → Shows (Seen (Behind xs got)) (layers_row s source xs got)
 unfolding layers_row
 layers_show s source [] got = done_seen (Behind [] got) got (record { more = []; is = sym (append-nil got); layers = tt })
-layers_show s source (x ∷ xs) got = next_seen (IsBlob x.digest) (Behind (x ∷ xs) got) (blob_call s source x.digest) (λ content. layers_row s source xs (got ++ layer_of x content ∷ [])) (blob_call_shows s source x.digest)
+layers_show s source (x ∷ xs) got = next_seen (IsBlob x.digest) (Behind (x ∷ xs) got) (blob_call s source (described x)) (λ content. layers_row s source xs (got ++ layer_of x content ∷ [])) (blob_call_shows s source (described x))
     (λ c content blob. more_seen (Behind xs (got ++ layer_of x content ∷ [])) (λ d all. Behind (x ∷ xs) got (c ++ d) all) (layers_row s source xs (got ++ layer_of x content ∷ [])) (layers_show s source xs (got ++ layer_of x content ∷ [])) (λ d all rest. one_more x xs got content c d all blob rest))
 
 -- ---- an image
@@ -241,7 +242,7 @@ has_blobs accepted manifest c d content layers u blob allowed behind =
 blobs_show : (s : Context) (source : Reference) (accepted : List (List ℕ)) (manifest : OciImageManifest) → Shows (Seen (HasBlobs accepted manifest)) (blobs_row s source accepted manifest)
 unfolding blobs_row
 blobs_show s source accepted manifest =
-    next_seen (IsBlob manifest.config.digest) (HasBlobs accepted manifest) (blob_call s source manifest.config.digest) _ (blob_call_shows s source manifest.config.digest) (λ c content blob.
+    next_seen (IsBlob manifest.config.digest) (HasBlobs accepted manifest) (blob_call s source (described manifest.config)) _ (blob_call_shows s source (described manifest.config)) (λ c content blob.
     step_seen (λ d b. HasBlobs accepted manifest (c ++ d) b) (worded Pull (whole_text source) (layers_accepted accepted manifest.layers)) _ (λ u allowed.
     next_seen (Behind manifest.layers []) (λ d b. HasBlobs accepted manifest (c ++ d) b) (layers_row s source manifest.layers []) _ (layers_show s source manifest.layers []) (λ d layers behind.
     done_seen (λ e b. HasBlobs accepted manifest (c ++ (d ++ e)) b) (config_of manifest content, layers)

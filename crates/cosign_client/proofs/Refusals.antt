@@ -28,6 +28,7 @@ use Rattle.oci_protocol.specs.Runs.{Runs, Meets}
 use Rattle.oci_protocol.specs.Shows.{Shows, ByAnswer}
 use Rattle.oci_protocol.proofs.Laws.{Runs-count}
 use Rattle.engine_requests.specs.Contexts.{Context}
+use Rattle.engine_requests.specs.Sources.{Layer, described}
 use Rattle.engine_requests.specs.declared.settings.Settings.{Settings}
 use Rattle.engine_requests.specs.declared.error.OciDistributionError.{OciDistributionError}
 use Rattle.engine_requests.specs.declared.error.OciDistributionError.TheVariants as engine_refusal
@@ -124,12 +125,12 @@ document_call_counts s image a types = words_count Pull image (pull_manifest_raw
     (λ m n c e h other. answer_memory (ManifestUrl s.settings image) (OwnDigest image) s.settings types c n e h other)
     (λ old new k l met. raw_fault s image a types met refl))
 
-blob_call_counts : (s : Context) (image : Reference) (digest : List ℕ) → Counts CallCounts (blob_call s image digest)
+blob_call_counts : (s : Context) (image : Reference) (layer : Layer) → Counts CallCounts (blob_call s image layer)
 unfolding blob_call
-blob_call_counts s image digest = words_count Pull image (held_blob s image digest)
-    (engine_counts (λ m c n bytes. Unit {0}) (λ m c n e. LooseBlob (BlobUrl s.settings image digest) IntoMemory s.settings digest c n e) (held_blob s image digest) (blob_causes IntoMemory s image digest)
-    (λ m n c e h other. blob_memory (BlobUrl s.settings image digest) s.settings digest c n e h other)
-    (λ old new k l met. blob_fault IntoMemory s image digest met refl))
+blob_call_counts s image layer = words_count Pull image (held_blob s image layer)
+    (engine_counts (λ m c n bytes. Unit {0}) (λ m c n e. LooseBlob (BlobUrl s.settings image layer) IntoMemory s.settings layer.digest c n e) (held_blob s image layer) (blob_causes IntoMemory s image layer)
+    (λ m n c e h other. blob_memory (BlobUrl s.settings image layer) s.settings layer.digest c n e h other)
+    (λ old new k l met. blob_fault IntoMemory s image layer met refl))
 
 -- ---- steps of the engine with no request
 
@@ -253,12 +254,12 @@ said text r h = Counts-done CallCounts (worded Pull text r) (λ m. worded_counts
 layers_counts : (s : Context) (source : Reference) (xs : List OciDescriptor) (layers : List ImageLayer) → Counts CallCounts (layers_row s source xs layers)
 unfolding layers_row
 layers_counts s source [] layers = answered layers
-layers_counts s source (x ∷ xs) layers = next (blob_call s source x.digest) (λ content. layers_row s source xs (layers ++ layer_of x content ∷ [])) (blob_call_counts s source x.digest) (λ content. layers_counts s source xs (layers ++ layer_of x content ∷ []))
+layers_counts s source (x ∷ xs) layers = next (blob_call s source (described x)) (λ content. layers_row s source xs (layers ++ layer_of x content ∷ [])) (blob_call_counts s source (described x)) (λ content. layers_counts s source xs (layers ++ layer_of x content ∷ []))
 
 blobs_counts : (s : Context) (source : Reference) (accepted : List (List ℕ)) (manifest : OciImageManifest) → Counts CallCounts (blobs_row s source accepted manifest)
 unfolding blobs_row
 blobs_counts s source accepted manifest =
-    next (blob_call s source manifest.config.digest) _ (blob_call_counts s source manifest.config.digest) (λ content.
+    next (blob_call s source (described manifest.config)) _ (blob_call_counts s source (described manifest.config)) (λ content.
     next (Done (worded Pull (whole_text source) (layers_accepted accepted manifest.layers))) _ (said (whole_text source) (layers_accepted accepted manifest.layers) (layers_bytes accepted manifest.layers)) (λ u.
     next (layers_row s source manifest.layers []) _ (layers_counts s source manifest.layers []) (λ layers.
     answered _)))

@@ -18,6 +18,7 @@ use Rattle.engine_requests.specs.Errors.{◌>>=◌ as ◌before◌, ◌>>◌ as 
 use Rattle.engine_requests.specs.Answers.{or_digest_error}
 use Rattle.engine_requests.specs.Requests.{manifest_types}
 use Rattle.engine_requests.specs.Documents.{document_read}
+use Rattle.engine_requests.specs.Sources.{described}
 use Rattle.engine_requests.specs.Index.{entry_found, entry_manifest, entry_reference}
 use Rattle.engine_pull.specs.Images.{layers_accepted, layer_of, config_of}
 use Rattle.sig_registry.specs.declared.error.SigstoreError.{SigstoreError}
@@ -46,13 +47,13 @@ entry_in entry bytes = document_read bytes before entry_manifest entry
 unfoldable pub layers_row : Context → Reference → List OciDescriptor → List ImageLayer → Row (List ImageLayer)
 layers_row s source [] layers = Done (Ok layers)
 layers_row s source (x ∷ xs) layers = do
-  content ← blob_call s source x.digest
+  content ← blob_call s source (described x)
   layers_row s source xs (layers ++ layer_of x content ∷ [])
 
 -- the configuration and the layers that a manifest names, where the layers' types are accepted
 unfoldable pub blobs_row : Context → Reference → List (List ℕ) → OciImageManifest → Row (Config × List ImageLayer)
 blobs_row s source accepted manifest = do
-  content ← blob_call s source manifest.config.digest
+  content ← blob_call s source (described manifest.config)
   Done (worded Pull (whole_text source) (layers_accepted accepted manifest.layers))
   layers ← layers_row s source manifest.layers []
   Done (Ok (config_of manifest content, layers))

@@ -28,7 +28,7 @@ use Rattle.engine_pull.specs.Pulls.{fetch_manifest_digest, pull_manifest_raw, pu
 use Rattle.engine_pull.specs.Manifests.{pull_image_manifest_and_list_digest, pull_image_manifest, pull_manifest_and_config_and_list_digest, pull_manifest_and_config}
 use Rattle.engine_pull.specs.Images.{pull}
 use Rattle.engine_pull.specs.declared.image.ImageData.{ImageData}
-use Rattle.engine_laws.specs.Confined.{Confined, AllConfined, Within}
+use Rattle.engine_laws.specs.Confined.{Confined, Within}
 use Rattle.engine_laws.specs.Held.{Entry, pulling, asking}
 use Rattle.engine_laws.proofs.KeptTokens.{Keeps, keeps_first, keeps_more, keeps_kept}
 use Rattle.engine_laws.proofs.SafeKeeps.{Meets-within}

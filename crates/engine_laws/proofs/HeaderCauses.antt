@@ -200,7 +200,7 @@ pub blob_sound : (to : Destination) (s : Context) (image : Reference) (layer : L
 unfolding blob_to
 blob_sound to s image layer k handed l c keeps =
     let x = pulling k s image handed in
-    url_first x s.settings manifest_types (blob_text s.settings image layer) _ l c (λ url.
+    url_first x s.settings manifest_types (blob_text s.settings image layer.digest) _ l c (λ url.
     safe_ready x s.settings manifest_types (prepared s image Pull Get url manifest_types) _ l c (prepared_safe x s.settings Get url manifest_types l c keeps) (λ l c request keeps sent.
     tried_sound to x s.settings layer.digest (places_of layer.urls) request l c sent keeps))
 

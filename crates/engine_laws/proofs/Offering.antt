@@ -1,14 +1,14 @@
 -- What a blob's row shows, which may go on to the URLs of a descriptor: what an attempt does, at each place.
-use Rattle.std.proofs.Common.{◌≡◌, ◌⊎◌, inl, inr, ℕ, Bool, true, false, List, [], ◌∷◌, ◌++◌, Option, Some, None, Result, Ok, Err, refl, sym, ap, ◌∙◌}
+use Rattle.std.proofs.Common.{◌≡◌, ◌⊎◌, inl, inr, ℕ, Bool, true, false, List, [], ◌∷◌, ◌++◌, Some, Result, Ok, Err, refl, sym, ap, ◌∙◌}
 use Rattle.std.specs.Prelude.{if◌then◌else◌}
 use Rattle.oci_transport.specs.declared.message.Request.{Request}
 use Rattle.oci_transport.specs.declared.message.AnswerHead.{AnswerHead}
 use Rattle.oci_transport.specs.declared.message.Exchange.{Exchange}
 use Rattle.oci_auth.specs.declared.memory.Memory.{Memory}
-use Rattle.oci_protocol.specs.Proto.{Reading, Unread, limit_of, Reply, Headed, Answered, Failed, TooLong, SinkFailed, Done, ◌>>=◌}
+use Rattle.oci_protocol.specs.Proto.{Unread, limit_of, Reply, Headed, Answered, Failed, TooLong, SinkFailed, Done, ◌>>=◌}
 use Rattle.oci_protocol.specs.Runs.{head_part, Runs, Replies}
 use Rattle.oci_protocol.specs.Shows.{Shows, Heard}
-use Rattle.oci_protocol.proofs.Showing.{Shows-more, Shows-step, Shows-follow}
+use Rattle.oci_protocol.proofs.Showing.{Shows-step, Shows-follow}
 use Rattle.engine_requests.specs.declared.settings.Settings.{Settings}
 use Rattle.engine_requests.specs.declared.error.OciDistributionError.{OciDistributionError}
 use Rattle.engine_requests.specs.declared.sources.Place.{Place}

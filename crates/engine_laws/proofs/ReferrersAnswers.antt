@@ -1,13 +1,10 @@
 -- What the calls for a list of referrers and for a tag show, whatever value it is that cannot stand in a header.
-use Rattle.std.proofs.Common.{◌≡◌, ◌≢◌, ◌⊎◌, inl, inr, ℕ, Bool, true, false, List, [], ◌∷◌, ◌++◌, Option, Some, None, Result, Ok, Err, refl, sym, ap, subst, ◌∙◌, append-nil}
+use Rattle.std.proofs.Common.{◌≡◌, ◌⊎◌, inl, inr, ℕ, List, [], ◌++◌, Option, Result, Ok, Err, refl, sym, ap, subst, ◌∙◌, append-nil}
 use Rattle.url.specs.Parts.{Parts, serialize}
-use Rattle.oci_transport.specs.declared.message.Answer.{Answer}
 use Rattle.oci_transport.specs.declared.message.Exchange.{Exchange}
 use Rattle.oci_transport.specs.declared.message.Method.TheVariants.{Get}
 use Rattle.oci_names.specs.declared.reference.Reference.{Reference}
-use Rattle.oci_auth.specs.declared.memory.Memory.{Memory}
 use Rattle.oci_auth.specs.declared.token_type.RegistryOperation.TheVariants.{Pull}
-use Rattle.oci_manifests.specs.declared.document.OciManifest.{OciManifest}
 use Rattle.oci_protocol.specs.Proto.{Done, ◌>>=◌}
 use Rattle.oci_protocol.specs.Shows.{Shows, ByAnswer}
 use Rattle.oci_protocol.proofs.Showing.{Shows-done, Shows-more, Shows-each, Shows-step}
@@ -19,7 +16,7 @@ use Rattle.engine_requests.specs.declared.answers.Got.{Got}
 use Rattle.engine_requests.specs.declared.settings.Settings.{Settings}
 use Rattle.engine_requests.specs.declared.error.OciDistributionError.{OciDistributionError}
 use Rattle.engine_requests.specs.Referrers.{referrers_text, referrers_url, with_artifact_type}
-use Rattle.engine_steps.specs.Rows.{Row, whole, prepared}
+use Rattle.engine_steps.specs.Rows.{whole, prepared}
 use Rattle.engine_pull.specs.Pulls.{document, manifest_document, manifest_asked}
 use Rattle.engine_pull.specs.Referrers.{referrers_asked}
 use Rattle.engine_laws.specs.Causes.{ManifestUrl, LastAnswer, AnswerCause, OwnDigest}

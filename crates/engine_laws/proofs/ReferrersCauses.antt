@@ -29,16 +29,14 @@ use Rattle.engine_requests.specs.declared.error.OciDistributionError.{OciDistrib
 use Rattle.engine_requests.specs.declared.error.OciDistributionError.TheVariants as refusal
 use Rattle.engine_requests.specs.Errors.{is_memory}
 use Rattle.engine_requests.specs.Answers.{is_success, is_client_error, envelope_in, by_envelope, refused_answer, accepted}
-use Rattle.engine_requests.specs.Documents.{plain_of, or_unread, reads_twice, tables_read, document_read}
+use Rattle.engine_requests.specs.Documents.{plain_of, or_unread, reads_twice, tables_read}
 use Rattle.engine_requests.specs.Requests.{manifest_types}
-use Rattle.engine_requests.specs.Referrers.{digest_given, index_in, index_read, referrers_in, referrers_tag, fallback_reference, no_referrers, is_absent, restricted, tag_index, tagged_index}
-use Rattle.engine_steps.specs.Rows.{Row}
+use Rattle.engine_requests.specs.Referrers.{digest_given, index_in, index_read, referrers_in, referrers_tag, fallback_reference, no_referrers, is_absent, tag_index, tagged_index}
 use Rattle.engine_pull.specs.Pulls.{manifest_asked}
 use Rattle.engine_pull.specs.Referrers.{referrers_asked, referrers_tagged, referrers_by, pull_referrers}
-use Rattle.engine_laws.specs.Causes.{Cause, AnswerCause, DocumentCause, LastAnswer, LastFailed, ByLast, BadHeader, OwnDigest, ManifestUrl}
-use Rattle.engine_laws.specs.Confined.{Within}
+use Rattle.engine_laws.specs.Causes.{Cause, AnswerCause, DocumentCause, LastAnswer, LastFailed, BadHeader, OwnDigest, ManifestUrl}
 use Rattle.engine_laws.specs.Held.{Entry, pulling}
-use Rattle.engine_laws.specs.Referrers.{for_tag, AfterMissing, ListUrl, IsNoIndex, ListAnswer, TagAnswer, ListCause, TagCause, ReferrersCause}
+use Rattle.engine_laws.specs.Referrers.{AfterMissing, ListUrl, IsNoIndex, ListAnswer, TagAnswer, ListCause, TagCause, ReferrersCause}
 use Rattle.engine_laws.proofs.CallCauses.{tight}
 use Rattle.engine_laws.proofs.DocumentAnswers.{accepted_is}
 use Rattle.engine_laws.proofs.DocumentCauses.{asked_later, into_err, not_accepted, status_is, status_other}
@@ -46,8 +44,8 @@ use Rattle.engine_laws.proofs.EarlyCauses.{Loose}
 use Rattle.engine_laws.proofs.ExactRefusals.{Only, after_refusal}
 use Rattle.engine_laws.proofs.FaultCounts.{fault_rose}
 use Rattle.engine_laws.proofs.KeptTokens.{Keeps, keeps_first}
-use Rattle.engine_laws.proofs.ManifestCauses.{ReadLast, ManifestCause}
-use Rattle.engine_laws.proofs.ReferrersAnswers.{ListLoose, asked_causes, manifest_shown}
+use Rattle.engine_laws.proofs.ManifestCauses.{ReadLast}
+use Rattle.engine_laws.proofs.ReferrersAnswers.{asked_causes, manifest_shown}
 use Rattle.engine_laws.proofs.ReferrersConfined.{asked_sound, document_asked_sound, asked_within}
 use Rattle.engine_laws.proofs.ShownTokens.{Carries, HeaderCause, Ended}
 

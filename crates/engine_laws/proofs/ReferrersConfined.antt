@@ -1,54 +1,44 @@
 -- Where credentials and tokens go in a call for referrers.
-use Rattle.std.proofs.Common.{◌≡◌, ◌⊎◌, inl, inr, ℕ, Bool, true, false, List, [], ◌∷◌, ◌++◌, Option, Some, None, Result, Ok, Err, codes, refl, sym, ap, subst, ◌∙◌, append_assoc, append-nil}
-use Rattle.std.specs.Prelude.{if◌then◌else◌, nat_eq, bytes_eq}
-use Rattle.url.specs.Parts.{Parts}
+use Rattle.std.proofs.Common.{◌≡◌, ◌⊎◌, inl, inr, ℕ, Bool, true, false, List, [], ◌++◌, Option, Some, None, Result, Ok, Err, refl, sym, ap, subst, ◌∙◌, append_assoc, append-nil}
+use Rattle.std.specs.Prelude.{if◌then◌else◌, nat_eq}
 use Rattle.oci_transport.specs.Link.{Link}
-use Rattle.oci_transport.specs.Headers.{values_of}
-use Rattle.oci_transport.specs.declared.message.Request.{Request}
 use Rattle.oci_transport.specs.declared.message.Exchange.{Exchange}
 use Rattle.oci_transport.specs.declared.message.Method.TheVariants.{Get}
 use Rattle.oci_names.specs.declared.reference.Reference.{Reference}
-use Rattle.oci_names.specs.References.{resolved_registry, repository_of, mirror_of, digest_of}
+use Rattle.oci_names.specs.References.{digest_of}
 use Rattle.oci_auth.specs.declared.auth.RegistryAuth.{RegistryAuth}
 use Rattle.oci_auth.specs.declared.memory.Memory.{Memory}
 use Rattle.oci_auth.specs.declared.token_type.RegistryOperation.TheVariants.{Pull}
-use Rattle.oci_manifests.specs.declared.document.OciManifest.{OciManifest}
 use Rattle.oci_manifests.specs.declared.index.OciImageIndex.{OciImageIndex}
-use Rattle.oci_protocol.specs.Proto.{Done, bind, unless_refused, ◌>>=◌, ◌>>◌}
+use Rattle.oci_protocol.specs.Proto.{Done, bind, unless_refused, ◌>>=◌}
 use Rattle.oci_protocol.specs.Runs.{Runs, Meets, Told}
-use Rattle.oci_protocol.specs.Safe.{Safe, EachAfter}
-use Rattle.oci_protocol.specs.Shows.{Shows, ByAnswer}
+use Rattle.oci_protocol.specs.Safe.{Safe}
 use Rattle.oci_protocol.proofs.Safety.{Safe-bind}
-use Rattle.oci_protocol.proofs.Showing.{Shows-more, Shows-each, Shows-step}
 use Rattle.engine_requests.specs.Contexts.{Context}
 use Rattle.engine_requests.specs.Addresses.{manifest_text, url_read}
 use Rattle.engine_requests.specs.Documents.{document_read}
 use Rattle.engine_requests.specs.Requests.{manifest_types}
 use Rattle.engine_requests.specs.declared.answers.Got.{Got}
-use Rattle.engine_requests.specs.declared.error.GenericCause.TheVariants.{HeaderText}
 use Rattle.engine_requests.specs.declared.error.OciDistributionError.{OciDistributionError}
-use Rattle.engine_requests.specs.declared.error.OciDistributionError.TheVariants as refusal
 use Rattle.engine_requests.specs.Errors.{is_memory}
 use Rattle.engine_requests.specs.declared.settings.Settings.{Settings}
 use Rattle.engine_requests.specs.Referrers.{digest_given, referrers_url, referrers_in, fallback_reference, tagged_index}
-use Rattle.engine_steps.specs.Rows.{Row, whole, prepared, token_given}
+use Rattle.engine_steps.specs.Rows.{Row, prepared, token_given}
 use Rattle.engine_pull.specs.Pulls.{manifest_document, manifest_asked}
 use Rattle.engine_pull.specs.Referrers.{referrers_asked, referrers_tagged, referrers_by, pull_referrers}
-use Rattle.engine_laws.specs.Confined.{ToRegistry, ToRealm, MayCarry, Confined, AllConfined, Within}
+use Rattle.engine_laws.specs.Confined.{Confined, AllConfined, Within}
 use Rattle.engine_laws.specs.Held.{Entry, pulling}
-use Rattle.engine_laws.specs.Referrers.{for_tag, AfterMissing, WithinReferrers}
+use Rattle.engine_laws.specs.Referrers.{for_tag, WithinReferrers}
 use Rattle.engine_laws.proofs.CallConfined.{Any, given_safe}
-use Rattle.engine_laws.proofs.Confining.{each_more as each_value}
 use Rattle.engine_laws.proofs.DocumentCauses.{answer_later, status_is}
 use Rattle.engine_laws.proofs.HeaderCauses.{Sound, whole_sound, document_sound}
 use Rattle.engine_laws.proofs.KeptTokens.{Keeps, keeps_first, keeps_more}
 use Rattle.engine_laws.proofs.PlainRefusals.{read_document_plain}
-use Rattle.engine_laws.proofs.ReferrersAnswers.{Listed, asked_causes}
-use Rattle.engine_laws.proofs.ReferrersPlain.{url_plain, digest_plain, list_plain, tagged_ended}
+use Rattle.engine_laws.proofs.ReferrersAnswers.{asked_causes}
+use Rattle.engine_laws.proofs.ReferrersPlain.{url_plain, tagged_ended}
 use Rattle.engine_laws.proofs.RunParts.{Behind, Parted, behind_parts, behind_done, behind_each, behind_keeps, met_behind, each_more}
 use Rattle.engine_laws.proofs.SafeKeeps.{Safe-keeps}
-use Rattle.engine_laws.proofs.SafeMore.{Safe-map}
-use Rattle.engine_laws.proofs.ShownTokens.{Carries, HeaderCause, Ended, safe_done, safe_next, safe_ready, prepared_safe, plain_step, plain_last, url_first}
+use Rattle.engine_laws.proofs.ShownTokens.{Carries, Ended, safe_done, safe_next, safe_ready, prepared_safe, plain_step, plain_last, url_first}
 
 -- ---- the walk
 
@@ -79,11 +69,10 @@ tagged_sound s image digest kind k handed l c keeps =
 
 -- ---- both
 
-within_behind : {A : Type 0} (x : Entry) (s : Settings) (Q : Memory → List Exchange → A → Type 0) (p : Row A) (k l : Memory) (m : ℕ) (seen c : List Exchange) → AllConfined x s seen → Keeps x k seen → Safe (Carries x s) (Keeps x) Q k seen p → Behind p k m c l → Within x s l (seen ++ c)
+within_behind : {A : Type 0} (x : Entry) (s : Settings) (Q : Memory → List Exchange → Result A OciDistributionError → Type 0) (p : Row A) (k l : Memory) (m : ℕ) (seen c : List Exchange) → AllConfined x s seen → Keeps x k seen → Safe (Carries x s) (Keeps x) Q k seen p → Behind p k m c l → Within x s l (seen ++ c)
 within_behind x s Q p k l m seen c confined keeps h b =
     let after = behind_keeps (Carries x s) (Keeps x) Q p k l m seen c (keeps_more x) keeps h b in
     record { confined = each_more (Confined x s) [] seen c confined (behind_each (Confined x s) (Keeps x) Q p k l m seen c h b); kept = after.added; stored = after.stored }
-
 
 -- the list's exchanges
 pub asked_within : (k : Memory) (s : Context) (image : Reference) (digest : List ℕ) (kind : Option (List ℕ)) (between : Memory) (m n : ℕ) (c : List Exchange) (r : Result Got OciDistributionError) → Runs (referrers_asked s image digest kind) k m c n between r → Within (pulling k s image None) s.settings between c

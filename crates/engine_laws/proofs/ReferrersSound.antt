@@ -9,7 +9,7 @@ use Rattle.oci_names.specs.References.{resolved_registry, repository_of, mirror_
 use Rattle.oci_auth.specs.declared.auth.RegistryAuth.{RegistryAuth}
 use Rattle.oci_auth.specs.declared.memory.Memory.{Memory}
 use Rattle.oci_auth.specs.declared.token_type.RegistryOperation.TheVariants.{Pull}
-use Rattle.oci_protocol.specs.Proto.{Done, ◌>>=◌}
+use Rattle.oci_protocol.specs.Proto.{Done}
 use Rattle.engine_requests.specs.Contexts.{Context}
 use Rattle.engine_requests.specs.Requests.{manifest_types}
 use Rattle.engine_requests.specs.declared.answers.Got.{Got}

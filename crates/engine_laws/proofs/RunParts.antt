@@ -7,7 +7,7 @@ use Rattle.oci_transport.specs.declared.message.Exchange.{Exchange}
 use Rattle.oci_protocol.specs.Proto.{Proto, Done, Ask, Recall, Keep, bind}
 use Rattle.oci_protocol.specs.Runs.{Runs, Stops, Performs, Breaks, Outcome, Meets, Told}
 use Rattle.oci_protocol.specs.Safe.{Safe, EachAfter}
-use Rattle.oci_protocol.proofs.Parts.{Parts, Runs-parts}
+use Rattle.oci_protocol.proofs.Parts.{Runs-parts}
 use Rattle.oci_protocol.proofs.Safety.{Runs-safe, Stops-safe}
 use Rattle.engine_laws.proofs.SafeKeeps.{Lasts, Runs-keeps, Stops-keeps}
 

@@ -142,14 +142,7 @@ pub fn pulled_blob<T: Transport>(
     match layer.urls {
         Some(urls) => {
             let urls = urls.as_slice();
-            let bytes = held_tried(
-                alloc,
-                transport,
-                call.settings,
-                layer.digest,
-                urls,
-                request,
-            )?;
+            let bytes = held_tried(alloc, transport, call.settings, layer.digest, urls, request)?;
             Ok(bytes)
         }
         None => {

@@ -88,6 +88,13 @@ fn a_tag_stands_for_a_list_that_is_not_there(rt: HostRuntime) {
 #[test]
 fn the_tag_may_be_no_manifest(rt: HostRuntime) {
     let alloc = rt.alloc();
-    assert!(rt; comes_to(alloc, None, &[(404, ""), (200, MANIFEST)], "SpecViolationError"));
+    assert!(rt;
+        comes_to(
+            alloc,
+            None,
+            &[(404, ""), (200, MANIFEST)],
+            "SpecViolationError"
+        )
+    );
     assert!(rt; comes_to(alloc, None, &[(404, ""), (500, "")], "ServerError"));
 }

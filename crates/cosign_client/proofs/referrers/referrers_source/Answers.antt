@@ -7,8 +7,8 @@ use Rattle.cosign_client.proofs.referrers.referrers_source.Goals as goal
 
 pub returns-in-Ok : goal.returns-in-Ok
 unfolding referrers_source
-returns-in-Ok g c = λ s. caught _ (c.pull_referrers-listed.ensures.run s) (rw c.as_slice.ensures at (c.each_referrer.ensures s))
+returns-in-Ok g c = λ s. caught _ (rw c.in-Ok.is at (c.pull_referrers-listed.ensures.run s)) (rw c.as_slice-entries.ensures at (c.each_referrer.ensures s))
 
 pub returns-in-Err : goal.returns-in-Err
 unfolding referrers_source
-returns-in-Err g c = λ s. said_refusal _ refl (λ is. rw is refl) (c.pull_referrers-listed.ensures.run s) c.skip_listing.ensures
+returns-in-Err g c = λ s. said_refusal _ refl (λ is. rw is refl) (rw c.in-Err.is at (c.pull_referrers-listed.ensures.run s)) c.skip_listing.ensures

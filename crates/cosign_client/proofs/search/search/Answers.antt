@@ -21,8 +21,8 @@ returns-in_err-tag g c = λ s. and_then _ (c.in_ok-digest.ensures.run s) (and_th
 
 pub returns-in_err-found : goal.returns-in_err-found
 unfolding searched
-returns-in_err-found g c = λ s. and_then _ (c.in_ok-digest.ensures.run s) (and_then _ (said _ (rw (c.in_ok-source.ensures, c.as_str.ensures) at c.in_ok-reading_back.ensures)) (and_then _ (rw c.as_str-2.ensures at (c.in_ok-tag.ensures s)) (refused _ (rw (c.as_str-digest.ensures, c.in_ok-source.ensures, c.as_str.ensures) at (c.in_err-found.ensures s)) c.from_residual-in_err-found.ensures.1)))
+returns-in_err-found g c = λ s. and_then _ (c.in_ok-digest.ensures.run s) (and_then _ (said _ (rw (c.in_ok-source.ensures, c.as_str.ensures) at c.in_ok-reading_back.ensures)) (and_then _ (rw c.as_str-2.ensures at (c.in_ok-tag.ensures s)) (refused _ (rw (c.as_str-3.ensures, c.in_ok-source.ensures, c.as_str.ensures) at (c.in_err-found.ensures s)) c.from_residual-in_err-found.ensures.1)))
 
 pub returns : goal.returns
 unfolding searched
-returns g c = λ s. and_then _ (c.in_ok-digest.ensures.run s) (and_then _ (said _ (rw (c.in_ok-source.ensures, c.as_str.ensures) at c.in_ok-reading_back.ensures)) (and_then _ (rw c.as_str-2.ensures at (c.in_ok-tag.ensures s)) (and_then _ (rw (c.as_str-digest.ensures, c.in_ok-source.ensures, c.as_str.ensures) at (c.in_ok-found.ensures s)) done)))
+returns g c = λ s. and_then _ (c.in_ok-digest.ensures.run s) (and_then _ (said _ (rw (c.in_ok-source.ensures, c.as_str.ensures) at c.in_ok-reading_back.ensures)) (and_then _ (rw c.as_str-2.ensures at (c.in_ok-tag.ensures s)) (and_then _ (rw (c.as_str-3.ensures, c.in_ok-source.ensures, c.as_str.ensures) at (c.in_ok-found.ensures s)) done)))
