@@ -15,3 +15,4 @@ pub mod Leads
 pub mod Reading
 pub mod ReferrerRows
 pub mod Refusals
+pub mod ShelfPulls

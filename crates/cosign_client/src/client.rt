@@ -1,6 +1,7 @@
 //! The client that users hold.
 ghost use Rattle.std.specs.Prelude.{◌≡◌, true, false, Some, Err, IfOk, IfErr, IsTrue};
 ghost use Rattle.engine_requests.specs.Contexts.{within};
+ghost use Rattle.oci_link.specs.declared.shelf.Shelf.{Shelf};
 ghost use Rattle.oci_names.specs.References.{whole_text, reads_back};
 ghost use Rattle.oci_protocol.specs.Ends.{UnlessMemory};
 ghost use Rattle.oci_protocol.specs.Runs.{Meets, Told};
@@ -17,6 +18,7 @@ ghost use Rattle.cosign_client.specs.DigestStep.{BeginsWithDigest, IsRefusedAs, 
 ghost use Rattle.cosign_client.specs.Points.{point_of};
 ghost use Rattle.cosign_client.specs.Refusal.{is_memory, refused_as, FaultCounted, NoSinkFault};
 ghost use Rattle.cosign_client.specs.Search.{searched};
+ghost use Rattle.cosign_client.specs.Shelves.{AnswersFrom, IsSettled, OkOrMemory, ValidShelf};
 ghost use Rattle.cosign_client.specs.Skips.{CountsFaults, HoldsNoMemoryNorSink, OnSkipped};
 ghost use Rattle.cosign_client.specs.Sound.{Backed};
 ghost use Rattle.cosign_client.specs.Triangulated.{tag_shown, triangulated};
@@ -204,6 +206,12 @@ impl Client {
             (CountsFaults (T.state transport.old).faults (T.state transport.new).faults) e) }
         ensures confined { Stays (client_state self.old) (client_state self.new) moment (reference_in image.now)
             (Some (registry_auth auth.now)) (T.state transport.old) (T.state transport.new) }
+        ensures completes { (shelf : Shelf) → AnswersFrom shelf (T.state transport.old)
+            → IsSettled (reference_in image.now) (registry_auth auth.now) (client_state self.old).kept
+            → ValidShelf (meaning policy.now (λ b. accepts (b.vtable, b.value))
+            (trusts (V.valid verifier.now) (O.vouched judge.now) self.old))
+            (client_state self.old).settings (reference_in image.now) (registry_auth auth.now)
+            accepted_media_types.now shelf → OkOrMemory result }
     {
         let terms = Terms {
             accepted: accepted_media_types,

@@ -1,0 +1,414 @@
+-- A search and a pull over a shelf find what stands there.
+use Rattle.std.specs.Prelude.{codes, nat_lt, bytes_eq, unwrap_or, chars, encode_utf8_all, find, map as each, slice_index_or, Contains, MatchBool, IsTrue, if◌then◌else◌}
+use Rattle.std.specs.Option.{option_or}
+use Rattle.std.specs.List.{All, list_all, list_any}
+use Rattle.std.specs.FinMap as map
+use Rattle.std.proofs.Common.{◌≡◌, ◌<◌, ◌≤◌, ◌-◌, ◌^◌, ℕ, zero, suc, Bool, true, false, cond, not, ◌&&◌, ◌==◌, List, [], ◌∷◌, ◌++◌, length, get_or, is_some, Option, Some, None, Result, Ok, Err, refl, sym, ap, ◌∙◌, subst, arith, append_assoc, length-append}
+use Rattle.std.proofs.lemmas.List.Folds.{find-append}
+use Rattle.std.proofs.lemmas.List.Elements.{All-head, All-tail}
+use Rattle.oci_names.specs.Grammar.{is_tag_start, is_tag_byte, is_digest}
+use Rattle.oci_names.specs.Parts.{digest_refusal}
+use Rattle.oci_names.specs.Words.{Tag, Domain, Path}
+use Rattle.oci_names.specs.References.{registry_of, repository_of, digest_of, tag_of, whole_text, resolved_registry, namespace_of, reads_back}
+use Rattle.oci_names.specs.declared.reference.Reference.{Reference}
+use Rattle.oci_auth.specs.declared.auth.RegistryAuth.{RegistryAuth}
+use Rattle.oci_auth.specs.declared.memory.Memory.{Memory}
+use Rattle.oci_digests.specs.Names.{Names, digest_text, name_of, hash_of}
+use Rattle.oci_digests.specs.Checks.{checked}
+use Rattle.oci_digests.specs.declared.digester.Algorithm.TheVariants.{Sha256, Sha384, Sha512}
+use Rattle.oci_digests.proofs.Validated.{is_validated}
+use Rattle.oci_manifests.specs.declared.document.OciManifest.{OciManifest}
+use Rattle.oci_manifests.specs.declared.document.OciManifest.TheVariants.{Image, ImageIndex}
+use Rattle.oci_manifests.specs.declared.index.OciImageIndex.{OciImageIndex}
+use Rattle.oci_manifests.specs.declared.index_entry.ImageIndexEntry.{ImageIndexEntry}
+use Rattle.oci_manifests.specs.declared.manifest.OciImageManifest.{OciImageManifest}
+use Rattle.oci_manifests.specs.declared.descriptor.OciDescriptor.{OciDescriptor}
+use Rattle.oci_manifests.specs.declared.blob.ImageLayer.{ImageLayer}
+use Rattle.oci_transport.specs.Link.{Link}
+use Rattle.oci_transport.specs.declared.message.Request.{Request}
+use Rattle.oci_transport.specs.declared.message.Answer.{Answer}
+use Rattle.oci_protocol.specs.Proto.{Proto, Done, bind, ◌>>=◌, ◌>>◌}
+use Rattle.oci_protocol.specs.Runs.{Meets}
+use Rattle.oci_protocol.specs.Ends.{UnlessMemory}
+use Rattle.oci_link.specs.State.{answering}
+use Rattle.oci_link.specs.Table.{answer, digest_named}
+use Rattle.oci_link.specs.declared.shelf.Shelf.{Shelf}
+use Rattle.engine_requests.specs.Addresses.{manifest_name}
+use Rattle.engine_requests.specs.Answers.{or_digest_error}
+use Rattle.engine_requests.specs.Contexts.{Context}
+use Rattle.engine_requests.specs.Documents.{document_read}
+use Rattle.engine_requests.specs.Errors.{◌>>=◌ as ◌before◌, ◌>>◌ as ◌and◌}
+use Rattle.engine_requests.specs.Index.{entry_found, entry_manifest, entry_reference}
+use Rattle.engine_requests.specs.Requests.{manifest_types}
+use Rattle.engine_requests.specs.Sources.{Layer, described}
+use Rattle.engine_requests.specs.declared.error.OciDistributionError.{OciDistributionError}
+use Rattle.engine_requests.specs.declared.settings.Settings.{Settings}
+use Rattle.engine_steps.specs.Rows.{Row as Engine}
+use Rattle.engine_pull.specs.declared.image.ImageData.{ImageData}
+use Rattle.engine_pull.specs.Images.{layers_accepted, layer_of, config_of}
+use Rattle.engine_pull.specs.Pulls.{fetch_manifest_digest, pull_manifest, pull_manifest_raw, held_blob}
+use Rattle.engine_pull.specs.Images.{pull}
+use Rattle.sig_registry.specs.declared.error.SigstoreError.{SigstoreError}
+use Rattle.sig_registry.specs.declared.error.SigstoreError.TheVariants as sigstore
+use Rattle.sig_registry.specs.declared.wording.Called.{Called}
+use Rattle.sig_registry.specs.declared.wording.Called.TheVariants.{FetchManifest, Pull, PullManifest}
+use Rattle.sig_registry.specs.Errors.{is_memory as of_memory, worded}
+use Rattle.sig_registry.specs.Clients.{Kept, Row}
+use Rattle.sig_registry.specs.Calls.{in_words, digest_call, manifest_call, image_call, document_call, blob_call, referrers_call}
+use Rattle.shelf_laws.specs.Comes.{Comes, Yields, OrMemory, Gives, Stays, Reaches}
+use Rattle.shelf_laws.specs.Home.{Home, IsAt, CanBeShown, Settled}
+use Rattle.shelf_laws.specs.Shelves.{IsShort, HasDocument, HasBlob, HasLayer, HasBlobs, HasManifest, LeadsTo, ImageOn, layer_on, layers_on}
+use Rattle.shelf_laws.proofs.Coming.{Gives-done, Gives-next, Gives-more, Gives-caught, Gives-stays, Stays-done, Stays-bind, Stays-next, Reaches-done, Reaches-bind, Reaches-strict, Reaches-stays, Reaches-after, Reaches-next, TableOf, Meets-comes}
+use Rattle.shelf_laws.proofs.DigestTags.{sha256_named, tag_of_signatures}
+use Rattle.shelf_laws.proofs.Documents.{NoOther, raw_gives, digest_gives, blob_gives}
+use Rattle.shelf_laws.proofs.Images.{Points, points_itself, types_accepted, manifest_gives, pull_gives}
+use Rattle.shelf_laws.proofs.PlainNames.{tag_segment}
+use Rattle.shelf_laws.proofs.Pointing.{tag_named, image_points}
+use Rattle.shelf_laws.proofs.References.{Spelled, spelled, resolved_domain, tag_reads_back, digest_reads_back, sha256_length, sha256_is_digest, sha256_is_known}
+use Rattle.shelf_laws.proofs.Requests.{yields_ok}
+use Rattle.shelf_laws.proofs.Staying.{pull_stays, referrers_stay}
+use Rattle.shelf_laws.proofs.Tokens.{given_gives}
+use Rattle.cosign_layers.specs.Constraint.{has_no_item}
+use Rattle.cosign_layers.specs.Standing.{Meaning, StandsFor, stands}
+use Rattle.cosign_layers.specs.Trust.{Trust}
+use Rattle.cosign_layers.specs.declared.layer.SignatureLayer.{SignatureLayer}
+use Rattle.cosign_layers.proofs.Supports.{stands_by as supports_stand}
+use Rattle.cosign_chain.specs.declared.image.VerifiedImage.{VerifiedImage}
+use Rattle.cosign_client.specs.Image.{named_by_reference, document_in, entry_in, layers_row, blobs_row, with_image, entry_call, entry_row, manifest_row, after_document, image_row}
+use Rattle.cosign_client.specs.Part.{nothing, skipping, appended, layer_part, named_layer, read_layer, descriptor_part, descriptors_part}
+use Rattle.cosign_client.specs.References.{dashed, with_dashes, signature_tag, tag_reference, digest_reference, or_not_valid, reading_back}
+use Rattle.cosign_client.specs.Refusal.{is_memory, refused_as}
+use Rattle.cosign_client.specs.Search.{payload_type, document_part, tag_layers, or_skipped, tag_by, tag_source, behind, bundle_type, referrer_part, referrer_by, referrer_row, referrers_row, listed_row, referrers_source, trusted_layers, searched}
+use Rattle.cosign_client.specs.Verified.{Whole, constrained, is_unconstrained, readable_by, readable, as_whole, part_of, stands_by, standing_by, standing, verified_image, after_standing, after_search, verified}
+use Rattle.cosign_client.specs.declared.found.Part.{Part}
+use Rattle.cosign_client.specs.declared.found.SkipCause.{SkipCause}
+use Rattle.cosign_client.specs.declared.found.SkipCause.TheVariants.{NotAReference, Refused}
+use Rattle.cosign_client.specs.declared.found.Skipped.{Skipped}
+use Rattle.cosign_client.specs.declared.found.Skipped.TheVariants.{Source, Referrer}
+use Rattle.cosign_client.specs.declared.found.SourceKind.TheVariants.{Tag as ByTag, Referrers}
+use Rattle.cosign_client.specs.declared.found.TrustedLayers.{TrustedLayers}
+use Rattle.cosign_client.specs.declared.refusal.PullRefusal.{PullRefusal}
+use Rattle.cosign_client.specs.declared.refusal.PullRefusal.TheVariants as refusal
+use Rattle.cosign_client.specs.Shelves.{IsSha256, digest_on, read_on, HasSignature, IsAsked, ValidShelf, AnswersFrom, IsSettled, OkOrMemory}
+
+-- ---- some layer stands
+
+-- one of these passes
+Has : (SignatureLayer → Bool) → List SignatureLayer → Type 0
+Has p layers = (layer : SignatureLayer) × (find p layers ≡ Some layer)
+
+has_left : (p : SignatureLayer → Bool) (xs ys : List SignatureLayer) → Has p xs → Has p (xs ++ ys)
+unfolding Has
+has_left p xs ys h = (h.0, find-append p xs ys ∙ ap (λ o. option_or o (find p ys)) h.1)
+
+has_right : (p : SignatureLayer → Bool) (xs ys : List SignatureLayer) → Has p ys → Has p (xs ++ ys)
+unfolding Has
+has_right p xs ys h = by_first (find p xs) refl where
+  by_first : (o : Option SignatureLayer) → find p xs ≡ o → (layer : SignatureLayer) × (find p (xs ++ ys) ≡ Some layer)
+  by_first None is = (h.0, find-append p xs ys ∙ ap (λ o. option_or o (find p ys)) is ∙ h.1)
+  by_first (Some x) is = (x, find-append p xs ys ∙ ap (λ o. option_or o (find p ys)) is)
+
+has_one : (p : SignatureLayer → Bool) (layer : SignatureLayer) → p layer ≡ true → Has p (layer ∷ [])
+unfolding Has
+has_one p layer is = (layer, ap (λ b. cond b (Some layer) None) is)
+
+-- a descriptor whose layer is read and passes
+stood : (p : SignatureLayer → Bool) (trust : Trust) (d : List ℕ) (layers : List ImageLayer) (x : OciDescriptor) (layer : SignatureLayer) → read_layer trust d x (named_layer x.digest layers) ≡ Ok layer → p layer ≡ true
+    → (xs : List OciDescriptor) (k : ℕ) → k < length xs → slice_index_or xs k x ≡ x → Has p (descriptors_part trust d layers xs).collected
+stood p trust d layers x layer reads passes [] k lt is = absurd (omega (arith, lt))
+stood p trust d layers x layer reads passes (y ∷ xs) zero lt is =
+    has_left p (descriptor_part trust d layers y).collected (descriptors_part trust d layers xs).collected
+    (subst (λ (z : OciDescriptor). Has p (descriptor_part trust d layers z).collected) (sym is) (subst (λ r. Has p (layer_part ByTag x.digest r).collected) (sym reads) (has_one p layer passes)))
+stood p trust d layers x layer reads passes (y ∷ xs) (suc k) lt is =
+    has_right p (descriptor_part trust d layers y).collected (descriptors_part trust d layers xs).collected (stood p trust d layers x layer reads passes xs k (omega (arith, lt)) is)
+
+-- ---- calls in words
+
+module _ {I : Kept → Type 0} {table : Request → Answer} where
+  words_give : {A : Type 0} {P : A → Type 0} {p : Engine A} (called : Called) (image : Reference) → Gives I table P p → Gives I table P (in_words called image p)
+  unfolding in_words
+  words_give called image h = Gives-caught (λ r. Done (worded called (whole_text image) r)) h (λ a is. Gives-done (Ok a) is)
+
+  -- a step with no request, which is not refused
+  said : {A : Type 0} (called : Called) (text : List ℕ) (r : Result A OciDistributionError) (a : A) → r ≡ Ok a → Gives I table (λ (x : A). x ≡ a) (let p : Row A = Done (worded called text r) in p)
+  said called text r a is = Gives-done (worded called text r) (yields_ok (λ x. x ≡ a) (worded called text r) a (ap (λ (x : Result _ OciDistributionError). worded called text x) is) refl)
+
+-- ---- the document of the image's digest
+
+named_ok : (o : Option (List ℕ)) (bytes digest : List ℕ) → Names digest bytes → NoOther o digest → named_by_reference o bytes ≡ Ok tt
+named_ok None bytes digest named other = refl
+named_ok (Some own) bytes digest named other =
+    ap (λ r. or_digest_error r and Ok tt) (is_validated bytes None (Some own) own (record { header_names = tt; reference_names = subst (λ (t : List ℕ). Names t bytes) (sym other) named; answer = refl }))
+
+some_constraint : {C : Type 0} (cs : List C) → 0 < length cs → has_no_item cs ≡ false
+some_constraint [] h = absurd (omega (arith, h))
+some_constraint (c ∷ cs) h = refl
+
+module _ {V : Type 0} {H : V → Type 0} (meaning : Meaning V H) (s : Settings) (image : Reference) (a : RegistryAuth) (accepted : List (List ℕ)) (shelf : Shelf) (valid : ValidShelf meaning s image a accepted shelf) (moment : ℕ) where
+  abbrev registry : List ℕ
+  registry = resolved_registry image
+
+  abbrev I : Kept → Type 0
+  I k = Settled registry shelf.repository a k
+
+  abbrev ctx : Context
+  ctx = record { settings = s; moment = moment }
+
+  abbrev digest : List ℕ
+  digest = valid.digest
+
+  abbrev first : List ℕ
+  first = valid.image_on.first
+
+  abbrev can : CanBeShown a
+  can = valid.asked.credentials
+
+  spelling : Spelled image
+  spelling = spelled image valid.asked.reads_back_is
+
+  home : Home s registry shelf
+  home = record { written = valid.asked.written; domain = resolved_domain image spelling; path = subst Path valid.asked.repository_is spelling.path; agent = valid.asked.agent; direct = valid.asked.direct }
+
+  at_image : IsAt registry shelf image
+  at_image = record { registry_is = refl; repository_is = valid.asked.repository_is; no_mirror = ap (λ (m : Option (List ℕ)). if is_some m then Some (registry_of image) else None) spelling.no_mirror }
+
+  own_registry : unwrap_or None (if bytes_eq (registry_of image) (codes "docker.io") then codes "index.docker.io" else registry_of image) ≡ registry
+  own_registry = ap (λ (m : Option (List ℕ)). unwrap_or m (if bytes_eq (registry_of image) (codes "docker.io") then codes "index.docker.io" else registry_of image)) (sym spelling.no_mirror)
+
+  at_tag : IsAt registry shelf (tag_reference image digest)
+  at_tag = record { registry_is = own_registry; repository_is = valid.asked.repository_is; no_mirror = refl }
+
+  at_digest : IsAt registry shelf (digest_reference image digest)
+  at_digest = record { registry_is = own_registry; repository_is = valid.asked.repository_is; no_mirror = refl }
+
+  digest_is : digest ≡ digest_text Sha256 first
+  digest_is = sha256_named digest valid.sha256.0 first valid.sha256.1 valid.image_on.there.named
+
+  tag_is : Tag (signature_tag digest)
+  tag_is = tag_of_signatures digest first digest_is
+
+  points_image : Points shelf image digest
+  points_image = image_points shelf image digest first spelling valid.image_on.there valid.named
+
+  points_tag : Points shelf (tag_reference image digest) valid.signatures
+  points_tag = record { plain = tag_segment (signature_tag digest) tag_is; points = tag_named shelf (signature_tag digest) tag_is ∙ valid.tagged; other = tt }
+
+  tag_back : reads_back (tag_reference image digest) ≡ true
+  tag_back = tag_reads_back image spelling (signature_tag digest) tag_is
+
+  digest_back : reads_back (digest_reference image digest) ≡ true
+  digest_back = digest_reads_back image spelling digest (ap is_digest digest_is ∙ sha256_is_digest first) (ap digest_refusal digest_is ∙ sha256_is_known first)
+
+  abbrev signatures_on : ImageOn s shelf valid.signatures (payload_type ∷ [])
+  signatures_on = record { first = valid.signed.0; there = valid.signed.1; document = Image valid.manifest; reads = valid.signed.2; manifest = valid.manifest; leads = refl; blobs = valid.payloads }
+
+  abbrev source : Reference
+  source = digest_reference image digest
+
+  -- ---- the signature tag
+
+  passes : stands_by meaning valid.signature.layer ≡ true
+  passes = supports_stand meaning.trust.valid meaning.policy meaning.own valid.signature.layer valid.signature.stands_for.supports
+
+  -- a layer that stands is under the tag
+  stood_here : Has (stands_by meaning) (descriptors_part meaning.trust digest (layers_on shelf valid.manifest.layers) valid.manifest.layers).collected
+  stood_here = stood (stands_by meaning) meaning.trust digest (layers_on shelf valid.manifest.layers) valid.signature.descriptor valid.signature.layer valid.signature.reads passes valid.manifest.layers valid.signature.listed.0 valid.signature.listed.1 valid.signature.listed.2
+
+  tag_gives : Gives I (answer shelf) (λ (part : Part). Has (stands_by meaning) part.collected) (tag_layers meaning.trust digest ctx (tag_reference image digest) a)
+  unfolding tag_layers manifest_call image_call
+  tag_gives =
+      Gives-next _ (words_give PullManifest (tag_reference image digest) (manifest_gives home valid.short a can moment (tag_reference image digest) valid.signatures valid.signed.0 (Image valid.manifest) at_tag points_tag valid.signed.1 valid.signed.2)) (λ document known.
+      Gives-next _ (words_give Pull (tag_reference image digest) (pull_gives home valid.short a can moment (tag_reference image digest) valid.signatures (payload_type ∷ []) signatures_on at_tag points_tag)) (λ pulled same.
+      Gives-done (Ok (document_part meaning.trust digest document.0 pulled)) (subst (λ (p : OciManifest × List ℕ). Has (stands_by meaning) (document_part meaning.trust digest p.0 pulled).collected) (sym known) (subst (λ (layers : List ImageLayer). Has (stands_by meaning) (descriptors_part meaning.trust digest layers valid.manifest.layers).collected) (sym same) stood_here))))
+
+  source_gives : Gives I (answer shelf) (λ (part : Part). Has (stands_by meaning) part.collected) (tag_source meaning.trust ctx image a digest)
+  unfolding tag_source
+  source_gives =
+      subst (λ b. Gives I (answer shelf) (λ (part : Part). Has (stands_by meaning) part.collected) (tag_by meaning.trust digest ctx (tag_reference image digest) a b)) (sym tag_back)
+      (Gives-caught (λ r. Done (or_skipped ByTag r)) tag_gives (λ part is. Gives-done (Ok part) is))
+
+  -- the digest, and a layer that stands
+  abbrev Found : TrustedLayers → Type 0
+  Found found = (found.digest ≡ digest) × Has (stands_by meaning) found.collected
+
+  -- ---- the referrers, whatever they are
+
+  at_referrer : (x : List ℕ) → IsAt registry shelf (digest_reference source x)
+  at_referrer x = record { registry_is = own_registry; repository_is = valid.asked.repository_is; no_mirror = refl }
+
+  words_stay : {A : Type 0} {p : Engine A} (called : Called) (r : Reference) → Stays I (answer shelf) p → Stays I (answer shelf) (in_words called r p)
+  unfolding in_words
+  words_stay called r h = Stays-bind (λ x. Done (worded called (whole_text r) x)) h (λ x. Stays-done _)
+
+  listing_stays : Stays I (answer shelf) (referrers_call ctx source a None)
+  unfolding referrers_call
+  listing_stays = Stays-next _ (words_stay FetchManifest source (Gives-stays (given_gives home source at_digest a can moment))) (λ u. words_stay PullManifest source (referrers_stay home a can moment source at_digest None))
+
+  referrer_stays : (x : List ℕ) → Stays I (answer shelf) (image_call ctx (digest_reference source x) a (bundle_type ∷ []))
+  unfolding image_call
+  referrer_stays x = words_stay Pull (digest_reference source x) (pull_stays home a can moment (digest_reference source x) (at_referrer x) (bundle_type ∷ []))
+
+  -- a part in which a layer stands
+  abbrev Stood : Part → Type 0
+  Stood part = Has (stands_by meaning) part.collected
+
+  behind_by : (b : Bool) (part : Part) (cause : Skipped) (e : SigstoreError) → of_memory e ≡ b → Stood part → OrMemory of_memory Stood (if b then Err e else Ok (appended part (skipping cause)))
+  behind_by true part cause e is h = is
+  behind_by false part cause e is h = has_left (stands_by meaning) part.collected [] h
+
+  behind_stands : (part : Part) (place : SkipCause → Skipped) (r : Result Part SigstoreError) → Stood part → OrMemory of_memory Stood (behind part place r)
+  behind_stands part place (Ok more) h = has_left (stands_by meaning) part.collected more.collected h
+  behind_stands part place (Err e) h = behind_by (of_memory e) part (place (Refused e)) e refl h
+
+  referrer_reaches : (x : List ℕ) (part : Part) (b : Bool) → Stood part → Reaches I (answer shelf) (OrMemory of_memory Stood) (referrer_by meaning.trust digest ctx (digest_reference source x) a x part b)
+  referrer_reaches x part false h = Reaches-done (Ok (appended part (skipping (Referrer x (NotAReference (whole_text (digest_reference source x))))))) (has_left (stands_by meaning) part.collected [] h)
+  referrer_reaches x part true h = Reaches-bind _ (Reaches-stays (referrer_stays x)) (λ r u. Reaches-done _ (behind_stands part (Referrer x) (referrer_part meaning.trust digest r) h))
+
+  each_reaches : (xs : List ImageIndexEntry) (part : Part) → Stood part → Reaches I (answer shelf) (OrMemory of_memory Stood) (referrers_row meaning.trust digest ctx source a xs part)
+  unfolding referrers_row referrer_row
+  each_reaches [] part h = Reaches-done (Ok part) h
+  each_reaches (x ∷ xs) part h = Reaches-next _ (referrer_reaches x.digest part (reads_back (digest_reference source x.digest)) h) (λ more stands. each_reaches xs more stands)
+
+  listed_reaches : (part : Part) (r : Result OciImageIndex SigstoreError) → Stood part → Reaches I (answer shelf) (OrMemory of_memory Stood) (listed_row meaning.trust digest ctx source a part r)
+  listed_reaches part (Ok index) h = each_reaches index.manifests part h
+  listed_reaches part (Err e) h = Reaches-done _ (behind_stands part (Source Referrers) (Err e) h)
+
+  referrers_reach : (part : Part) → Stood part → Reaches I (answer shelf) (OrMemory of_memory Stood) (referrers_source meaning.trust digest ctx source a part)
+  unfolding referrers_source
+  referrers_reach part h = Reaches-bind _ (Reaches-stays listing_stays) (λ r u. listed_reaches part r h)
+
+  -- ---- the search
+
+  search_reaches : Reaches I (answer shelf) (OrMemory of_memory Found) (searched meaning.trust ctx image a)
+  unfolding searched digest_call
+  search_reaches =
+      Reaches-after _ (words_give FetchManifest image (digest_gives home valid.short image at_image a can moment digest first valid.image_on.there points_image.plain points_image.points points_image.other)) (λ d known.
+      Reaches-after _ (Gives-done (reading_back (digest_reference image d)) (yields_ok (λ u. Unit {0}) (reading_back (digest_reference image d)) tt (ap (λ (t : List ℕ). reading_back (digest_reference image t)) known ∙ ap (or_not_valid (digest_reference image digest)) digest_back) tt)) (λ u read.
+      Reaches-after _ (subst (λ (t : List ℕ). Gives I (answer shelf) Stood (tag_source meaning.trust ctx image a t)) (sym known) source_gives) (λ tag is.
+      Reaches-next _ (subst (λ (t : List ℕ). Reaches I (answer shelf) (OrMemory of_memory Stood) (referrers_source meaning.trust t ctx (digest_reference image t) a tag)) (sym known) (referrers_reach tag is)) (λ found stands.
+      Reaches-done (Ok (trusted_layers d found)) (known, stands)))))
+
+  -- ---- the image
+
+  points_source : Points shelf source digest
+  points_source = points_itself shelf source digest first refl valid.image_on.there
+
+  document_ok : document_in image first ≡ Ok valid.image_on.document
+  document_ok = ap (λ r. r and document_read first) (named_ok (digest_of image) first digest valid.image_on.there.named points_image.other) ∙ valid.image_on.reads
+
+  blob_row_gives : (x : Layer) (has : HasBlob shelf x.digest) → Gives I (answer shelf) (λ (b : List ℕ). Unit {0}) (blob_call ctx source x)
+  unfolding blob_call
+  blob_row_gives x has = Gives-more (λ (b : List ℕ). Unit {0}) (words_give Pull source (blob_gives home valid.short source at_digest a can moment x has)) (λ b is. tt)
+
+  layers_row_give : (xs : List OciDescriptor) (given : List ImageLayer) → All (HasLayer shelf accepted) xs → Gives I (answer shelf) (λ (layers : List ImageLayer). Unit {0}) (layers_row ctx source xs given)
+  unfolding layers_row
+  layers_row_give [] given all = Gives-done (Ok given) tt
+  layers_row_give (x ∷ xs) given all = Gives-next _ (blob_row_gives (described x) (All-head (HasLayer shelf accepted) x xs all).0) (λ content u. layers_row_give xs (given ++ layer_of x content ∷ []) (All-tail (HasLayer shelf accepted) x xs all))
+
+  blobs_row_gives : Gives I (answer shelf) (λ p. Unit {0}) (blobs_row ctx source accepted valid.image_on.manifest)
+  unfolding blobs_row
+  blobs_row_gives =
+      let has = valid.image_on.blobs in
+      Gives-next _ (blob_row_gives (described valid.image_on.manifest.config) has.config) (λ content u.
+      Gives-next _ (said Pull (whole_text source) (layers_accepted accepted valid.image_on.manifest.layers) tt (types_accepted shelf accepted valid.image_on.manifest.layers has.some has.layers)) (λ u checked.
+      Gives-next _ (layers_row_give valid.image_on.manifest.layers [] has.layers) (λ layers u.
+      Gives-done (Ok (config_of valid.image_on.manifest content, layers)) tt)))
+
+  -- the row comes to an answer of which this is so
+  abbrev From : {A E : Type 0} → Proto Kept (Result A E) → (A → Type 0) → Type 0
+  From p P = Gives I (answer shelf) P p
+
+  chosen_gives : (document : OciManifest) → LeadsTo s shelf document valid.image_on.manifest → From (manifest_row ctx source a first document) (λ chosen. chosen.manifest ≡ valid.image_on.manifest)
+  unfolding entry_row entry_call document_call
+  chosen_gives (Image own) leads = Gives-done (Ok (record { bytes = first; manifest = own; entry = None })) leads
+  chosen_gives (ImageIndex index) (entry, is, (bytes, has, reads)) =
+      let own : Reference = entry_reference source entry in
+      let at_own : IsAt registry shelf own = record { registry_is = own_registry; repository_is = valid.asked.repository_is; no_mirror = refl } in
+      let points = points_itself shelf own entry bytes refl has in
+      Gives-next _ (said Pull (whole_text source) (entry_found s.platform_resolver index.manifests) entry is) (λ e same.
+      Gives-next _ (subst (λ (t : List ℕ). Gives I (answer shelf) (λ found. found.0 ≡ bytes) (entry_call ctx source a t)) (sym same)
+      (Gives-caught (λ r. Done (with_image (whole_text source) r)) (words_give Pull own (raw_gives home valid.short own at_own a can moment entry bytes manifest_types has points.plain points.points points.other refl)) (λ found known. Gives-done (Ok found) (ap (λ (p : List ℕ × List ℕ). p.0) known)))) (λ found known.
+      Gives-next _ (said Pull (whole_text source) (entry_in e found.0) valid.image_on.manifest (ap (λ (t : List ℕ). document_read t before entry_manifest e) known ∙ ap (λ r. r before entry_manifest e) reads)) (λ manifest chosen.
+      Gives-done (Ok (record { bytes = found.0; manifest = manifest; entry = Some e })) chosen)))
+
+  image_gives : Gives I (answer shelf) (λ pulled. Unit {0}) (image_row ctx image source a accepted)
+  unfolding image_row document_call
+  image_gives =
+      Gives-next _ (words_give Pull source (raw_gives home valid.short source at_digest a can moment digest first manifest_types valid.image_on.there points_source.plain points_source.points points_source.other refl)) (λ found known.
+      subst (λ (p : List ℕ × List ℕ). Gives I (answer shelf) (λ pulled. Unit {0}) (after_document ctx image source a accepted p.0)) (sym known)
+      (Gives-next _ (said Pull (whole_text source) (document_in image first) valid.image_on.document document_ok) (λ document same.
+      Gives-next _ (subst (λ (t : OciManifest). From (manifest_row ctx source a first t) (λ chosen. chosen.manifest ≡ valid.image_on.manifest)) (sym same) (chosen_gives valid.image_on.document valid.image_on.leads)) (λ chosen is.
+      Gives-next _ (subst (λ (m : OciImageManifest). Gives I (answer shelf) (λ p. Unit {0}) (blobs_row ctx source accepted m)) (sym is) blobs_row_gives) (λ blobs u.
+      Gives-done (Ok (record { first = first; chosen = chosen; config = blobs.0; layers = blobs.1 })) tt)))))
+
+  -- ---- the whole
+
+  part_gives : {A : Type 0} {P : A → Type 0} {p : Row A} → Gives I (answer shelf) P p → Gives I (answer shelf) P (part_of p)
+  unfolding part_of
+  part_gives h = Gives-caught (λ r. Done (as_whole r)) h (λ a is. Gives-done (Ok a) is)
+
+  -- want of memory in a part is that of the whole
+  refused_memory : (e : SigstoreError) → of_memory e ≡ true → is_memory (refused_as e) ≡ true
+  refused_memory sigstore.WantOfMemory is = refl
+  refused_memory (sigstore.OciReferenceNotValidError r) is = absurd (cc is)
+  refused_memory (sigstore.RegistryFetchManifestError i e) is = absurd (cc is)
+  refused_memory (sigstore.RegistryPullError i e) is = absurd (cc is)
+  refused_memory (sigstore.RegistryPullManifestError i e) is = absurd (cc is)
+
+  as_whole_is : {A : Type 0} (P : A → Type 0) (r : Result A SigstoreError) → OrMemory of_memory P r → OrMemory is_memory P (as_whole r)
+  as_whole_is P (Ok a) h = h
+  as_whole_is P (Err e) h = refused_memory e h
+
+  part_reaches : {A : Type 0} {P : A → Type 0} {p : Row A} → Reaches I (answer shelf) (OrMemory of_memory P) p → Reaches I (answer shelf) (OrMemory is_memory P) (part_of p)
+  unfolding part_of
+  part_reaches {A} {P} h = Reaches-bind (λ r. Done (as_whole r)) h (λ r is. Reaches-done (as_whole r) (as_whole_is P r is))
+
+  constrained_is : constrained (is_unconstrained meaning.policy) ≡ Ok tt
+  constrained_is = ap constrained (some_constraint meaning.policy.constraints valid.signature.stands_for.constrained)
+
+  readable_is : readable image ≡ Ok tt
+  readable_is = ap (readable_by image) valid.asked.reads_back_is
+
+  standing_is : (found : TrustedLayers) (layer : SignatureLayer) → find (stands_by meaning) found.collected ≡ Some layer → standing meaning found ≡ Ok (record { digest = found.digest; signature = layer })
+  standing_is found layer is = ap (standing_by found) is
+
+  standing_gives : (found : TrustedLayers) (layer : SignatureLayer) → find (stands_by meaning) found.collected ≡ Some layer → found.digest ≡ digest → From (let p : Whole _ = Done (standing meaning found) in p) (λ stood. stood.digest ≡ digest)
+  standing_gives found layer is known = Gives-done (standing meaning found) (subst (Yields _) (sym (standing_is found layer is)) known)
+
+  found_gives : (found : TrustedLayers) → Found found → Gives I (answer shelf) (λ (v : VerifiedImage). Unit {0}) (after_search meaning ctx image a accepted found)
+  unfolding after_search Has
+  found_gives found (known, (layer, is)) =
+      Gives-next _ (standing_gives found layer is known) (λ stood same.
+      Gives-next _ (subst (λ (t : List ℕ). Gives I (answer shelf) (λ pulled. Unit {0}) (part_of (image_row ctx image (digest_reference image t) a accepted))) (sym same) (part_gives image_gives)) (λ pulled u.
+      Gives-done (Ok (verified_image stood pulled)) tt))
+
+  pub verified_reaches : Reaches I (answer shelf) (OrMemory is_memory (λ (v : VerifiedImage). Unit {0})) (verified meaning ctx image a accepted)
+  unfolding verified
+  verified_reaches =
+      Reaches-after _ (Gives-done (constrained (is_unconstrained meaning.policy)) (yields_ok (λ u. Unit {0}) (constrained (is_unconstrained meaning.policy)) tt constrained_is tt)) (λ u checked.
+      Reaches-after _ (Gives-done (readable image) (yields_ok (λ u. Unit {0}) (readable image) tt readable_is tt)) (λ u read.
+      Reaches-next _ (part_reaches search_reaches) (λ found is. Reaches-strict is_memory (found_gives found is))))
+
+  -- ---- the call
+
+  memory_is : (e : PullRefusal) → is_memory e ≡ true → e ≡ refusal.WantOfMemory
+  memory_is refusal.WantOfMemory is = refl
+  memory_is _ is = absurd (cc is)
+
+  table_of : TableOf (answer shelf) (answering shelf)
+  unfolding answering
+  table_of = record { answer = λ place request. refl; never = λ place. refl }
+
+  by_memory : (b : Bool) (e : PullRefusal) (P : Type 0) → is_memory e ≡ b → MatchBool b (Unit {0}) (P × (is_memory e ≡ true)) → e ≡ refusal.WantOfMemory
+  by_memory true e P is h = memory_is e is
+  by_memory false e P is h = memory_is e h.1
+
+  answered : (l : Kept) (r : Result VerifiedImage PullRefusal) → UnlessMemory is_memory (λ r. I l × OrMemory is_memory (λ (v : VerifiedImage). Unit {0}) r) r → OkOrMemory r
+  answered l (Ok v) h = tt
+  answered l (Err e) h = by_memory (is_memory e) e (I l) refl h
+
+  -- over a shelf that is valid a client that is settled gets the image, or memory is wanting
+  pub completed : {old new : Link} {k l : Kept} (r : Result VerifiedImage PullRefusal) → AnswersFrom shelf old → IsSettled image a k → Meets is_memory (verified meaning ctx image a accepted) old new k l r → OkOrMemory r
+  completed {old} {new} {k} {l} r from settled met =
+      answered l r (Meets-comes (answer shelf) (λ l r. I l × OrMemory is_memory (λ (v : VerifiedImage). Unit {0}) r) (answering shelf) (verified meaning ctx image a accepted) from.before old new k l r table_of from.answers from.told from.faults
+      (verified_reaches.reaches k (subst (λ (t : List ℕ). Settled registry t a k) valid.asked.repository_is settled)) met)

@@ -1,0 +1,338 @@
+-- Documents and blobs of a shelf, as the rows that pull them answer.
+use Rattle.std.specs.Prelude.{codes, not, nat_lt, nat_eq, nat_le, bytes_eq, slice_get, unwrap_or, if◌then◌else◌}
+use Rattle.std.specs.List.{list_any}
+use Rattle.std.specs.FinMap as map
+use Rattle.std.specs.FinMap.{get-empty, get-insert}
+use Rattle.std.specs.Cmp.Lexicographic.{nat_list_cmp_total}
+use Rattle.std.proofs.Common.{◌≡◌, ◌≤◌, ℕ, Bool, true, false, ◌&&◌, ◌||◌, ◌==◌, List, [], ◌∷◌, ◌++◌, length, Option, Some, None, Result, Ok, Err, refl, sym, ap, ◌∙◌, subst, arith}
+use Rattle.std.proofs.lemmas.Bool.Decides.{nat_tests}
+use Rattle.std.proofs.lemmas.Slice.Eq.{bytes_eq-Decides}
+use Rattle.url.specs.Parts.{Parts, serialize}
+use Rattle.json_values.specs.Places.{by_bytes}
+use Rattle.hex.specs.Hex.{encode_lower}
+use Rattle.oci_names.specs.declared.reference.Reference.{Reference}
+use Rattle.oci_names.specs.References.{digest_of, tag_of}
+use Rattle.oci_digests.specs.Names.{Names, digest_text, name_of, hash_of}
+use Rattle.oci_digests.specs.Checks.{header_digest as digest_in, is_header_text, and_then}
+use Rattle.oci_digests.specs.Parts.{parts_of, named_by, named_algorithm}
+use Rattle.oci_digests.specs.declared.digester.Algorithm.{Algorithm}
+use Rattle.oci_digests.specs.declared.digester.Algorithm.TheVariants.{Sha256, Sha384, Sha512}
+use Rattle.oci_digests.specs.declared.error.DigestError.TheVariants as digest_refusal
+use Rattle.oci_digests.proofs.Validated.{algorithm_named, is_validated}
+use Rattle.oci_transport.specs.Headers.{Fields, values_of, first_of, added, held, is_header_value, digest_header}
+use Rattle.oci_transport.specs.declared.message.Request.{Request}
+use Rattle.oci_transport.specs.declared.message.Answer.{Answer}
+use Rattle.oci_transport.specs.declared.message.Method.{Method}
+use Rattle.oci_transport.specs.declared.message.Method.TheVariants.{Get, Head}
+use Rattle.oci_auth.specs.declared.auth.RegistryAuth.{RegistryAuth}
+use Rattle.oci_auth.specs.declared.memory.Memory.{Memory}
+use Rattle.oci_protocol.specs.Proto.{Reading, Unread, Within, Done, read_within, ◌>>=◌}
+use Rattle.oci_protocol.specs.Runs.{head_part}
+use Rattle.oci_protocol.specs.Drive.{reply_of}
+use Rattle.oci_link.specs.PlainPaths.{Segment, PlainPath}
+use Rattle.oci_link.specs.Table.{answer, with_header, with_digest, not_found, document_answer, digest_answer, digest_named, manifest_answer, is_colon, bytes_answer, blob_answer, is_get_or_head}
+use Rattle.oci_link.specs.declared.shelf.Shelf.{Shelf}
+use Rattle.oci_link.specs.declared.shelf.ShelfDocument.{ShelfDocument}
+use Rattle.engine_requests.specs.declared.answers.Got.{Got}
+use Rattle.engine_requests.specs.declared.blobs.Expected.{Expected}
+use Rattle.engine_requests.specs.declared.blobs.Plan.TheVariants.{Pour}
+use Rattle.engine_requests.specs.declared.error.OciDistributionError.{OciDistributionError}
+use Rattle.engine_requests.specs.declared.error.OciDistributionError.TheVariants as engine_refusal
+use Rattle.engine_requests.specs.declared.settings.Settings.{Settings}
+use Rattle.engine_requests.specs.Addresses.{manifest_name, manifest_text, blob_text, url_read}
+use Rattle.engine_requests.specs.Answers.{accepted, or_digest_error, header_digest, body_digest, answer_digest, document_in, agreed, fits_reference, refused_answer, is_success, is_error}
+use Rattle.engine_requests.specs.Blobs.{digest_expected, pouring, plan_by, planned, plan_of, compared}
+use Rattle.engine_requests.specs.Contexts.{Context}
+use Rattle.engine_requests.specs.Errors.{◌>>=◌ as ◌into◌, ◌>>◌ as ◌and◌}
+use Rattle.engine_requests.specs.Requests.{manifest_types}
+use Rattle.engine_requests.specs.Sources.{Layer, places_of, asked_at}
+use Rattle.engine_requests.specs.declared.sources.Place.{Place}
+use Rattle.engine_steps.specs.declared.asking.Named.{Named}
+use Rattle.engine_steps.specs.declared.asking.Named.TheVariants.{ByHeader}
+use Rattle.engine_steps.specs.Rows.{Row, whole_reply, whole, reading_named, named_reading, read_named, named_reply, named_after}
+use Rattle.engine_steps.specs.Offers.{offer_reading, offer_reply, offer, tried}
+use Rattle.engine_steps.specs.Blobs.{IntoMemory, reading_by, blob_reading, read_by, blob_reply, attempt}
+use Rattle.engine_pull.specs.Pulls.{document, manifest_document, pull_manifest_raw, digest_by, fetch_manifest_digest, blob_to, held_blob}
+use Rattle.shelf_laws.specs.Comes.{Comes, Yields, Gives, IsHeld}
+use Rattle.shelf_laws.specs.Home.{front_of, Home, IsAt, CanBeShown, Settled}
+use Rattle.shelf_laws.specs.Shelves.{IsShort, HasDocument, HasBlob}
+use Rattle.shelf_laws.proofs.Coming.{Comes-follow, Gives-done, Gives-next}
+use Rattle.shelf_laws.proofs.DigestTexts.{digest_all, is_lower_digit}
+use Rattle.shelf_laws.proofs.PlainNames.{digest_segment, item_plain}
+use Rattle.shelf_laws.proofs.Places.{item_path, answers_manifest, answers_blob, manifest_text_is, blob_text_is}
+use Rattle.shelf_laws.proofs.Requests.{yields_ok, none_held, IsFor, url_reads, stands_200, within_reads}
+use Rattle.shelf_laws.proofs.Tokens.{prepared_gives, store_gives}
+
+-- ---- the digest of an answer
+
+value_digit : (b : ℕ) → is_lower_digit b ≡ true → ((b == 9 || nat_le 32 b) && not (b == 127)) ≡ true
+value_digit b h = grind (arith, nat_tests, h)
+
+text_digit : (b : ℕ) → is_lower_digit b ≡ true → (b == 9 || (nat_le 32 b && nat_le b 126)) ≡ true
+text_digit b h = grind (arith, nat_tests, h)
+
+name_value : (a : Algorithm) → is_header_value (name_of a) ≡ true
+name_value Sha256 = refl
+name_value Sha384 = refl
+name_value Sha512 = refl
+
+name_text : (a : Algorithm) → is_header_text (name_of a) ≡ true
+name_text Sha256 = refl
+name_text Sha384 = refl
+name_text Sha512 = refl
+
+pub digest_value : (digest bytes : List ℕ) → Names digest bytes → is_header_value digest ≡ true
+digest_value digest bytes (a, is) = subst (λ (t : List ℕ). is_header_value t ≡ true) (sym is) (digest_all (λ b. (b == 9 || nat_le 32 b) && not (b == 127)) a bytes (name_value a) value_digit)
+
+text_is : (a : Algorithm) (bytes : List ℕ) → is_header_text (digest_text a bytes) ≡ true
+text_is a bytes = digest_all (λ b. b == 9 || (nat_le 32 b && nat_le b 126)) a bytes (name_text a) text_digit
+
+some_if : (b : Bool) (text : List ℕ) → b ≡ true → (if b then Ok (Some text) else Err (digest_refusal.InvalidHeader text)) ≡ Ok (Some text)
+some_if true text is = refl
+some_if false text is = absurd (cc is)
+
+digest_read : (a : Algorithm) (bytes : List ℕ) → digest_in (Some (digest_text a bytes)) ≡ Ok (Some (digest_text a bytes))
+digest_read Sha256 bytes = some_if _ (digest_text Sha256 bytes) (text_is Sha256 bytes)
+digest_read Sha384 bytes = some_if _ (digest_text Sha384 bytes) (text_is Sha384 bytes)
+digest_read Sha512 bytes = some_if _ (digest_text Sha512 bytes) (text_is Sha512 bytes)
+
+pub digest_in_is : (digest bytes : List ℕ) → Names digest bytes → digest_in (Some digest) ≡ Ok (Some digest)
+digest_in_is digest bytes (a, is) = subst (λ (t : List ℕ). digest_in (Some t) ≡ Ok (Some t)) (sym is) (digest_read a bytes)
+
+digest_first : (digest : List ℕ) → is_header_value digest ≡ true → first_of digest_header (with_digest digest) ≡ Some digest
+digest_first digest good =
+    ap (λ b. first_of digest_header (if b && nat_lt (held map.empty) 1000 then added map.empty digest_header digest else map.empty)) good
+    ∙ ap (λ n. first_of digest_header (if nat_lt n 1000 then added map.empty digest_header digest else map.empty)) none_held
+    ∙ ap (λ o. slice_get (unwrap_or o []) 0) (get-insert nat_list_cmp_total map.empty digest_header (values_of digest_header map.empty ++ digest ∷ []) digest_header)
+    ∙ ap (λ (o : Option (List (List ℕ))). slice_get (unwrap_or o [] ++ digest ∷ []) 0) (get-empty by_bytes digest_header)
+
+type_keeps : (m : Fields) (kind : List ℕ) → first_of digest_header (with_header (codes "content-type") kind m) ≡ first_of digest_header m
+type_keeps m kind = by_test (is_header_value kind && nat_lt (held m) 1000) where
+  by_test : (b : Bool) → first_of digest_header (if b then added m (codes "content-type") kind else m) ≡ first_of digest_header m
+  by_test true = ap (λ (o : Option (List (List ℕ))). slice_get (unwrap_or o []) 0) (get-insert nat_list_cmp_total m (codes "content-type") (values_of (codes "content-type") m ++ kind ∷ []) digest_header)
+  by_test false = refl
+
+-- ---- what is made of an answer
+
+-- an answer of status 200 that names this digest, with this body
+pub record IsGood (digest body : List ℕ) (x : Answer) : Type 0 where
+  pub status : x.status ≡ 200
+  pub names : first_of digest_header x.headers ≡ Some digest
+  pub body_is : x.body ≡ body
+
+header_is : (digest bytes : List ℕ) {body : List ℕ} {x : Answer} → Names digest bytes → IsGood digest body x → header_digest x.headers ≡ Ok (Some digest)
+header_is digest bytes named good = ap (λ o. or_digest_error (digest_in o)) good.names ∙ ap or_digest_error (digest_in_is digest bytes named)
+
+accepted_is : (url : List ℕ) (x : Answer) → x.status ≡ 200 → accepted url x ≡ Ok x
+accepted_is url x is = ap (λ n. if nat_eq n 200 then Ok x else Err (refused_answer url x)) is
+
+-- the reference has no digest, or this one
+abbrev pub NoOther : Option (List ℕ) → List ℕ → Type 0
+NoOther None digest = Unit {0}
+NoOther (Some own) digest = own ≡ digest
+
+body_is_named : (bytes digest : List ℕ) (reference : Option (List ℕ)) → Names digest bytes → NoOther reference digest → body_digest bytes (Some digest) reference ≡ Ok digest
+body_is_named bytes digest None named other = ap or_digest_error (is_validated bytes (Some digest) None digest (record { header_names = named; reference_names = tt; answer = refl }))
+body_is_named bytes digest (Some own) named other =
+    ap or_digest_error (is_validated bytes (Some digest) (Some own) digest (record { header_names = named; reference_names = subst (λ (t : List ℕ). Names t bytes) (sym other) named; answer = refl }))
+
+pub document_is : (image : Reference) (got : Got) (digest bytes : List ℕ) → Names digest bytes → NoOther (digest_of image) digest → IsGood digest bytes got.answer → document_in image got ≡ Ok (bytes, digest)
+document_is image got digest bytes named other good =
+    ap (λ r. r into λ x. answer_digest image x into λ d. Ok (x.body, d)) (accepted_is got.url got.answer good.status)
+    ∙ ap (λ r. (r into λ header. body_digest got.answer.body header (digest_of image)) into λ d. Ok (got.answer.body, d)) (header_is digest bytes named good)
+    ∙ ap (λ (b : List ℕ). body_digest b (Some digest) (digest_of image) into λ d. Ok (b, d)) good.body_is
+    ∙ ap (λ r. r into λ d. Ok (bytes, d)) (body_is_named bytes digest (digest_of image) named other)
+
+never_other : (a b : Bool) → b ≡ true → (a && not b) ≡ false
+never_other true b is = ap not is
+never_other false b is = refl
+
+agrees : (digest : List ℕ) (o : Option (List ℕ × List ℕ)) → (parts : List ℕ × List ℕ) → o ≡ Some parts → agreed digest digest o o ≡ Ok digest
+agrees digest o parts is =
+    ap (λ (p : Option (List ℕ × List ℕ)). agreed digest digest p p) is
+    ∙ ap (λ b. if b then Err (digest_refusal.VerificationError digest digest) else Ok digest) (never_other (bytes_eq parts.0 parts.0) (bytes_eq digest digest) ((bytes_eq-Decides digest digest).1 refl))
+
+named_parts : (digest bytes : List ℕ) → Names digest bytes → (parts : List ℕ × List ℕ) × (parts_of digest ≡ Some parts)
+named_parts digest bytes (a, is) = by_parts (parts_of digest) (ap named_algorithm is ∙ algorithm_named a (encode_lower (hash_of a bytes))) where
+  by_parts : (o : Option (List ℕ × List ℕ)) → named_by o ≡ Ok a → (parts : List ℕ × List ℕ) × (o ≡ Some parts)
+  by_parts None wrong = absurd (cc wrong)
+  by_parts (Some parts) right = (parts, refl)
+
+fits_is : (digest bytes : List ℕ) (reference : Option (List ℕ)) → Names digest bytes → NoOther reference digest → fits_reference digest reference ≡ Ok digest
+fits_is digest bytes None named other = refl
+fits_is digest bytes (Some own) named other =
+    let parts = named_parts digest bytes named in
+    ap (λ (t : List ℕ). or_digest_error (agreed digest t (parts_of digest) (parts_of t))) other ∙ ap or_digest_error (agrees digest (parts_of digest) parts.0 parts.1)
+
+-- ---- what the shelf answers
+
+pub named_segment : (digest bytes : List ℕ) → Names digest bytes → Segment digest
+named_segment digest bytes (a, is) = subst Segment (sym is) (digest_segment a bytes)
+
+document_good : (method : Method) (digest bytes : List ℕ) (document : ShelfDocument) → Names digest bytes → document.content ≡ bytes → method ≡ Get → IsGood digest bytes (document_answer method digest (Some document))
+document_good method digest bytes document named content get = subst (λ m. IsGood digest bytes (document_answer m digest (Some document))) (sym get) (record { status = refl; names = type_keeps (with_digest digest) document.media_type ∙ digest_first digest (digest_value digest bytes named); body_is = content })
+
+head_good : (digest bytes : List ℕ) (document : ShelfDocument) → Names digest bytes → IsGood digest [] (document_answer Head digest (Some document))
+head_good digest bytes document named = record { status = refl; names = type_keeps (with_digest digest) document.media_type ∙ digest_first digest (digest_value digest bytes named); body_is = refl }
+
+colon_in : (a : Algorithm) (bytes : List ℕ) → list_any is_colon (digest_text a bytes) ≡ true
+colon_in Sha256 bytes = refl
+colon_in Sha384 bytes = refl
+colon_in Sha512 bytes = refl
+
+-- a digest is its own name
+pub digest_itself : (shelf : Shelf) (digest bytes : List ℕ) → Names digest bytes → digest_named shelf digest ≡ Some digest
+digest_itself shelf digest bytes (a, is) = ap (λ b. if b then Some digest else map.get shelf.tags digest) (ap (list_any is_colon) is ∙ colon_in a bytes)
+
+blob_good : (digest blob : List ℕ) → Names digest blob → IsGood digest blob (bytes_answer (with_digest digest) (Some blob))
+blob_good digest blob named = record { status = refl; names = digest_first digest (digest_value digest blob named); body_is = refl }
+
+-- ---- how a blob's answer is read
+
+abbrev own_expected : List ℕ → Algorithm → Expected
+own_expected digest a = record { text = digest; algorithm = a }
+
+expected_is : (digest : List ℕ) (a : Algorithm) (bytes : List ℕ) → digest ≡ digest_text a bytes → digest_expected digest ≡ Ok (own_expected digest a)
+expected_is digest a bytes is = ap (λ r. and_then r (λ b. Ok (own_expected digest b))) (ap named_algorithm is ∙ algorithm_named a (encode_lower (hash_of a bytes)))
+
+plan_is : (digest : List ℕ) (a : Algorithm) (bytes : List ℕ) (x : Answer) → digest ≡ digest_text a bytes → IsGood digest bytes x → plan_of digest (head_part x) ≡ Pour (Some (own_expected digest a)) (own_expected digest a)
+unfolding plan_of
+plan_is digest a bytes x is good =
+    ap (λ o. planned (and_then (digest_in o) (plan_by (is_success x.status) digest))) good.names
+    ∙ ap (λ r. planned (and_then r (plan_by (is_success x.status) digest))) (digest_in_is digest bytes (a, is))
+    ∙ ap (λ n. planned (plan_by (is_success n) digest (Some digest))) good.status
+    ∙ ap (λ r. planned (and_then (and_then r (λ e. Ok (Some e))) (λ given. and_then r (λ own. Ok (pouring true given own))))) (expected_is digest a bytes is)
+
+compared_is : (digest : List ℕ) (a : Algorithm) (bytes : List ℕ) → digest ≡ digest_text a bytes → compared (own_expected digest a) bytes ≡ Ok tt
+compared_is digest a bytes is = by_test (bytes_eq digest (digest_text a bytes)) ((bytes_eq-Decides digest (digest_text a bytes)).1 is) where
+  by_test : (b : Bool) → b ≡ true → (let r : Result (Unit {0}) OciDistributionError = if b then Ok tt else Err (engine_refusal.DigestError (digest_refusal.VerificationError digest (digest_text a bytes))) in r) ≡ Ok tt
+  by_test true is = refl
+  by_test false is = absurd (cc is)
+
+blob_read : (digest url : List ℕ) (a : Algorithm) (bytes : List ℕ) (x : Answer) → digest ≡ digest_text a bytes → IsGood digest bytes x → read_by url x (plan_of digest (head_part x)) ≡ Ok bytes
+blob_read digest url a bytes x is good =
+    ap (read_by url x) (plan_is digest a bytes x is good)
+    ∙ ap (λ (body : List ℕ). (compared (own_expected digest a) body and compared (own_expected digest a) body) and Ok body) good.body_is
+    ∙ ap (λ r. (r and r) and Ok bytes) (compared_is digest a bytes is)
+
+-- ---- the rows
+
+module _ {s : Settings} {registry : List ℕ} {shelf : Shelf} (home : Home s registry shelf) (short : IsShort s shelf) (image : Reference) (at : IsAt registry shelf image) (a : RegistryAuth) (can : CanBeShown a) (moment : ℕ) where
+  abbrev I : Memory → Type 0
+  I k = Settled registry shelf.repository a k
+
+  abbrev ctx : Context
+  ctx = record { settings = s; moment = moment }
+
+  abbrev limit : ℕ
+  limit = s.max_body_bytes
+
+  whole_gives : (request : Request) (x : Answer) (digest bytes : List ℕ) → answer shelf request ≡ x → IsGood digest bytes x → length bytes ≤ limit → Gives I (answer shelf) (λ got. IsGood digest bytes got.answer) (whole 10 request limit)
+  unfolding whole read_within Comes
+  whole_gives request x digest bytes is good le = record {
+    gives = λ k h. Comes-follow (answer shelf) (λ l r. I l × Yields (λ got. IsGood digest bytes got.answer) r) 10 request (read_within limit) whole_reply x k is (stands_200 10 request x good.status) tt
+        (subst (λ reply. Comes (answer shelf) (λ l r. I l × Yields (λ got. IsGood digest bytes got.answer) r) (whole_reply request reply) k) (sym (within_reads limit x (subst (λ (b : List ℕ). length b ≤ limit) (sym good.body_is) le))) (h, good));
+  }
+
+  attempt_gives : (request : Request) (x : Answer) (digest bytes : List ℕ) → answer shelf request ≡ x → Names digest bytes → IsGood digest bytes x → length bytes ≤ limit → Gives I (answer shelf) (λ (b : List ℕ). b ≡ bytes) (attempt IntoMemory limit digest request)
+  unfolding attempt blob_reading Comes
+  attempt_gives request x digest bytes is (alg, named) good le = record {
+    gives = λ k h.
+        let reading : blob_reading IntoMemory limit digest (head_part x) ≡ Within limit = ap (reading_by IntoMemory limit) (plan_is digest alg bytes x named good) in
+        Comes-follow (answer shelf) (λ l r. I l × Yields (λ (b : List ℕ). b ≡ bytes) r) 10 request (blob_reading IntoMemory limit digest) (blob_reply digest) x k is (stands_200 10 request x good.status)
+        (subst IsHeld (sym reading) tt)
+        (subst (λ (way : Reading). Comes (answer shelf) (λ l r. I l × Yields (λ (b : List ℕ). b ≡ bytes) r) (blob_reply digest request (reply_of way x)) k) (sym reading)
+        (subst (λ reply. Comes (answer shelf) (λ l r. I l × Yields (λ (b : List ℕ). b ≡ bytes) r) (blob_reply digest request reply) k) (sym (within_reads limit x (subst (λ (b : List ℕ). length b ≤ limit) (sym good.body_is) le)))
+        (h, yields_ok (λ (b : List ℕ). b ≡ bytes) (read_by request.url x (plan_of digest (head_part x))) bytes (blob_read digest request.url alg bytes x named good) refl)));
+  }
+
+  offer_gives : (request : Request) (x : Answer) (digest bytes : List ℕ) (next : Row (List ℕ)) → answer shelf request ≡ x → Names digest bytes → IsGood digest bytes x → length bytes ≤ limit → Gives I (answer shelf) (λ (b : List ℕ). b ≡ bytes) (offer IntoMemory limit digest next request)
+  unfolding offer offer_reading blob_reading Comes
+  offer_gives request x digest bytes next is (alg, named) good le = record {
+    gives = λ k h.
+        let own : Reading = blob_reading IntoMemory limit digest (head_part x) in
+        let reading : offer_reading IntoMemory limit digest (head_part x) ≡ Within limit = ap (λ n. if is_error n then Unread else own) good.status ∙ ap (reading_by IntoMemory limit) (plan_is digest alg bytes x named good) in
+        Comes-follow (answer shelf) (λ l r. I l × Yields (λ (b : List ℕ). b ≡ bytes) r) 10 request (offer_reading IntoMemory limit digest) (offer_reply digest next) x k is (stands_200 10 request x good.status)
+        (subst IsHeld (sym reading) tt)
+        (subst (λ (way : Reading). Comes (answer shelf) (λ l r. I l × Yields (λ (b : List ℕ). b ≡ bytes) r) (offer_reply digest next request (reply_of way x)) k) (sym reading)
+        (subst (λ reply. Comes (answer shelf) (λ l r. I l × Yields (λ (b : List ℕ). b ≡ bytes) r) (offer_reply digest next request reply) k) (sym (within_reads limit x (subst (λ (b : List ℕ). length b ≤ limit) (sym good.body_is) le)))
+        (h, yields_ok (λ (b : List ℕ). b ≡ bytes) (read_by request.url x (plan_of digest (head_part x))) bytes (blob_read digest request.url alg bytes x named good) refl)));
+  }
+
+  -- the shelf's answer is taken, whatever other places there are
+  tried_gives : (places : List Place) (request : Request) (x : Answer) (digest bytes : List ℕ) → answer shelf request ≡ x → Names digest bytes → IsGood digest bytes x → length bytes ≤ limit → Gives I (answer shelf) (λ (b : List ℕ). b ≡ bytes) (tried IntoMemory s digest places request)
+  unfolding tried
+  tried_gives [] request x digest bytes is named good le = attempt_gives request x digest bytes is named good le
+  tried_gives (p ∷ ps) request x digest bytes is named good le = offer_gives request x digest bytes (Done (asked_at s p) >>= (λ next. tried IntoMemory s digest ps next)) is named good le
+
+  named_gives : (request : Request) (x : Answer) (digest bytes : List ℕ) → answer shelf request ≡ x → Names digest bytes → IsGood digest [] x → Gives I (answer shelf) (λ n. (got : Got) × (n ≡ ByHeader digest got) × (got.answer.status ≡ 200)) (named_after 10 request limit)
+  unfolding named_after named_reading Comes
+  named_gives request x digest bytes is named good = record {
+    gives = λ k h.
+        let P : Named → Type 0 = λ n. (got : Got) × (n ≡ ByHeader digest got) × (got.answer.status ≡ 200) in
+        let reading : named_reading limit (head_part x) ≡ Within limit = ap (reading_named limit) (header_is digest bytes named good) in
+        let got : Got = record { url = request.url; answer = x } in
+        Comes-follow (answer shelf) (λ l r. I l × Yields P r) 10 request (named_reading limit) named_reply x k is (stands_200 10 request x good.status)
+        (subst IsHeld (sym reading) tt)
+        (subst (λ (way : Reading). Comes (answer shelf) (λ l r. I l × Yields P r) (named_reply request (reply_of way x)) k) (sym reading)
+        (subst (λ reply. Comes (answer shelf) (λ l r. I l × Yields P r) (named_reply request reply) k) (sym (within_reads limit x (subst (λ (b : List ℕ). length b ≤ limit) (sym good.body_is) (omega arith))))
+        (h, yields_ok P (read_named got (header_digest x.headers)) (ByHeader digest got) (ap (read_named got) (header_is digest bytes named good)) (got, refl, good.status))));
+  }
+
+  abbrev name_of_image : List ℕ
+  name_of_image = manifest_name (digest_of image) (tag_of image)
+
+  -- the document of the image's digest or tag is at its URL
+  shelf_document : (method : Method) (digest bytes : List ℕ) (has : HasDocument shelf digest bytes) (request : Request) → Segment name_of_image → digest_named shelf name_of_image ≡ Some digest → is_get_or_head method ≡ true → IsFor method (front_of s registry ++ item_path shelf.repository (codes "manifests") name_of_image) request → answer shelf request ≡ document_answer method digest (Some has.document)
+  shelf_document method digest bytes has request segment points get is =
+      answers_manifest home request name_of_image segment is.url_is ∙ ap (λ m. manifest_answer shelf m name_of_image) is.method_is
+      ∙ ap (λ b. if b then digest_answer shelf method (digest_named shelf name_of_image) else not_found) get ∙ ap (digest_answer shelf method) points ∙ ap (document_answer method digest) has.there
+
+  has_short : (digest bytes : List ℕ) (has : HasDocument shelf digest bytes) → length bytes ≤ limit
+  has_short digest bytes has = subst (λ (b : List ℕ). length b ≤ limit) has.content (short.documents digest has.document has.there)
+
+  manifests_plain : Segment name_of_image → PlainPath (item_path shelf.repository (codes "manifests") name_of_image)
+  manifests_plain segment = item_plain shelf.repository (codes "manifests") name_of_image home.path (109, codes "anifests", refl, refl, refl) segment
+
+  document_gives : (digest bytes types : List ℕ) (url : Parts) → HasDocument shelf digest bytes → Segment name_of_image → digest_named shelf name_of_image ≡ Some digest → NoOther (digest_of image) digest → is_header_value types ≡ true
+      → serialize url ≡ front_of s registry ++ item_path shelf.repository (codes "manifests") name_of_image → Gives I (answer shelf) (λ found. found ≡ (bytes, digest)) (document ctx image url types)
+  unfolding document
+  document_gives digest bytes types url has segment points other listed text =
+      Gives-next _ (prepared_gives home image at a can moment Get url types listed) (λ request is.
+      Gives-next _ (whole_gives request (document_answer Get digest (Some has.document)) digest bytes (shelf_document Get digest bytes has request segment points refl (record { method_is = is.method_is; url_is = is.url_is ∙ text })) (document_good Get digest bytes has.document has.named has.content refl) (has_short digest bytes has)) (λ got good.
+      Gives-done (document_in image got) (yields_ok (λ found. found ≡ (bytes, digest)) (document_in image got) (bytes, digest) (document_is image got digest bytes has.named other good) refl)))
+
+  -- the document of the image, with credentials that are handed in
+  pub raw_gives : (digest bytes types : List ℕ) → HasDocument shelf digest bytes → Segment name_of_image → digest_named shelf name_of_image ≡ Some digest → NoOther (digest_of image) digest → is_header_value types ≡ true → Gives I (answer shelf) (λ found. found ≡ (bytes, digest)) (pull_manifest_raw ctx image a types)
+  unfolding pull_manifest_raw manifest_document
+  raw_gives digest bytes types has segment points other listed =
+      Gives-next _ (store_gives home image at a can moment) (λ u stored_is.
+      Gives-next _ (Gives-done (url_read (manifest_text s image)) (url_reads home (manifest_text s image) (item_path shelf.repository (codes "manifests") name_of_image) (manifest_text_is home at) (manifests_plain segment))) (λ url is.
+      document_gives digest bytes types url has segment points other listed is.text_is))
+
+  fitting : (digest bytes : List ℕ) (url : Parts) (got : Got) → Names digest bytes → NoOther (digest_of image) digest → got.answer.status ≡ 200 → Gives I (answer shelf) (λ (d : List ℕ). d ≡ digest) (digest_by ctx image url (ByHeader digest got))
+  fitting digest bytes url got named other good =
+      Gives-next _ (Gives-done (accepted got.url got.answer) (yields_ok (λ (x : Answer). Unit {0}) (accepted got.url got.answer) got.answer (accepted_is got.url got.answer good) tt)) (λ x u.
+      Gives-done (fits_reference digest (digest_of image)) (yields_ok (λ (d : List ℕ). d ≡ digest) (fits_reference digest (digest_of image)) digest (fits_is digest bytes (digest_of image) named other) refl))
+
+  -- its digest
+  pub digest_gives : (digest bytes : List ℕ) → HasDocument shelf digest bytes → Segment name_of_image → digest_named shelf name_of_image ≡ Some digest → NoOther (digest_of image) digest → Gives I (answer shelf) (λ (d : List ℕ). d ≡ digest) (fetch_manifest_digest ctx image a)
+  unfolding fetch_manifest_digest
+  digest_gives digest bytes has segment points other =
+      Gives-next _ (store_gives home image at a can moment) (λ u stored_is.
+      Gives-next _ (Gives-done (url_read (manifest_text s image)) (url_reads home (manifest_text s image) (item_path shelf.repository (codes "manifests") name_of_image) (manifest_text_is home at) (manifests_plain segment))) (λ url is.
+      Gives-next _ (prepared_gives home image at a can moment Head url manifest_types refl) (λ request made.
+      Gives-next _ (named_gives request (document_answer Head digest (Some has.document)) digest bytes (shelf_document Head digest bytes has request segment points refl (record { method_is = made.method_is; url_is = made.url_is ∙ is.text_is })) has.named (head_good digest bytes has.document has.named)) (λ n found.
+      subst (λ n. Gives I (answer shelf) (λ (d : List ℕ). d ≡ digest) (digest_by ctx image url n)) (sym found.1) (fitting digest bytes url found.0 has.named other found.2)))))
+
+  -- a blob
+  pub blob_gives : (layer : Layer) (has : HasBlob shelf layer.digest) → Gives I (answer shelf) (λ (b : List ℕ). b ≡ has.blob) (held_blob ctx image layer)
+  unfolding blob_to
+  blob_gives layer has =
+      let digest : List ℕ = layer.digest in
+      let segment = named_segment digest has.blob has.named in
+      Gives-next _ (Gives-done (url_read (blob_text s image digest)) (url_reads home (blob_text s image digest) (item_path shelf.repository (codes "blobs") digest) (blob_text_is home at digest) (item_plain shelf.repository (codes "blobs") digest home.path (98, codes "lobs", refl, refl, refl) segment))) (λ url is.
+      Gives-next _ (prepared_gives home image at a can moment Get url manifest_types refl) (λ request made.
+      tried_gives (places_of layer.urls) request (bytes_answer (with_digest digest) (Some has.blob)) digest has.blob
+      (answers_blob home request digest segment (made.url_is ∙ is.text_is) ∙ ap (λ m. blob_answer shelf m digest) made.method_is ∙ ap (bytes_answer (with_digest digest)) has.there)
+      has.named (blob_good digest has.blob has.named) (short.blobs digest has.blob has.there)))

@@ -1,0 +1,12 @@
+pub mod Coming
+pub mod DigestTags
+pub mod DigestTexts
+pub mod Documents
+pub mod Images
+pub mod PlainNames
+pub mod Places
+pub mod Pointing
+pub mod References
+pub mod Requests
+pub mod Staying
+pub mod Tokens

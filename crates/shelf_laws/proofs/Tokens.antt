@@ -1,0 +1,193 @@
+-- The token of a request to a shelf: what is kept, or what the credentials are by themselves.
+use Rattle.std.specs.Prelude.{codes, nat_le, slice_get, unwrap_or, option_and_then}
+use Rattle.std.specs.Option.{option_map_or}
+use Rattle.std.specs.FinMap as map
+use Rattle.std.specs.FinMap.{get-empty, get-insert}
+use Rattle.std.specs.Cmp.{eq_by_cmp_equiv}
+use Rattle.std.specs.Cmp.Lexicographic.{nat_list_cmp_total}
+use Rattle.std.proofs.Common.{◌≡◌, inl, inr, ℕ, Bool, true, false, cond, List, [], ◌++◌, is_some, Option, Some, None, Ok, refl, sym, ap, ◌∙◌, subst}
+use Rattle.url.specs.Parts.{Parts, serialize}
+use Rattle.json_values.specs.Places.{by_bytes}
+use Rattle.oci_names.specs.declared.reference.Reference.{Reference}
+use Rattle.oci_names.specs.References.{repository_of, resolved_registry}
+use Rattle.oci_transport.specs.Headers.{Fields, first_of, is_header_value}
+use Rattle.oci_transport.specs.Urls.{request_url}
+use Rattle.oci_transport.specs.declared.message.Request.{Request}
+use Rattle.oci_transport.specs.declared.message.AnswerHead.{AnswerHead}
+use Rattle.oci_transport.specs.declared.message.Method.{Method}
+use Rattle.oci_transport.specs.declared.message.Method.TheVariants.{Get}
+use Rattle.oci_auth.specs.declared.auth.RegistryAuth.{RegistryAuth}
+use Rattle.oci_auth.specs.declared.auth.RegistryAuth.TheVariants.{Anonymous, Basic, Bearer}
+use Rattle.oci_auth.specs.declared.cache.TokenCache.{TokenCache}
+use Rattle.oci_auth.specs.declared.kept.KeptToken.{KeptToken}
+use Rattle.oci_auth.specs.declared.memory.Memory.{Memory}
+use Rattle.oci_auth.specs.declared.token.RegistryToken.TheVariants.{Token}
+use Rattle.oci_auth.specs.declared.token_type.RegistryOperation.TheVariants.{Pull}
+use Rattle.oci_auth.specs.declared.token_type.RegistryTokenType.{RegistryTokenType}
+use Rattle.oci_auth.specs.declared.token_type.RegistryTokenType.TheVariants as shown
+use Rattle.oci_auth.specs.Caches.{key_of, kept_until, kept_token, given_at, token_at}
+use Rattle.oci_auth.specs.Keys.{Key, under, kept_under, inserted}
+use Rattle.oci_auth.specs.Memory.{stored}
+use Rattle.oci_auth.proofs.Places.{is_kept}
+use Rattle.oci_protocol.specs.Proto.{read_none, bind}
+use Rattle.oci_link.specs.Table.{answer, found, not_found, is_get}
+use Rattle.oci_link.specs.declared.shelf.Shelf.{Shelf}
+use Rattle.engine_requests.specs.declared.settings.Settings.{Settings}
+use Rattle.engine_requests.specs.declared.tokens.Wanted.TheVariants as wants
+use Rattle.engine_requests.specs.Addresses.{registry_text, base_text, url_read, url_or}
+use Rattle.engine_requests.specs.Contexts.{Context}
+use Rattle.engine_requests.specs.Requests.{request_of}
+use Rattle.engine_requests.specs.Tokens.{wanted, wanted_in}
+use Rattle.engine_steps.specs.Rows.{Row, head_reply, head_after, store, fetched, registry_asked, token_step, with_kept, taken, token_asked, kept_or_asked, token_by, token_for, goes_to, token_where, authorized, prepared, kept_text, token_given}
+use Rattle.shelf_laws.specs.Comes.{Comes, Yields, Gives}
+use Rattle.shelf_laws.specs.Home.{front_of, Home, IsAt, CanBeShown, shown_unasked, NoneBut, IsToken, Settled}
+use Rattle.shelf_laws.proofs.Coming.{Comes-follow, Gives-done, Gives-next, Gives-more, Gives-caught}
+use Rattle.shelf_laws.proofs.Places.{answers_base, base_text_is, registry_text_is}
+use Rattle.shelf_laws.proofs.PlainNames.{base_plain}
+use Rattle.shelf_laws.proofs.Requests.{yields_ok, CanStand, IsFor, request_made, bare_made, url_reads}
+
+-- ---- what is kept
+
+pub settled_stored : (registry repository : List ℕ) (a : RegistryAuth) (k : Memory) → Settled registry repository a k → Settled registry repository a (stored k registry a)
+settled_stored registry repository a k h = by_kept (map.get k.credentials registry) refl h.credentials where
+  inserted_here : map.get (map.insert k.credentials registry a) registry ≡ Some a
+  inserted_here = get-insert nat_list_cmp_total k.credentials registry a registry ∙ ap (λ b. cond b (Some a) (map.get k.credentials registry)) ((eq_by_cmp_equiv nat_list_cmp_total).refl registry)
+
+  by_kept : (o : Option RegistryAuth) → map.get k.credentials registry ≡ o → NoneBut o (Some a) → Settled registry repository a (cond (is_some o) k (record k { credentials = map.insert k.credentials registry a }))
+  by_kept None is none = record { credentials = inr inserted_here; token = h.token }
+  by_kept (Some b) is kept = h
+
+is_token_kept : (registry repository : List ℕ) (a : RegistryAuth) (cache : TokenCache) (token : RegistryTokenType) (until : Option ℕ) → Some token ≡ shown_unasked a → IsToken a (kept_under (under registry repository Pull) cache.tokens)
+    → IsToken a (kept_under (under registry repository Pull) (option_map_or (λ n. record cache { tokens = inserted cache.tokens (kept_token (under registry repository Pull) token n) }) until cache).tokens)
+is_token_kept registry repository a cache token None own before = before
+is_token_kept registry repository a cache token (Some n) own before = subst (IsToken a) (sym (is_kept cache.tokens (kept_token (under registry repository Pull) token n)).here) own
+
+settled_kept : (registry repository : List ℕ) (a : RegistryAuth) (k : Memory) (token : RegistryTokenType) (moment : ℕ) → Some token ≡ shown_unasked a → Settled registry repository a k → Settled registry repository a (with_kept k (under registry repository Pull) token moment)
+settled_kept registry repository a k token moment own h = record { credentials = h.credentials; token = is_token_kept registry repository a k.tokens token (kept_until token k.tokens.default_expiration_secs moment) own h.token }
+
+-- the kept token, if it is one
+token_kept : (a : RegistryAuth) (o : Option KeptToken) (moment : ℕ) → IsToken a o → NoneBut (option_and_then (given_at moment) o) (shown_unasked a)
+token_kept a None moment h = inl refl
+token_kept a (Some kept) moment h = by_test (nat_le moment kept.expiration) where
+  by_test : (b : Bool) → NoneBut (cond b (Some kept.token) None) (shown_unasked a)
+  by_test true = inr h
+  by_test false = inl refl
+
+-- ---- the step
+
+can_show : (a : RegistryAuth) (token : Option RegistryTokenType) → CanBeShown a → NoneBut token (shown_unasked a) → CanStand token
+can_show a token can (inl none) = subst CanStand (sym none) tt
+can_show a token can (inr own) = subst CanStand (sym own) (by_kind a can) where
+  by_kind : (a : RegistryAuth) → CanBeShown a → CanStand (shown_unasked a)
+  by_kind (Bearer text) can = can
+  by_kind (Basic user password) can = tt
+  by_kind Anonymous can = tt
+
+wants_nothing : (head : AnswerHead) → head.headers ≡ map.empty → wanted head ≡ wants.Nothing
+unfolding wanted
+wants_nothing head is = ap (λ (m : Fields). wanted_in (first_of (codes "www-authenticate") m)) is ∙ ap (λ (o : Option (List (List ℕ))). wanted_in (slice_get (unwrap_or o []) 0)) (get-empty by_bytes (codes "www-authenticate"))
+
+module _ {s : Settings} {registry : List ℕ} {shelf : Shelf} (home : Home s registry shelf) (image : Reference) (at : IsAt registry shelf image) (a : RegistryAuth) (can : CanBeShown a) (moment : ℕ) where
+  abbrev I : Memory → Type 0
+  I k = Settled registry shelf.repository a k
+
+  abbrev ctx : Context
+  ctx = record { settings = s; moment = moment }
+
+  pub store_gives : Gives I (answer shelf) (λ u. Unit {0}) (store image a)
+  unfolding store Comes bind
+  store_gives = record { gives = λ k h. (subst (λ (r : List ℕ). Settled registry shelf.repository a (stored k r a)) (sym at.registry_is) (settled_stored registry shelf.repository a k h), tt) }
+
+  -- the shelf asks for nothing
+  base_head : (request : Request) → IsFor Get (front_of s registry ++ codes "/v2/") request → Gives I (answer shelf) (λ (head : AnswerHead). head.headers ≡ map.empty) (head_after 0 request)
+  unfolding head_after read_none Comes
+  base_head request is = record {
+    gives = λ k h. Comes-follow (answer shelf) (λ l r. I l × Yields (λ (head : AnswerHead). head.headers ≡ map.empty) r) 0 request read_none head_reply (found map.empty []) k
+        (answers_base home request is.url_is ∙ ap (λ m. cond (is_get m) (found map.empty []) not_found) is.method_is) tt tt (h, refl);
+  }
+
+  asked_nothing : Gives I (answer shelf) (λ (o : Option RegistryTokenType). o ≡ None) (registry_asked s image a Pull)
+  unfolding registry_asked
+  asked_nothing =
+      Gives-next _ (Gives-done (url_read (base_text s image)) (url_reads home (base_text s image) (codes "/v2/") (base_text_is home at) base_plain)) (λ url is.
+      Gives-next _ (Gives-done (request_of s Get url None None) (bare_made s Get url home.agent)) (λ request made.
+      Gives-next _ (base_head request (record { method_is = made.method_is; url_is = made.url_is ∙ is.text_is })) (λ head none.
+      subst (λ w. Gives I (answer shelf) (λ (o : Option RegistryTokenType). o ≡ None) (fetched s image a Pull w)) (sym (wants_nothing head none)) (Gives-done (Ok None) refl))))
+
+  abbrev key : Key
+  key = key_of image Pull
+
+  abbrev Shown : Option RegistryTokenType → Type 0
+  Shown o = NoneBut o (shown_unasked a)
+
+  -- the same where what is kept is spelled by the image
+  spelled : {A : Type 0} {P : A → Type 0} {p : Row A} → Gives (λ k. Settled (resolved_registry image) (repository_of image) a k) (answer shelf) P p → Gives I (answer shelf) P p
+  spelled {A} {P} {p} h = subst (λ (r : List ℕ). Gives (λ k. Settled r shelf.repository a k) (answer shelf) P p) at.registry_is (subst (λ (r : List ℕ). Gives (λ k. Settled (resolved_registry image) r a k) (answer shelf) P p) at.repository_is h)
+
+  own_taken : (token : RegistryTokenType) → Some token ≡ shown_unasked a → Gives (λ k. Settled (resolved_registry image) (repository_of image) a k) (answer shelf) Shown (taken moment key (Ok (Some token)))
+  unfolding Comes
+  own_taken token own = record { gives = λ k h. (settled_kept (resolved_registry image) (repository_of image) a k token moment own h, inr own) }
+
+  asked_gives : Gives I (answer shelf) Shown (token_asked ctx image Pull a)
+  unfolding token_asked bind
+  asked_gives = by_kind a refl where
+    by_kind : (b : RegistryAuth) → a ≡ b → Gives I (answer shelf) Shown (bind (token_step s image b Pull) (taken moment key))
+    by_kind (Bearer text) is = spelled (own_taken (shown.Bearer (Token text)) (sym (ap shown_unasked is)))
+    by_kind (Basic user password) is = Gives-caught (taken moment key) (subst (λ b. Gives I (answer shelf) (λ (o : Option RegistryTokenType). o ≡ None) (registry_asked s image b Pull)) is asked_nothing) (λ o none. subst (λ (o : Option RegistryTokenType). Gives I (answer shelf) Shown (taken moment key (Ok o))) (sym none) (Gives-done (Ok None) (inl refl)))
+    by_kind Anonymous is = Gives-caught (taken moment key) (subst (λ b. Gives I (answer shelf) (λ (o : Option RegistryTokenType). o ≡ None) (registry_asked s image b Pull)) is asked_nothing) (λ o none. subst (λ (o : Option RegistryTokenType). Gives I (answer shelf) Shown (taken moment key (Ok o))) (sym none) (Gives-done (Ok None) (inl refl)))
+
+  kept_gives : (o : Option RegistryTokenType) → NoneBut o (shown_unasked a) → Gives I (answer shelf) Shown (kept_or_asked ctx image Pull a o)
+  kept_gives None h = asked_gives
+  kept_gives (Some token) (inl none) = absurd (cc none)
+  kept_gives (Some token) (inr own) = Gives-done (Ok (Some token)) (inr own)
+
+  by_gives : (stored_is : Option RegistryAuth) (o : Option RegistryTokenType) → NoneBut stored_is (Some a) → NoneBut o (shown_unasked a) → Gives I (answer shelf) Shown (token_by ctx image Pull stored_is o)
+  by_gives stored_is o (inl none) h = subst (λ (b : Option RegistryAuth). Gives I (answer shelf) Shown (token_by ctx image Pull b o)) (sym none) (Gives-done (Ok None) (inl refl))
+  by_gives stored_is o (inr own) h = subst (λ (b : Option RegistryAuth). Gives I (answer shelf) Shown (token_by ctx image Pull b o)) (sym own) (kept_gives o h)
+
+  token_gives : Gives I (answer shelf) Shown (token_for ctx image Pull)
+  unfolding token_for Comes bind
+  token_gives = record {
+    gives = λ k h. (by_gives (map.get k.credentials (resolved_registry image)) (token_at k.tokens key moment)
+        (subst (λ (r : List ℕ). NoneBut (map.get k.credentials r) (Some a)) (sym at.registry_is) h.credentials)
+        (token_kept a (kept_under key k.tokens.tokens) moment (subst (λ (r : List ℕ). IsToken a (kept_under (under r (repository_of image) Pull) k.tokens.tokens)) (sym at.registry_is) (subst (λ (r : List ℕ). IsToken a (kept_under (under registry r Pull) k.tokens.tokens)) (sym at.repository_is) h.token)))).gives k h;
+  }
+
+  -- ---- the request with its token
+
+  where_gives : (b : Bool) → Gives I (answer shelf) Shown (token_where ctx image Pull b)
+  where_gives true = token_gives
+  where_gives false = Gives-done (Ok None) (inl refl)
+
+  authorized_gives : (url : Parts) → Gives I (answer shelf) Shown (authorized ctx image Pull url)
+  unfolding authorized
+  authorized_gives url =
+      Gives-next _ (Gives-done (url_read (registry_text s image)) (yields_ok (λ (u : Parts). Unit {0}) (url_read (registry_text s image)) home.written.url (ap url_read (registry_text_is home at) ∙ ap (url_or (front_of s registry)) home.written.reads) tt)) (λ u is.
+      where_gives (goes_to (request_url (serialize url)) u))
+
+  pub prepared_gives : (method : Method) (url : Parts) (types : List ℕ) → is_header_value types ≡ true → Gives I (answer shelf) (IsFor method (serialize url)) (prepared ctx image Pull method url types)
+  unfolding prepared
+  prepared_gives method url types listed =
+      Gives-next _ (authorized_gives url) (λ token shown. Gives-done (request_of s method url (Some types) token) (request_made s method url types token home.agent listed (can_show a token can shown)))
+
+  -- ---- credentials that are handed in for a token
+
+  step_gives : Gives I (answer shelf) Shown (token_step s image a Pull)
+  step_gives = by_kind a refl where
+    by_kind : (b : RegistryAuth) → a ≡ b → Gives I (answer shelf) Shown (token_step s image b Pull)
+    by_kind (Bearer text) is = Gives-done (Ok (Some (shown.Bearer (Token text)))) (inr (sym (ap shown_unasked is)))
+    by_kind (Basic user password) is = Gives-more Shown (subst (λ b. Gives I (answer shelf) (λ (o : Option RegistryTokenType). o ≡ None) (registry_asked s image b Pull)) is asked_nothing) (λ o none. inl none)
+    by_kind Anonymous is = Gives-more Shown (subst (λ b. Gives I (answer shelf) (λ (o : Option RegistryTokenType). o ≡ None) (registry_asked s image b Pull)) is asked_nothing) (λ o none. inl none)
+
+  own_kept : (token : RegistryTokenType) → Some token ≡ shown_unasked a → Gives (λ k. Settled (resolved_registry image) (repository_of image) a k) (answer shelf) (λ (o : Option (List ℕ)). Unit {0}) (kept_text moment key (Some token))
+  unfolding Comes bind
+  own_kept token own = record { gives = λ k h. (settled_kept (resolved_registry image) (repository_of image) a k token moment own h, tt) }
+
+  text_kept : (o : Option RegistryTokenType) → Shown o → Gives I (answer shelf) (λ (t : Option (List ℕ)). Unit {0}) (kept_text moment key o)
+  text_kept None h = Gives-done (Ok None) tt
+  text_kept (Some token) (inl none) = absurd (cc none)
+  text_kept (Some token) (inr own) = spelled (own_kept token own)
+
+  pub given_gives : Gives I (answer shelf) (λ (t : Option (List ℕ)). Unit {0}) (token_given ctx image a Pull)
+  unfolding token_given
+  given_gives = Gives-next _ store_gives (λ u stored_is. Gives-next _ step_gives (λ o h. text_kept o h))

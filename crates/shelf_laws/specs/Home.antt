@@ -1,0 +1,78 @@
+-- Where a client's requests have to go so that a shelf answers them, and what a client may keep before.
+use Rattle.std.specs.Prelude.{◌≡◌, ◌⊎◌, ℕ, List, ◌++◌, Option, Some, None, IsTrue, codes}
+use Rattle.std.specs.FinMap as map
+use Rattle.url.specs.Parts.{Parts, serialize}
+use Rattle.oci_names.specs.declared.reference.Reference.{Reference}
+use Rattle.oci_names.specs.References.{repository_of, resolved_registry, namespace_of}
+use Rattle.oci_names.specs.Words.{Domain, Path}
+use Rattle.oci_transport.specs.Urls.{request_url}
+use Rattle.oci_transport.specs.Headers.{is_header_value}
+use Rattle.oci_link.specs.PlainPaths.{PlainPathsRead}
+use Rattle.oci_link.specs.declared.shelf.Shelf.{Shelf}
+use Rattle.oci_auth.specs.declared.auth.RegistryAuth.{RegistryAuth}
+use Rattle.oci_auth.specs.declared.auth.RegistryAuth.TheVariants.{Anonymous, Basic, Bearer}
+use Rattle.oci_auth.specs.declared.kept.KeptToken.{KeptToken}
+use Rattle.oci_auth.specs.declared.memory.Memory.{Memory}
+use Rattle.oci_auth.specs.declared.token.RegistryToken.TheVariants.{Token}
+use Rattle.oci_auth.specs.declared.token_type.RegistryOperation.TheVariants.{Pull}
+use Rattle.oci_auth.specs.declared.token_type.RegistryTokenType.{RegistryTokenType}
+use Rattle.oci_auth.specs.declared.token_type.RegistryTokenType.TheVariants as shown
+use Rattle.oci_auth.specs.Keys.{under, kept_under}
+use Rattle.engine_requests.specs.Addresses.{scheme_for}
+use Rattle.engine_requests.specs.declared.settings.Settings.{Settings}
+
+-- the text before the paths of a registry's URLs
+abbrev pub front_of : Settings → List ℕ → List ℕ
+front_of s registry = scheme_for s.protocol registry ++ codes "://" ++ registry
+
+-- The registry's URL reads, and is written as it is printed: its text is the scheme, `://`, the registry and a slash.
+-- That plain paths read behind it, `plain_paths_read` of `oci_link` says of each URL that was read.
+pub record IsWrittenPlainly (s : Settings) (registry : List ℕ) : Type 0 where
+  pub url : Parts
+  pub reads : request_url (front_of s registry) ≡ Some url
+  pub text : serialize url ≡ front_of s registry ++ codes "/"
+  pub plain_paths : PlainPathsRead url
+
+-- no text of a URL is redirected
+abbrev pub RedirectsNothing : Shelf → Type 0
+RedirectsNothing shelf = (text : List ℕ) → map.get shelf.redirects text ≡ None
+
+-- the requests for the shelf's repository at this registry can be made, and the shelf answers them itself
+pub record Home (s : Settings) (registry : List ℕ) (shelf : Shelf) : Type 0 where
+  pub written : IsWrittenPlainly s registry
+  pub domain : Domain registry
+  pub path : Path shelf.repository
+  pub agent : IsTrue (is_header_value s.user_agent)
+  pub direct : RedirectsNothing shelf
+
+-- the image is one of the shelf's repository at this registry, which is its own and no mirror
+pub record IsAt (registry : List ℕ) (shelf : Shelf) (image : Reference) : Type 0 where
+  pub registry_is : resolved_registry image ≡ registry
+  pub repository_is : repository_of image ≡ shelf.repository
+  pub no_mirror : namespace_of image ≡ None
+
+-- credentials that can stand in a header as they are
+abbrev pub CanBeShown : RegistryAuth → Type 0
+CanBeShown (Bearer token) = IsTrue (is_header_value token)
+CanBeShown (Basic user password) = Unit {0}
+CanBeShown Anonymous = Unit {0}
+
+-- the token that is shown to a registry that asks for none
+abbrev pub shown_unasked : RegistryAuth → Option RegistryTokenType
+shown_unasked (Bearer token) = Some (shown.Bearer (Token token))
+shown_unasked (Basic user password) = None
+shown_unasked Anonymous = None
+
+-- nothing is kept, or this
+abbrev pub NoneBut : {A : Type 0} → Option A → Option A → Type 0
+NoneBut kept a = (kept ≡ None) ⊎ (kept ≡ a)
+
+-- no token is kept, or the one that these credentials are
+abbrev pub IsToken : RegistryAuth → Option KeptToken → Type 0
+IsToken a None = Unit {0}
+IsToken a (Some kept) = Some kept.token ≡ shown_unasked a
+
+-- no other credentials are kept for the registry than these, and no other token for its repository than theirs
+pub record Settled (registry repository : List ℕ) (a : RegistryAuth) (k : Memory) : Type 0 where
+  pub credentials : NoneBut (map.get k.credentials registry) (Some a)
+  pub token : IsToken a (kept_under (under registry repository Pull) k.tokens.tokens)

@@ -1,0 +1,3 @@
+pub mod Comes
+pub mod Home
+pub mod Shelves
