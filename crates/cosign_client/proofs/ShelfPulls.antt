@@ -1,21 +1,18 @@
 -- A search and a pull over a shelf find what stands there.
-use Rattle.std.specs.Prelude.{codes, nat_lt, bytes_eq, unwrap_or, chars, encode_utf8_all, find, map as each, slice_index_or, Contains, MatchBool, IsTrue, if◌then◌else◌}
+use Rattle.std.specs.Prelude.{codes, bytes_eq, unwrap_or, find, slice_index_or, MatchBool, if◌then◌else◌}
 use Rattle.std.specs.Option.{option_or}
-use Rattle.std.specs.List.{All, list_all, list_any}
-use Rattle.std.specs.FinMap as map
-use Rattle.std.proofs.Common.{◌≡◌, ◌<◌, ◌≤◌, ◌-◌, ◌^◌, ℕ, zero, suc, Bool, true, false, cond, not, ◌&&◌, ◌==◌, List, [], ◌∷◌, ◌++◌, length, get_or, is_some, Option, Some, None, Result, Ok, Err, refl, sym, ap, ◌∙◌, subst, arith, append_assoc, length-append}
+use Rattle.std.specs.List.{All}
+use Rattle.std.proofs.Common.{◌≡◌, ◌<◌, ℕ, zero, suc, Bool, true, false, cond, List, [], ◌∷◌, ◌++◌, length, is_some, Option, Some, None, Result, Ok, Err, refl, sym, ap, ◌∙◌, subst, arith}
 use Rattle.std.proofs.lemmas.List.Folds.{find-append}
 use Rattle.std.proofs.lemmas.List.Elements.{All-head, All-tail}
-use Rattle.oci_names.specs.Grammar.{is_tag_start, is_tag_byte, is_digest}
+use Rattle.oci_names.specs.Grammar.{is_digest}
 use Rattle.oci_names.specs.Parts.{digest_refusal}
-use Rattle.oci_names.specs.Words.{Tag, Domain, Path}
-use Rattle.oci_names.specs.References.{registry_of, repository_of, digest_of, tag_of, whole_text, resolved_registry, namespace_of, reads_back}
+use Rattle.oci_names.specs.Words.{Tag, Path}
+use Rattle.oci_names.specs.References.{registry_of, digest_of, whole_text, resolved_registry, reads_back}
 use Rattle.oci_names.specs.declared.reference.Reference.{Reference}
 use Rattle.oci_auth.specs.declared.auth.RegistryAuth.{RegistryAuth}
-use Rattle.oci_auth.specs.declared.memory.Memory.{Memory}
-use Rattle.oci_digests.specs.Names.{Names, digest_text, name_of, hash_of}
-use Rattle.oci_digests.specs.Checks.{checked}
-use Rattle.oci_digests.specs.declared.digester.Algorithm.TheVariants.{Sha256, Sha384, Sha512}
+use Rattle.oci_digests.specs.Names.{Names, digest_text}
+use Rattle.oci_digests.specs.declared.digester.Algorithm.TheVariants.{Sha256}
 use Rattle.oci_digests.proofs.Validated.{is_validated}
 use Rattle.oci_manifests.specs.declared.document.OciManifest.{OciManifest}
 use Rattle.oci_manifests.specs.declared.document.OciManifest.TheVariants.{Image, ImageIndex}
@@ -27,13 +24,12 @@ use Rattle.oci_manifests.specs.declared.blob.ImageLayer.{ImageLayer}
 use Rattle.oci_transport.specs.Link.{Link}
 use Rattle.oci_transport.specs.declared.message.Request.{Request}
 use Rattle.oci_transport.specs.declared.message.Answer.{Answer}
-use Rattle.oci_protocol.specs.Proto.{Proto, Done, bind, ◌>>=◌, ◌>>◌}
+use Rattle.oci_protocol.specs.Proto.{Proto, Done}
 use Rattle.oci_protocol.specs.Runs.{Meets}
 use Rattle.oci_protocol.specs.Ends.{UnlessMemory}
 use Rattle.oci_link.specs.State.{answering}
-use Rattle.oci_link.specs.Table.{answer, digest_named}
+use Rattle.oci_link.specs.Table.{answer}
 use Rattle.oci_link.specs.declared.shelf.Shelf.{Shelf}
-use Rattle.engine_requests.specs.Addresses.{manifest_name}
 use Rattle.engine_requests.specs.Answers.{or_digest_error}
 use Rattle.engine_requests.specs.Contexts.{Context}
 use Rattle.engine_requests.specs.Documents.{document_read}
@@ -44,10 +40,7 @@ use Rattle.engine_requests.specs.Sources.{Layer, described}
 use Rattle.engine_requests.specs.declared.error.OciDistributionError.{OciDistributionError}
 use Rattle.engine_requests.specs.declared.settings.Settings.{Settings}
 use Rattle.engine_steps.specs.Rows.{Row as Engine}
-use Rattle.engine_pull.specs.declared.image.ImageData.{ImageData}
 use Rattle.engine_pull.specs.Images.{layers_accepted, layer_of, config_of}
-use Rattle.engine_pull.specs.Pulls.{fetch_manifest_digest, pull_manifest, pull_manifest_raw, held_blob}
-use Rattle.engine_pull.specs.Images.{pull}
 use Rattle.sig_registry.specs.declared.error.SigstoreError.{SigstoreError}
 use Rattle.sig_registry.specs.declared.error.SigstoreError.TheVariants as sigstore
 use Rattle.sig_registry.specs.declared.wording.Called.{Called}
@@ -55,31 +48,31 @@ use Rattle.sig_registry.specs.declared.wording.Called.TheVariants.{FetchManifest
 use Rattle.sig_registry.specs.Errors.{is_memory as of_memory, worded}
 use Rattle.sig_registry.specs.Clients.{Kept, Row}
 use Rattle.sig_registry.specs.Calls.{in_words, digest_call, manifest_call, image_call, document_call, blob_call, referrers_call}
-use Rattle.shelf_laws.specs.Comes.{Comes, Yields, OrMemory, Gives, Stays, Reaches}
+use Rattle.shelf_laws.specs.Comes.{Yields, OrMemory, Gives, Stays, Reaches}
 use Rattle.shelf_laws.specs.Home.{Home, IsAt, CanBeShown, Settled}
-use Rattle.shelf_laws.specs.Shelves.{IsShort, HasDocument, HasBlob, HasLayer, HasBlobs, HasManifest, LeadsTo, ImageOn, layer_on, layers_on}
+use Rattle.shelf_laws.specs.Shelves.{HasBlob, HasLayer, LeadsTo, ImageOn, layers_on}
 use Rattle.shelf_laws.proofs.Coming.{Gives-done, Gives-next, Gives-more, Gives-caught, Gives-stays, Stays-done, Stays-bind, Stays-next, Reaches-done, Reaches-bind, Reaches-strict, Reaches-stays, Reaches-after, Reaches-next, TableOf, Meets-comes}
 use Rattle.shelf_laws.proofs.DigestTags.{sha256_named, tag_of_signatures}
 use Rattle.shelf_laws.proofs.Documents.{NoOther, raw_gives, digest_gives, blob_gives}
 use Rattle.shelf_laws.proofs.Images.{Points, points_itself, types_accepted, manifest_gives, pull_gives}
 use Rattle.shelf_laws.proofs.PlainNames.{tag_segment}
 use Rattle.shelf_laws.proofs.Pointing.{tag_named, image_points}
-use Rattle.shelf_laws.proofs.References.{Spelled, spelled, resolved_domain, tag_reads_back, digest_reads_back, sha256_length, sha256_is_digest, sha256_is_known}
+use Rattle.shelf_laws.proofs.References.{Spelled, spelled, resolved_domain, tag_reads_back, digest_reads_back, sha256_is_digest, sha256_is_known}
 use Rattle.shelf_laws.proofs.Requests.{yields_ok}
 use Rattle.shelf_laws.proofs.Staying.{pull_stays, referrers_stay}
 use Rattle.shelf_laws.proofs.Tokens.{given_gives}
 use Rattle.cosign_layers.specs.Constraint.{has_no_item}
-use Rattle.cosign_layers.specs.Standing.{Meaning, StandsFor, stands}
+use Rattle.cosign_layers.specs.Standing.{Meaning}
 use Rattle.cosign_layers.specs.Trust.{Trust}
 use Rattle.cosign_layers.specs.declared.layer.SignatureLayer.{SignatureLayer}
 use Rattle.cosign_layers.proofs.Supports.{stands_by as supports_stand}
 use Rattle.cosign_chain.specs.declared.image.VerifiedImage.{VerifiedImage}
 use Rattle.cosign_client.specs.Image.{named_by_reference, document_in, entry_in, layers_row, blobs_row, with_image, entry_call, entry_row, manifest_row, after_document, image_row}
-use Rattle.cosign_client.specs.Part.{nothing, skipping, appended, layer_part, named_layer, read_layer, descriptor_part, descriptors_part}
-use Rattle.cosign_client.specs.References.{dashed, with_dashes, signature_tag, tag_reference, digest_reference, or_not_valid, reading_back}
+use Rattle.cosign_client.specs.Part.{skipping, appended, layer_part, named_layer, read_layer, descriptor_part, descriptors_part}
+use Rattle.cosign_client.specs.References.{signature_tag, tag_reference, digest_reference, or_not_valid, reading_back}
 use Rattle.cosign_client.specs.Refusal.{is_memory, refused_as}
 use Rattle.cosign_client.specs.Search.{payload_type, document_part, tag_layers, or_skipped, tag_by, tag_source, behind, bundle_type, referrer_part, referrer_by, referrer_row, referrers_row, listed_row, referrers_source, trusted_layers, searched}
-use Rattle.cosign_client.specs.Verified.{Whole, constrained, is_unconstrained, readable_by, readable, as_whole, part_of, stands_by, standing_by, standing, verified_image, after_standing, after_search, verified}
+use Rattle.cosign_client.specs.Verified.{Whole, constrained, is_unconstrained, readable_by, readable, as_whole, part_of, stands_by, standing_by, standing, verified_image, after_search, verified}
 use Rattle.cosign_client.specs.declared.found.Part.{Part}
 use Rattle.cosign_client.specs.declared.found.SkipCause.{SkipCause}
 use Rattle.cosign_client.specs.declared.found.SkipCause.TheVariants.{NotAReference, Refused}
@@ -89,7 +82,7 @@ use Rattle.cosign_client.specs.declared.found.SourceKind.TheVariants.{Tag as ByT
 use Rattle.cosign_client.specs.declared.found.TrustedLayers.{TrustedLayers}
 use Rattle.cosign_client.specs.declared.refusal.PullRefusal.{PullRefusal}
 use Rattle.cosign_client.specs.declared.refusal.PullRefusal.TheVariants as refusal
-use Rattle.cosign_client.specs.Shelves.{IsSha256, digest_on, read_on, HasSignature, IsAsked, ValidShelf, AnswersFrom, IsSettled, OkOrMemory}
+use Rattle.cosign_client.specs.Shelves.{ValidShelf, AnswersFrom, IsSettled, OkOrMemory}
 
 -- ---- some layer stands
 
