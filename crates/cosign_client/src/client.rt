@@ -80,8 +80,10 @@ impl Client {
         Ok((tag, digest))
     }
 
-    /// The digest of an image, the signature layers that stand in its repository, and why others do not. `moment` is in
-    /// seconds since 1970. Where no log's key is known, a layer has no log entry.
+    /// The digest of an image, the signature layers that stand in its repository, and why others do not. The digest's
+    /// signature tag is searched first, and then, for bundles, the images that refer to the digest (OCI distribution
+    /// specification, "Listing Referrers"). `moment` is in seconds since 1970. Where no log's key is known, a layer has
+    /// no log entry.
     ///
     /// The call is refused where the digest is not answered (`RegistryFetchManifestError`) or the reference by it does
     /// not read back (`OciReferenceNotValidError`). Whatever else is refused is a cause in `skipped`.
