@@ -1,21 +1,17 @@
 -- A search and a pull over a shelf find what stands there.
-use Rattle.std.specs.Prelude.{codes, nat_lt, bytes_eq, unwrap_or, chars, encode_utf8_all, find, map as each, slice_index_or, Contains, MatchBool, IsTrue, if◌then◌else◌}
+use Rattle.std.specs.Prelude.{codes, bytes_eq, unwrap_or, find, slice_index_or, MatchBool, if◌then◌else◌}
 use Rattle.std.specs.Option.{option_or}
-use Rattle.std.specs.List.{All, list_all, list_any}
-use Rattle.std.specs.FinMap as map
-use Rattle.std.proofs.Common.{◌≡◌, ◌<◌, ◌≤◌, ◌-◌, ◌^◌, ℕ, zero, suc, Bool, true, false, cond, not, ◌&&◌, ◌==◌, List, [], ◌∷◌, ◌++◌, length, get_or, is_some, Option, Some, None, Result, Ok, Err, refl, sym, ap, ◌∙◌, subst, arith, append_assoc, length-append}
+use Rattle.std.specs.List.{All}
+use Rattle.std.proofs.Common.{◌≡◌, ◌<◌, ℕ, zero, suc, Bool, true, false, cond, List, [], ◌∷◌, ◌++◌, length, is_some, Option, Some, None, Result, Ok, Err, refl, sym, ap, ◌∙◌, subst, arith}
 use Rattle.std.proofs.lemmas.List.Folds.{find-append}
 use Rattle.std.proofs.lemmas.List.Elements.{All-head, All-tail}
-use Rattle.oci_names.specs.Grammar.{is_tag_start, is_tag_byte, is_digest}
+use Rattle.oci_names.specs.Grammar.{is_digest}
 use Rattle.oci_names.specs.Parts.{digest_refusal}
-use Rattle.oci_names.specs.Words.{Tag, Domain, Path}
-use Rattle.oci_names.specs.References.{registry_of, repository_of, digest_of, tag_of, whole_text, resolved_registry, namespace_of, reads_back}
+use Rattle.oci_names.specs.Words.{Tag, Path}
+use Rattle.oci_names.specs.References.{registry_of, digest_of, whole_text, resolved_registry, reads_back}
 use Rattle.oci_names.specs.declared.reference.Reference.{Reference}
 use Rattle.oci_auth.specs.declared.auth.RegistryAuth.{RegistryAuth}
-use Rattle.oci_auth.specs.declared.memory.Memory.{Memory}
-use Rattle.oci_digests.specs.Names.{Names, digest_text, name_of, hash_of}
-use Rattle.oci_digests.specs.Checks.{checked}
-use Rattle.oci_digests.specs.declared.digester.Algorithm.TheVariants.{Sha256, Sha384, Sha512}
+use Rattle.oci_digests.specs.Names.{Names}
 use Rattle.oci_digests.proofs.Validated.{is_validated}
 use Rattle.oci_manifests.specs.declared.document.OciManifest.{OciManifest}
 use Rattle.oci_manifests.specs.declared.document.OciManifest.TheVariants.{Image, ImageIndex}
@@ -27,13 +23,12 @@ use Rattle.oci_manifests.specs.declared.blob.ImageLayer.{ImageLayer}
 use Rattle.oci_transport.specs.Link.{Link}
 use Rattle.oci_transport.specs.declared.message.Request.{Request}
 use Rattle.oci_transport.specs.declared.message.Answer.{Answer}
-use Rattle.oci_protocol.specs.Proto.{Proto, Done, bind, ◌>>=◌, ◌>>◌}
+use Rattle.oci_protocol.specs.Proto.{Proto, Done}
 use Rattle.oci_protocol.specs.Runs.{Meets}
 use Rattle.oci_protocol.specs.Ends.{UnlessMemory}
 use Rattle.oci_link.specs.State.{answering}
-use Rattle.oci_link.specs.Table.{answer, digest_named}
+use Rattle.oci_link.specs.Table.{answer}
 use Rattle.oci_link.specs.declared.shelf.Shelf.{Shelf}
-use Rattle.engine_requests.specs.Addresses.{manifest_name}
 use Rattle.engine_requests.specs.Answers.{or_digest_error}
 use Rattle.engine_requests.specs.Contexts.{Context}
 use Rattle.engine_requests.specs.Documents.{document_read}
@@ -44,10 +39,7 @@ use Rattle.engine_requests.specs.Sources.{Layer, described}
 use Rattle.engine_requests.specs.declared.error.OciDistributionError.{OciDistributionError}
 use Rattle.engine_requests.specs.declared.settings.Settings.{Settings}
 use Rattle.engine_steps.specs.Rows.{Row as Engine}
-use Rattle.engine_pull.specs.declared.image.ImageData.{ImageData}
 use Rattle.engine_pull.specs.Images.{layers_accepted, layer_of, config_of}
-use Rattle.engine_pull.specs.Pulls.{fetch_manifest_digest, pull_manifest, pull_manifest_raw, held_blob}
-use Rattle.engine_pull.specs.Images.{pull}
 use Rattle.sig_registry.specs.declared.error.SigstoreError.{SigstoreError}
 use Rattle.sig_registry.specs.declared.error.SigstoreError.TheVariants as sigstore
 use Rattle.sig_registry.specs.declared.wording.Called.{Called}
@@ -55,31 +47,31 @@ use Rattle.sig_registry.specs.declared.wording.Called.TheVariants.{FetchManifest
 use Rattle.sig_registry.specs.Errors.{is_memory as of_memory, worded}
 use Rattle.sig_registry.specs.Clients.{Kept, Row}
 use Rattle.sig_registry.specs.Calls.{in_words, digest_call, manifest_call, image_call, document_call, blob_call, referrers_call}
-use Rattle.shelf_laws.specs.Comes.{Comes, Yields, OrMemory, Gives, Stays, Reaches}
+use Rattle.shelf_laws.specs.Comes.{Yields, OrMemory, Gives, Stays, Reaches}
 use Rattle.shelf_laws.specs.Home.{Home, IsAt, CanBeShown, Settled}
-use Rattle.shelf_laws.specs.Shelves.{IsShort, HasDocument, HasBlob, HasLayer, HasBlobs, HasManifest, LeadsTo, ImageOn, layer_on, layers_on}
+use Rattle.shelf_laws.specs.Shelves.{HasBlob, HasLayer, LeadsTo, ImageOn, layers_on}
 use Rattle.shelf_laws.proofs.Coming.{Gives-done, Gives-next, Gives-more, Gives-caught, Gives-stays, Stays-done, Stays-bind, Stays-next, Reaches-done, Reaches-bind, Reaches-strict, Reaches-stays, Reaches-after, Reaches-next, TableOf, Meets-comes}
 use Rattle.shelf_laws.proofs.DigestTags.{sha256_named, tag_of_signatures}
 use Rattle.shelf_laws.proofs.Documents.{NoOther, raw_gives, digest_gives, blob_gives}
 use Rattle.shelf_laws.proofs.Images.{Points, points_itself, types_accepted, manifest_gives, pull_gives}
 use Rattle.shelf_laws.proofs.PlainNames.{tag_segment}
 use Rattle.shelf_laws.proofs.Pointing.{tag_named, image_points}
-use Rattle.shelf_laws.proofs.References.{Spelled, spelled, resolved_domain, tag_reads_back, digest_reads_back, sha256_length, sha256_is_digest, sha256_is_known}
+use Rattle.shelf_laws.proofs.References.{Spelled, spelled, resolved_domain, tag_reads_back, digest_reads_back, digest_is_digest, digest_is_known}
 use Rattle.shelf_laws.proofs.Requests.{yields_ok}
 use Rattle.shelf_laws.proofs.Staying.{pull_stays, referrers_stay}
 use Rattle.shelf_laws.proofs.Tokens.{given_gives}
 use Rattle.cosign_layers.specs.Constraint.{has_no_item}
-use Rattle.cosign_layers.specs.Standing.{Meaning, StandsFor, stands}
+use Rattle.cosign_layers.specs.Standing.{Meaning}
 use Rattle.cosign_layers.specs.Trust.{Trust}
 use Rattle.cosign_layers.specs.declared.layer.SignatureLayer.{SignatureLayer}
 use Rattle.cosign_layers.proofs.Supports.{stands_by as supports_stand}
 use Rattle.cosign_chain.specs.declared.image.VerifiedImage.{VerifiedImage}
 use Rattle.cosign_client.specs.Image.{named_by_reference, document_in, entry_in, layers_row, blobs_row, with_image, entry_call, entry_row, manifest_row, after_document, image_row}
-use Rattle.cosign_client.specs.Part.{nothing, skipping, appended, layer_part, named_layer, read_layer, descriptor_part, descriptors_part}
-use Rattle.cosign_client.specs.References.{dashed, with_dashes, signature_tag, tag_reference, digest_reference, or_not_valid, reading_back}
+use Rattle.cosign_client.specs.Part.{skipping, appended, layer_part, named_layer, read_layer, descriptor_part, descriptors_part}
+use Rattle.cosign_client.specs.References.{signature_tag, tag_reference, digest_reference, or_not_valid, reading_back}
 use Rattle.cosign_client.specs.Refusal.{is_memory, refused_as}
 use Rattle.cosign_client.specs.Search.{payload_type, document_part, tag_layers, or_skipped, tag_by, tag_source, behind, bundle_type, referrer_part, referrer_by, referrer_row, referrers_row, listed_row, referrers_source, trusted_layers, searched}
-use Rattle.cosign_client.specs.Verified.{Whole, constrained, is_unconstrained, readable_by, readable, as_whole, part_of, stands_by, standing_by, standing, verified_image, after_standing, after_search, verified}
+use Rattle.cosign_client.specs.Verified.{Whole, constrained, is_unconstrained, readable_by, readable, as_whole, part_of, stands_by, standing_by, standing, verified_image, after_search, verified}
 use Rattle.cosign_client.specs.declared.found.Part.{Part}
 use Rattle.cosign_client.specs.declared.found.SkipCause.{SkipCause}
 use Rattle.cosign_client.specs.declared.found.SkipCause.TheVariants.{NotAReference, Refused}
@@ -89,7 +81,7 @@ use Rattle.cosign_client.specs.declared.found.SourceKind.TheVariants.{Tag as ByT
 use Rattle.cosign_client.specs.declared.found.TrustedLayers.{TrustedLayers}
 use Rattle.cosign_client.specs.declared.refusal.PullRefusal.{PullRefusal}
 use Rattle.cosign_client.specs.declared.refusal.PullRefusal.TheVariants as refusal
-use Rattle.cosign_client.specs.Shelves.{IsSha256, digest_on, read_on, HasSignature, IsAsked, ValidShelf, AnswersFrom, IsSettled, OkOrMemory}
+use Rattle.cosign_client.specs.Shelves.{ValidShelf, TaggedShelf, AnswersFrom, IsSettled, OkOrMemory}
 
 -- ---- some layer stands
 
@@ -144,7 +136,7 @@ some_constraint : {C : Type 0} (cs : List C) → 0 < length cs → has_no_item c
 some_constraint [] h = absurd (omega (arith, h))
 some_constraint (c ∷ cs) h = refl
 
-module _ {V : Type 0} {H : V → Type 0} (meaning : Meaning V H) (s : Settings) (image : Reference) (a : RegistryAuth) (accepted : List (List ℕ)) (shelf : Shelf) (valid : ValidShelf meaning s image a accepted shelf) (moment : ℕ) where
+module _ {V : Type 0} {H : V → Type 0} (meaning : Meaning V H) (s : Settings) (image : Reference) (a : RegistryAuth) (accepted : List (List ℕ)) (shelf : Shelf) (valid : TaggedShelf meaning s image a accepted shelf) (moment : ℕ) where
   abbrev registry : List ℕ
   registry = resolved_registry image
 
@@ -181,50 +173,46 @@ module _ {V : Type 0} {H : V → Type 0} (meaning : Meaning V H) (s : Settings) 
   at_digest : IsAt registry shelf (digest_reference image digest)
   at_digest = record { registry_is = own_registry; repository_is = valid.asked.repository_is; no_mirror = refl }
 
-  digest_is : digest ≡ digest_text Sha256 first
-  digest_is = sha256_named digest valid.sha256.0 first valid.sha256.1 valid.image_on.there.named
-
   tag_is : Tag (signature_tag digest)
-  tag_is = tag_of_signatures digest first digest_is
+  tag_is = (spelled (tag_reference image digest) valid.tag_reads).tag_is
 
   points_image : Points shelf image digest
   points_image = image_points shelf image digest first spelling valid.image_on.there valid.named
 
-  points_tag : Points shelf (tag_reference image digest) valid.signatures
-  points_tag = record { plain = tag_segment (signature_tag digest) tag_is; points = tag_named shelf (signature_tag digest) tag_is ∙ valid.tagged; other = tt }
-
-  tag_back : reads_back (tag_reference image digest) ≡ true
-  tag_back = tag_reads_back image spelling (signature_tag digest) tag_is
+  points_tag : Points shelf (tag_reference image digest) valid.signed.signatures
+  points_tag = record { plain = tag_segment (signature_tag digest) tag_is; points = tag_named shelf (signature_tag digest) tag_is ∙ valid.signed.tagged; other = tt }
 
   digest_back : reads_back (digest_reference image digest) ≡ true
-  digest_back = digest_reads_back image spelling digest (ap is_digest digest_is ∙ sha256_is_digest first) (ap digest_refusal digest_is ∙ sha256_is_known first)
+  digest_back =
+      let named = valid.image_on.there.named in
+      digest_reads_back image spelling digest (ap is_digest named.1 ∙ digest_is_digest named.0 first) (ap digest_refusal named.1 ∙ digest_is_known named.0 first)
 
-  abbrev signatures_on : ImageOn s shelf valid.signatures (payload_type ∷ [])
-  signatures_on = record { first = valid.signed.0; there = valid.signed.1; document = Image valid.manifest; reads = valid.signed.2; manifest = valid.manifest; leads = refl; blobs = valid.payloads }
+  abbrev signatures_on : ImageOn s shelf valid.signed.signatures (payload_type ∷ [])
+  signatures_on = record { first = valid.signed.there.0; there = valid.signed.there.1; document = Image valid.signed.manifest; reads = valid.signed.there.2; manifest = valid.signed.manifest; leads = refl; blobs = valid.signed.payloads }
 
   abbrev source : Reference
   source = digest_reference image digest
 
   -- ---- the signature tag
 
-  passes : stands_by meaning valid.signature.layer ≡ true
-  passes = supports_stand meaning.trust.valid meaning.policy meaning.own valid.signature.layer valid.signature.stands_for.supports
+  passes : stands_by meaning valid.signed.standing.layer ≡ true
+  passes = supports_stand meaning.trust.valid meaning.policy meaning.own valid.signed.standing.layer valid.signed.standing.stands_for.supports
 
   -- a layer that stands is under the tag
-  stood_here : Has (stands_by meaning) (descriptors_part meaning.trust digest (layers_on shelf valid.manifest.layers) valid.manifest.layers).collected
-  stood_here = stood (stands_by meaning) meaning.trust digest (layers_on shelf valid.manifest.layers) valid.signature.descriptor valid.signature.layer valid.signature.reads passes valid.manifest.layers valid.signature.listed.0 valid.signature.listed.1 valid.signature.listed.2
+  stood_here : Has (stands_by meaning) (descriptors_part meaning.trust digest (layers_on shelf valid.signed.manifest.layers) valid.signed.manifest.layers).collected
+  stood_here = stood (stands_by meaning) meaning.trust digest (layers_on shelf valid.signed.manifest.layers) valid.signed.standing.descriptor valid.signed.standing.layer valid.signed.standing.reads passes valid.signed.manifest.layers valid.signed.standing.listed.0 valid.signed.standing.listed.1 valid.signed.standing.listed.2
 
   tag_gives : Gives I (answer shelf) (λ (part : Part). Has (stands_by meaning) part.collected) (tag_layers meaning.trust digest ctx (tag_reference image digest) a)
   unfolding tag_layers manifest_call image_call
   tag_gives =
-      Gives-next _ (words_give PullManifest (tag_reference image digest) (manifest_gives home valid.short a can moment (tag_reference image digest) valid.signatures valid.signed.0 (Image valid.manifest) at_tag points_tag valid.signed.1 valid.signed.2)) (λ document known.
-      Gives-next _ (words_give Pull (tag_reference image digest) (pull_gives home valid.short a can moment (tag_reference image digest) valid.signatures (payload_type ∷ []) signatures_on at_tag points_tag)) (λ pulled same.
-      Gives-done (Ok (document_part meaning.trust digest document.0 pulled)) (subst (λ (p : OciManifest × List ℕ). Has (stands_by meaning) (document_part meaning.trust digest p.0 pulled).collected) (sym known) (subst (λ (layers : List ImageLayer). Has (stands_by meaning) (descriptors_part meaning.trust digest layers valid.manifest.layers).collected) (sym same) stood_here))))
+      Gives-next _ (words_give PullManifest (tag_reference image digest) (manifest_gives home valid.short a can moment (tag_reference image digest) valid.signed.signatures valid.signed.there.0 (Image valid.signed.manifest) at_tag points_tag valid.signed.there.1 valid.signed.there.2)) (λ document known.
+      Gives-next _ (words_give Pull (tag_reference image digest) (pull_gives home valid.short a can moment (tag_reference image digest) valid.signed.signatures (payload_type ∷ []) signatures_on at_tag points_tag)) (λ pulled same.
+      Gives-done (Ok (document_part meaning.trust digest document.0 pulled)) (subst (λ (p : OciManifest × List ℕ). Has (stands_by meaning) (document_part meaning.trust digest p.0 pulled).collected) (sym known) (subst (λ (layers : List ImageLayer). Has (stands_by meaning) (descriptors_part meaning.trust digest layers valid.signed.manifest.layers).collected) (sym same) stood_here))))
 
   source_gives : Gives I (answer shelf) (λ (part : Part). Has (stands_by meaning) part.collected) (tag_source meaning.trust ctx image a digest)
   unfolding tag_source
   source_gives =
-      subst (λ b. Gives I (answer shelf) (λ (part : Part). Has (stands_by meaning) part.collected) (tag_by meaning.trust digest ctx (tag_reference image digest) a b)) (sym tag_back)
+      subst (λ b. Gives I (answer shelf) (λ (part : Part). Has (stands_by meaning) part.collected) (tag_by meaning.trust digest ctx (tag_reference image digest) a b)) (sym valid.tag_reads)
       (Gives-caught (λ r. Done (or_skipped ByTag r)) tag_gives (λ part is. Gives-done (Ok part) is))
 
   -- the digest, and a layer that stands
@@ -364,7 +352,7 @@ module _ {V : Type 0} {H : V → Type 0} (meaning : Meaning V H) (s : Settings) 
   part_reaches {A} {P} h = Reaches-bind (λ r. Done (as_whole r)) h (λ r is. Reaches-done (as_whole r) (as_whole_is P r is))
 
   constrained_is : constrained (is_unconstrained meaning.policy) ≡ Ok tt
-  constrained_is = ap constrained (some_constraint meaning.policy.constraints valid.signature.stands_for.constrained)
+  constrained_is = ap constrained (some_constraint meaning.policy.constraints valid.signed.standing.stands_for.constrained)
 
   readable_is : readable image ≡ Ok tt
   readable_is = ap (readable_by image) valid.asked.reads_back_is
@@ -412,3 +400,18 @@ module _ {V : Type 0} {H : V → Type 0} (meaning : Meaning V H) (s : Settings) 
   completed {old} {new} {k} {l} r from settled met =
       answered l r (Meets-comes (answer shelf) (λ l r. I l × OrMemory is_memory (λ (v : VerifiedImage). Unit {0}) r) (answering shelf) (verified meaning ctx image a accepted) from.before old new k l r table_of from.answers from.told from.faults
       (verified_reaches.reaches k (subst (λ (t : List ℕ). Settled registry t a k) valid.asked.repository_is settled)) met)
+
+-- a valid shelf is one by the tag
+pub valid_tagged : {V : Type 0} {H : V → Type 0} (meaning : Meaning V H) (s : Settings) (image : Reference) (a : RegistryAuth) (accepted : List (List ℕ)) (shelf : Shelf) → ValidShelf meaning s image a accepted shelf → TaggedShelf meaning s image a accepted shelf
+valid_tagged meaning s image a accepted shelf valid =
+    let first = valid.image_on.first in
+    let digest_is = sha256_named valid.digest valid.sha256.0 first valid.sha256.1 valid.image_on.there.named in
+    record {
+      asked = valid.asked;
+      digest = valid.digest;
+      named = valid.named;
+      image_on = valid.image_on;
+      tag_reads = tag_reads_back image (spelled image valid.asked.reads_back_is) (signature_tag valid.digest) (tag_of_signatures valid.digest first digest_is);
+      signed = valid.signed;
+      short = valid.short;
+    }

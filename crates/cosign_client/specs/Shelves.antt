@@ -24,7 +24,7 @@ use Rattle.cosign_layers.specs.Trust.{Trust}
 use Rattle.cosign_layers.specs.declared.layer.SignatureLayer.{SignatureLayer}
 use Rattle.cosign_layers.specs.declared.rejection.LayerRejection.{LayerRejection}
 use Rattle.cosign_client.specs.Part.{named_layer, read_layer}
-use Rattle.cosign_client.specs.References.{signature_tag}
+use Rattle.cosign_client.specs.References.{signature_tag, tag_reference}
 use Rattle.cosign_client.specs.Search.{payload_type}
 use Rattle.cosign_client.specs.declared.refusal.PullRefusal.{PullRefusal}
 use Rattle.cosign_client.specs.declared.refusal.PullRefusal.TheVariants as refusal
@@ -42,16 +42,24 @@ abbrev pub read_on : Trust → List ℕ → Shelf → OciImageManifest → OciDe
 read_on trust d shelf manifest x =
     read_layer trust d x (named_layer x.digest (layers_on shelf manifest.layers))
 
--- for one of the manifest's descriptors a layer is read that has no log entry and no certificate, and it stands
-pub record HasSignature {V : Type 0} {H : V → Type 0} (meaning : Meaning V H) (d : List ℕ) (shelf : Shelf)
+-- for one of the manifest's descriptors a layer is read that stands
+pub record ReadsStanding {V : Type 0} {H : V → Type 0} (meaning : Meaning V H) (d : List ℕ) (shelf : Shelf)
     (manifest : OciImageManifest) : Type 0 where
   pub descriptor : OciDescriptor
   pub listed : Contains manifest.layers descriptor
   pub layer : SignatureLayer
   pub reads : read_on meaning.trust d shelf manifest descriptor ≡ Ok layer
-  pub no_entry : layer.bundle ≡ None
-  pub no_certificate : layer.certificate_signature ≡ None
   pub stands_for : StandsFor meaning d layer
+
+-- the tag of the digest's signatures leads to a manifest of payloads, of which the shelf has all, and one of them stands
+pub record SignedByTag {V : Type 0} {H : V → Type 0} (meaning : Meaning V H) (d : List ℕ) (shelf : Shelf)
+    : Type 0 where
+  pub signatures : List ℕ
+  pub tagged : map.get shelf.tags (signature_tag d) ≡ Some signatures
+  pub manifest : OciImageManifest
+  pub there : HasManifest shelf signatures manifest
+  pub payloads : HasBlobs shelf (payload_type ∷ []) manifest
+  pub standing : ReadsStanding meaning d shelf manifest
 
 -- the shelf is where these settings and credentials ask for the image
 pub record IsAsked (s : Settings) (image : Reference) (a : RegistryAuth) (shelf : Shelf) : Type 0 where
@@ -62,8 +70,8 @@ pub record IsAsked (s : Settings) (image : Reference) (a : RegistryAuth) (shelf 
   pub credentials : CanBeShown a
   pub direct : RedirectsNothing shelf
 
--- The shelf is asked for the image and has it, by a SHA-256 digest. The tag of that digest's signatures leads to a
--- manifest of payloads, of which the shelf has all, and one of them stands. Nothing is too long.
+-- The shelf is asked for the image and has it, by a SHA-256 digest, for which a layer under its tag stands that has
+-- no log entry and no certificate. Nothing is too long.
 pub record ValidShelf {V : Type 0} {H : V → Type 0} (meaning : Meaning V H) (s : Settings) (image : Reference)
     (a : RegistryAuth) (accepted : List (List ℕ)) (shelf : Shelf) : Type 0 where
   pub asked : IsAsked s image a shelf
@@ -71,12 +79,21 @@ pub record ValidShelf {V : Type 0} {H : V → Type 0} (meaning : Meaning V H) (s
   pub named : digest_on shelf image ≡ Some digest
   pub sha256 : IsSha256 digest
   pub image_on : ImageOn s shelf digest accepted
-  pub signatures : List ℕ
-  pub tagged : map.get shelf.tags (signature_tag digest) ≡ Some signatures
-  pub manifest : OciImageManifest
-  pub signed : HasManifest shelf signatures manifest
-  pub payloads : HasBlobs shelf (payload_type ∷ []) manifest
-  pub signature : HasSignature meaning digest shelf manifest
+  pub signed : SignedByTag meaning digest shelf
+  pub no_entry : signed.standing.layer.bundle ≡ None
+  pub no_certificate : signed.standing.layer.certificate_signature ≡ None
+  pub short : IsShort s shelf
+
+-- The shelf is asked for the image and has it, by a digest of any algorithm, whose tag makes a reference that reads
+-- back, and a layer under the tag stands. Nothing is too long.
+pub record TaggedShelf {V : Type 0} {H : V → Type 0} (meaning : Meaning V H) (s : Settings) (image : Reference)
+    (a : RegistryAuth) (accepted : List (List ℕ)) (shelf : Shelf) : Type 0 where
+  pub asked : IsAsked s image a shelf
+  pub digest : List ℕ
+  pub named : digest_on shelf image ≡ Some digest
+  pub image_on : ImageOn s shelf digest accepted
+  pub tag_reads : reads_back (tag_reference image digest) ≡ true
+  pub signed : SignedByTag meaning digest shelf
   pub short : IsShort s shelf
 
 -- the transport answers from the shelf and tells what was asked; so does a `ShelfTransport`

@@ -11,7 +11,7 @@ use Rattle.oci_names.specs.Words.{Tag}
 use Rattle.oci_digests.specs.Names.{Names, digest_text, name_of, hash_of}
 use Rattle.oci_digests.specs.declared.digester.Algorithm.TheVariants.{Sha256, Sha384, Sha512}
 use Rattle.shelf_laws.proofs.DigestTexts.{and_left, and_right, all_append, all_more, is_lower_digit, digits_of_hash}
-use Rattle.shelf_laws.proofs.References.{sha256_length}
+use Rattle.shelf_laws.proofs.References.{digest_length}
 
 -- a dash in the place of each colon
 abbrev dashed : ℕ → ℕ
@@ -65,4 +65,4 @@ spelled_tag digits long all =
 
 -- a tag for the signatures of such a digest
 pub tag_of_signatures : (digest bytes : List ℕ) → digest ≡ digest_text Sha256 bytes → Tag (with_dashes digest ++ codes ".sig")
-tag_of_signatures digest bytes is = subst Tag (sym (ap (λ (d : List ℕ). with_dashes d ++ codes ".sig") is ∙ ap (λ (t : List ℕ). t ++ codes ".sig") (dashed_text bytes))) (spelled_tag (encode_lower (hash_of Sha256 bytes)) (sha256_length bytes) (digits_of_hash Sha256 bytes))
+tag_of_signatures digest bytes is = subst Tag (sym (ap (λ (d : List ℕ). with_dashes d ++ codes ".sig") is ∙ ap (λ (t : List ℕ). t ++ codes ".sig") (dashed_text bytes))) (spelled_tag (encode_lower (hash_of Sha256 bytes)) (digest_length Sha256 bytes) (digits_of_hash Sha256 bytes))

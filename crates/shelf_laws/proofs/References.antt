@@ -7,7 +7,8 @@ use Rattle.std.proofs.Common.{◌≡◌, inl, inr, ◌*◌, ℕ, zero, suc, Bool
 use Rattle.std.proofs.lemmas.Bool.Decides.{nat_tests}
 use Rattle.hex.specs.Hex.{lower_digits, encode_with, encode_lower}
 use Rattle.sha2.proofs.Facts256.{length-sha256}
-use Rattle.oci_names.specs.Grammar.{before, after, is_path_letter, is_tag_byte, is_digest}
+use Rattle.sha2.proofs.Facts512.{length-sha384, length-sha512}
+use Rattle.oci_names.specs.Grammar.{is_hexadecimal, before, after, is_path_letter, is_tag_byte, is_digest}
 use Rattle.oci_names.specs.Parts.{Parts, parts_of, domain_in, rest_in, is_domain_part, is_grammatical, registry_named, library_for, repository_named, tag_named, digest_refusal, refusal_of, marked, is_slash}
 use Rattle.oci_names.specs.References.{reference_named, reference_of, whole_text, resolved_registry, reads_back}
 use Rattle.oci_names.specs.Words.{Run, Domain, PathSeparator, PathComponent, Path, Tag, Encoded, InGrammar}
@@ -18,7 +19,8 @@ use Rattle.oci_names.proofs.Cuts.{Lacks, before-Lacks, before-at, after-Lacks, a
 use Rattle.oci_names.proofs.PartWords.{domain, encoded, in_grammar, is_in_grammar}
 use Rattle.oci_names.proofs.ReadsBack.{reads_back-means, reads_back-from}
 use Rattle.oci_digests.specs.Names.{digest_text, hash_of}
-use Rattle.oci_digests.specs.declared.digester.Algorithm.TheVariants.{Sha256}
+use Rattle.oci_digests.specs.declared.digester.Algorithm.{Algorithm}
+use Rattle.oci_digests.specs.declared.digester.Algorithm.TheVariants.{Sha256, Sha384, Sha512}
 use Rattle.shelf_laws.proofs.DigestTexts.{and_left, and_right, and_both, all_append, all_more, is_lower_digit, digits_of_hash}
 use Rattle.shelf_laws.proofs.PlainNames.{joined_all, domain_slashless}
 
@@ -271,7 +273,7 @@ module _ (r : Reference) (h : Spelled r) where
       (no_refusal (is_grammatical (tag_parts t)) (nat_lt 255 (length (repository_named (tag_parts t)))) None (is_in_grammar (tag_parts t) (record { domain = h.domain_is; path = h.path; tag = is; digest = tt })) (ap (λ (x : List ℕ). nat_lt 255 (length x)) (named_whole (Some t) None) ∙ h.few) refl)
       (λ i. record { registry = h.own i; mirror = None; repository = named_whole (Some t) None i; tag = Some t; digest = None }))
 
-  -- by a SHA-256 digest
+  -- by a digest
   abbrev digested : List ℕ → Reference
   digested d = record { registry = r.registry; mirror = None; repository = r.repository; tag = None; digest = Some d }
 
@@ -296,24 +298,41 @@ module _ (r : Reference) (h : Spelled r) where
       (no_refusal (is_grammatical (digest_parts d)) (nat_lt 255 (length (repository_named (digest_parts d)))) (digest_refusal d) (is_in_grammar (digest_parts d) (record { domain = h.domain_is; path = h.path; tag = tt; digest = encoded d is })) (ap (λ (x : List ℕ). nat_lt 255 (length x)) (named_whole None (Some d)) ∙ h.few) known)
       (λ i. record { registry = h.own i; mirror = None; repository = named_whole None (Some d) i; tag = None; digest = Some d }))
 
--- ---- SHA-256 texts
+-- ---- texts of digests
 
 encoded_length : (t xs : List ℕ) → length (encode_with t xs) ≡ 2 * length xs
 unfolding encode_with
 encoded_length t [] = refl
 encoded_length t (x ∷ xs) = let rest = encoded_length t xs in omega (arith, rest)
 
-pub sha256_length : (bytes : List ℕ) → length (encode_lower (hash_of Sha256 bytes)) ≡ 64
-sha256_length bytes = let double = encoded_length lower_digits (hash_of Sha256 bytes) in let short = length-sha256 bytes in omega (arith, double, short)
+-- how many digits the text of a digest has
+abbrev pub digits_in : Algorithm → ℕ
+digits_in Sha256 = 64
+digits_in Sha384 = 96
+digits_in Sha512 = 128
+
+pub digest_length : (a : Algorithm) (bytes : List ℕ) → length (encode_lower (hash_of a bytes)) ≡ digits_in a
+digest_length Sha256 bytes = let double = encoded_length lower_digits (hash_of Sha256 bytes) in let short = length-sha256 bytes in omega (arith, double, short)
+digest_length Sha384 bytes = let double = encoded_length lower_digits (hash_of Sha384 bytes) in let short = length-sha384 bytes in omega (arith, double, short)
+digest_length Sha512 bytes = let double = encoded_length lower_digits (hash_of Sha512 bytes) in let short = length-sha512 bytes in omega (arith, double, short)
 
 hex_digit : (b : ℕ) → is_lower_digit b ≡ true → is_ascii_hexdigit b ≡ true
 hex_digit b h = grind (arith, nat_tests, h)
 
-some_digits : (xs : List ℕ) → length xs ≡ 64 → not (length xs == 0) ≡ true
-some_digits xs is = ap (λ n. not (n == 0)) is
+some_digits : (a : Algorithm) (xs : List ℕ) → length xs ≡ digits_in a → not (length xs == 0) ≡ true
+some_digits Sha256 xs is = ap (λ n. not (n == 0)) is
+some_digits Sha384 xs is = ap (λ n. not (n == 0)) is
+some_digits Sha512 xs is = ap (λ n. not (n == 0)) is
 
-pub sha256_is_digest : (bytes : List ℕ) → is_digest (digest_text Sha256 bytes) ≡ true
-sha256_is_digest bytes = and_both (not (length (encode_lower (hash_of Sha256 bytes)) == 0)) (list_all is_ascii_hexdigit (encode_lower (hash_of Sha256 bytes))) (some_digits (encode_lower (hash_of Sha256 bytes)) (sha256_length bytes)) (all_more is_lower_digit is_ascii_hexdigit (encode_lower (hash_of Sha256 bytes)) hex_digit (digits_of_hash Sha256 bytes))
+is_hex : (a : Algorithm) (bytes : List ℕ) → is_hexadecimal (encode_lower (hash_of a bytes)) ≡ true
+is_hex a bytes = and_both (not (length (encode_lower (hash_of a bytes)) == 0)) (list_all is_ascii_hexdigit (encode_lower (hash_of a bytes))) (some_digits a (encode_lower (hash_of a bytes)) (digest_length a bytes)) (all_more is_lower_digit is_ascii_hexdigit (encode_lower (hash_of a bytes)) hex_digit (digits_of_hash a bytes))
 
-pub sha256_is_known : (bytes : List ℕ) → digest_refusal (digest_text Sha256 bytes) ≡ None
-sha256_is_known bytes = ap (λ n. if n == 64 then None else Some DigestInvalidLength) (sha256_length bytes)
+pub digest_is_digest : (a : Algorithm) (bytes : List ℕ) → is_digest (digest_text a bytes) ≡ true
+digest_is_digest Sha256 bytes = is_hex Sha256 bytes
+digest_is_digest Sha384 bytes = is_hex Sha384 bytes
+digest_is_digest Sha512 bytes = is_hex Sha512 bytes
+
+pub digest_is_known : (a : Algorithm) (bytes : List ℕ) → digest_refusal (digest_text a bytes) ≡ None
+digest_is_known Sha256 bytes = ap (λ n. if n == 64 then None else Some DigestInvalidLength) (digest_length Sha256 bytes)
+digest_is_known Sha384 bytes = ap (λ n. if n == 96 then None else Some DigestInvalidLength) (digest_length Sha384 bytes)
+digest_is_known Sha512 bytes = ap (λ n. if n == 128 then None else Some DigestInvalidLength) (digest_length Sha512 bytes)
