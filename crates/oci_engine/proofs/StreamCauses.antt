@@ -1,5 +1,5 @@
 -- Why a stream of a blob was not opened.
-use Rattle.std.proofs.Common.{◌≡◌, ◌≢◌, ◌≤◌, ◌<◌, ◌⊎◌, inl, inr, ℕ, ◌+◌, ◌-◌, ◌^◌, Bool, true, false, List, [], ◌∷◌, ◌++◌, Option, Some, None, Result, Ok, Err, IfErr, codes, refl, sym, ap, subst, ◌∙◌, append-nil, arith}
+use Rattle.std.proofs.Common.{◌≡◌, ◌≢◌, inl, inr, ℕ, ◌+◌, ◌-◌, ◌^◌, Bool, true, false, List, [], ◌∷◌, ◌++◌, Option, Some, None, Result, Ok, Err, IfErr, codes, refl, sym, ap, subst, ◌∙◌, append-nil}
 use Rattle.std.specs.Prelude.{◌&&◌, ◌||◌, decimal, nat_lt, if◌then◌else◌}
 use Rattle.std.specs.List.{Contains}
 use Rattle.std.proofs.lemmas.Bool.{ltb-false}
@@ -17,7 +17,7 @@ use Rattle.oci_names.specs.declared.reference.Reference.{Reference}
 use Rattle.oci_auth.specs.declared.memory.Memory.{Memory}
 use Rattle.oci_auth.specs.declared.token_type.RegistryOperation.TheVariants.{Pull}
 use Rattle.oci_digests.specs.declared.error.DigestError.{DigestError}
-use Rattle.oci_protocol.specs.Proto.{Unread, Within, Piped, limit_of, Reply, Headed, Answered, Failed, TooLong, SinkFailed, Done, ◌>>=◌}
+use Rattle.oci_protocol.specs.Proto.{Piped, limit_of, Reply, Headed, Answered, Failed, TooLong, SinkFailed, Done, ◌>>=◌}
 use Rattle.oci_protocol.specs.Runs.{Runs, Meets, Told, head_part}
 use Rattle.oci_protocol.specs.Shows.{Shows, ByAnswer, Heard}
 use Rattle.oci_protocol.proofs.Showing.{done_run, Shows-done, Shows-more, Shows-each, Shows-step, Shows-follow}
@@ -26,7 +26,7 @@ use Rattle.engine_requests.specs.Answers.{header_digest, is_error, is_success, o
 use Rattle.engine_requests.specs.Blobs.{digest_expected}
 use Rattle.engine_requests.specs.Contexts.{Context}
 use Rattle.engine_requests.specs.Errors.{is_memory, ◌>>=◌ as ◌into◌}
-use Rattle.engine_requests.specs.Requests.{manifest_types, request_of, with_header}
+use Rattle.engine_requests.specs.Requests.{manifest_types, with_header}
 use Rattle.engine_requests.specs.Sources.{Layer, place_of, places_of, asked_at}
 use Rattle.engine_requests.specs.declared.blobs.Expected.{Expected}
 use Rattle.engine_requests.specs.declared.error.GenericCause.TheVariants.{HeaderText, RangeOverflow}
@@ -40,7 +40,7 @@ use Rattle.engine_laws.specs.Causes.{UnfitUrl, BlobUrl, BadHeader, LastAnswer, A
 use Rattle.engine_laws.specs.Held.{Entry, pulling}
 use Rattle.engine_laws.proofs.BlobCauses.{OfUrls, places_are, each_more, unfit_as, unfit_is, made_accepts, not_expected}
 use Rattle.engine_laws.proofs.DocumentCauses.{answer_cause, cause_later, early_cause, early_shown, header_refused, heard_answer, heard_failed, heard_long, status_cause, url_cause}
-use Rattle.engine_laws.proofs.EarlyCauses.{AnyValue, Loose, EarlyCause, Early, request_early, prepared_causes}
+use Rattle.engine_laws.proofs.EarlyCauses.{AnyValue, Loose, Early, request_early, prepared_causes}
 use Rattle.engine_laws.proofs.FaultCounts.{fault_rose, refusal_both}
 use Rattle.engine_laws.proofs.KeptTokens.{Keeps, keeps_first}
 use Rattle.engine_laws.proofs.Offering.{EachPlace}
@@ -247,22 +247,22 @@ unfolding opened
 opened_causes s image layer range = Shows-step (ByAnswer Any (Streamed range T s.settings layer.digest)) (range_text range) _
     (λ text is. Shows-more (ByAnswer Any (Shown T s.settings layer.digest)) (ByAnswer Any (Streamed range T s.settings layer.digest)) _ (after text) (λ m n c r h. by_loosened range T s.settings layer.digest m n c r h))
     (λ e is m. overflow_cause range T s.settings layer.digest m e (range_overflows range e is)) where
-  T : List ℕ → Type 0
-  T = BlobUrl s.settings image layer
+      T : List ℕ → Type 0
+      T = BlobUrl s.settings image layer
 
-  early : EachPlace (λ p. Early T (ranged_at s.settings range p)) (places_of layer.urls)
-  early = each_more (OfUrls layer.urls) (λ p. Early T (ranged_at s.settings range p)) (ranged_place_early T s.settings range layer.urls (λ text h. inr (inr h))) (places_of layer.urls) (places_are layer.urls)
+      early : EachPlace (λ p. Early T (ranged_at s.settings range p)) (places_of layer.urls)
+      early = each_more (OfUrls layer.urls) (λ p. Early T (ranged_at s.settings range p)) (ranged_place_early T s.settings range layer.urls (λ text h. inr (inr h))) (places_of layer.urls) (places_are layer.urls)
 
-  asks : (text : Option (List ℕ)) (url : Parts) (m : ℕ) (c : List Exchange) (request : Request) → first_of (codes "accept") request.headers ≡ Some manifest_types → Shows (λ start d o r. ByAnswer Any (Shown T s.settings layer.digest) m (c ++ d) o r) (Done (with_range text request) >>= tried s.settings range layer.digest (places_of layer.urls))
-  asks text url m c request accepts = Shows-more (ByAnswer Any (Shown T s.settings layer.digest)) (λ start d o r. ByAnswer Any (Shown T s.settings layer.digest) m (c ++ d) o r) (Done (with_range text request) >>= tried s.settings range layer.digest (places_of layer.urls))
-      (Shows-step (ByAnswer Any (Shown T s.settings layer.digest)) (with_range text request) (tried s.settings range layer.digest (places_of layer.urls)) (λ ranged is. tried_causes T s.settings range layer.digest (places_of layer.urls) early ranged (ranged_accepts text request ranged accepts is)) (λ e is m. early_is T s.settings layer.digest m (with_range text request) e (ranged_early T text request) is)) (λ start o d r h. later T s.settings layer.digest m start o c d r h)
+      asks : (text : Option (List ℕ)) (url : Parts) (m : ℕ) (c : List Exchange) (request : Request) → first_of (codes "accept") request.headers ≡ Some manifest_types → Shows (λ start d o r. ByAnswer Any (Shown T s.settings layer.digest) m (c ++ d) o r) (Done (with_range text request) >>= tried s.settings range layer.digest (places_of layer.urls))
+      asks text url m c request accepts = Shows-more (ByAnswer Any (Shown T s.settings layer.digest)) (λ start d o r. ByAnswer Any (Shown T s.settings layer.digest) m (c ++ d) o r) (Done (with_range text request) >>= tried s.settings range layer.digest (places_of layer.urls))
+          (Shows-step (ByAnswer Any (Shown T s.settings layer.digest)) (with_range text request) (tried s.settings range layer.digest (places_of layer.urls)) (λ ranged is. tried_causes T s.settings range layer.digest (places_of layer.urls) early ranged (ranged_accepts text request ranged accepts is)) (λ e is m. early_is T s.settings layer.digest m (with_range text request) e (ranged_early T text request) is)) (λ start o d r h. later T s.settings layer.digest m start o c d r h)
 
-  after : (text : Option (List ℕ)) → Shows (ByAnswer Any (Shown T s.settings layer.digest)) (Done (url_read (blob_text s.settings image layer.digest)) >>= (λ url. prepared s image Pull Get url manifest_types >>= (λ request. Done (with_range text request) >>= tried s.settings range layer.digest (places_of layer.urls))))
-  after text = Shows-step (ByAnswer Any (Shown T s.settings layer.digest)) (url_read (blob_text s.settings image layer.digest)) _
-      (λ url is. Shows-each (λ m c n request. Prepared s.settings Get url manifest_types Get (serialize url) c request) Any (Shown T s.settings layer.digest) (prepared s image Pull Get url manifest_types) (λ request. Done (with_range text request) >>= tried s.settings range layer.digest (places_of layer.urls))
-      (early_shown T (AnswerCause (AskedDigest layer.digest)) s.settings manifest_types (λ m c n request. Prepared s.settings Get url manifest_types Get (serialize url) c request) (prepared s image Pull Get url manifest_types) (prepared_causes T s image Pull Get url manifest_types Get (serialize url) (inl refl)))
-      (λ m n c request p. asks text url m c request (accepts_of s.settings Get url manifest_types p.token request p.made)))
-      (λ e is m. url_cause T (AnswerCause (AskedDigest layer.digest)) s.settings manifest_types (blob_text s.settings image layer.digest) m [] e (inr (inl refl)) is)
+      after : (text : Option (List ℕ)) → Shows (ByAnswer Any (Shown T s.settings layer.digest)) (Done (url_read (blob_text s.settings image layer.digest)) >>= (λ url. prepared s image Pull Get url manifest_types >>= (λ request. Done (with_range text request) >>= tried s.settings range layer.digest (places_of layer.urls))))
+      after text = Shows-step (ByAnswer Any (Shown T s.settings layer.digest)) (url_read (blob_text s.settings image layer.digest)) _
+          (λ url is. Shows-each (λ m c n request. Prepared s.settings Get url manifest_types Get (serialize url) c request) Any (Shown T s.settings layer.digest) (prepared s image Pull Get url manifest_types) (λ request. Done (with_range text request) >>= tried s.settings range layer.digest (places_of layer.urls))
+          (early_shown T (AnswerCause (AskedDigest layer.digest)) s.settings manifest_types (λ m c n request. Prepared s.settings Get url manifest_types Get (serialize url) c request) (prepared s image Pull Get url manifest_types) (prepared_causes T s image Pull Get url manifest_types Get (serialize url) (inl refl)))
+          (λ m n c request p. asks text url m c request (accepts_of s.settings Get url manifest_types p.token request p.made)))
+          (λ e is m. url_cause T (AnswerCause (AskedDigest layer.digest)) s.settings manifest_types (blob_text s.settings image layer.digest) m [] e (inr (inl refl)) is)
 
 -- ---- a call
 
