@@ -1,13 +1,11 @@
 -- What the calls show that open a stream of a blob.
-use Rattle.std.proofs.Common.{◌≡◌, ◌<◌, ◌^◌, ℕ, List, [], ◌++◌, Option, Some, None, Result, Ok, Err, IfErr, refl}
+use Rattle.std.proofs.Common.{◌≡◌, ◌<◌, ◌^◌, [], ◌++◌, Some, None, Result, Ok, Err, IfErr, refl}
 use Rattle.json_values.specs.Counts.{Rose}
 use Rattle.oci_transport.specs.Link.{Link}
-use Rattle.oci_transport.specs.declared.message.Exchange.{Exchange}
 use Rattle.oci_names.specs.declared.reference.Reference.{Reference}
 use Rattle.oci_auth.specs.declared.memory.Memory.{Memory}
-use Rattle.oci_protocol.specs.Proto.{Done, ◌>>=◌}
+use Rattle.oci_protocol.specs.Proto.{Done}
 use Rattle.oci_protocol.specs.Runs.{Meets, Told}
-use Rattle.oci_protocol.specs.Safe.{Safe}
 use Rattle.oci_protocol.specs.Shows.{Shows, ByAnswer}
 use Rattle.oci_protocol.proofs.Showing.{Shows-done, Shows-each}
 use Rattle.engine_requests.specs.Contexts.{Context}
@@ -16,11 +14,9 @@ use Rattle.engine_requests.specs.Requests.{manifest_types}
 use Rattle.engine_requests.specs.Sources.{Layer}
 use Rattle.engine_requests.specs.declared.error.OciDistributionError.{OciDistributionError}
 use Rattle.engine_requests.specs.declared.error.OciDistributionError.TheVariants as refusal
-use Rattle.engine_requests.specs.declared.settings.Settings.{Settings}
-use Rattle.engine_steps.specs.Rows.{Row}
 use Rattle.engine_laws.specs.Causes.{BlobUrl, BadHeader}
 use Rattle.engine_laws.specs.Confined.{Within}
-use Rattle.engine_laws.specs.Held.{Entry, pulling}
+use Rattle.engine_laws.specs.Held.{pulling}
 use Rattle.engine_laws.proofs.CallConfined.{call_within}
 use Rattle.engine_laws.proofs.FaultCounts.{fault_rose, refusal_both}
 use Rattle.engine_laws.proofs.HeaderCauses.{Sound}
@@ -32,7 +28,6 @@ use Rattle.engine_streams.specs.declared.head.Opening.{Opening}
 use Rattle.engine_streams.specs.declared.range.ByteRange.{ByteRange}
 use Rattle.engine_streams.specs.declared.stream.SizedStream.{SizedStream}
 use Rattle.oci_engine.proofs.StreamCauses.{Streamed, opened_causes, opened_reason, opened_fault, stream_free, tight_stream}
-use Rattle.oci_engine.proofs.StreamRanges.{IsSmall}
 use Rattle.oci_engine.proofs.StreamSafety.{opened_sound}
 use Rattle.oci_engine.specs.StreamRefusals.{StreamCause}
 

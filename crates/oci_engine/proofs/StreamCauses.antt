@@ -1,5 +1,5 @@
 -- Why a stream of a blob was not opened.
-use Rattle.std.proofs.Common.{◌≡◌, ◌≢◌, ◌≤◌, ◌<◌, ◌⊎◌, inl, inr, ℕ, ◌+◌, ◌-◌, ◌^◌, Bool, true, false, List, [], ◌∷◌, ◌++◌, Option, Some, None, Result, Ok, Err, IfErr, codes, refl, sym, ap, subst, ◌∙◌, append-nil, arith}
+use Rattle.std.proofs.Common.{◌≡◌, ◌≢◌, inl, inr, ℕ, ◌+◌, ◌-◌, ◌^◌, Bool, true, false, List, [], ◌∷◌, ◌++◌, Option, Some, None, Result, Ok, Err, IfErr, codes, refl, sym, ap, subst, ◌∙◌, append-nil}
 use Rattle.std.specs.Prelude.{◌&&◌, ◌||◌, decimal, nat_lt, if◌then◌else◌}
 use Rattle.std.specs.List.{Contains}
 use Rattle.std.proofs.lemmas.Bool.{ltb-false}
@@ -17,7 +17,7 @@ use Rattle.oci_names.specs.declared.reference.Reference.{Reference}
 use Rattle.oci_auth.specs.declared.memory.Memory.{Memory}
 use Rattle.oci_auth.specs.declared.token_type.RegistryOperation.TheVariants.{Pull}
 use Rattle.oci_digests.specs.declared.error.DigestError.{DigestError}
-use Rattle.oci_protocol.specs.Proto.{Unread, Within, Piped, limit_of, Reply, Headed, Answered, Failed, TooLong, SinkFailed, Done, ◌>>=◌}
+use Rattle.oci_protocol.specs.Proto.{Piped, limit_of, Reply, Headed, Answered, Failed, TooLong, SinkFailed, Done, ◌>>=◌}
 use Rattle.oci_protocol.specs.Runs.{Runs, Meets, Told, head_part}
 use Rattle.oci_protocol.specs.Shows.{Shows, ByAnswer, Heard}
 use Rattle.oci_protocol.proofs.Showing.{done_run, Shows-done, Shows-more, Shows-each, Shows-step, Shows-follow}
@@ -26,7 +26,7 @@ use Rattle.engine_requests.specs.Answers.{header_digest, is_error, is_success, o
 use Rattle.engine_requests.specs.Blobs.{digest_expected}
 use Rattle.engine_requests.specs.Contexts.{Context}
 use Rattle.engine_requests.specs.Errors.{is_memory, ◌>>=◌ as ◌into◌}
-use Rattle.engine_requests.specs.Requests.{manifest_types, request_of, with_header}
+use Rattle.engine_requests.specs.Requests.{manifest_types, with_header}
 use Rattle.engine_requests.specs.Sources.{Layer, place_of, places_of, asked_at}
 use Rattle.engine_requests.specs.declared.blobs.Expected.{Expected}
 use Rattle.engine_requests.specs.declared.error.GenericCause.TheVariants.{HeaderText, RangeOverflow}
@@ -40,7 +40,7 @@ use Rattle.engine_laws.specs.Causes.{UnfitUrl, BlobUrl, BadHeader, LastAnswer, A
 use Rattle.engine_laws.specs.Held.{Entry, pulling}
 use Rattle.engine_laws.proofs.BlobCauses.{OfUrls, places_are, each_more, unfit_as, unfit_is, made_accepts, not_expected}
 use Rattle.engine_laws.proofs.DocumentCauses.{answer_cause, cause_later, early_cause, early_shown, header_refused, heard_answer, heard_failed, heard_long, status_cause, url_cause}
-use Rattle.engine_laws.proofs.EarlyCauses.{AnyValue, Loose, EarlyCause, Early, request_early, prepared_causes}
+use Rattle.engine_laws.proofs.EarlyCauses.{AnyValue, Loose, Early, request_early, prepared_causes}
 use Rattle.engine_laws.proofs.FaultCounts.{fault_rose, refusal_both}
 use Rattle.engine_laws.proofs.KeptTokens.{Keeps, keeps_first}
 use Rattle.engine_laws.proofs.Offering.{EachPlace}

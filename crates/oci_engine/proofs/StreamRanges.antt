@@ -1,6 +1,6 @@
 -- The header `range` of a request can stand there, and it changes neither the types nor the token.
-use Rattle.std.proofs.Common.{◌≡◌, ◌<◌, ◌≤◌, ◌+◌, ◌-◌, ◌^◌, ℕ, suc, Bool, true, false, List, [], ◌∷◌, ◌++◌, Option, Some, None, Result, Ok, Err, codes, length, unwrap_or, refl, sym, ap, subst, ◌∙◌, arith}
-use Rattle.std.specs.Prelude.{◌&&◌, decimal, nat_lt, slice_get, sum_by, if◌then◌else◌}
+use Rattle.std.proofs.Common.{◌≡◌, ◌<◌, ◌+◌, ◌-◌, ◌^◌, ℕ, Bool, true, false, List, [], ◌∷◌, ◌++◌, Option, Some, None, Result, Ok, Err, codes, length, unwrap_or, refl, sym, ap, subst, ◌∙◌, arith}
+use Rattle.std.specs.Prelude.{decimal, nat_lt, slice_get, sum_by, if◌then◌else◌}
 use Rattle.std.specs.List.{list_all}
 use Rattle.std.proofs.lemmas.Bool.{ltb-true}
 use Rattle.std.proofs.lemmas.Bool.Decides.{nat_tests}
@@ -17,12 +17,12 @@ use Rattle.oci_transport.specs.declared.message.Method.{Method}
 use Rattle.oci_auth.specs.Credentials.{authorization_of}
 use Rattle.oci_auth.specs.declared.token_type.RegistryTokenType.{RegistryTokenType}
 use Rattle.engine_requests.specs.Errors.{◌>>=◌ as ◌into◌}
-use Rattle.engine_requests.specs.Requests.{with_header, with_accept, with_token, request_of, bare_request}
+use Rattle.engine_requests.specs.Requests.{with_header, with_token, request_of}
 use Rattle.engine_requests.specs.declared.error.GenericCause.TheVariants.{RangeOverflow}
 use Rattle.engine_requests.specs.declared.error.OciDistributionError.{OciDistributionError}
 use Rattle.engine_requests.specs.declared.error.OciDistributionError.TheVariants as refusal
 use Rattle.engine_requests.specs.declared.settings.Settings.{Settings}
-use Rattle.engine_laws.proofs.PreparedRequests.{with_ok, accept_none, Made, made_of}
+use Rattle.engine_laws.proofs.PreparedRequests.{with_ok, accept_none, made_of}
 use Rattle.engine_laws.proofs.ShownTokens.{agent_entries, refused_value}
 use Rattle.engine_streams.specs.Heads.{is_digit}
 use Rattle.engine_streams.specs.Ranges.{onward_text, text_to, text_by, range_text, onward}

@@ -2,8 +2,7 @@
 use Rattle.std.proofs.Common.{◌≡◌, ℕ, Bool, true, false, List, [], ◌∷◌, ◌++◌, Option, Some, None, Result, Ok, Err, codes, refl, sym, ap, subst, ◌∙◌}
 use Rattle.std.specs.Prelude.{if◌then◌else◌, nat_lt, decimal, ◌+◌, ◌-◌, ◌^◌}
 use Rattle.url.specs.Parts.{Parts}
-use Rattle.oci_transport.specs.Headers.{Fields, values_of, added, is_header_value}
-use Rattle.oci_transport.specs.Link.{Link}
+use Rattle.oci_transport.specs.Headers.{Fields, values_of, added}
 use Rattle.oci_transport.specs.declared.message.Request.{Request}
 use Rattle.oci_transport.specs.declared.message.AnswerHead.{AnswerHead}
 use Rattle.oci_transport.specs.declared.message.Exchange.{Exchange}
@@ -20,7 +19,7 @@ use Rattle.oci_protocol.specs.Ends.{Ends}
 use Rattle.oci_protocol.specs.Safe.{Safe}
 use Rattle.oci_protocol.proofs.Ends.{Ends-any, Ends-bind}
 use Rattle.oci_protocol.proofs.Safety.{Safe-bind}
-use Rattle.engine_requests.specs.Addresses.{blob_text, url_read}
+use Rattle.engine_requests.specs.Addresses.{blob_text}
 use Rattle.engine_requests.specs.Answers.{refused_answer, header_digest, is_error}
 use Rattle.engine_requests.specs.Contexts.{Context}
 use Rattle.engine_requests.specs.Errors.{◌>>=◌ as ◌into◌}
@@ -38,12 +37,12 @@ use Rattle.engine_laws.specs.Held.{Entry, pulling}
 use Rattle.engine_laws.proofs.Confining.{SentValue, Sent, each_more}
 use Rattle.engine_laws.proofs.HeaderCauses.{Sound, place_ready}
 use Rattle.engine_laws.proofs.KeptTokens.{Keeps}
-use Rattle.engine_laws.proofs.PlainRefusals.{IsPlain, Plain, into_plain, refused_plain, digest_plain}
+use Rattle.engine_laws.proofs.PlainRefusals.{Plain, into_plain, refused_plain, digest_plain}
 use Rattle.engine_laws.proofs.PreparedRequests.{with_ok}
 use Rattle.engine_laws.proofs.ShownTokens.{Carries, Ended, Ready, safe_done, safe_next, safe_ready, safe_follow, prepared_safe, plain_step, plain_last, url_first}
 use Rattle.engine_streams.specs.Heads.{expected, given, opening}
 use Rattle.engine_streams.specs.Ranges.{text_by, range_text, onward_text, onward, with_range}
-use Rattle.engine_streams.specs.Rows.{judged_reading, judged_reply, judged, streams, some_opening, opening_unless_error, streams_or_passes, asked, offered, or_next, ranged_at, tried, opened}
+use Rattle.engine_streams.specs.Rows.{judged_reading, judged_reply, judged, streams, some_opening, opening_unless_error, streams_or_passes, offered, or_next, ranged_at, tried, opened}
 use Rattle.engine_streams.specs.declared.head.Opening.{Opening}
 use Rattle.engine_streams.specs.declared.range.ByteRange.{ByteRange}
 use Rattle.oci_engine.proofs.StreamRanges.{Stands, IsSmall, onward_is, range_is, HasRoom, has_room, range_shows, range_stays}
