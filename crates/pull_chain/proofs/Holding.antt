@@ -1,19 +1,20 @@
 -- When a written chain holds.
-use Rattle.std.proofs.Common.{◌≡◌, ◌↔◌, ◌<◌, ℕ, suc, Bool, false, IsTrue, List, [], ◌∷◌, length, map, Option, Some, None, Ok, Result, Err, refl, sym, ap, subst, ◌∙◌}
+use Rattle.std.proofs.Common.{◌≡◌, ◌↔◌, ◌<◌, ℕ, suc, Bool, false, IsTrue, List, [], ◌∷◌, length, Option, Some, None, Ok, Result, Err, refl, sym, ap, subst, ◌∙◌}
+use Rattle.std.specs.Prelude.{IfOk}
 use Rattle.std.specs.List.{All}
 use Rattle.std.proofs.lemmas.List.Elements.{All-nil, All-cons, All-head, All-tail}
 use Rattle.oci_names.specs.References.{reference_of}
 use Rattle.oci_names.specs.declared.reference.Reference.{Reference}
 use Rattle.oci_platforms.specs.declared.promise.ResolverPromise.{ResolverPromise}
 use Rattle.cosign_layers.specs.Constraint.{accepts}
-use Rattle.cosign_layers.specs.Standing.{Meaning, Owns, StandsFor, Supports, meaning}
-use Rattle.cosign_layers.specs.Trust.{Trust, Valid}
+use Rattle.cosign_layers.specs.Standing.{Meaning, Owns, StandsFor, meaning}
+use Rattle.cosign_layers.specs.Trust.{Trust}
 use Rattle.cosign_layers.specs.declared.constraint.Constraint.{Constraint}
 use Rattle.cosign_layers.specs.declared.layer.SignatureLayer.{SignatureLayer}
 use Rattle.cosign_layers.specs.declared.policy.PullPolicy.{PullPolicy}
 use Rattle.cosign_chain.specs.Chain.{Chain}
 use Rattle.cosign_chain.specs.declared.image.VerifiedImage.{VerifiedImage}
-use Rattle.pull_case.specs.Policy.{constraint_by, constraints_by, policy_of, trust_of, meaning_of}
+use Rattle.pull_case.specs.Policy.{constraint_by, constraints_by, trust_of, meaning_of}
 use Rattle.pull_case.specs.declared.case.Case.{Case}
 use Rattle.pull_case.specs.declared.constraint.WrittenConstraint.{WrittenConstraint}
 use Rattle.pull_case.specs.declared.constraint.WrittenConstraint.TheVariants.{Annotations, Email, Url}
@@ -23,7 +24,7 @@ use Rattle.pull_chain.specs.declared.input.ChainInput.{ChainInput}
 use Rattle.pull_chain.specs.declared.input.WrittenChain.{WrittenChain}
 
 -- the chain of the one image that was built
-pub built_holds : {V : Type 0} {H : V → Type 0} (m : Meaning V H) (image : Reference) (accepted : List (List ℕ)) (promise : Option ResolverPromise) (chain : WrittenChain) (found : VerifiedImage) (holds : Bool)
+built_holds : {V : Type 0} {H : V → Type 0} (m : Meaning V H) (image : Reference) (accepted : List (List ℕ)) (promise : Option ResolverPromise) (chain : WrittenChain) (found : VerifiedImage) (holds : Bool)
     → Builds m.trust chain (Some found) → IsTrue holds ↔ Chain m image accepted promise found → IsTrue holds ↔ HoldsUnder m image accepted promise chain
 built_holds m image accepted promise chain found holds built exact = (
   λ h. record { found = found; built = built.0; holds = exact.0 h },
@@ -31,9 +32,23 @@ built_holds m image accepted promise chain found holds built exact = (
 )
 
 -- where none can be built
-pub none_holds : {V : Type 0} {H : V → Type 0} (m : Meaning V H) (image : Reference) (accepted : List (List ℕ)) (promise : Option ResolverPromise) (chain : WrittenChain)
+none_holds : {V : Type 0} {H : V → Type 0} (m : Meaning V H) (image : Reference) (accepted : List (List ℕ)) (promise : Option ResolverPromise) (chain : WrittenChain)
     → Builds m.trust chain None → IsTrue false ↔ HoldsUnder m image accepted promise chain
 none_holds m image accepted promise chain none = ((λ h. absurd (cc h)), (λ under. absurd (none under.found under.built)))
+
+-- what was checked of the image that was built
+pub checked_holds : {V : Type 0} {H : V → Type 0} {E : Type 0} (m : Meaning V H) (image : Reference) (accepted given : List (List ℕ)) (promise asked : Option ResolverPromise) (chain : WrittenChain) (read : Option VerifiedImage) (found : VerifiedImage) (r : Result Bool E)
+    → given ≡ accepted → asked ≡ promise → read ≡ Some found → Builds m.trust chain read
+    → IfOk r (λ holds. IsTrue holds ↔ Chain m image given asked found) → IfOk r (λ holds. IsTrue holds ↔ HoldsUnder m image accepted promise chain)
+checked_holds m image accepted given promise asked chain read found (Err e) given_is asked_is read_is built exact = tt
+checked_holds m image accepted given promise asked chain read found (Ok holds) given_is asked_is read_is built exact =
+    built_holds m image accepted promise chain found holds (rw read_is at built)
+    (subst (λ (a : List (List ℕ)). IsTrue holds ↔ Chain m image a promise found) given_is
+    (subst (λ (p : Option ResolverPromise). IsTrue holds ↔ Chain m image given p found) asked_is exact))
+
+pub not_built : {V : Type 0} {H : V → Type 0} (m : Meaning V H) (image : Reference) (accepted : List (List ℕ)) (promise : Option ResolverPromise) (chain : WrittenChain) (read : Option VerifiedImage)
+    → read ≡ None → Builds m.trust chain read → IsTrue false ↔ HoldsUnder m image accepted promise chain
+not_built m image accepted promise chain read none built = none_holds m image accepted promise chain (rw none at built)
 
 -- ---- the case's policy, whatever a caller's boxes mean
 
@@ -50,6 +65,7 @@ module _ (V W : Type 0) (H : V → Type 0) (I : W → Type 0) (own : Owns V H) (
   Others c = IsTrue (accepts {V = W} {H = I} other c layer)
 
   all_same : (written : List WrittenConstraint) → All Accepts (constraints_by written) → All Others (constraints_by written)
+  unfolding Accepts Others
   all_same [] h = All-nil Others
   all_same (c ∷ written) h =
       All-cons Others (constraint_by c) (constraints_by written) (subst IsTrue (accepts_same c) (All-head Accepts (constraint_by c) (constraints_by written) h))
@@ -64,6 +80,7 @@ written_policy keys written = record { keys = keys; constraints = constraints_by
 
 stood_same : (V W : Type 0) (H : V → Type 0) (I : W → Type 0) (own : Owns V H) (other : Owns W I) (keys : List (List ℕ)) (written : List WrittenConstraint) (t : Trust) (d : List ℕ) (layer : SignatureLayer)
     → StandsFor (meaning (written_policy {V = V} {H = H} keys written) own t) d layer → StandsFor (meaning (written_policy {V = W} {H = I} keys written) other t) d layer
+unfolding Accepts Others
 stood_same V W H I own other keys written t d layer h = record {
   layer_of = h.layer_of;
   is_named = h.is_named;
@@ -101,7 +118,7 @@ one_reference : {image other : Reference} (case : Case) → reference_of case.re
 one_reference case a b = cc (sym a ∙ b)
 
 -- under the policy of the case
-pub case_holds : {V : Type 0} {H : V → Type 0} (policy : PullPolicy V H) (own : Owns V H) (input : ChainInput) (image : Reference) (holds : Bool)
+case_holds : {V : Type 0} {H : V → Type 0} (policy : PullPolicy V H) (own : Owns V H) (input : ChainInput) (image : Reference) (holds : Bool)
     → reference_of input.case.reference ≡ Ok image → policy.keys ≡ input.case.keys → policy.constraints ≡ constraints_by input.case.constraints
     → IsTrue holds ↔ HoldsUnder (meaning policy own (trust_of input.case)) image input.case.accepted input.case.platform input.chain → IsTrue holds ↔ Holds input
 case_holds {V} {H} policy own input image holds reads keys constraints exact =
@@ -118,3 +135,9 @@ case_holds {V} {H} policy own input image holds reads keys constraints exact =
           (under_same ⊥ V (λ v. ⊥) H other own case.keys case.constraints (trust_of case) image case.accepted case.platform input.chain
           (subst (λ (r : Reference). HoldsUnder (meaning_of case) r case.accepted case.platform input.chain) (one_reference case h.reads reads) h.under))),
     )
+
+pub case_answers : {V : Type 0} {H : V → Type 0} {E : Type 0} (policy : PullPolicy V H) (own : Owns V H) (input : ChainInput) (image : Reference) (r : Result Bool E)
+    → reference_of input.case.reference ≡ Ok image → policy.keys ≡ input.case.keys → policy.constraints ≡ constraints_by input.case.constraints
+    → IfOk r (λ holds. IsTrue holds ↔ HoldsUnder (meaning policy own (trust_of input.case)) image input.case.accepted input.case.platform input.chain) → IfOk r (λ holds. IsTrue holds ↔ Holds input)
+case_answers policy own input image (Err e) reads keys constraints exact = tt
+case_answers policy own input image (Ok holds) reads keys constraints exact = case_holds policy own input image holds reads keys constraints exact

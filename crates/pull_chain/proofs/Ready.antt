@@ -9,7 +9,6 @@ use Rattle.pull_case.specs.declared.case.Case.{Case}
 use Rattle.pull_case.proofs.CaseParts.{case_ready}
 use Rattle.pull_chain.specs.Input.{chain_of, chain_input_of}
 use Rattle.pull_chain.specs.declared.input.ChainInput.{ChainInput}
-use Rattle.pull_chain.specs.declared.input.WrittenChain.{WrittenChain}
 
 abbrev InputReady : ChainInput → Type 0
 InputReady input = IsReady input.case

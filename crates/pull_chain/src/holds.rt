@@ -1,5 +1,5 @@
 // Whether a written chain holds.
-ghost use Rattle.std.specs.Prelude.{◌≡◌, ◌↔◌, IfOk, IsOk, IsTrue, Ok};
+ghost use Rattle.std.specs.Prelude.{◌≡◌, ◌↔◌, IfOk, IsOk, IsTrue, Ok, option_copied};
 ghost use Rattle.oci_names.specs.References.{reference_of};
 ghost use Rattle.cosign_layers.specs.Standing.{meaning};
 ghost use Rattle.cosign_layers.specs.Trust.{trust};
@@ -14,7 +14,7 @@ use cosign_chain::check_chain;
 use cosign_layers::{LogKeys, PullPolicy, TableJudge, TableVerifier};
 use json_values::{List, Text};
 use oci_names::{ParseError, Reference};
-use oci_platforms::PlatformResolver;
+use oci_platforms::{PlatformResolver, ResolverPromise};
 use pull_case::case_policy;
 use std::alloc::{AllocError, Global};
 
@@ -42,8 +42,17 @@ fn image_in(alloc: Global, text: &str) -> Result<Reference, AllocError>
     }
 }
 
+// What a resolver promises, where there is one.
+fn promise_of(platform: &Option<PlatformResolver>) -> Option<&ResolverPromise>
+    ensures { option_copied result ≡ platform.now }
+{
+    match platform {
+        Some(resolver) => Some(resolver.promise()),
+        None => None,
+    }
+}
+
 // Whether an image can be built of what is written, and its chain holds under these terms.
-#[tactic(none)]
 fn holds_under(alloc: Global, terms: &Terms, chain: &WrittenChain) -> Result<bool, AllocError>
     ensures { IfOk result (λ holds. IsTrue holds ↔ HoldsUnder
         (meaning terms.now.policy (λ b. accepts (b.vtable, b.value))
@@ -54,10 +63,7 @@ fn holds_under(alloc: Global, terms: &Terms, chain: &WrittenChain) -> Result<boo
     let Some(found) = found else {
         return Ok(false);
     };
-    let promise = match &terms.platform {
-        Some(resolver) => Some(resolver.promise()),
-        None => None,
-    };
+    let promise = promise_of(&terms.platform);
     check_chain(
         alloc,
         &terms.image,
@@ -73,7 +79,6 @@ fn holds_under(alloc: Global, terms: &Terms, chain: &WrittenChain) -> Result<boo
 
 /// Whether the chain that is written holds: whether an image can be built of it, of which `check_chain` answers true
 /// under the policy, the tables, the keys of logs, the accepted media types and the platform of the case.
-#[tactic(none)]
 pub fn chain_holds(alloc: Global, input: ChainInput) -> Result<bool, AllocError>
     requires { IsReady input.case }
     ensures { IfOk result (λ holds. IsTrue holds ↔ Holds input) }

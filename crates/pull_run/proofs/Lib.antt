@@ -2,3 +2,4 @@ pub mod Cases
 pub mod Inputs
 pub mod Rounding
 pub mod Statuses
+pub mod Verdicts
