@@ -2,7 +2,7 @@
 use Rattle.std.specs.Prelude.{codes, bytes_eq, unwrap_or, find, slice_index_or, MatchBool, if◌then◌else◌}
 use Rattle.std.specs.Option.{option_or}
 use Rattle.std.specs.List.{All}
-use Rattle.std.proofs.Common.{◌≡◌, ◌<◌, ℕ, zero, suc, Bool, true, false, cond, List, [], ◌∷◌, ◌++◌, length, is_some, Option, Some, None, Result, Ok, Err, refl, sym, ap, ◌∙◌, subst, arith}
+use Rattle.std.proofs.Common.{◌≡◌, ◌<◌, ◌≤◌, ◌^◌, ◌-◌, ℕ, zero, suc, Bool, true, false, cond, List, [], ◌∷◌, ◌++◌, length, is_some, Option, Some, None, Result, Ok, Err, refl, sym, ap, ◌∙◌, subst, arith}
 use Rattle.std.proofs.lemmas.List.Folds.{find-append}
 use Rattle.std.proofs.lemmas.List.Elements.{All-head, All-tail}
 use Rattle.oci_names.specs.Grammar.{is_digest}
@@ -20,11 +20,12 @@ use Rattle.oci_manifests.specs.declared.index_entry.ImageIndexEntry.{ImageIndexE
 use Rattle.oci_manifests.specs.declared.manifest.OciImageManifest.{OciImageManifest}
 use Rattle.oci_manifests.specs.declared.descriptor.OciDescriptor.{OciDescriptor}
 use Rattle.oci_manifests.specs.declared.blob.ImageLayer.{ImageLayer}
-use Rattle.oci_transport.specs.Link.{Link}
+use Rattle.oci_transport.specs.Link.{Link, AnsweredBy}
 use Rattle.oci_transport.specs.declared.message.Request.{Request}
 use Rattle.oci_transport.specs.declared.message.Answer.{Answer}
 use Rattle.oci_protocol.specs.Proto.{Proto, Done}
-use Rattle.oci_protocol.specs.Runs.{Meets}
+use Rattle.oci_protocol.specs.Runs.{Runs, Meets}
+use Rattle.oci_transport.specs.declared.message.Exchange.{Exchange}
 use Rattle.oci_protocol.specs.Ends.{UnlessMemory}
 use Rattle.oci_link.specs.State.{answering}
 use Rattle.oci_link.specs.Table.{answer}
@@ -50,7 +51,7 @@ use Rattle.sig_registry.specs.Calls.{in_words, digest_call, manifest_call, image
 use Rattle.shelf_laws.specs.Comes.{Yields, OrMemory, Gives, Stays, Reaches}
 use Rattle.shelf_laws.specs.Home.{Home, IsAt, CanBeShown, Settled}
 use Rattle.shelf_laws.specs.Shelves.{HasBlob, HasLayer, LeadsTo, ImageOn, layers_on}
-use Rattle.shelf_laws.proofs.Coming.{Gives-done, Gives-next, Gives-more, Gives-caught, Gives-stays, Stays-done, Stays-bind, Stays-next, Reaches-done, Reaches-bind, Reaches-strict, Reaches-stays, Reaches-after, Reaches-next, TableOf, Meets-comes}
+use Rattle.shelf_laws.proofs.Coming.{Gives-done, Gives-next, Gives-more, Gives-caught, Gives-stays, Stays-done, Stays-bind, Stays-next, Reaches-done, Reaches-bind, Reaches-strict, Reaches-stays, Reaches-after, Reaches-next, TableOf, Runs-over, Meets-comes}
 use Rattle.shelf_laws.proofs.DigestTags.{sha256_named, tag_of_signatures}
 use Rattle.shelf_laws.proofs.Documents.{NoOther, raw_gives, digest_gives, blob_gives}
 use Rattle.shelf_laws.proofs.Images.{Points, points_itself, types_accepted, manifest_gives, pull_gives}
@@ -400,6 +401,12 @@ module _ {V : Type 0} {H : V → Type 0} (meaning : Meaning V H) (s : Settings) 
   completed {old} {new} {k} {l} r from settled met =
       answered l r (Meets-comes (answer shelf) (λ l r. I l × OrMemory is_memory (λ (v : VerifiedImage). Unit {0}) r) (answering shelf) (verified meaning ctx image a accepted) from.before old new k l r table_of from.answers from.told from.faults
       (verified_reaches.reaches k (subst (λ (t : List ℕ). Settled registry t a k) valid.asked.repository_is settled)) met)
+
+  -- the same of a whole run without faults
+  pub run_completed : (k l : Kept) (place m n : ℕ) (c : List Exchange) (r : Result VerifiedImage PullRefusal) → IsSettled image a k → AnsweredBy (answering shelf) place c → n ≤ m → m < 2 ^ 64 - 1 → Runs (verified meaning ctx image a accepted) k m c n l r → OrMemory is_memory (λ (v : VerifiedImage). Unit {0}) r
+  run_completed k l place m n c r settled answered_is le lt run =
+      (Runs-over (answer shelf) (λ l r. I l × OrMemory is_memory (λ (v : VerifiedImage). Unit {0}) r) (answering shelf) (verified meaning ctx image a accepted) place k l m n c r table_of
+      (verified_reaches.reaches k (subst (λ (t : List ℕ). Settled registry t a k) valid.asked.repository_is settled)) answered_is le lt run).1
 
 -- a valid shelf is one by the tag
 pub valid_tagged : {V : Type 0} {H : V → Type 0} (meaning : Meaning V H) (s : Settings) (image : Reference) (a : RegistryAuth) (accepted : List (List ℕ)) (shelf : Shelf) → ValidShelf meaning s image a accepted shelf → TaggedShelf meaning s image a accepted shelf

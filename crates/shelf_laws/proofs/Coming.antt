@@ -213,6 +213,10 @@ Runs-comes table Q (Ask request reading next) k l m n (e ∷ c) a h by le lt r =
 Runs-comes table Q (Recall next) k l m n c a h by le lt r = Runs-comes table Q (next k) k l m n c a h by le lt r
 Runs-comes table Q (Keep kept rest) k l m n c a h by le lt r = Runs-comes table Q rest kept l m n c a h by le lt r
 
+-- a whole run over a transport that answers by the table, and had no fault
+pub Runs-over : {K A : Type 0} (table : Request → Answer) (Q : K → A → Type 0) (t : Answering) (p : Proto K A) (place : ℕ) (k l : K) (m n : ℕ) (c : List Exchange) (a : A) → TableOf table t → Comes table Q p k → AnsweredBy t place c → n ≤ m → m < 2 ^ 64 - 1 → Runs p k m c n l a → Q l a
+Runs-over table Q t p place k l m n c a by comes answered le lt run = Runs-comes table Q p k l m n c a comes (all_by table t place c by answered) le lt run
+
 -- the answer of a call over a transport that answers by the table, unless memory was wanting
 pub Meets-comes : {K A E : Type 0} {of_memory : E → Bool} (table : Request → Answer) (Q : K → Result A E → Type 0) (t : Answering) (p : Proto K (Result A E)) (before : List Exchange) (old new : Link) (k l : K) (r : Result A E)
     → TableOf table t → old.answers ≡ Some t → old.told ≡ Some before → old.faults < 2 ^ 64 - 1 → Comes table Q p k → Meets of_memory p old new k l r → UnlessMemory of_memory (λ r. Q l r) r

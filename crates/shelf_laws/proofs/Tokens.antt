@@ -27,7 +27,7 @@ use Rattle.oci_auth.specs.declared.token_type.RegistryTokenType.{RegistryTokenTy
 use Rattle.oci_auth.specs.declared.token_type.RegistryTokenType.TheVariants as shown
 use Rattle.oci_auth.specs.Caches.{key_of, kept_until, kept_token, given_at, token_at}
 use Rattle.oci_auth.specs.Keys.{Key, under, kept_under, inserted}
-use Rattle.oci_auth.specs.Memory.{stored}
+use Rattle.oci_auth.specs.Memory.{fresh, stored}
 use Rattle.oci_auth.proofs.Places.{is_kept}
 use Rattle.oci_protocol.specs.Proto.{read_none, bind}
 use Rattle.oci_link.specs.Table.{answer, found, not_found, is_get}
@@ -56,6 +56,10 @@ settled_stored registry repository a k h = by_kept (map.get k.credentials regist
   by_kept : (o : Option RegistryAuth) → map.get k.credentials registry ≡ o → NoneBut o (Some a) → Settled registry repository a (cond (is_some o) k (record k { credentials = map.insert k.credentials registry a }))
   by_kept None is none = record { credentials = inr inserted_here; token = h.token }
   by_kept (Some b) is kept = h
+
+-- a client that keeps nothing is settled
+pub fresh_settled : (registry repository : List ℕ) (a : RegistryAuth) (default : ℕ) → Settled registry repository a (fresh default)
+fresh_settled registry repository a default = record { credentials = inl (get-empty by_bytes registry); token = tt }
 
 is_token_kept : (registry repository : List ℕ) (a : RegistryAuth) (cache : TokenCache) (token : RegistryTokenType) (until : Option ℕ) → Some token ≡ shown_unasked a → IsToken a (kept_under (under registry repository Pull) cache.tokens)
     → IsToken a (kept_under (under registry repository Pull) (option_map_or (λ n. record cache { tokens = inserted cache.tokens (kept_token (under registry repository Pull) token n) }) until cache).tokens)
