@@ -125,14 +125,15 @@ def listing(named):
     return [f"GET {BASE}"] + requests(f"referrers/{named}", "manifests/" + named.replace(":", "-"))
 
 
-def search(signatures, layers):
+def search(signatures, layers, image=IMAGE):
     """The answers and the requests of the search: the digest, the signatures' manifest twice, its blobs, and referrers."""
-    answers = [TOKEN, NAMED] + served(signatures) * 2 + served("{}")
-    paths = [("HEAD", "manifests/v1"), f"manifests/{TAG}", f"manifests/{TAG}", "blobs/" + digest("{}")]
+    tag = digest(image).replace(":", "-") + ".sig"
+    answers = [TOKEN, answer(None, digest(image))] + served(signatures) * 2 + served("{}")
+    paths = [("HEAD", "manifests/v1"), f"manifests/{tag}", f"manifests/{tag}", "blobs/" + digest("{}")]
     for layer in layers:
         answers += served(layer)
         paths.append("blobs/" + digest(layer))
-    return answers + NO_REFERRERS, requests(*paths) + listing(digest(IMAGE))
+    return answers + NO_REFERRERS, requests(*paths) + listing(digest(image))
 
 
 def write(name, stdin, lines, status=0, args=("pull",)):
@@ -627,6 +628,44 @@ def indexes():
     one("an_entry_that_is_no_document", index, by_x, ["x"], "VersionedParsingError 1")
 
 
+# ---- layers that may be somewhere else too
+
+
+def elsewhere():
+    """Pulls of an image whose layer's descriptor lists URLs, which are asked while the answer is one of an error."""
+    web, second, other = "http://cdn.example/l", "https://cdn.example:8443/m?x=1", "ftp://cdn.example/l"
+    secret, unreadable = "http://u:p@cdn.example/l", "http://[cdn.example/l"
+    gone, down, given = answer(status=404), answer(status=503), answer(CONTENT, digest(CONTENT))
+
+    def one(title, urls, at_registry, further, refused=None):
+        """The registry's answer for the layer, and the URLs that are asked after it, each with its answer."""
+        image = manifest("{}", [dict(descriptor(LAYER, CONTENT), urls=urls)])
+        signature = payload(image=image)
+        answers, asked = search(manifest("{}", [signed(signature)]), [signature], image)
+        answers += served(image) + served("{}") + [TOKEN, at_registry] + [found for _, found in further]
+        asked += requests("manifests/" + digest(image), "blobs/" + digest("{}"), "blobs/" + digest(CONTENT))
+        asked += [f"GET {url}" for url, _ in further]
+        lines = ["ok " + digest(image), "manifest " + digest(image)] + image_lines(signature)[2:]
+        if refused is not None:
+            lines = [f"refused RegistryPullError {compact(REGISTRY + '/app@' + digest(image))} {refused}"]
+        write(f"elsewhere/{title}", case(answers, [signature]), ["moment 100"] + asked + lines, 0 if refused is None else 1)
+
+    one("at_the_registry", [web], given, [])
+    one("at_a_url", [web], gone, [(web, given)])
+    one("at_a_url_after_a_fault_of_the_server", [web], down, [(web, given)])
+    one("at_the_second_url", [web, second], gone, [(web, down), (second, given)])
+    one("a_url_of_another_scheme", [other, web], gone, [(web, given)])
+    one("a_redirect_from_a_url", [web], gone, [(web, answer(status=302, headers=[["location", second]])), (second, given)])
+    one("a_url_with_a_user_name", [secret], gone, [], f"UrlParseError {compact(secret)}")
+    one("a_url_that_does_not_read", [web, unreadable], gone, [(web, gone)], f"UrlParseError {compact(unreadable)}")
+    one("a_url_that_does_not_read_and_is_not_looked_at", [web, unreadable], gone, [(web, given)])
+    one("no_url_is_left", [web, other], gone, [(web, answer("no", status=502))], f"ServerError 502 {compact(web)} 2")
+    one("a_status_that_is_no_error", [web], answer(status=304), [], f"ServerError 304 {compact(BASE + 'app/blobs/' + digest(CONTENT))} 0")
+    one("other_bytes_at_a_url", [web], gone, [(web, answer("hello"))], f"DigestError VerificationError {compact(digest(CONTENT))} {compact(digest('hello'))}")
+    one("a_send_to_the_registry_that_fails", [web], "fail", [], "TransportFault")
+    one("a_body_of_an_error_that_fails", [web], answer("x", status=404, fault=0), [(web, given)])
+
+
 # ---- the digest
 
 
@@ -894,6 +933,7 @@ TABLES = {
     "policies": policies,
     "layers": layers,
     "indexes": indexes,
+    "elsewhere": elsewhere,
     "digests": digests,
     "signatures": signatures,
     "tokens": tokens,

@@ -20,11 +20,14 @@ use Rattle.oci_auth.specs.declared.token_type.RegistryOperation.TheVariants.{Pul
 use Rattle.oci_protocol.specs.Proto.{Unread, Reply, Headed, Answered, Failed, TooLong, SinkFailed, ◌>>=◌}
 use Rattle.oci_protocol.specs.Runs.{head_part, Runs}
 use Rattle.oci_protocol.specs.Shows.{Shows, WhereOk, Heard}
-use Rattle.oci_protocol.proofs.Showing.{done_run, Shows-more, Shows-next, Shows-step, Shows-follow}
+use Rattle.oci_protocol.proofs.Showing.{done_run, Shows-more, Shows-next, Shows-step}
 use Rattle.engine_requests.specs.declared.blobs.Expected.{Expected}
 use Rattle.engine_requests.specs.declared.blobs.Plan.{Plan}
 use Rattle.engine_requests.specs.declared.blobs.Plan.TheVariants as plan
 use Rattle.engine_requests.specs.Contexts.{Context}
+use Rattle.engine_requests.specs.declared.settings.Settings.{Settings}
+use Rattle.engine_requests.specs.declared.sources.Place.{Place}
+use Rattle.engine_requests.specs.Sources.{Layer, places_of}
 use Rattle.engine_requests.specs.declared.error.OciDistributionError.{OciDistributionError}
 use Rattle.engine_requests.specs.declared.error.OciDistributionError.TheVariants as refusal
 use Rattle.engine_requests.specs.Errors.{◌>>◌ as ◌before◌}
@@ -33,11 +36,13 @@ use Rattle.engine_requests.specs.Requests.{manifest_types}
 use Rattle.engine_requests.specs.Answers.{is_success}
 use Rattle.engine_requests.specs.Blobs.{digest_expected, given_expected, pouring, plan_by, planned, plan_in, plan_of, compared, given_compared, both_compared}
 use Rattle.engine_steps.specs.Rows.{prepared}
-use Rattle.engine_steps.specs.Blobs.{Destination, IntoSink, IntoMemory, reading_into, reading_by, blob_reading, unread_by, read_by, blob_reply, attempt}
+use Rattle.engine_steps.specs.Blobs.{Destination, IntoSink, IntoMemory, reading_into, reading_by, blob_reading, unread_by, read_by, blob_reply}
+use Rattle.engine_steps.specs.Offers.{tried}
 use Rattle.engine_pull.specs.Pulls.{blob_to}
 use Rattle.engine_laws.specs.Answered.{LedTo, Body, LastBody}
 use Rattle.engine_laws.proofs.PreparedRequests.{into_ok, Prepared, prepared_shows}
 use Rattle.engine_laws.proofs.DocumentAnswers.{led_of, body_after, body_led}
+use Rattle.engine_laws.proofs.Offering.{EachPlace, Unasked, tried_law}
 
 -- ---- the digest that is expected is the one that was asked
 
@@ -121,18 +126,21 @@ blob_run to digest request limit k l m after o c d last Failed r h run = done_ru
 blob_run to digest request limit k l m after o c d last TooLong r h run = done_run (λ s d o r. WhereOk (λ m c n bytes. Blob digest c bytes) m (c ++ d) o r) (Err refusal.BodyTooLong) k l after o d r tt run
 blob_run to digest request limit k l m after o c d last SinkFailed r h run = done_run (λ s d o r. WhereOk (λ m c n bytes. Blob digest c bytes) m (c ++ d) o r) (Err refusal.SinkFault) k l after o d r tt run
 
-attempt_shows : (to : Destination) (digest : List ℕ) (request : Request) (limit : ℕ) → Shows (WhereOk (λ m c n bytes. Blob digest c bytes)) (attempt to limit digest request)
-unfolding attempt
-attempt_shows to digest request limit = Shows-follow (WhereOk (λ m c n bytes. Blob digest c bytes)) 10 request (blob_reading to limit digest) (blob_reply digest) (blob_run to digest request limit)
-
 later_where : (digest : List ℕ) (c : List Exchange) (m start n : ℕ) (d : List Exchange) (r : Result (List ℕ) OciDistributionError) → WhereOk (λ m c n bytes. Blob digest c bytes) start d n r → WhereOk (λ m c n bytes. Blob digest c bytes) m (c ++ d) n r
 later_where digest c m start n d (Ok bytes) h = (body_after c h.0, h.1, last_after c h.2)
 later_where digest c m start n d (Err e) h = tt
 
+unasked_shows : (s : Settings) (digest : List ℕ) (places : List Place) → EachPlace (Unasked (WhereOk (λ m c n bytes. Blob digest c bytes)) s) places
+unasked_shows s digest [] = tt
+unasked_shows s digest (p ∷ ps) = ((λ e is m. tt), unasked_shows s digest ps)
+
+tried_shows : (to : Destination) (s : Settings) (digest : List ℕ) (places : List Place) (request : Request) → Shows (WhereOk (λ m c n bytes. Blob digest c bytes)) (tried to s digest places request)
+tried_shows to s digest places request = tried_law (WhereOk (λ m c n bytes. Blob digest c bytes)) (λ request. Unit {0}) to s digest (λ request good. blob_run to digest request s.max_body_bytes) (λ m start n c d r h. later_where digest c m start n d r h) (λ p request is. tt) places (unasked_shows s digest places) request tt
+
 -- the bytes are those of an answer, and the digest names them
-pub blob_shows : (to : Destination) (s : Context) (image : Reference) (digest : List ℕ) → Shows (WhereOk (λ m c n bytes. Blob digest c bytes)) (blob_to to s image digest)
+pub blob_shows : (to : Destination) (s : Context) (image : Reference) (layer : Layer) → Shows (WhereOk (λ m c n bytes. Blob layer.digest c bytes)) (blob_to to s image layer)
 unfolding blob_to
-blob_shows to s image digest = Shows-step (WhereOk (λ m c n bytes. Blob digest c bytes)) (url_read (blob_text s.settings image digest)) (λ url. prepared s image Pull Get url manifest_types >>= λ request. attempt to s.settings.max_body_bytes digest request)
-    (λ url is. Shows-next (λ m c n request. Prepared s.settings Get url manifest_types Get (serialize url) c request) (λ m c n bytes. Blob digest c bytes) (prepared s image Pull Get url manifest_types) (λ request. attempt to s.settings.max_body_bytes digest request) (prepared_shows s image Pull Get url manifest_types Get (serialize url))
-    (λ m n c request p. Shows-more (WhereOk (λ m c n bytes. Blob digest c bytes)) (λ start d o r. WhereOk (λ m c n bytes. Blob digest c bytes) m (c ++ d) o r) (attempt to s.settings.max_body_bytes digest request) (attempt_shows to digest request s.settings.max_body_bytes) (λ start o d r h. later_where digest c m start o d r h)))
+blob_shows to s image layer = Shows-step (WhereOk (λ m c n bytes. Blob layer.digest c bytes)) (url_read (blob_text s.settings image layer.digest)) (λ url. prepared s image Pull Get url manifest_types >>= λ request. tried to s.settings layer.digest (places_of layer.urls) request)
+    (λ url is. Shows-next (λ m c n request. Prepared s.settings Get url manifest_types Get (serialize url) c request) (λ m c n bytes. Blob layer.digest c bytes) (prepared s image Pull Get url manifest_types) (λ request. tried to s.settings layer.digest (places_of layer.urls) request) (prepared_shows s image Pull Get url manifest_types Get (serialize url))
+    (λ m n c request p. Shows-more (WhereOk (λ m c n bytes. Blob layer.digest c bytes)) (λ start d o r. WhereOk (λ m c n bytes. Blob layer.digest c bytes) m (c ++ d) o r) (tried to s.settings layer.digest (places_of layer.urls) request) (tried_shows to s.settings layer.digest (places_of layer.urls) request) (λ start o d r h. later_where layer.digest c m start o d r h)))
     (λ e is m. tt)

@@ -1,7 +1,11 @@
 -- Why the call for a blob was refused.
-use Rattle.std.proofs.Common.{◌≡◌, ◌≢◌, inl, inr, ℕ, Bool, true, false, List, [], ◌++◌, Option, Some, None, Result, Ok, Err, codes, bytes_eq, refl, sym, ap, subst, ◌∙◌, append-nil}
-use Rattle.std.specs.Prelude.{if◌then◌else◌}
-use Rattle.url.specs.Parts.{serialize}
+use Rattle.std.proofs.Common.{◌≡◌, ◌≢◌, inl, inr, ℕ, suc, Bool, true, false, List, [], ◌∷◌, ◌++◌, Option, Some, None, Result, Ok, Err, codes, bytes_eq, refl, sym, ap, subst, ◌∙◌, append-nil, arith}
+use Rattle.std.specs.Prelude.{if◌then◌else◌, ◌&&◌, ◌||◌}
+use Rattle.std.specs.List.{Contains}
+use Rattle.url.specs.Input.{is_empty}
+use Rattle.url.specs.Parser.{Parsed, parse_url}
+use Rattle.url.specs.Parts.{Parts, serialize}
+use Rattle.oci_transport.specs.Urls.{request_url, readable}
 use Rattle.oci_transport.specs.Link.{answer_of}
 use Rattle.oci_transport.specs.Headers.{digest_header, first_of}
 use Rattle.oci_transport.specs.declared.message.Request.{Request}
@@ -20,7 +24,7 @@ use Rattle.oci_auth.specs.declared.token_type.RegistryOperation.TheVariants.{Pul
 use Rattle.oci_protocol.specs.Proto.{Piped, limit_of, Reply, Headed, Answered, Failed, TooLong, SinkFailed, ◌>>=◌}
 use Rattle.oci_protocol.specs.Runs.{head_part, Runs}
 use Rattle.oci_protocol.specs.Shows.{Shows, ByAnswer, Heard}
-use Rattle.oci_protocol.proofs.Showing.{done_run, Shows-more, Shows-each, Shows-step, Shows-follow}
+use Rattle.oci_protocol.proofs.Showing.{done_run, Shows-more, Shows-each, Shows-step}
 use Rattle.engine_requests.specs.declared.blobs.Expected.{Expected}
 use Rattle.engine_requests.specs.declared.blobs.Plan.{Plan}
 use Rattle.engine_requests.specs.declared.blobs.Plan.TheVariants as plan
@@ -30,17 +34,22 @@ use Rattle.engine_requests.specs.declared.error.OciDistributionError.{OciDistrib
 use Rattle.engine_requests.specs.declared.error.OciDistributionError.TheVariants as refusal
 use Rattle.engine_requests.specs.Errors.{◌>>◌ as ◌before◌}
 use Rattle.engine_requests.specs.Addresses.{blob_text, url_read}
-use Rattle.engine_requests.specs.Requests.{manifest_types}
+use Rattle.engine_requests.specs.Requests.{manifest_types, request_of}
+use Rattle.engine_requests.specs.Sources.{Layer, taken_as, place_of, with_place, places_of, asked_at}
+use Rattle.engine_requests.specs.declared.sources.Place.{Place}
+use Rattle.engine_requests.specs.declared.sources.Place.TheVariants.{Web, Unfit}
 use Rattle.engine_requests.specs.Answers.{is_success, or_digest_error, header_digest}
 use Rattle.engine_requests.specs.Blobs.{digest_expected, given_expected, pouring, plan_by, planned, plan_of, compared, given_compared}
 use Rattle.engine_steps.specs.Rows.{prepared}
-use Rattle.engine_steps.specs.Blobs.{Destination, IntoSink, IntoMemory, reading_by, blob_reading, unread_by, read_by, blob_reply, attempt}
+use Rattle.engine_steps.specs.Blobs.{Destination, IntoSink, IntoMemory, reading_by, blob_reading, unread_by, read_by, blob_reply}
+use Rattle.engine_steps.specs.Offers.{tried}
 use Rattle.engine_pull.specs.Pulls.{blob_to}
-use Rattle.engine_laws.specs.Causes.{BlobUrl, SinkMayFail, LastAnswer, Claimed, DigestCause, AnswerCause, AskedDigest}
+use Rattle.engine_laws.specs.Causes.{UnfitUrl, BlobUrl, SinkMayFail, LastAnswer, Claimed, DigestCause, AnswerCause, AskedDigest}
 use Rattle.engine_laws.proofs.EarlyCauses.{Loose, LooseBlob}
 use Rattle.engine_laws.proofs.PreparedRequests.{accepts_of, Prepared}
 use Rattle.engine_laws.proofs.DigestErrors.{name_cause, name_claimed, differs_claimed, header_cause}
-use Rattle.engine_laws.proofs.EarlyCauses.{EarlyCause, prepared_causes}
+use Rattle.engine_laws.proofs.EarlyCauses.{EarlyCause, Early, request_early, prepared_causes}
+use Rattle.engine_laws.proofs.Offering.{EachPlace, Unasked, tried_law}
 use Rattle.engine_laws.proofs.DocumentCauses.{answer_cause, cause_later, early_cause, status_cause, heard_answer, heard_failed, heard_long, url_cause}
 
 -- ---- what a plan says of the answer
@@ -180,10 +189,6 @@ blob_run T to s digest request accepts k l m after o c d last Failed r h run = d
 blob_run T to s digest request accepts k l m after o c d last TooLong r h run = done_run (λ start d o r. ByAnswer Any (Blob T to s digest) m (c ++ d) o r) (Err refusal.BodyTooLong) k l after o d r (rw append-nil (heard_long h manifest_types s.max_body_bytes accepts (λ n head is. limit_is to s.max_body_bytes n (plan_of digest head) is))) run
 blob_run T to s digest request accepts k l m after o c d last SinkFailed r h run = done_run (λ start d o r. ByAnswer Any (Blob T to s digest) m (c ++ d) o r) (Err refusal.SinkFault) k l after o d r (let b = h.replies.reply_is in may_fail to s.max_body_bytes b.1 (plan_of digest (head_part b.0)) b.3) run
 
-attempt_causes : (T : List ℕ → Type 0) (to : Destination) (s : Settings) (digest : List ℕ) (request : Request) → first_of (codes "accept") request.headers ≡ Some manifest_types → Shows (ByAnswer Any (Blob T to s digest)) (attempt to s.max_body_bytes digest request)
-unfolding attempt
-attempt_causes T to s digest request accepts = Shows-follow (ByAnswer Any (Blob T to s digest)) 10 request (blob_reading to s.max_body_bytes digest) (blob_reply digest) (blob_run T to s digest request accepts)
-
 -- after other exchanges
 pub blob_later : (T : List ℕ → Type 0) (to : Destination) (s : Settings) (digest : List ℕ) (now : ℕ) (c d : List Exchange) (e : OciDistributionError) → LooseBlob T to s digest d now e → LooseBlob T to s digest (c ++ d) now e
 blob_later T to s digest now c d refusal.SinkFault h = h
@@ -197,11 +202,85 @@ early_where : (T : List ℕ → Type 0) (to : Destination) (s : Settings) (diges
 early_where T to s digest P m n c (Ok a) h = h
 early_where T to s digest P m n c (Err e) h = blob_cause T to s digest c n e (early_cause T (AnswerCause (AskedDigest digest)) s manifest_types n c e h)
 
+-- ---- the places of a descriptor
+
+-- a place of these URLs
+abbrev OfUrls : List (List ℕ) → Place → Type 0
+OfUrls urls p = (text : List ℕ) × Contains urls text × (place_of text ≡ Some p)
+
+contains_head : (x : List ℕ) (xs : List (List ℕ)) → Contains (x ∷ xs) x
+contains_head x xs = (0, omega arith, refl)
+
+contains_tail : (x y : List ℕ) (xs : List (List ℕ)) → Contains xs y → Contains (x ∷ xs) y
+contains_tail x y xs h = (suc h.0, omega (arith, h.1), h.2)
+
+each_more : (P Q : Place → Type 0) → ((p : Place) → P p → Q p) → (places : List Place) → EachPlace P places → EachPlace Q places
+each_more P Q more [] h = tt
+each_more P Q more (p ∷ ps) h = (more p h.0, each_more P Q more ps h.1)
+
+with_first : (text : List ℕ) (texts : List (List ℕ)) (places : List Place) (o : Option Place) → place_of text ≡ o → EachPlace (OfUrls texts) places → EachPlace (OfUrls (text ∷ texts)) (with_place o places)
+with_first text texts places None is rest = each_more (OfUrls texts) (OfUrls (text ∷ texts)) (λ p h. (h.0, contains_tail text h.0 texts h.1, h.2)) places rest
+with_first text texts places (Some p) is rest = ((text, contains_head text texts, is), each_more (OfUrls texts) (OfUrls (text ∷ texts)) (λ p h. (h.0, contains_tail text h.0 texts h.1, h.2)) places rest)
+
+places_are : (urls : List (List ℕ)) → EachPlace (OfUrls urls) (places_of urls)
+places_are [] = tt
+places_are (text ∷ texts) = with_first text texts (places_of texts) (place_of text) refl (places_are texts)
+
+-- an unfit URL is no URL of a request, and the place has its text
+abbrev UnfitAs : List ℕ → Option Place → Type 0
+UnfitAs text (Some (Unfit other)) = (text ≡ other) × (request_url text ≡ None)
+UnfitAs text o = Unit {0}
+
+by_owner : (text : List ℕ) (url : Parts) (web free : Bool) → (free ≡ false → request_url text ≡ None) → UnfitAs text (if web then Some (if free then Web url else Unfit text) else None)
+by_owner text url true true none = tt
+by_owner text url true false none = (refl, none refl)
+by_owner text url false free none = tt
+
+owned : (url : Parts) (web free : Bool) → free ≡ false → (if (web && free) then Some url else None) ≡ None
+owned url true true is = absurd (cc is)
+owned url true false is = refl
+owned url false free is = refl
+
+unfit_read : (text : List ℕ) (r : Parsed Parts) → readable r ≡ request_url text → UnfitAs text (taken_as text r)
+unfit_read text (Ok url) is = by_owner text url (bytes_eq url.scheme (codes "http") || bytes_eq url.scheme (codes "https")) (is_empty url.username && is_empty url.password) (λ free. sym is ∙ owned url (bytes_eq url.scheme (codes "http") || bytes_eq url.scheme (codes "https")) (is_empty url.username && is_empty url.password) free)
+unfit_read text (Err e) is = (refl, sym is)
+
+unfit_as : (text : List ℕ) → UnfitAs text (place_of text)
+unfolding place_of request_url
+unfit_as text = unfit_read text (parse_url None text) refl
+
+unfit_is : (text other : List ℕ) (o : Option Place) → UnfitAs text o → o ≡ Some (Unfit other) → (text ≡ other) × (request_url text ≡ None)
+unfit_is text other (Some (Unfit found)) h is = let same : found ≡ other = cc is in (h.0 ∙ same, h.1)
+unfit_is text other (Some (Web url)) h is = absurd (cc is)
+unfit_is text other None h is = absurd (cc is)
+
+web_refused : (T : List ℕ → Type 0) (to : Destination) (s : Settings) (digest : List ℕ) (url : Parts) (r : Result Request OciDistributionError) → Early T r → (e : OciDistributionError) → r ≡ Err e → (m : ℕ) → LooseBlob T to s digest [] m e
+web_refused T to s digest url (Ok request) early e is m = absurd (cc is)
+web_refused T to s digest url (Err x) early e is m = let same : x ≡ e = cc is in blob_cause T to s digest [] m e (early_cause T (AnswerCause (AskedDigest digest)) s manifest_types m [] e (subst (λ (x : OciDistributionError). EarlyCause T x) same early))
+
+place_refused : (T : List ℕ → Type 0) (to : Destination) (s : Settings) (digest : List ℕ) (urls : List (List ℕ)) → ((text : List ℕ) → UnfitUrl urls text → T text) → (p : Place) → OfUrls urls p → Unasked (ByAnswer Any (Blob T to s digest)) s p
+unfolding asked_at
+place_refused T to s digest urls listed (Web url) has e is m = web_refused T to s digest url (request_of s Get url (Some manifest_types) None) (request_early T s Get url manifest_types None) e is m
+place_refused T to s digest urls listed (Unfit text) has e is m =
+    let unfit = unfit_is has.0 text (place_of has.0) (unfit_as has.0) has.2 in
+    let same : refusal.UrlParseError text ≡ e = cc is in
+    let here : UnfitUrl urls text = (subst (Contains urls) unfit.0 has.1, subst (λ (t : List ℕ). place_of t ≡ Some (Unfit text)) unfit.0 has.2) in
+    subst (λ (x : OciDistributionError). LooseBlob T to s digest [] m x) same (subst (λ (t : List ℕ). request_url t ≡ None) unfit.0 unfit.1, listed text here)
+
+made_accepts : (s : Settings) (p : Place) (request : Request) → asked_at s p ≡ Ok request → first_of (codes "accept") request.headers ≡ Some manifest_types
+unfolding asked_at
+made_accepts s (Web url) request is = accepts_of s Get url manifest_types None request is
+made_accepts s (Unfit text) request is = absurd (cc is)
+
+tried_causes : (T : List ℕ → Type 0) (to : Destination) (s : Settings) (layer : Layer) → ((text : List ℕ) → UnfitUrl layer.urls text → T text) → (request : Request) → first_of (codes "accept") request.headers ≡ Some manifest_types → Shows (ByAnswer Any (Blob T to s layer.digest)) (tried to s layer.digest (places_of layer.urls) request)
+tried_causes T to s layer listed request accepts = tried_law (ByAnswer Any (Blob T to s layer.digest)) (λ request. first_of (codes "accept") request.headers ≡ Some manifest_types) to s layer.digest (λ request accepts. blob_run T to s layer.digest request accepts) (λ m start n c d r h. later_where T to s layer.digest m start n c d r h) (made_accepts s) (places_of layer.urls)
+    (each_more (OfUrls layer.urls) (Unasked (ByAnswer Any (Blob T to s layer.digest)) s) (place_refused T to s layer.digest layer.urls listed) (places_of layer.urls) (places_are layer.urls)) request accepts
+
 -- each refusal has its cause
-pub blob_causes : (to : Destination) (s : Context) (image : Reference) (digest : List ℕ) → Shows (ByAnswer (λ m c n bytes. Unit {0}) (λ m c n e. LooseBlob (BlobUrl s.settings image digest) to s.settings digest c n e)) (blob_to to s image digest)
+pub blob_causes : (to : Destination) (s : Context) (image : Reference) (layer : Layer) → Shows (ByAnswer (λ m c n bytes. Unit {0}) (λ m c n e. LooseBlob (BlobUrl s.settings image layer) to s.settings layer.digest c n e)) (blob_to to s image layer)
 unfolding blob_to
-blob_causes to s image digest = Shows-step (ByAnswer Any (Blob (BlobUrl s.settings image digest) to s.settings digest)) (url_read (blob_text s.settings image digest)) (λ url. prepared s image Pull Get url manifest_types >>= λ request. attempt to s.settings.max_body_bytes digest request)
-    (λ url is. Shows-each (λ m c n request. Prepared s.settings Get url manifest_types Get (serialize url) c request) Any (Blob (BlobUrl s.settings image digest) to s.settings digest) (prepared s image Pull Get url manifest_types) (λ request. attempt to s.settings.max_body_bytes digest request)
-    (Shows-more (ByAnswer (λ m c n request. Prepared s.settings Get url manifest_types Get (serialize url) c request) (λ m c n e. EarlyCause (BlobUrl s.settings image digest) e)) (ByAnswer (λ m c n request. Prepared s.settings Get url manifest_types Get (serialize url) c request) (Blob (BlobUrl s.settings image digest) to s.settings digest)) (prepared s image Pull Get url manifest_types) (prepared_causes (BlobUrl s.settings image digest) s image Pull Get url manifest_types Get (serialize url) (inl refl)) (early_where (BlobUrl s.settings image digest) to s.settings digest (λ m c n request. Prepared s.settings Get url manifest_types Get (serialize url) c request)))
-    (λ m n c request p. Shows-more (ByAnswer Any (Blob (BlobUrl s.settings image digest) to s.settings digest)) (λ start d o r. ByAnswer Any (Blob (BlobUrl s.settings image digest) to s.settings digest) m (c ++ d) o r) (attempt to s.settings.max_body_bytes digest request) (attempt_causes (BlobUrl s.settings image digest) to s.settings digest request (accepts_of s.settings Get url manifest_types p.token request p.made)) (λ start o d r h. later_where (BlobUrl s.settings image digest) to s.settings digest m start o c d r h)))
-    (λ e is m. blob_cause (BlobUrl s.settings image digest) to s.settings digest [] m e (url_cause (BlobUrl s.settings image digest) (AnswerCause (AskedDigest digest)) s.settings manifest_types (blob_text s.settings image digest) m [] e (inr refl) is))
+blob_causes to s image layer = Shows-step (ByAnswer Any (Blob (BlobUrl s.settings image layer) to s.settings layer.digest)) (url_read (blob_text s.settings image layer.digest)) (λ url. prepared s image Pull Get url manifest_types >>= λ request. tried to s.settings layer.digest (places_of layer.urls) request)
+    (λ url is. Shows-each (λ m c n request. Prepared s.settings Get url manifest_types Get (serialize url) c request) Any (Blob (BlobUrl s.settings image layer) to s.settings layer.digest) (prepared s image Pull Get url manifest_types) (λ request. tried to s.settings layer.digest (places_of layer.urls) request)
+    (Shows-more (ByAnswer (λ m c n request. Prepared s.settings Get url manifest_types Get (serialize url) c request) (λ m c n e. EarlyCause (BlobUrl s.settings image layer) e)) (ByAnswer (λ m c n request. Prepared s.settings Get url manifest_types Get (serialize url) c request) (Blob (BlobUrl s.settings image layer) to s.settings layer.digest)) (prepared s image Pull Get url manifest_types) (prepared_causes (BlobUrl s.settings image layer) s image Pull Get url manifest_types Get (serialize url) (inl refl)) (early_where (BlobUrl s.settings image layer) to s.settings layer.digest (λ m c n request. Prepared s.settings Get url manifest_types Get (serialize url) c request)))
+    (λ m n c request p. Shows-more (ByAnswer Any (Blob (BlobUrl s.settings image layer) to s.settings layer.digest)) (λ start d o r. ByAnswer Any (Blob (BlobUrl s.settings image layer) to s.settings layer.digest) m (c ++ d) o r) (tried to s.settings layer.digest (places_of layer.urls) request) (tried_causes (BlobUrl s.settings image layer) to s.settings layer (λ text h. inr (inr h)) request (accepts_of s.settings Get url manifest_types p.token request p.made)) (λ start o d r h. later_where (BlobUrl s.settings image layer) to s.settings layer.digest m start o c d r h)))
+    (λ e is m. blob_cause (BlobUrl s.settings image layer) to s.settings layer.digest [] m e (url_cause (BlobUrl s.settings image layer) (AnswerCause (AskedDigest layer.digest)) s.settings manifest_types (blob_text s.settings image layer.digest) m [] e (inr (inl refl)) is))

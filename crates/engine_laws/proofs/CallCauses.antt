@@ -12,6 +12,7 @@ use Rattle.oci_auth.specs.declared.memory.Memory.{Memory}
 use Rattle.oci_protocol.specs.Runs.{Meets, Told}
 use Rattle.oci_protocol.specs.Shows.{Shows, ByAnswer}
 use Rattle.engine_requests.specs.Contexts.{Context}
+use Rattle.engine_requests.specs.Sources.{Layer}
 use Rattle.engine_requests.specs.declared.settings.Settings.{Settings}
 use Rattle.engine_requests.specs.declared.error.GenericCause.TheVariants.{HeaderText}
 use Rattle.engine_requests.specs.declared.error.OciDistributionError.{OciDistributionError}
@@ -41,7 +42,7 @@ use Rattle.engine_laws.proofs.ShownTokens.{Carries, HeaderCause, Ended}
 use Rattle.engine_laws.proofs.HeaderCauses.{digest_sound, raw_sound, manifest_sound, found_sound, one_sound, config_sound, text_sound, image_sound, blob_sound}
 
 -- a cause with the values that could not stand in a header
-tight : (T : List ℕ → Type 0) (Of : List ℕ → Answer → OciDistributionError → Type 0) (x : Entry) (s : Settings) (types : List ℕ) (now : ℕ) (c : List Exchange) (e : OciDistributionError) → Loose T Of s types c now e → HeaderCause x s types c e → Cause T Of (BadHeader x s types) s c now e
+pub tight : (T : List ℕ → Type 0) (Of : List ℕ → Answer → OciDistributionError → Type 0) (x : Entry) (s : Settings) (types : List ℕ) (now : ℕ) (c : List Exchange) (e : OciDistributionError) → Loose T Of s types c now e → HeaderCause x s types c e → Cause T Of (BadHeader x s types) s c now e
 tight T Of x s types now c (refusal.GenericError HeaderText) h bad = bad
 tight T Of x s types now c _ h bad = h
 
@@ -174,23 +175,23 @@ text_fault s image a met is = faulted (λ m c n found. Unit {0}) (λ m c n e. Co
 
 -- ---- blobs
 
-pub blob_reason : (to : Destination) (s : Context) (image : Reference) (digest : List ℕ) {old new : Link} {k l : Memory} {r : Result (List ℕ) OciDistributionError} → Meets is_memory (blob_to to s image digest) old new k l r → IfErr r (λ e. Told (λ c. BlobCause (BlobUrl s.settings image digest) to (BadHeader (pulling k s image None) s.settings manifest_types) s.settings digest c new.faults e) old new)
-blob_reason to s image digest {k = k} met =
+pub blob_reason : (to : Destination) (s : Context) (image : Reference) (layer : Layer) {old new : Link} {k l : Memory} {r : Result (List ℕ) OciDistributionError} → Meets is_memory (blob_to to s image layer) old new k l r → IfErr r (λ e. Told (λ c. BlobCause (BlobUrl s.settings image layer) to (BadHeader (pulling k s image None) s.settings manifest_types) s.settings layer.digest c new.faults e) old new)
+blob_reason to s image layer {k = k} met =
     let x = pulling k s image None in
-    refusal_both (Carries x s.settings) (λ m c n bytes. Unit {0}) (λ m c n e. LooseBlob (BlobUrl s.settings image digest) to s.settings digest c n e) (Keeps x) (Ended x s.settings manifest_types) (λ c n e. BlobCause (BlobUrl s.settings image digest) to (BadHeader x s.settings manifest_types) s.settings digest c n e) (blob_to to s image digest)
-    (λ n c e is. blob_free (BlobUrl s.settings image digest) to (BadHeader x s.settings manifest_types) s.settings digest n c e is) (λ m n c e h bad. tight_blob (BlobUrl s.settings image digest) to x s.settings digest n c e h bad) (blob_causes to s image digest) (blob_sound to s image digest k None k [] (keeps_first x)) met
+    refusal_both (Carries x s.settings) (λ m c n bytes. Unit {0}) (λ m c n e. LooseBlob (BlobUrl s.settings image layer) to s.settings layer.digest c n e) (Keeps x) (Ended x s.settings manifest_types) (λ c n e. BlobCause (BlobUrl s.settings image layer) to (BadHeader x s.settings manifest_types) s.settings layer.digest c n e) (blob_to to s image layer)
+    (λ n c e is. blob_free (BlobUrl s.settings image layer) to (BadHeader x s.settings manifest_types) s.settings layer.digest n c e is) (λ m n c e h bad. tight_blob (BlobUrl s.settings image layer) to x s.settings layer.digest n c e h bad) (blob_causes to s image layer) (blob_sound to s image layer k None k [] (keeps_first x)) met
 
-pub blob_fault : (to : Destination) (s : Context) (image : Reference) (digest : List ℕ) {old new : Link} {k l : Memory} {r : Result (List ℕ) OciDistributionError} → Meets is_memory (blob_to to s image digest) old new k l r → r ≡ Err refusal.TransportFault → Rose old.faults new.faults
-blob_fault to s image digest met is = faulted (λ m c n bytes. Unit {0}) (λ m c n e. LooseBlob (BlobUrl s.settings image digest) to s.settings digest c n e) (blob_to to s image digest) (λ m n c h. h) (blob_causes to s image digest) met is
+pub blob_fault : (to : Destination) (s : Context) (image : Reference) (layer : Layer) {old new : Link} {k l : Memory} {r : Result (List ℕ) OciDistributionError} → Meets is_memory (blob_to to s image layer) old new k l r → r ≡ Err refusal.TransportFault → Rose old.faults new.faults
+blob_fault to s image layer met is = faulted (λ m c n bytes. Unit {0}) (λ m c n e. LooseBlob (BlobUrl s.settings image layer) to s.settings layer.digest c n e) (blob_to to s image layer) (λ m n c h. h) (blob_causes to s image layer) met is
 
 -- into a sink
-pub spilled_reason : (s : Context) (image : Reference) (digest : List ℕ) {old new : Link} {k l : Memory} {before after : Tray} {r : Result (Unit {0}) OciDistributionError} → Spills (pull_blob s image digest) old new k l before after r → IfErr r (λ e. Told (λ c. BlobCause (BlobUrl s.settings image digest) IntoSink (BadHeader (pulling k s image None) s.settings manifest_types) s.settings digest c new.faults e) old new)
-spilled_reason s image digest {old} {new} {k} {l} {before} {after} {r} spills = by_result r spills where
-  by_result : (r : Result (Unit {0}) OciDistributionError) → Spills (pull_blob s image digest) old new k l before after r → IfErr r (λ e. Told (λ c. BlobCause (BlobUrl s.settings image digest) IntoSink (BadHeader (pulling k s image None) s.settings manifest_types) s.settings digest c new.faults e) old new)
+pub spilled_reason : (s : Context) (image : Reference) (layer : Layer) {old new : Link} {k l : Memory} {before after : Tray} {r : Result (Unit {0}) OciDistributionError} → Spills (pull_blob s image layer) old new k l before after r → IfErr r (λ e. Told (λ c. BlobCause (BlobUrl s.settings image layer) IntoSink (BadHeader (pulling k s image None) s.settings manifest_types) s.settings layer.digest c new.faults e) old new)
+spilled_reason s image layer {old} {new} {k} {l} {before} {after} {r} spills = by_result r spills where
+  by_result : (r : Result (Unit {0}) OciDistributionError) → Spills (pull_blob s image layer) old new k l before after r → IfErr r (λ e. Told (λ c. BlobCause (BlobUrl s.settings image layer) IntoSink (BadHeader (pulling k s image None) s.settings manifest_types) s.settings layer.digest c new.faults e) old new)
   by_result (Ok u) spills = tt
-  by_result (Err e) spills = blob_reason IntoSink s image digest spills.met
+  by_result (Err e) spills = blob_reason IntoSink s image layer spills.met
 
-pub spilled_fault : (s : Context) (image : Reference) (digest : List ℕ) {old new : Link} {k l : Memory} {before after : Tray} {r : Result (Unit {0}) OciDistributionError} → Spills (pull_blob s image digest) old new k l before after r → r ≡ Err refusal.TransportFault → Rose old.faults new.faults
-spilled_fault s image digest {old} {new} {k} {l} {before} {after} {r} spills is = failed (rw is at spills) where
-  failed : Spills (pull_blob s image digest) old new k l before after (Err refusal.TransportFault) → Rose old.faults new.faults
-  failed spills = blob_fault IntoSink s image digest spills.met refl
+pub spilled_fault : (s : Context) (image : Reference) (layer : Layer) {old new : Link} {k l : Memory} {before after : Tray} {r : Result (Unit {0}) OciDistributionError} → Spills (pull_blob s image layer) old new k l before after r → r ≡ Err refusal.TransportFault → Rose old.faults new.faults
+spilled_fault s image layer {old} {new} {k} {l} {before} {after} {r} spills is = failed (rw is at spills) where
+  failed : Spills (pull_blob s image layer) old new k l before after (Err refusal.TransportFault) → Rose old.faults new.faults
+  failed spills = blob_fault IntoSink s image layer spills.met refl

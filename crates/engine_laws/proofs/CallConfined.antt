@@ -16,6 +16,7 @@ use Rattle.oci_protocol.specs.Proto.{Done, bind, unless_refused, ◌>>=◌}
 use Rattle.oci_protocol.specs.Runs.{Meets, Told}
 use Rattle.oci_protocol.specs.Safe.{Safe}
 use Rattle.oci_protocol.proofs.Safety.{Safe-bind}
+use Rattle.engine_requests.specs.Sources.{Layer}
 use Rattle.engine_requests.specs.Contexts.{Context}
 use Rattle.engine_requests.specs.Requests.{manifest_types}
 use Rattle.engine_requests.specs.declared.error.OciDistributionError.{OciDistributionError}
@@ -35,7 +36,7 @@ use Rattle.engine_laws.proofs.ShownTokens.{Carries, Ended, Asked, store_safe, st
 use Rattle.engine_laws.proofs.HeaderCauses.{digest_sound, raw_sound, manifest_sound, found_sound, one_sound, config_sound, text_sound, image_sound, blob_sound}
 
 call_within : {A : Type 0} (x : Entry) (s : Settings) (Q : Memory → List Exchange → Result A OciDistributionError → Type 0) (l : Memory) {p : Row A} {old new : Link} {r : Result A OciDistributionError} → Safe (Carries x s) (Keeps x) Q x.kept [] p → Meets is_memory p old new x.kept l r → Told (Within x s l) old new
-call_within x s Q l h met = Meets-within (Confined x s) (Keeps x) Q (Within x s l) (keeps_more x) (keeps_first x) (λ c confined keeps. record { confined = confined; kept = keeps.added }) h met
+call_within x s Q l h met = Meets-within (Confined x s) (Keeps x) Q (Within x s l) (keeps_more x) (keeps_first x) (λ c confined keeps. record { confined = confined; kept = keeps.added; stored = keeps.stored }) h met
 
 pub digest_confined : (s : Context) (image : Reference) (a : RegistryAuth) {old new : Link} {k l : Memory} {r : Result (List ℕ) OciDistributionError} → Meets is_memory (fetch_manifest_digest s image a) old new k l r → Told (Within (pulling k s image (Some a)) s.settings l) old new
 digest_confined s image a {k = k} {l = l} met = let x = pulling k s image (Some a) in call_within x s.settings (Ended x s.settings manifest_types) l (digest_sound s image a k k [] (keeps_first x)) met
@@ -65,26 +66,27 @@ text_confined s image a {k = k} {l = l} met = let x = pulling k s image (Some a)
 pub image_confined : (s : Context) (image : Reference) (a : RegistryAuth) (accepted : List (List ℕ)) {old new : Link} {k l : Memory} {r : Result (ImageData) OciDistributionError} → Meets is_memory (pull s image a accepted) old new k l r → Told (Within (pulling k s image (Some a)) s.settings l) old new
 image_confined s image a accepted {k = k} {l = l} met = let x = pulling k s image (Some a) in call_within x s.settings (Ended x s.settings manifest_types) l (image_sound s image a accepted k k [] (keeps_first x)) met
 
-pub blob_confined : (to : Destination) (s : Context) (image : Reference) (digest : List ℕ) {old new : Link} {k l : Memory} {r : Result (List ℕ) OciDistributionError} → Meets is_memory (blob_to to s image digest) old new k l r → Told (Within (pulling k s image None) s.settings l) old new
-blob_confined to s image digest {k = k} {l = l} met = let x = pulling k s image None in call_within x s.settings (Ended x s.settings manifest_types) l (blob_sound to s image digest k None k [] (keeps_first x)) met
+pub blob_confined : (to : Destination) (s : Context) (image : Reference) (layer : Layer) {old new : Link} {k l : Memory} {r : Result (List ℕ) OciDistributionError} → Meets is_memory (blob_to to s image layer) old new k l r → Told (Within (pulling k s image None) s.settings l) old new
+blob_confined to s image layer {k = k} {l = l} met = let x = pulling k s image None in call_within x s.settings (Ended x s.settings manifest_types) l (blob_sound to s image layer k None k [] (keeps_first x)) met
 
 -- into a sink
-pub spilled_confined : (s : Context) (image : Reference) (digest : List ℕ) {old new : Link} {k l : Memory} {before after : Tray} {r : Result (Unit {0}) OciDistributionError} → Spills (pull_blob s image digest) old new k l before after r → Told (Within (pulling k s image None) s.settings l) old new
-spilled_confined s image digest spills = blob_confined IntoSink s image digest spills.met
+pub spilled_confined : (s : Context) (image : Reference) (layer : Layer) {old new : Link} {k l : Memory} {before after : Tray} {r : Result (Unit {0}) OciDistributionError} → Spills (pull_blob s image layer) old new k l before after r → Told (Within (pulling k s image None) s.settings l) old new
+spilled_confined s image layer spills = blob_confined IntoSink s image layer spills.met
 
 -- ---- the call for a token
 
-Any : Entry → {A : Type 0} → Memory → List Exchange → A → Type 0
+-- whatever it answers
+abbrev pub Any : Entry → {A : Type 0} → Memory → List Exchange → A → Type 0
 Any x l c r = Unit {0}
 
 text_safe : (x : Entry) (s : Context) (l : Memory) (c : List Exchange) (r : Result (Option RegistryTokenType) OciDistributionError) → s.moment ≡ x.moment → Asked x l c r → Safe (Carries x s.settings) (Keeps x) (Any x) l c (unless_refused (kept_text x.moment (key_of x.image x.operation)) r)
-unfolding Safe bind Any
+unfolding Safe bind
 text_safe x s l c (Ok None) is h = tt
 text_safe x s l c (Ok (Some token)) is h = (keeps_kept x l c token h.1 h.0, tt)
 text_safe x s l c (Err e) is h = tt
 
 safe_any : (x : Entry) (s : Context) (l : Memory) (c : List Exchange) (e : OciDistributionError) → Safe (Carries x s.settings) (Keeps x) (Any x {A = Result (Option (List ℕ)) OciDistributionError}) l c (Done (Err e))
-unfolding Safe Any
+unfolding Safe
 safe_any x s l c e = tt
 
 step_text : (k : Memory) (s : Context) (image : Reference) (a : RegistryAuth) (op : RegistryOperation) (l : Memory) (c : List Exchange) (r : Result (Unit {0}) OciDistributionError) → Ended (asking k s image op (Some a)) s.settings manifest_types l c r
@@ -93,10 +95,10 @@ step_text k s image a op l c (Ok u) keeps = let x = asking k s image op (Some a)
     Safe-bind (Carries x s.settings) (Keeps x) (Asked x) (Any x) (token_step s.settings image a op) (unless_refused (kept_text s.moment (key_of image op))) l c (step_safe x s.settings a l c (inr refl) keeps) (λ l c r h. text_safe x s l c r refl h)
 step_text k s image a op l c (Err e) h = safe_any (asking k s image op (Some a)) s l c e
 
-given_safe : (k : Memory) (s : Context) (image : Reference) (a : RegistryAuth) (op : RegistryOperation) → Safe (Carries (asking k s image op (Some a)) s.settings) (Keeps (asking k s image op (Some a))) (Any (asking k s image op (Some a))) k [] (token_given s image a op)
+pub given_safe : (k : Memory) (s : Context) (image : Reference) (a : RegistryAuth) (op : RegistryOperation) (l : Memory) (c : List Exchange) → Keeps (asking k s image op (Some a)) l c → Safe (Carries (asking k s image op (Some a)) s.settings) (Keeps (asking k s image op (Some a))) (Any (asking k s image op (Some a))) l c (token_given s image a op)
 unfolding token_given
-given_safe k s image a op = let x = asking k s image op (Some a) in
-    Safe-bind (Carries x s.settings) (Keeps x) (Ended x s.settings manifest_types) (Any x) (store image a) (unless_refused (λ u. token_step s.settings image a op >>= kept_text s.moment (key_of image op))) k [] (store_safe x s.settings manifest_types a k [] refl (keeps_first x)) (step_text k s image a op)
+given_safe k s image a op l c keeps = let x = asking k s image op (Some a) in
+    Safe-bind (Carries x s.settings) (Keeps x) (Ended x s.settings manifest_types) (Any x) (store image a) (unless_refused (λ u. token_step s.settings image a op >>= kept_text s.moment (key_of image op))) l c (store_safe x s.settings manifest_types a l c refl keeps) (step_text k s image a op)
 
 pub given_confined : (s : Context) (image : Reference) (a : RegistryAuth) (op : RegistryOperation) {old new : Link} {k l : Memory} {r : Result (Option (List ℕ)) OciDistributionError} → Meets is_memory (token_given s image a op) old new k l r → Told (Within (asking k s image op (Some a)) s.settings l) old new
-given_confined s image a op {k = k} {l = l} met = let x = asking k s image op (Some a) in call_within x s.settings (Any x) l (given_safe k s image a op) met
+given_confined s image a op {k = k} {l = l} met = let x = asking k s image op (Some a) in call_within x s.settings (Any x) l (given_safe k s image a op k [] (keeps_first x)) met

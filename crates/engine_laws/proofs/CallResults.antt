@@ -11,6 +11,7 @@ use Rattle.oci_auth.specs.declared.memory.Memory.{Memory}
 use Rattle.oci_protocol.specs.Runs.{Meets, Told}
 use Rattle.oci_protocol.proofs.Showing.{Meets-shows-ok}
 use Rattle.engine_requests.specs.Contexts.{Context}
+use Rattle.engine_requests.specs.Sources.{Layer}
 use Rattle.engine_requests.specs.declared.error.OciDistributionError.{OciDistributionError}
 use Rattle.engine_requests.specs.Errors.{is_memory}
 use Rattle.engine_steps.specs.Blobs.{Destination, IntoSink, Spills}
@@ -43,20 +44,20 @@ raw_named s image a types {old = old} {new = new} {r = r} met = ok_more (λ foun
 pub raw_given : (s : Context) (image : Reference) (a : RegistryAuth) (types : List ℕ) {old new : Link} {k l : Memory} {r : Result (List ℕ × List ℕ) OciDistributionError} → Meets is_memory (pull_manifest_raw s image a types) old new k l r → IfOk r (λ found. (d : List ℕ) → digest_of image ≡ Some d → Names d found.0)
 raw_given s image a types {old = old} {new = new} {r = r} met = ok_more (λ found. Told (λ c. Document image c found.0 found.1) old new) (λ found. (d : List ℕ) → digest_of image ≡ Some d → Names d found.0) r (raw_told s image a types met) (λ found told. told.holds.named)
 
-blob_told : (to : Destination) (s : Context) (image : Reference) (digest : List ℕ) {old new : Link} {k l : Memory} {r : Result (List ℕ) OciDistributionError} → Meets is_memory (blob_to to s image digest) old new k l r → IfOk r (λ bytes. Told (λ c. Blob digest c bytes) old new)
-blob_told to s image digest met = Meets-shows-ok (λ m c n bytes. Blob digest c bytes) (blob_shows to s image digest) met
+blob_told : (to : Destination) (s : Context) (image : Reference) (layer : Layer) {old new : Link} {k l : Memory} {r : Result (List ℕ) OciDistributionError} → Meets is_memory (blob_to to s image layer) old new k l r → IfOk r (λ bytes. Told (λ c. Blob layer.digest c bytes) old new)
+blob_told to s image layer met = Meets-shows-ok (λ m c n bytes. Blob layer.digest c bytes) (blob_shows to s image layer) met
 
-pub blob_body : (to : Destination) (s : Context) (image : Reference) (digest : List ℕ) {old new : Link} {k l : Memory} {r : Result (List ℕ) OciDistributionError} → Meets is_memory (blob_to to s image digest) old new k l r → IfOk r (λ bytes. Told (λ c. Body c bytes) old new)
-blob_body to s image digest {old = old} {new = new} {r = r} met = ok_more (λ bytes. Told (λ c. Blob digest c bytes) old new) (λ bytes. Told (λ c. Body c bytes) old new) r (blob_told to s image digest met) (λ bytes told. told_more (λ c b. b.0) told)
+pub blob_body : (to : Destination) (s : Context) (image : Reference) (layer : Layer) {old new : Link} {k l : Memory} {r : Result (List ℕ) OciDistributionError} → Meets is_memory (blob_to to s image layer) old new k l r → IfOk r (λ bytes. Told (λ c. Body c bytes) old new)
+blob_body to s image layer {old = old} {new = new} {r = r} met = ok_more (λ bytes. Told (λ c. Blob layer.digest c bytes) old new) (λ bytes. Told (λ c. Body c bytes) old new) r (blob_told to s image layer met) (λ bytes told. told_more (λ c b. b.0) told)
 
-pub blob_last : (to : Destination) (s : Context) (image : Reference) (digest : List ℕ) {old new : Link} {k l : Memory} {r : Result (List ℕ) OciDistributionError} → Meets is_memory (blob_to to s image digest) old new k l r → IfOk r (λ bytes. Told (λ c. LastBody c bytes) old new)
-blob_last to s image digest {old = old} {new = new} {r = r} met = ok_more (λ bytes. Told (λ c. Blob digest c bytes) old new) (λ bytes. Told (λ c. LastBody c bytes) old new) r (blob_told to s image digest met) (λ bytes told. told_more (λ c b. b.2) told)
+pub blob_last : (to : Destination) (s : Context) (image : Reference) (layer : Layer) {old new : Link} {k l : Memory} {r : Result (List ℕ) OciDistributionError} → Meets is_memory (blob_to to s image layer) old new k l r → IfOk r (λ bytes. Told (λ c. LastBody c bytes) old new)
+blob_last to s image layer {old = old} {new = new} {r = r} met = ok_more (λ bytes. Told (λ c. Blob layer.digest c bytes) old new) (λ bytes. Told (λ c. LastBody c bytes) old new) r (blob_told to s image layer met) (λ bytes told. told_more (λ c b. b.2) told)
 
-pub blob_named : (to : Destination) (s : Context) (image : Reference) (digest : List ℕ) {old new : Link} {k l : Memory} {r : Result (List ℕ) OciDistributionError} → Meets is_memory (blob_to to s image digest) old new k l r → IfOk r (λ bytes. Names digest bytes)
-blob_named to s image digest {old = old} {new = new} {r = r} met = ok_more (λ bytes. Told (λ c. Blob digest c bytes) old new) (λ bytes. Names digest bytes) r (blob_told to s image digest met) (λ bytes told. told.holds.1)
+pub blob_named : (to : Destination) (s : Context) (image : Reference) (layer : Layer) {old new : Link} {k l : Memory} {r : Result (List ℕ) OciDistributionError} → Meets is_memory (blob_to to s image layer) old new k l r → IfOk r (λ bytes. Names layer.digest bytes)
+blob_named to s image layer {old = old} {new = new} {r = r} met = ok_more (λ bytes. Told (λ c. Blob layer.digest c bytes) old new) (λ bytes. Names layer.digest bytes) r (blob_told to s image layer met) (λ bytes told. told.holds.1)
 
-pub blob_took : (s : Context) (image : Reference) (digest : List ℕ) {old new : Link} {k l : Memory} {before after : Tray} {r : Result (Unit {0}) OciDistributionError} → Spills (pull_blob s image digest) old new k l before after r → IfOk r (λ u. TookBlob digest old new before after)
-blob_took s image digest {old} {new} {k} {l} {before} {after} {r} spills = by_result r spills where
-  by_result : (r : Result (Unit {0}) OciDistributionError) → Spills (pull_blob s image digest) old new k l before after r → IfOk r (λ u. TookBlob digest old new before after)
-  by_result (Ok u) spills = record { bytes = spills.body; took = spills.put; names = blob_named IntoSink s image digest spills.met; body = blob_last IntoSink s image digest spills.met }
+pub blob_took : (s : Context) (image : Reference) (layer : Layer) {old new : Link} {k l : Memory} {before after : Tray} {r : Result (Unit {0}) OciDistributionError} → Spills (pull_blob s image layer) old new k l before after r → IfOk r (λ u. TookBlob layer.digest old new before after)
+blob_took s image layer {old} {new} {k} {l} {before} {after} {r} spills = by_result r spills where
+  by_result : (r : Result (Unit {0}) OciDistributionError) → Spills (pull_blob s image layer) old new k l before after r → IfOk r (λ u. TookBlob layer.digest old new before after)
+  by_result (Ok u) spills = record { bytes = spills.body; took = spills.put; names = blob_named IntoSink s image layer spills.met; body = blob_last IntoSink s image layer spills.met }
   by_result (Err e) spills = tt

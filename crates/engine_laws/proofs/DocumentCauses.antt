@@ -222,7 +222,7 @@ whole_run T Of s types request accepts k l m after o c d last Failed r h run = d
 whole_run T Of s types request accepts k l m after o c d last TooLong r h run = done_run (λ start d o r. ByAnswer Whole (λ m c n e. Loose T Of s types c n e) m (c ++ d) o r) (Err refusal.BodyTooLong) k l after o d r (rw append-nil (heard_long h types s.max_body_bytes accepts (read_limit s.max_body_bytes))) run
 whole_run T Of s types request accepts k l m after o c d last SinkFailed r h run = let b = h.replies.reply_is in absurd (piped_never s.max_body_bytes b.1 (head_part b.0) b.3)
 
-whole_causes : (T : List ℕ → Type 0) (Of : List ℕ → Answer → OciDistributionError → Type 0) (s : Settings) (types : List ℕ) (request : Request) → first_of (codes "accept") request.headers ≡ Some types → Shows (ByAnswer Whole (λ m c n e. Loose T Of s types c n e)) (whole 10 request s.max_body_bytes)
+pub whole_causes : (T : List ℕ → Type 0) (Of : List ℕ → Answer → OciDistributionError → Type 0) (s : Settings) (types : List ℕ) (request : Request) → first_of (codes "accept") request.headers ≡ Some types → Shows (ByAnswer Whole (λ m c n e. Loose T Of s types c n e)) (whole 10 request s.max_body_bytes)
 unfolding whole
 whole_causes T Of s types request accepts = Shows-follow (ByAnswer Whole (λ m c n e. Loose T Of s types c n e)) 10 request (read_within s.max_body_bytes) whole_reply (whole_run T Of s types request accepts)
 

@@ -87,7 +87,7 @@ into_early T s types (Err e) f h each = h
 headers_early : (T : List ℕ → Type 0) (s : Settings) (types : List ℕ) (token : Option RegistryTokenType) → Early T (headers_of s (Some types) token)
 headers_early T s types token = into_early T s types (with_header map.empty (codes "user-agent") s.user_agent into with_accept (Some types)) (with_token token) (into_early T s types (with_header map.empty (codes "user-agent") s.user_agent) (with_accept (Some types)) (header_early T s types map.empty (codes "user-agent") s.user_agent) (accept_early T s types (Some types))) (token_early T s types token)
 
-request_early : (T : List ℕ → Type 0) (s : Settings) (method : Method) (url : Parts) (types : List ℕ) (token : Option RegistryTokenType) → Early T (request_of s method url (Some types) token)
+pub request_early : (T : List ℕ → Type 0) (s : Settings) (method : Method) (url : Parts) (types : List ℕ) (token : Option RegistryTokenType) → Early T (request_of s method url (Some types) token)
 unfolding request_of
 request_early T s method url types token = into_early T s types (headers_of s (Some types) token) (λ headers. Ok (bare_request method url headers)) (headers_early T s types token) (λ headers. tt)
 

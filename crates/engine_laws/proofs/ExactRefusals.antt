@@ -20,6 +20,7 @@ use Rattle.oci_protocol.specs.Runs.{Meets}
 use Rattle.oci_protocol.specs.Ends.{Ends, UnlessMemory}
 use Rattle.oci_protocol.proofs.Ends.{Ends-bind, Meets-ends}
 use Rattle.engine_requests.specs.Contexts.{Context}
+use Rattle.engine_requests.specs.Sources.{Layer, places_of}
 use Rattle.engine_requests.specs.declared.settings.Settings.{Settings}
 use Rattle.engine_requests.specs.declared.error.GenericCause.TheVariants.{HeaderText}
 use Rattle.engine_requests.specs.declared.error.OciDistributionError.{OciDistributionError}
@@ -28,7 +29,8 @@ use Rattle.engine_requests.specs.Errors.{is_memory, ◌>>=◌ as ◌into◌}
 use Rattle.engine_requests.specs.Addresses.{manifest_text, blob_text, url_or, url_read}
 use Rattle.engine_requests.specs.Requests.{with_header, with_accept, with_token, headers_of, request_of, bare_request, manifest_types}
 use Rattle.engine_steps.specs.Rows.{Row, store, authorized, prepared, named_after}
-use Rattle.engine_steps.specs.Blobs.{Destination, Spills, filled, attempt}
+use Rattle.engine_steps.specs.Blobs.{Destination, Spills, filled}
+use Rattle.engine_steps.specs.Offers.{tried}
 use Rattle.engine_pull.specs.Pulls.{document, digest_by, manifest_document, pull_manifest_raw, fetch_manifest_digest, pull_manifest, blob_to}
 use Rattle.engine_pull.specs.Images.{pull}
 use Rattle.engine_pull.specs.Manifests.{pull_image_manifest_and_list_digest, pull_image_manifest, pull_manifest_and_config_and_list_digest, pull_manifest_and_config}
@@ -41,7 +43,7 @@ use Rattle.engine_laws.proofs.EarlyCauses.{Early, EarlyCause, authorized_early}
 abbrev pub Only : OciDistributionError → {A : Type 0} → Result A OciDistributionError → Type 0
 Only e r = r ≡ Err e
 
-after_refusal : {A B : Type 0} (e : OciDistributionError) (f : A → Row B) (r : Result A OciDistributionError) → r ≡ Err e → Ends (Only e) (unless_refused f r)
+pub after_refusal : {A B : Type 0} (e : OciDistributionError) (f : A → Row B) (r : Result A OciDistributionError) → r ≡ Err e → Ends (Only e) (unless_refused f r)
 unfolding Ends
 after_refusal e f (Ok a) is = absurd (cc is)
 after_refusal {B = B} e f (Err x) is = same x e (cc is) where
@@ -92,9 +94,9 @@ pub image_url : (s : Context) (image : Reference) (a : RegistryAuth) (accepted :
 unfolding pull
 image_url s image a accepted none = handed_on (refusal.UrlParseError (manifest_text s.settings image)) (pull_image_manifest_and_list_digest s image a) _ (found_url s image a none)
 
-pub blob_url : (to : Destination) (s : Context) (image : Reference) (digest : List ℕ) → request_url (blob_text s.settings image digest) ≡ None → Ends (Only (refusal.UrlParseError (blob_text s.settings image digest))) (blob_to to s image digest)
+pub blob_url : (to : Destination) (s : Context) (image : Reference) (layer : Layer) → request_url (blob_text s.settings image layer.digest) ≡ None → Ends (Only (refusal.UrlParseError (blob_text s.settings image layer.digest))) (blob_to to s image layer)
 unfolding blob_to
-blob_url to s image digest none = no_url (blob_text s.settings image digest) (λ url. prepared s image Pull Get url manifest_types >>= λ request. attempt to s.settings.max_body_bytes digest request) none
+blob_url to s image layer none = no_url (blob_text s.settings image layer.digest) (λ url. prepared s image Pull Get url manifest_types >>= λ request. tried to s.settings layer.digest (places_of layer.urls) request) none
 
 -- ---- a value that cannot stand in a header
 
@@ -206,9 +208,9 @@ pub image_bad : (s : Context) (image : Reference) (a : RegistryAuth) (accepted :
 unfolding pull
 image_bad s image a accepted bad = early_on (pull_image_manifest_and_list_digest s image a) _ (found_bad s image a bad)
 
-pub blob_bad : (to : Destination) (s : Context) (image : Reference) (digest : List ℕ) → HasBadHeader s.settings manifest_types → Ends IsEarly (blob_to to s image digest)
+pub blob_bad : (to : Destination) (s : Context) (image : Reference) (layer : Layer) → HasBadHeader s.settings manifest_types → Ends IsEarly (blob_to to s image layer)
 unfolding blob_to
-blob_bad to s image digest bad = url_first (blob_text s.settings image digest) (λ url. prepared s image Pull Get url manifest_types >>= λ request. attempt to s.settings.max_body_bytes digest request) (λ url. early_on (prepared s image Pull Get url manifest_types) _ (prepared_bad s image Pull Get url manifest_types bad))
+blob_bad to s image layer bad = url_first (blob_text s.settings image layer.digest) (λ url. prepared s image Pull Get url manifest_types >>= λ request. tried to s.settings layer.digest (places_of layer.urls) request) (λ url. early_on (prepared s image Pull Get url manifest_types) _ (prepared_bad s image Pull Get url manifest_types bad))
 
 -- ---- results
 

@@ -5,6 +5,7 @@ use Rattle.url.specs.Parts.{Parts}
 use Rattle.oci_transport.specs.Headers.{values_of}
 use Rattle.oci_transport.specs.declared.message.Request.{Request}
 use Rattle.oci_transport.specs.declared.message.Answer.{Answer}
+use Rattle.oci_transport.specs.declared.message.AnswerHead.{AnswerHead}
 use Rattle.oci_transport.specs.declared.message.Exchange.{Exchange}
 use Rattle.oci_transport.specs.declared.message.Method.TheVariants.{Get, Head}
 use Rattle.oci_names.specs.declared.reference.Reference.{Reference}
@@ -17,7 +18,7 @@ use Rattle.oci_auth.specs.declared.memory.Memory.{Memory}
 use Rattle.oci_auth.specs.declared.token_type.RegistryOperation.TheVariants.{Pull}
 use Rattle.oci_manifests.specs.declared.descriptor.OciDescriptor.{OciDescriptor}
 use Rattle.oci_manifests.specs.declared.blob.ImageLayer.{ImageLayer}
-use Rattle.oci_protocol.specs.Proto.{Reply, Headed, Answered, Failed, TooLong, SinkFailed, read_within}
+use Rattle.oci_protocol.specs.Proto.{Reply, Headed, Answered, Failed, TooLong, SinkFailed, Done, read_within, ◌>>=◌}
 use Rattle.oci_protocol.specs.Runs.{head_part}
 use Rattle.oci_protocol.specs.Safe.{Safe}
 use Rattle.engine_requests.specs.Contexts.{Context}
@@ -30,14 +31,18 @@ use Rattle.engine_requests.specs.declared.error.GenericCause.TheVariants.{Header
 use Rattle.engine_requests.specs.declared.error.OciDistributionError.{OciDistributionError}
 use Rattle.engine_requests.specs.declared.error.OciDistributionError.TheVariants as refusal
 use Rattle.engine_requests.specs.Addresses.{manifest_text, blob_text}
-use Rattle.engine_requests.specs.Answers.{accepted, agreed, fits_reference, header_digest, document_in}
+use Rattle.engine_requests.specs.Answers.{accepted, agreed, fits_reference, header_digest, document_in, is_error}
 use Rattle.engine_requests.specs.Blobs.{plan_of, compared, given_compared, both_compared}
 use Rattle.engine_requests.specs.Documents.{document_read}
-use Rattle.engine_requests.specs.Requests.{manifest_types}
+use Rattle.engine_requests.specs.Requests.{manifest_types, request_of}
+use Rattle.engine_requests.specs.Sources.{Layer, described, places_of, asked_at}
+use Rattle.engine_requests.specs.declared.sources.Place.{Place}
+use Rattle.engine_requests.specs.declared.sources.Place.TheVariants.{Web, Unfit}
 use Rattle.engine_steps.specs.declared.asking.Named.{Named}
 use Rattle.engine_steps.specs.declared.asking.Named.TheVariants as named
 use Rattle.engine_steps.specs.Rows.{Row, store, whole_reply, whole, named_reading, unread_named, read_named, named_reply, named_after, prepared}
 use Rattle.engine_steps.specs.Blobs.{Destination, IntoMemory, blob_reading, unread_by, read_by, blob_reply, attempt}
+use Rattle.engine_steps.specs.Offers.{offer_reading, offer_reply, offer, tried}
 use Rattle.engine_pull.specs.Pulls.{document, digest_by, manifest_document, pull_manifest_raw, fetch_manifest_digest, pull_manifest, blob_to, held_blob}
 use Rattle.engine_requests.specs.Index.{entry_found, entry_manifest, entry_reference, config_text}
 use Rattle.engine_pull.specs.Manifests.{pull_entry, manifest_by, pull_image_manifest_and_list_digest, pull_image_manifest, pull_manifest_and_config_and_list_digest, pull_manifest_and_config}
@@ -50,7 +55,7 @@ use Rattle.engine_laws.proofs.KeptTokens.{Keeps}
 use Rattle.engine_laws.proofs.SafeMore.{Safe-map}
 use Rattle.engine_laws.proofs.Confining.{Sent, each_more}
 use Rattle.engine_laws.specs.Confined.{ToRegistry, ToRealm, MayCarry}
-use Rattle.engine_laws.proofs.ShownTokens.{Carries, HeaderCause, Ended, safe_done, safe_next, safe_ready, safe_follow, prepared_safe, store_safe, plain_step, plain_last, url_first}
+use Rattle.engine_laws.proofs.ShownTokens.{Carries, HeaderCause, Ended, Ready, request_ready, safe_done, safe_next, safe_ready, safe_follow, prepared_safe, store_safe, plain_step, plain_last, url_first}
 
 -- the protocol keeps to it, and its refusals have their causes
 abbrev pub Sound : Entry → Settings → List ℕ → {A : Type 0} → Memory → List Exchange → Row A → Type 0
@@ -58,7 +63,7 @@ Sound x s types l c p = Safe (Carries x s) (Keeps x) (Ended x s types) l c p
 
 -- ---- ways to ask
 
-whole_sound : (x : Entry) (s : Settings) (types : List ℕ) (n : ℕ) (request : Request) (limit : ℕ) (l : Memory) (c : List Exchange) → Sent x s c request → Keeps x l c → Sound x s types l c (whole n request limit)
+pub whole_sound : (x : Entry) (s : Settings) (types : List ℕ) (n : ℕ) (request : Request) (limit : ℕ) (l : Memory) (c : List Exchange) → Sent x s c request → Keeps x l c → Sound x s types l c (whole n request limit)
 unfolding whole
 whole_sound x s types n request limit l c sent keeps = safe_follow x s (Ended x s types) n request (read_within limit) whole_reply l c sent keeps (λ last d e before after other reply h replies. by_reply last reply (d ++ e ∷ []) h) where
   by_reply : (last : Request) (reply : Reply) (d : List Exchange) → Keeps x l d → Sound x s types l d (whole_reply last reply)
@@ -107,19 +112,48 @@ read_blob url answer (plan.Refuse e) = tt
 read_blob url answer plan.Judge = refused_plain url answer
 read_blob url answer (plan.Pour given own) = into_plain (both_compared given own answer.body) _ (into_plain (given_compared given answer.body) _ (given_plain given answer.body) (λ u. compared_plain own answer.body)) (λ u. tt)
 
+-- what is made of the reply to an attempt
+reply_sound : (x : Entry) (s : Settings) (types : List ℕ) (digest : List ℕ) (l : Memory) (last : Request) (reply : Reply) (d : List Exchange) → Keeps x l d → Sound x s types l d (blob_reply digest last reply)
+reply_sound x s types digest l last (Headed head) d h = plain_last x s types (unread_by (plan_of digest head)) l d (unread_blob (plan_of digest head)) h
+reply_sound x s types digest l last (Answered answer) d h = plain_last x s types (read_by last.url answer (plan_of digest (head_part answer))) l d (read_blob last.url answer (plan_of digest (head_part answer))) h
+reply_sound x s types digest l last Failed d h = safe_done x s (Ended x s types) l d (Err refusal.TransportFault) tt
+reply_sound x s types digest l last TooLong d h = safe_done x s (Ended x s types) l d (Err refusal.BodyTooLong) tt
+reply_sound x s types digest l last SinkFailed d h = safe_done x s (Ended x s types) l d (Err refusal.SinkFault) tt
+
 attempt_sound : (to : Destination) (x : Entry) (s : Settings) (types : List ℕ) (limit : ℕ) (digest : List ℕ) (request : Request) (l : Memory) (c : List Exchange) → Sent x s c request → Keeps x l c → Sound x s types l c (attempt to limit digest request)
 unfolding attempt
-attempt_sound to x s types limit digest request l c sent keeps = safe_follow x s (Ended x s types) 10 request (blob_reading to limit digest) (blob_reply digest) l c sent keeps (λ last d e before after other reply h replies. by_reply last reply (d ++ e ∷ []) h) where
-  by_reply : (last : Request) (reply : Reply) (d : List Exchange) → Keeps x l d → Sound x s types l d (blob_reply digest last reply)
-  by_reply last (Headed head) d h = plain_last x s types (unread_by (plan_of digest head)) l d (unread_blob (plan_of digest head)) h
-  by_reply last (Answered answer) d h = plain_last x s types (read_by last.url answer (plan_of digest (head_part answer))) l d (read_blob last.url answer (plan_of digest (head_part answer))) h
-  by_reply last Failed d h = safe_done x s (Ended x s types) l d (Err refusal.TransportFault) tt
-  by_reply last TooLong d h = safe_done x s (Ended x s types) l d (Err refusal.BodyTooLong) tt
-  by_reply last SinkFailed d h = safe_done x s (Ended x s types) l d (Err refusal.SinkFault) tt
+attempt_sound to x s types limit digest request l c sent keeps = safe_follow x s (Ended x s types) 10 request (blob_reading to limit digest) (blob_reply digest) l c sent keeps (λ last d e before after other reply h replies. reply_sound x s types digest l last reply (d ++ e ∷ []) h)
+
+-- what comes next may be asked after any exchanges
+headed_sound : (x : Entry) (s : Settings) (types : List ℕ) (digest : List ℕ) (next : Row (List ℕ)) (l : Memory) (last : Request) (head : AnswerHead) (d : List Exchange) (b : Bool) → Sound x s types l d next → Keeps x l d → Sound x s types l d (if b then next else blob_reply digest last (Headed head))
+headed_sound x s types digest next l last head d true rest h = rest
+headed_sound x s types digest next l last head d false rest h = reply_sound x s types digest l last (Headed head) d h
+
+offer_sound : (to : Destination) (x : Entry) (s : Settings) (types : List ℕ) (limit : ℕ) (digest : List ℕ) (next : Row (List ℕ)) (request : Request) (l : Memory) (c : List Exchange) → Sent x s c request → Keeps x l c → ((d : List Exchange) → Keeps x l d → Sound x s types l d next) → Sound x s types l c (offer to limit digest next request)
+unfolding offer
+offer_sound to x s types limit digest next request l c sent keeps rest = safe_follow x s (Ended x s types) 10 request (offer_reading to limit digest) (offer_reply digest next) l c sent keeps (λ last d e before after other reply h replies. by_reply last reply (d ++ e ∷ []) h) where
+  by_reply : (last : Request) (reply : Reply) (d : List Exchange) → Keeps x l d → Sound x s types l d (offer_reply digest next last reply)
+  by_reply last (Headed head) d h = headed_sound x s types digest next l last head d (is_error head.status) (rest d h) h
+  by_reply last (Answered answer) d h = reply_sound x s types digest l last (Answered answer) d h
+  by_reply last Failed d h = reply_sound x s types digest l last Failed d h
+  by_reply last TooLong d h = reply_sound x s types digest l last TooLong d h
+  by_reply last SinkFailed d h = reply_sound x s types digest l last SinkFailed d h
+
+-- a request at a listed URL, which shows no token
+place_ready : (x : Entry) (s : Settings) (p : Place) (l : Memory) (c : List Exchange) → Keeps x l c → Ready x s manifest_types l c (asked_at s p)
+unfolding asked_at
+place_ready x s (Web url) l c keeps = request_ready x s Get url manifest_types None l c keeps tt (request_of s Get url (Some manifest_types) None) refl
+place_ready x s (Unfit text) l c keeps = tt
+
+tried_sound : (to : Destination) (x : Entry) (s : Settings) (digest : List ℕ) (places : List Place) (request : Request) (l : Memory) (c : List Exchange) → Sent x s c request → Keeps x l c → Sound x s manifest_types l c (tried to s digest places request)
+unfolding tried
+tried_sound to x s digest [] request l c sent keeps = attempt_sound to x s manifest_types s.max_body_bytes digest request l c sent keeps
+tried_sound to x s digest (p ∷ ps) request l c sent keeps = offer_sound to x s manifest_types s.max_body_bytes digest (Done (asked_at s p) >>= (λ next. tried to s digest ps next)) request l c sent keeps
+    (λ d keeps. safe_ready x s manifest_types (Done (asked_at s p)) (λ next. tried to s digest ps next) l d (safe_done x s (Ready x s manifest_types) l d (asked_at s p) (place_ready x s p l d keeps)) (λ l d next keeps sent. tried_sound to x s digest ps next l d sent keeps))
 
 -- ---- calls
 
-document_sound : (s : Context) (image : Reference) (k : Memory) (handed : Option RegistryAuth) (url : Parts) (types : List ℕ) (l : Memory) (c : List Exchange) → Keeps (pulling k s image handed) l c → Sound (pulling k s image handed) s.settings types l c (document s image url types)
+pub document_sound : (s : Context) (image : Reference) (k : Memory) (handed : Option RegistryAuth) (url : Parts) (types : List ℕ) (l : Memory) (c : List Exchange) → Keeps (pulling k s image handed) l c → Sound (pulling k s image handed) s.settings types l c (document s image url types)
 unfolding document
 document_sound s image k handed url types l c keeps =
     let x = pulling k s image handed in
@@ -162,26 +196,26 @@ manifest_sound s image a k l c keeps =
     safe_next x s.settings manifest_types (pull_manifest_raw s image a manifest_types) _ l c (raw_sound s image a manifest_types k l c keeps) (λ l c found keeps.
     plain_step x s.settings manifest_types (document_read found.0) _ l c (read_document_plain found.0) (λ document is. plain_last x s.settings manifest_types (Ok (document, found.1)) l c tt keeps))
 
-pub blob_sound : (to : Destination) (s : Context) (image : Reference) (digest : List ℕ) (k : Memory) (handed : Option RegistryAuth) (l : Memory) (c : List Exchange) → Keeps (pulling k s image handed) l c → Sound (pulling k s image handed) s.settings manifest_types l c (blob_to to s image digest)
+pub blob_sound : (to : Destination) (s : Context) (image : Reference) (layer : Layer) (k : Memory) (handed : Option RegistryAuth) (l : Memory) (c : List Exchange) → Keeps (pulling k s image handed) l c → Sound (pulling k s image handed) s.settings manifest_types l c (blob_to to s image layer)
 unfolding blob_to
-blob_sound to s image digest k handed l c keeps =
+blob_sound to s image layer k handed l c keeps =
     let x = pulling k s image handed in
-    url_first x s.settings manifest_types (blob_text s.settings image digest) _ l c (λ url.
+    url_first x s.settings manifest_types (blob_text s.settings image layer) _ l c (λ url.
     safe_ready x s.settings manifest_types (prepared s image Pull Get url manifest_types) _ l c (prepared_safe x s.settings Get url manifest_types l c keeps) (λ l c request keeps sent.
-    attempt_sound to x s.settings manifest_types s.settings.max_body_bytes digest request l c sent keeps))
+    tried_sound to x s.settings layer.digest (places_of layer.urls) request l c sent keeps))
 
 layers_sound : (s : Context) (image : Reference) (xs : List OciDescriptor) (layers : List ImageLayer) (k : Memory) (handed : Option RegistryAuth) (l : Memory) (c : List Exchange) → Keeps (pulling k s image handed) l c → Sound (pulling k s image handed) s.settings manifest_types l c (pull_layers s image xs layers)
 unfolding pull_layers
 layers_sound s image [] layers k handed l c keeps = plain_last (pulling k s image handed) s.settings manifest_types (Ok layers) l c tt keeps
-layers_sound s image (x ∷ xs) layers k handed l c keeps = safe_next (pulling k s image handed) s.settings manifest_types (held_blob s image x.digest) _ l c (blob_sound IntoMemory s image x.digest k handed l c keeps) (λ l c content keeps. layers_sound s image xs (layers ++ layer_of x content ∷ []) k handed l c keeps)
+layers_sound s image (x ∷ xs) layers k handed l c keeps = safe_next (pulling k s image handed) s.settings manifest_types (held_blob s image (described x)) _ l c (blob_sound IntoMemory s image (described x) k handed l c keeps) (λ l c content keeps. layers_sound s image xs (layers ++ layer_of x content ∷ []) k handed l c keeps)
 
 -- ---- the document of an index's entry, in the image's repository
 
 same_keeps : (k : Memory) (s : Context) (image : Reference) (digest : List ℕ) (handed : Option RegistryAuth) (l : Memory) (c : List Exchange) → Keeps (pulling k s (entry_reference image digest) handed) l c → Keeps (pulling k s image handed) l c
-same_keeps k s image digest handed l c h = record { credentials = λ a is. h.credentials a is; tokens = λ token is. h.tokens token is; added = λ key moment token is. h.added key moment token is }
+same_keeps k s image digest handed l c h = record { credentials = λ a is. h.credentials a is; tokens = λ token is. h.tokens token is; added = λ key moment token is. h.added key moment token is; stored = λ registry a is. h.stored registry a is }
 
 other_keeps : (k : Memory) (s : Context) (image : Reference) (digest : List ℕ) (handed : Option RegistryAuth) (l : Memory) (c : List Exchange) → Keeps (pulling k s image handed) l c → Keeps (pulling k s (entry_reference image digest) handed) l c
-other_keeps k s image digest handed l c h = record { credentials = λ a is. h.credentials a is; tokens = λ token is. h.tokens token is; added = λ key moment token is. h.added key moment token is }
+other_keeps k s image digest handed l c h = record { credentials = λ a is. h.credentials a is; tokens = λ token is. h.tokens token is; added = λ key moment token is. h.added key moment token is; stored = λ registry a is. h.stored registry a is }
 
 same_cause : (k : Memory) (s : Context) (image : Reference) (digest : List ℕ) (handed : Option RegistryAuth) (types : List ℕ) (c : List Exchange) (e : OciDistributionError) → HeaderCause (pulling k s (entry_reference image digest) handed) s.settings types c e → HeaderCause (pulling k s image handed) s.settings types c e
 same_cause k s image digest handed types c (refusal.GenericError HeaderText) h = h
@@ -235,7 +269,7 @@ unfolding pull_manifest_and_config_and_list_digest
 config_sound s image a k l c keeps =
     let x = pulling k s image (Some a) in
     safe_next x s.settings manifest_types (pull_image_manifest_and_list_digest s image a) _ l c (found_sound s image a k l c keeps) (λ l c found keeps.
-    safe_next x s.settings manifest_types (held_blob s image found.0.config.digest) _ l c (blob_sound IntoMemory s image found.0.config.digest k (Some a) l c keeps) (λ l c content keeps.
+    safe_next x s.settings manifest_types (held_blob s image (described found.0.config)) _ l c (blob_sound IntoMemory s image (described found.0.config) k (Some a) l c keeps) (λ l c content keeps.
     plain_step x s.settings manifest_types (config_text content) _ l c (config_plain content) (λ config is. plain_last x s.settings manifest_types (Ok _) l c tt keeps)))
 
 pub text_sound : (s : Context) (image : Reference) (a : RegistryAuth) (k l : Memory) (c : List Exchange) → Keeps (pulling k s image (Some a)) l c → Sound (pulling k s image (Some a)) s.settings manifest_types l c (pull_manifest_and_config s image a)
@@ -249,6 +283,6 @@ unfolding pull
 image_sound s image a accepted k l c keeps =
     let x = pulling k s image (Some a) in
     safe_next x s.settings manifest_types (pull_image_manifest_and_list_digest s image a) _ l c (found_sound s image a k l c keeps) (λ l c found keeps.
-    safe_next x s.settings manifest_types (held_blob s image found.0.config.digest) _ l c (blob_sound IntoMemory s image found.0.config.digest k (Some a) l c keeps) (λ l c config keeps.
+    safe_next x s.settings manifest_types (held_blob s image (described found.0.config)) _ l c (blob_sound IntoMemory s image (described found.0.config) k (Some a) l c keeps) (λ l c config keeps.
     plain_step x s.settings manifest_types (layers_accepted accepted found.0.layers) _ l c (layers_plain accepted found.0.layers) (λ u is.
     safe_next x s.settings manifest_types (pull_layers s image found.0.layers []) _ l c (layers_sound s image found.0.layers [] k (Some a) l c keeps) (λ l c layers keeps. plain_last x s.settings manifest_types (Ok _) l c tt keeps))))

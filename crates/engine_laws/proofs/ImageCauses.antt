@@ -19,6 +19,7 @@ use Rattle.engine_requests.specs.declared.error.OciDistributionError.{OciDistrib
 use Rattle.engine_requests.specs.declared.error.OciDistributionError.TheVariants as refusal
 use Rattle.engine_requests.specs.Index.{config_text}
 use Rattle.engine_requests.specs.Requests.{manifest_types}
+use Rattle.engine_requests.specs.Sources.{described}
 use Rattle.engine_steps.specs.Blobs.{IntoMemory}
 use Rattle.engine_steps.specs.Rows.{Row}
 use Rattle.engine_pull.specs.Pulls.{held_blob}
@@ -26,7 +27,7 @@ use Rattle.engine_pull.specs.Manifests.{pull_image_manifest_and_list_digest, pul
 use Rattle.engine_pull.specs.Images.{is_accepted, all_accepted, layers_accepted, layer_of, config_of, pull_layers, pull}
 use Rattle.engine_pull.specs.declared.image.ImageData.{ImageData}
 use Rattle.engine_laws.specs.Answered.{LastBody}
-use Rattle.engine_laws.specs.Causes.{BlobUrl, ImageUrl, FoundUrl, FoundDigest, AnswerCause, DocumentCause, AskedDigest, ManifestRead, ReadDigest, ImageDigest, IndexCause, ConfigCause, ImageCause}
+use Rattle.engine_laws.specs.Causes.{BlobUrl, ImageUrl, FoundUrl, FoundDigest, AnswerCause, DocumentCause, AskedDigest, ManifestRead, ReadDescriptor, ImageDigest, IndexCause, ConfigCause, ImageCause}
 use Rattle.engine_laws.proofs.EarlyCauses.{AnyValue, Loose, LooseBlob}
 use Rattle.engine_laws.proofs.DocumentCauses.{cause_later}
 use Rattle.engine_laws.proofs.BlobAnswers.{Blob, blob_shows}
@@ -46,7 +47,7 @@ contains_rest x y xs h = (suc h.0, omega (arith, h.1), h.2)
 record OneRefused (s : Settings) (image : Reference) (xs : List OciDescriptor) (c : List Exchange) (now : ℕ) (e : OciDistributionError) : Type 0 where
   x : OciDescriptor
   contains : Contains xs x
-  cause : LooseBlob (BlobUrl s image x.digest) IntoMemory s x.digest c now e
+  cause : LooseBlob (BlobUrl s image (described x)) IntoMemory s x.digest c now e
 
 abbrev Layers : Settings → Reference → List OciDescriptor → ℕ → List Exchange → ℕ → OciDistributionError → Type 0
 Layers s image xs m c n e = OneRefused s image xs c n e
@@ -54,19 +55,19 @@ Layers s image xs m c n e = OneRefused s image xs c n e
 abbrev AnyLayers : ℕ → List Exchange → ℕ → List ImageLayer → Type 0
 AnyLayers m c n layers = Unit {0}
 
-first_where : (s : Settings) (image : Reference) (x : OciDescriptor) (xs : List OciDescriptor) (m n : ℕ) (c : List Exchange) (r : Result (List ℕ) OciDistributionError) → ByAnswer (λ m c n bytes. Unit {0}) (λ m c n e. LooseBlob (BlobUrl s image x.digest) IntoMemory s x.digest c n e) m c n r → ByAnswer (λ m c n bytes. Unit {0}) (Layers s image (x ∷ xs)) m c n r
+first_where : (s : Settings) (image : Reference) (x : OciDescriptor) (xs : List OciDescriptor) (m n : ℕ) (c : List Exchange) (r : Result (List ℕ) OciDistributionError) → ByAnswer (λ m c n bytes. Unit {0}) (λ m c n e. LooseBlob (BlobUrl s image (described x)) IntoMemory s x.digest c n e) m c n r → ByAnswer (λ m c n bytes. Unit {0}) (Layers s image (x ∷ xs)) m c n r
 first_where s image x xs m n c (Ok bytes) h = tt
 first_where s image x xs m n c (Err e) h = record { x = x; contains = contains_first x xs; cause = h }
 
 rest_where : (s : Settings) (image : Reference) (x : OciDescriptor) (xs : List OciDescriptor) (m start o : ℕ) (c d : List Exchange) (r : Result (List ImageLayer) OciDistributionError) → ByAnswer AnyLayers (Layers s image xs) start d o r → ByAnswer AnyLayers (Layers s image (x ∷ xs)) m (c ++ d) o r
 rest_where s image x xs m start o c d (Ok layers) h = tt
-rest_where s image x xs m start o c d (Err e) h = record { x = h.x; contains = contains_rest x h.x xs h.contains; cause = blob_later (BlobUrl s image h.x.digest) IntoMemory s h.x.digest o c d e h.cause }
+rest_where s image x xs m start o c d (Err e) h = record { x = h.x; contains = contains_rest x h.x xs h.contains; cause = blob_later (BlobUrl s image (described h.x)) IntoMemory s h.x.digest o c d e h.cause }
 
 layers_causes : (s : Context) (image : Reference) (xs : List OciDescriptor) (layers : List ImageLayer) → Shows (ByAnswer AnyLayers (Layers s.settings image xs)) (pull_layers s image xs layers)
 unfolding pull_layers
 layers_causes s image [] layers = Shows-done (ByAnswer AnyLayers (Layers s.settings image [])) (Ok layers) (λ m. tt)
-layers_causes s image (x ∷ xs) layers = Shows-each (λ m c n bytes. Unit {0}) AnyLayers (Layers s.settings image (x ∷ xs)) (held_blob s image x.digest) (λ content. pull_layers s image xs (layers ++ layer_of x content ∷ []))
-    (Shows-more (ByAnswer (λ m c n bytes. Unit {0}) (λ m c n e. LooseBlob (BlobUrl s.settings image x.digest) IntoMemory s.settings x.digest c n e)) (ByAnswer (λ m c n bytes. Unit {0}) (Layers s.settings image (x ∷ xs))) (held_blob s image x.digest) (blob_causes IntoMemory s image x.digest) (first_where s.settings image x xs))
+layers_causes s image (x ∷ xs) layers = Shows-each (λ m c n bytes. Unit {0}) AnyLayers (Layers s.settings image (x ∷ xs)) (held_blob s image (described x)) (λ content. pull_layers s image xs (layers ++ layer_of x content ∷ []))
+    (Shows-more (ByAnswer (λ m c n bytes. Unit {0}) (λ m c n e. LooseBlob (BlobUrl s.settings image (described x)) IntoMemory s.settings x.digest c n e)) (ByAnswer (λ m c n bytes. Unit {0}) (Layers s.settings image (x ∷ xs))) (held_blob s image (described x)) (blob_causes IntoMemory s image (described x)) (first_where s.settings image x xs))
     (λ m n c content h. Shows-more (ByAnswer AnyLayers (Layers s.settings image xs)) (λ start d o r. ByAnswer AnyLayers (Layers s.settings image (x ∷ xs)) m (c ++ d) o r) (pull_layers s image xs (layers ++ layer_of x content ∷ [])) (layers_causes s image xs (layers ++ layer_of x content ∷ [])) (λ start o d r g. rest_where s.settings image x xs m start o c d r g))
 
 -- ---- media types
@@ -95,34 +96,29 @@ RowCause s image accepted c now e = ImageCause AnyValue s image accepted c now e
 abbrev pub ConfigRow : Settings → Reference → List Exchange → ℕ → OciDistributionError → Type 0
 ConfigRow s image c now e = ConfigCause AnyValue s image c now e
 
--- the address of a blob that is pulled for the image
-blob_address : (s : Settings) (image : Reference) (c : List Exchange) (digest text : List ℕ) → ReadDigest c digest → BlobUrl s image digest text → ImageUrl s image c text
-blob_address s image c digest text has (inl is) = inl (inl (inl is))
-blob_address s image c digest text has (inr is) = inr (digest, has, is)
-
 -- a blob of the manifest was refused, in a call that an index may lead on
 abbrev BlobLed : Settings → Reference → List Exchange → ℕ → OciDistributionError → Type 0
 BlobLed s image c now e = IndexCause (ImageUrl s image c) (ImageDigest image c) AnyValue s c now e
 
 -- but for a fault of a sink
-blob_led : (s : Settings) (image : Reference) (c d : List Exchange) (digest : List ℕ) (now : ℕ) (e : OciDistributionError) → ReadDigest (c ++ d) digest → Loose (BlobUrl s image digest) (AnswerCause (AskedDigest digest)) s manifest_types d now e → BlobLed s image (c ++ d) now e
-blob_led s image c d digest now refusal.ImageIndexParsingNoPlatformResolverError has h = absurd h.holds
-blob_led s image c d digest now (refusal.ImageManifestNotFoundError text) has h = absurd h.holds
-blob_led s image c d digest now e has h = cause_later (BlobUrl s image digest) (ImageUrl s image (c ++ d)) (AnswerCause (AskedDigest digest)) (DocumentCause (ImageDigest image (c ++ d))) s manifest_types now c d e
-    (λ text is. blob_address s image (c ++ d) digest text has is)
-    (λ address answer g. answer_document (AskedDigest digest) (ImageDigest image (c ++ d)) address answer e (λ text is. inr (subst (ReadDigest (c ++ d)) (sym is) has)) g) h
+blob_led : (s : Settings) (image : Reference) (c d : List Exchange) (x : OciDescriptor) (now : ℕ) (e : OciDistributionError) → ReadDescriptor (c ++ d) x → Loose (BlobUrl s image (described x)) (AnswerCause (AskedDigest x.digest)) s manifest_types d now e → BlobLed s image (c ++ d) now e
+blob_led s image c d x now refusal.ImageIndexParsingNoPlatformResolverError has h = absurd h.holds
+blob_led s image c d x now (refusal.ImageManifestNotFoundError text) has h = absurd h.holds
+blob_led s image c d x now e has h = cause_later (BlobUrl s image (described x)) (ImageUrl s image (c ++ d)) (AnswerCause (AskedDigest x.digest)) (DocumentCause (ImageDigest image (c ++ d))) s manifest_types now c d e
+    (λ text is. inr (x, has, is))
+    (λ address answer g. answer_document (AskedDigest x.digest) (ImageDigest image (c ++ d)) address answer e (λ text is. inr (x, has, is)) g) h
 
 -- a blob of the manifest was refused
-blob_image : (s : Settings) (image : Reference) (accepted : List (List ℕ)) (c d : List Exchange) (digest : List ℕ) (now : ℕ) (e : OciDistributionError) → ReadDigest (c ++ d) digest → LooseBlob (BlobUrl s image digest) IntoMemory s digest d now e → RowCause s image accepted (c ++ d) now e
-blob_image s image accepted c d digest now refusal.SinkFault has h = h
-blob_image s image accepted c d digest now refusal.PullNoLayersError has h = absurd h.holds
-blob_image s image accepted c d digest now (refusal.IncompatibleLayerMediaTypeError kind) has h = absurd h.holds
-blob_image s image accepted c d digest now e has h = blob_led s image c d digest now e has h
+blob_image : (s : Settings) (image : Reference) (accepted : List (List ℕ)) (c d : List Exchange) (x : OciDescriptor) (now : ℕ) (e : OciDistributionError) → ReadDescriptor (c ++ d) x → LooseBlob (BlobUrl s image (described x)) IntoMemory s x.digest d now e → RowCause s image accepted (c ++ d) now e
+blob_image s image accepted c d x now refusal.SinkFault has h = h
+blob_image s image accepted c d x now refusal.PullNoLayersError has h = absurd h.holds
+blob_image s image accepted c d x now (refusal.IncompatibleLayerMediaTypeError kind) has h = absurd h.holds
+blob_image s image accepted c d x now e has h = blob_led s image c d x now e has h
 
-blob_config : (s : Settings) (image : Reference) (c d : List Exchange) (digest : List ℕ) (now : ℕ) (e : OciDistributionError) → ReadDigest (c ++ d) digest → LooseBlob (BlobUrl s image digest) IntoMemory s digest d now e → ConfigRow s image (c ++ d) now e
-blob_config s image c d digest now refusal.SinkFault has h = h
-blob_config s image c d digest now (refusal.GenericError ConfigNotText) has h = absurd h.holds
-blob_config s image c d digest now e has h = blob_led s image c d digest now e has h
+blob_config : (s : Settings) (image : Reference) (c d : List Exchange) (x : OciDescriptor) (now : ℕ) (e : OciDistributionError) → ReadDescriptor (c ++ d) x → LooseBlob (BlobUrl s image (described x)) IntoMemory s x.digest d now e → ConfigRow s image (c ++ d) now e
+blob_config s image c d x now refusal.SinkFault has h = h
+blob_config s image c d x now (refusal.GenericError ConfigNotText) has h = absurd h.holds
+blob_config s image c d x now e has h = blob_led s image c d x now e has h
 
 -- the manifest was
 led_on : (s : Settings) (image : Reference) (c : List Exchange) (now : ℕ) (e : OciDistributionError) → FoundLoose s image c now e → BlobLed s image c now e
@@ -153,13 +149,13 @@ layers_refused s image accepted c now manifest (x ∷ xs) e same read is =
     let other = one_other accepted (x ∷ xs) e is in
     subst (RowCause s image accepted c now) (sym other.refused) (record { manifest = manifest; read = read; layer = other.x; contains = subst (λ (xs : List OciDescriptor). Contains xs other.x) (sym same) other.contains; media_type = refl; other = other.other })
 
-config_where : (s : Settings) (image : Reference) (accepted : List (List ℕ)) (manifest : OciImageManifest) (m start o : ℕ) (c d : List Exchange) (r : Result (List ℕ) OciDistributionError) → ManifestRead c manifest → ByAnswer (λ m c n bytes. Unit {0}) (λ m c n e. LooseBlob (BlobUrl s image manifest.config.digest) IntoMemory s manifest.config.digest c n e) start d o r → ByAnswer (λ start d o bytes. Unit {0}) (λ start d o e. Refused s image accepted m (c ++ d) o e) start d o r
+config_where : (s : Settings) (image : Reference) (accepted : List (List ℕ)) (manifest : OciImageManifest) (m start o : ℕ) (c d : List Exchange) (r : Result (List ℕ) OciDistributionError) → ManifestRead c manifest → ByAnswer (λ m c n bytes. Unit {0}) (λ m c n e. LooseBlob (BlobUrl s image (described manifest.config)) IntoMemory s manifest.config.digest c n e) start d o r → ByAnswer (λ start d o bytes. Unit {0}) (λ start d o e. Refused s image accepted m (c ++ d) o e) start d o r
 config_where s image accepted manifest m start o c d (Ok bytes) read h = tt
-config_where s image accepted manifest m start o c d (Err e) read h = blob_image s image accepted c d manifest.config.digest o e (record { manifest = manifest; read = read_before d read; digest = inl refl }) h
+config_where s image accepted manifest m start o c d (Err e) read h = blob_image s image accepted c d manifest.config o e (record { manifest = manifest; read = read_before d read; is = inl refl }) h
 
 layers_where : (s : Settings) (image : Reference) (accepted : List (List ℕ)) (manifest : OciImageManifest) (m start o : ℕ) (c d : List Exchange) (r : Result (List ImageLayer) OciDistributionError) → ManifestRead c manifest → ByAnswer AnyLayers (Layers s image manifest.layers) start d o r → ByAnswer AnyLayers (λ start d o e. Refused s image accepted m (c ++ d) o e) start d o r
 layers_where s image accepted manifest m start o c d (Ok layers) read h = tt
-layers_where s image accepted manifest m start o c d (Err e) read h = blob_image s image accepted c d h.x.digest o e (record { manifest = manifest; read = read_before d read; digest = inr (h.x, h.contains, refl) }) h.cause
+layers_where s image accepted manifest m start o c d (Err e) read h = blob_image s image accepted c d h.x o e (record { manifest = manifest; read = read_before d read; is = inr h.contains }) h.cause
 
 assoc_where : (s : Settings) (image : Reference) (accepted : List (List ℕ)) (m o : ℕ) (c d f : List Exchange) (r : Result ImageData OciDistributionError) → ByAnswer AnyImage (Refused s image accepted) m ((c ++ d) ++ f) o r → ByAnswer AnyImage (Refused s image accepted) m (c ++ (d ++ f)) o r
 assoc_where s image accepted m o c d f (Ok x) h = tt
@@ -177,9 +173,9 @@ layers_part s image accepted manifest make m c read = Shows-step (λ start d o r
     (λ e is o. subst (λ x. Refused s.settings image accepted m x o e) (sym (append-nil c)) (layers_refused s.settings image accepted c o manifest manifest.layers e refl read is))
 
 config_part : (s : Context) (image : Reference) (accepted : List (List ℕ)) (manifest : OciImageManifest) (make : List ℕ → List ImageLayer → ImageData) (m : ℕ) (c : List Exchange) → ManifestRead c manifest
-    → Shows (λ start d o r. ByAnswer AnyImage (Refused s.settings image accepted) m (c ++ d) o r) (held_blob s image manifest.config.digest >>= λ config. Done (layers_accepted accepted manifest.layers) >> (pull_layers s image manifest.layers [] >>= λ layers. Done (Ok (make config layers))))
-config_part s image accepted manifest make m c read = Shows-each (λ start d o bytes. Unit {0}) (λ start d o x. Unit {0}) (λ start d o e. Refused s.settings image accepted m (c ++ d) o e) (held_blob s image manifest.config.digest) (λ config. Done (layers_accepted accepted manifest.layers) >> (pull_layers s image manifest.layers [] >>= λ layers. Done (Ok (make config layers))))
-    (Shows-more (ByAnswer (λ m c n bytes. Unit {0}) (λ m c n e. LooseBlob (BlobUrl s.settings image manifest.config.digest) IntoMemory s.settings manifest.config.digest c n e)) (ByAnswer (λ start d o bytes. Unit {0}) (λ start d o e. Refused s.settings image accepted m (c ++ d) o e)) (held_blob s image manifest.config.digest) (blob_causes IntoMemory s image manifest.config.digest) (λ start o d r h. config_where s.settings image accepted manifest m start o c d r read h))
+    → Shows (λ start d o r. ByAnswer AnyImage (Refused s.settings image accepted) m (c ++ d) o r) (held_blob s image (described manifest.config) >>= λ config. Done (layers_accepted accepted manifest.layers) >> (pull_layers s image manifest.layers [] >>= λ layers. Done (Ok (make config layers))))
+config_part s image accepted manifest make m c read = Shows-each (λ start d o bytes. Unit {0}) (λ start d o x. Unit {0}) (λ start d o e. Refused s.settings image accepted m (c ++ d) o e) (held_blob s image (described manifest.config)) (λ config. Done (layers_accepted accepted manifest.layers) >> (pull_layers s image manifest.layers [] >>= λ layers. Done (Ok (make config layers))))
+    (Shows-more (ByAnswer (λ m c n bytes. Unit {0}) (λ m c n e. LooseBlob (BlobUrl s.settings image (described manifest.config)) IntoMemory s.settings manifest.config.digest c n e)) (ByAnswer (λ start d o bytes. Unit {0}) (λ start d o e. Refused s.settings image accepted m (c ++ d) o e)) (held_blob s image (described manifest.config)) (blob_causes IntoMemory s image (described manifest.config)) (λ start o d r h. config_where s.settings image accepted manifest m start o c d r read h))
     (λ start n d config h. Shows-more (λ st f o r. ByAnswer AnyImage (Refused s.settings image accepted) m ((c ++ d) ++ f) o r) (λ st f o r. ByAnswer (λ start d o x. Unit {0}) (λ start d o e. Refused s.settings image accepted m (c ++ d) o e) start (d ++ f) o r) (Done (layers_accepted accepted manifest.layers) >> (pull_layers s image manifest.layers [] >>= λ layers. Done (Ok (make config layers))))
     (layers_part s image accepted manifest (make config) m (c ++ d) (read_before d read)) (λ st o f r g. assoc_where s.settings image accepted m o c d f r g))
 
@@ -191,7 +187,7 @@ found_where s image accepted m n c (Err e) h = found_image s image accepted c n 
 pub image_causes : (s : Context) (image : Reference) (a : RegistryAuth) (accepted : List (List ℕ)) → Shows (ByAnswer (λ m c n found. Unit {0}) (λ m c n e. RowCause s.settings image accepted c n e)) (pull s image a accepted)
 unfolding pull image_of
 image_causes s image a accepted = Shows-each (λ m c n found. ManifestRead c found.0) AnyImage (Refused s.settings image accepted) (pull_image_manifest_and_list_digest s image a)
-    (λ found. held_blob s image found.0.config.digest >>= λ config. Done (layers_accepted accepted found.0.layers) >> (pull_layers s image found.0.layers [] >>= λ layers. Done (Ok (image_of found.0 found.1 config layers))))
+    (λ found. held_blob s image (described found.0.config) >>= λ config. Done (layers_accepted accepted found.0.layers) >> (pull_layers s image found.0.layers [] >>= λ layers. Done (Ok (image_of found.0 found.1 config layers))))
     (Shows-more (ByAnswer (λ m c n found. ManifestRead c found.0) (FoundRefused s.settings image)) (ByAnswer (λ m c n found. ManifestRead c found.0) (Refused s.settings image accepted)) (pull_image_manifest_and_list_digest s image a) (found_causes s image a) (λ m n c r h. found_where s.settings image accepted m n c r h))
     (λ m n c found read. config_part s image accepted found.0 (image_of found.0 found.1) m c read)
 
@@ -215,18 +211,18 @@ text_refused : (s : Settings) (image : Reference) (now : ℕ) (c : List Exchange
 text_refused s image now c content e true said last is = absurd (cc is)
 text_refused s image now c content e false said last is = let same : refusal.GenericError ConfigNotText ≡ e = cc is in subst (ConfigRow s image c now) same (content, last, said)
 
-content_where : (s : Settings) (image : Reference) (manifest : OciImageManifest) (m start o : ℕ) (c d : List Exchange) (r : Result (List ℕ) OciDistributionError) → ManifestRead c manifest → ByAnswer (λ m c n bytes. Blob manifest.config.digest c bytes) (λ m c n e. LooseBlob (BlobUrl s image manifest.config.digest) IntoMemory s manifest.config.digest c n e) start d o r → ByAnswer (λ start d o bytes. LastBody (c ++ d) bytes) (λ start d o e. ConfigRefused s image m (c ++ d) o e) start d o r
+content_where : (s : Settings) (image : Reference) (manifest : OciImageManifest) (m start o : ℕ) (c d : List Exchange) (r : Result (List ℕ) OciDistributionError) → ManifestRead c manifest → ByAnswer (λ m c n bytes. Blob manifest.config.digest c bytes) (λ m c n e. LooseBlob (BlobUrl s image (described manifest.config)) IntoMemory s manifest.config.digest c n e) start d o r → ByAnswer (λ start d o bytes. LastBody (c ++ d) bytes) (λ start d o e. ConfigRefused s image m (c ++ d) o e) start d o r
 content_where s image manifest m start o c d (Ok bytes) read h = last_body_after c h.2
-content_where s image manifest m start o c d (Err e) read h = blob_config s image c d manifest.config.digest o e (record { manifest = manifest; read = read_before d read; digest = inl refl }) h
+content_where s image manifest m start o c d (Err e) read h = blob_config s image c d manifest.config o e (record { manifest = manifest; read = read_before d read; is = inl refl }) h
 
 abbrev AnyText : ℕ → List Exchange → ℕ → OciImageManifest × List ℕ × List ℕ × Option (List ℕ) → Type 0
 AnyText m c n x = Unit {0}
 
 content_part : (s : Context) (image : Reference) (found : OciImageManifest × List ℕ × Option (List ℕ)) (m : ℕ) (c : List Exchange) → ManifestRead c found.0
-    → Shows (λ start d o r. ByAnswer AnyText (ConfigRefused s.settings image) m (c ++ d) o r) (held_blob s image found.0.config.digest >>= λ content. Done (config_text content) >>= λ config. Done (Ok (found.0, found.1, config, found.2)))
-content_part s image found m c read = Shows-each (λ start d o bytes. LastBody (c ++ d) bytes) AnyText (λ start d o e. ConfigRefused s.settings image m (c ++ d) o e) (held_blob s image found.0.config.digest) (λ content. Done (config_text content) >>= λ config. Done (Ok (found.0, found.1, config, found.2)))
-    (Shows-more (ByAnswer (λ m c n bytes. Blob found.0.config.digest c bytes) (λ m c n e. LooseBlob (BlobUrl s.settings image found.0.config.digest) IntoMemory s.settings found.0.config.digest c n e)) (ByAnswer (λ start d o bytes. LastBody (c ++ d) bytes) (λ start d o e. ConfigRefused s.settings image m (c ++ d) o e)) (held_blob s image found.0.config.digest)
-    (shows_both (λ m c n bytes. Blob found.0.config.digest c bytes) (λ m c n e. LooseBlob (BlobUrl s.settings image found.0.config.digest) IntoMemory s.settings found.0.config.digest c n e) (held_blob s image found.0.config.digest) (blob_shows IntoMemory s image found.0.config.digest) (blob_causes IntoMemory s image found.0.config.digest))
+    → Shows (λ start d o r. ByAnswer AnyText (ConfigRefused s.settings image) m (c ++ d) o r) (held_blob s image (described found.0.config) >>= λ content. Done (config_text content) >>= λ config. Done (Ok (found.0, found.1, config, found.2)))
+content_part s image found m c read = Shows-each (λ start d o bytes. LastBody (c ++ d) bytes) AnyText (λ start d o e. ConfigRefused s.settings image m (c ++ d) o e) (held_blob s image (described found.0.config)) (λ content. Done (config_text content) >>= λ config. Done (Ok (found.0, found.1, config, found.2)))
+    (Shows-more (ByAnswer (λ m c n bytes. Blob found.0.config.digest c bytes) (λ m c n e. LooseBlob (BlobUrl s.settings image (described found.0.config)) IntoMemory s.settings found.0.config.digest c n e)) (ByAnswer (λ start d o bytes. LastBody (c ++ d) bytes) (λ start d o e. ConfigRefused s.settings image m (c ++ d) o e)) (held_blob s image (described found.0.config))
+    (shows_both (λ m c n bytes. Blob found.0.config.digest c bytes) (λ m c n e. LooseBlob (BlobUrl s.settings image (described found.0.config)) IntoMemory s.settings found.0.config.digest c n e) (held_blob s image (described found.0.config)) (blob_shows IntoMemory s image (described found.0.config)) (blob_causes IntoMemory s image (described found.0.config)))
     (λ start o d r h. content_where s.settings image found.0 m start o c d r read h))
     (λ start n d content last. Shows-step (λ st f o r. ByAnswer AnyText (λ start d o e. ConfigRefused s.settings image m (c ++ d) o e) start (d ++ f) o r) (config_text content) (λ config. Done (Ok (found.0, found.1, config, found.2)))
     (λ config is. Shows-done (λ st f o r. ByAnswer AnyText (λ start d o e. ConfigRefused s.settings image m (c ++ d) o e) start (d ++ f) o r) (Ok (found.0, found.1, config, found.2)) (λ o. tt))
@@ -238,7 +234,7 @@ first_config s image m n c (Err e) h = found_config s image c n e h
 
 pub config_causes : (s : Context) (image : Reference) (a : RegistryAuth) → Shows (ByAnswer (λ m c n found. Unit {0}) (λ m c n e. ConfigRow s.settings image c n e)) (pull_manifest_and_config_and_list_digest s image a)
 unfolding pull_manifest_and_config_and_list_digest
-config_causes s image a = Shows-each (λ m c n found. ManifestRead c found.0) AnyText (ConfigRefused s.settings image) (pull_image_manifest_and_list_digest s image a) (λ found. held_blob s image found.0.config.digest >>= λ content. Done (config_text content) >>= λ config. Done (Ok (found.0, found.1, config, found.2)))
+config_causes s image a = Shows-each (λ m c n found. ManifestRead c found.0) AnyText (ConfigRefused s.settings image) (pull_image_manifest_and_list_digest s image a) (λ found. held_blob s image (described found.0.config) >>= λ content. Done (config_text content) >>= λ config. Done (Ok (found.0, found.1, config, found.2)))
     (Shows-more (ByAnswer (λ m c n found. ManifestRead c found.0) (FoundRefused s.settings image)) (ByAnswer (λ m c n found. ManifestRead c found.0) (ConfigRefused s.settings image)) (pull_image_manifest_and_list_digest s image a) (found_causes s image a) (λ m n c r h. first_config s.settings image m n c r h))
     (λ m n c found read. content_part s image found m c read)
 

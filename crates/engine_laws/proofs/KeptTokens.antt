@@ -4,7 +4,8 @@ use Rattle.std.specs.Prelude.{is_some, nat_le, if◌then◌else◌, option_and_t
 use Rattle.std.specs.Option.{option_map_or}
 use Rattle.std.specs.FinMap as map
 use Rattle.std.specs.FinMap.{FinMap, get-insert}
-use Rattle.std.specs.Cmp.Lexicographic.{nat_list_cmp_total}
+use Rattle.std.specs.Ordering.{eq_by_cmp}
+use Rattle.std.specs.Cmp.Lexicographic.{nat_list_cmp_total, texts_ties, same_text}
 use Rattle.json_values.specs.Places.{by_bytes}
 use Rattle.oci_transport.specs.declared.message.Exchange.{Exchange}
 use Rattle.oci_names.specs.References.{resolved_registry}
@@ -18,7 +19,7 @@ use Rattle.oci_auth.specs.declared.memory.Memory.{Memory}
 use Rattle.oci_auth.specs.declared.token_type.RegistryTokenType.{RegistryTokenType}
 use Rattle.oci_auth.proofs.Places.{is_kept, same_key, under_itself}
 use Rattle.engine_steps.specs.Rows.{with_kept}
-use Rattle.engine_laws.specs.Confined.{KeptOrAdded, KeptWell}
+use Rattle.engine_laws.specs.Confined.{KeptOrAdded, KeptWell, StoredOrHanded, StoredWell}
 use Rattle.engine_laws.specs.Held.{Entry, IsAuth, GivenIn, IsHeld}
 
 -- what is kept after these exchanges
@@ -26,10 +27,11 @@ pub record Keeps (x : Entry) (l : Memory) (c : List Exchange) : Type 0 where
   pub credentials : (a : RegistryAuth) → map.get l.credentials (resolved_registry x.image) ≡ Some a → IsAuth x a
   pub tokens : (token : RegistryTokenType) → token_at l.tokens (key_of x.image x.operation) x.moment ≡ Some token → IsHeld x c token
   pub added : KeptWell x l c
+  pub stored : StoredWell x l
 
 -- at the beginning
 pub keeps_first : (x : Entry) → Keeps x x.kept []
-keeps_first x = record { credentials = λ a is. inl is; tokens = λ token is. inr (inl is); added = λ key moment token is. inl is }
+keeps_first x = record { credentials = λ a is. inl is; tokens = λ token is. inr (inl is); added = λ key moment token is. inl is; stored = λ registry a is. inl is }
 
 -- what may be shown stays so
 given_more : (c d : List Exchange) (token : RegistryTokenType) → GivenIn c token → GivenIn (c ++ d) token
@@ -45,7 +47,7 @@ added_more x c d key moment token (inl h) = inl h
 added_more x c d key moment token (inr h) = inr (h.0, held_more x c d token h.1)
 
 pub keeps_more : (x : Entry) (l : Memory) (c d : List Exchange) → Keeps x l c → Keeps x l (c ++ d)
-keeps_more x l c d k = record { credentials = k.credentials; tokens = λ token is. held_more x c d token (k.tokens token is); added = λ key moment token is. added_more x c d key moment token (k.added key moment token is) }
+keeps_more x l c d k = record { credentials = k.credentials; tokens = λ token is. held_more x c d token (k.tokens token is); added = λ key moment token is. added_more x c d key moment token (k.added key moment token is); stored = k.stored }
 
 -- ---- credentials are stored
 
@@ -56,12 +58,22 @@ by_key x false a other found handed before is = before is
 into_map : (x : Entry) (m : FinMap by_bytes RegistryAuth) (registry : List ℕ) (a other : RegistryAuth) → x.handed ≡ Some a → (map.get m (resolved_registry x.image) ≡ Some other → IsAuth x other) → map.get (map.insert m registry a) (resolved_registry x.image) ≡ Some other → IsAuth x other
 into_map x m registry a other handed before is = by_key x _ a other (map.get m (resolved_registry x.image)) handed before (sym (get-insert nat_list_cmp_total m registry a (resolved_registry x.image)) ∙ is)
 
-stored_by : (x : Entry) (l : Memory) (c : List Exchange) (registry : List ℕ) (a : RegistryAuth) (b : Bool) → x.handed ≡ Some a → Keeps x l c → Keeps x (if b then l else record l { credentials = map.insert l.credentials registry a }) c
-stored_by x l c registry a true handed k = k
-stored_by x l c registry a false handed k = record { credentials = λ other is. into_map x l.credentials registry a other handed (k.credentials other) is; tokens = k.tokens; added = k.added }
+-- those under another registry are what they were
+into_stored : (x : Entry) (found : Option RegistryAuth) (registry key : List ℕ) (a other : RegistryAuth) (b : Bool) → eq_by_cmp by_bytes key registry ≡ b → x.handed ≡ Some a → registry ≡ resolved_registry x.image → (found ≡ Some other → StoredOrHanded x key other) → cond b (Some a) found ≡ Some other → StoredOrHanded x key other
+into_stored x found registry key a other true tied handed own before is = let same : a ≡ other = cc is in inr (same_text key registry (sym (texts_ties key registry ∙ tied)) ∙ own, handed ∙ ap Some same)
+into_stored x found registry key a other false tied handed own before is = before is
 
-pub keeps_stored : (x : Entry) (l : Memory) (c : List Exchange) (registry : List ℕ) (a : RegistryAuth) → x.handed ≡ Some a → Keeps x l c → Keeps x (stored l registry a) c
-keeps_stored x l c registry a handed k = stored_by x l c registry a (is_some (map.get l.credentials registry)) handed k
+stored_by : (x : Entry) (l : Memory) (c : List Exchange) (registry : List ℕ) (a : RegistryAuth) (b : Bool) → x.handed ≡ Some a → registry ≡ resolved_registry x.image → Keeps x l c → Keeps x (if b then l else record l { credentials = map.insert l.credentials registry a }) c
+stored_by x l c registry a true handed own k = k
+stored_by x l c registry a false handed own k = record {
+  credentials = λ other is. into_map x l.credentials registry a other handed (k.credentials other) is;
+  tokens = k.tokens;
+  added = k.added;
+  stored = λ key other is. into_stored x (map.get l.credentials key) registry key a other (eq_by_cmp by_bytes key registry) refl handed own (k.stored key other) (sym (get-insert nat_list_cmp_total l.credentials registry a key) ∙ is);
+}
+
+pub keeps_stored : (x : Entry) (l : Memory) (c : List Exchange) (a : RegistryAuth) → x.handed ≡ Some a → Keeps x l c → Keeps x (stored l (resolved_registry x.image) a) c
+keeps_stored x l c a handed k = stored_by x l c (resolved_registry x.image) a (is_some (map.get l.credentials (resolved_registry x.image))) handed refl k
 
 -- ---- a token is kept
 
@@ -99,4 +111,4 @@ cache_added x cache c token other None moment key held before is = before is
 cache_added x cache c token other (Some until) moment key held before is = added_by x cache c token other until moment key (is_under key (kept_token (key_of x.image x.operation) token until)) refl held before is
 
 pub keeps_kept : (x : Entry) (l : Memory) (c : List Exchange) (token : RegistryTokenType) → IsHeld x c token → Keeps x l c → Keeps x (with_kept l (key_of x.image x.operation) token x.moment) c
-keeps_kept x l c token held k = record { credentials = k.credentials; tokens = λ other is. cache_by x l.tokens c token other (kept_until token l.tokens.default_expiration_secs x.moment) held (k.tokens other) is; added = λ key moment other is. cache_added x l.tokens c token other (kept_until token l.tokens.default_expiration_secs x.moment) moment key held (k.added key moment other) is }
+keeps_kept x l c token held k = record { credentials = k.credentials; tokens = λ other is. cache_by x l.tokens c token other (kept_until token l.tokens.default_expiration_secs x.moment) held (k.tokens other) is; added = λ key moment other is. cache_added x l.tokens c token other (kept_until token l.tokens.default_expiration_secs x.moment) moment key held (k.added key moment other) is; stored = k.stored }

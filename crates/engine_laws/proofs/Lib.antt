@@ -17,8 +17,15 @@ pub mod HeaderCauses
 pub mod ImageCauses
 pub mod KeptTokens
 pub mod ManifestCauses
+pub mod Offering
 pub mod PlainRefusals
 pub mod PreparedRequests
+pub mod ReferrersAnswers
+pub mod ReferrersCauses
+pub mod ReferrersConfined
+pub mod ReferrersPlain
+pub mod ReferrersSound
+pub mod RunParts
 pub mod SafeKeeps
 pub mod SafeMore
 pub mod ShownTokens

@@ -95,7 +95,7 @@ last_unread T Given s types now c e kind h = absurd kind
 of_read : (body : List ℕ) (e : OciDistributionError) → document_read body ≡ Err e → IsOfDocument e
 of_read body e is = let P : Result OciManifest OciDistributionError → Type 0 = OfDocument in subst P is (read_of_document body)
 
-document_refused : (T : List ℕ → Type 0) (Given : List ℕ → Type 0) (s : Settings) (types : List ℕ) (now : ℕ) (c : List Exchange) (bytes : List ℕ) (e : OciDistributionError) → Accepted c bytes → document_read bytes ≡ Err e → Loose T (DocumentCause Given) s types c now e
+pub document_refused : (T : List ℕ → Type 0) (Given : List ℕ → Type 0) (s : Settings) (types : List ℕ) (now : ℕ) (c : List Exchange) (bytes : List ℕ) (e : OciDistributionError) → Accepted c bytes → document_read bytes ≡ Err e → Loose T (DocumentCause Given) s types c now e
 document_refused T Given s types now c bytes e last is =
     let kind = of_read bytes e is in
     last_unread T Given s types now c e kind (last_later (λ address answer. DocumentCause Given address answer e) [] (λ address answer h. unread_cause Given address answer e kind (h.0, ap document_read (sym h.1) ∙ is)) last)
@@ -135,7 +135,7 @@ ReadLast c document = ByLast (λ address answer. document_read answer.body ≡ O
 abbrev pub ManifestCause : Settings → Reference → ℕ → List Exchange → ℕ → OciDistributionError → Type 0
 ManifestCause s image m c n e = Loose (ManifestUrl s image) (DocumentCause (OwnDigest image)) s manifest_types c n e
 
-raw_where : (s : Settings) (image : Reference) (m n : ℕ) (c : List Exchange) (r : Result (List ℕ × List ℕ) OciDistributionError) → ByAnswer (λ m c n found. Accepted c found.0) (OwnCause s image manifest_types) m c n r → ByAnswer (λ m c n found. Accepted c found.0) (ManifestCause s image) m c n r
+pub raw_where : (s : Settings) (image : Reference) (m n : ℕ) (c : List Exchange) (r : Result (List ℕ × List ℕ) OciDistributionError) → ByAnswer (λ m c n found. Accepted c found.0) (OwnCause s image manifest_types) m c n r → ByAnswer (λ m c n found. Accepted c found.0) (ManifestCause s image) m c n r
 raw_where s image m n c (Ok found) h = h
 raw_where s image m n c (Err e) h = cause_later (ManifestUrl s image) (ManifestUrl s image) (AnswerCause (OwnDigest image)) (DocumentCause (OwnDigest image)) s manifest_types n [] c e (λ text h. h) (λ address answer h. answer_document (OwnDigest image) (OwnDigest image) address answer e (λ text h. h) h) h
 

@@ -89,7 +89,7 @@ one_plain : (body : List ℕ) (o : Option OciManifest) → Plain (or_unread body
 one_plain body None = tt
 one_plain body (Some document) = tt
 
-tables_plain : (body : List ℕ) → Plain (tables_read body (plain_of (json_of body)))
+pub tables_plain : (body : List ℕ) → Plain (tables_read body (plain_of (json_of body)))
 tables_plain body =
     elim (plain_of (json_of body)) as (λ o. Plain (tables_read body o)) [
       | None ↦ tt

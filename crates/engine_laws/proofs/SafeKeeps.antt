@@ -16,7 +16,7 @@ Lasts {K} I = (k : K) (c d : List Exchange) → I k c → I k (c ++ d)
 ends_here : {K : Type 0} (I : K → List Exchange → Type 0) (k l : K) (seen : List Exchange) → k ≡ l → I k seen → I l (seen ++ [])
 ends_here I k l seen same i = subst (I l) (sym (append-nil seen)) (subst (λ k. I k seen) same i)
 
-Runs-keeps : {K A : Type 0} (P : K → List Exchange → Request → Type 0) (I : K → List Exchange → Type 0) (Q : K → List Exchange → A → Type 0) (p : Proto K A) (k l : K) (m n : ℕ) (seen c : List Exchange) (a : A) → Lasts I → I k seen → Safe P I Q k seen p → Runs p k m c n l a → I l (seen ++ c)
+pub Runs-keeps : {K A : Type 0} (P : K → List Exchange → Request → Type 0) (I : K → List Exchange → Type 0) (Q : K → List Exchange → A → Type 0) (p : Proto K A) (k l : K) (m n : ℕ) (seen c : List Exchange) (a : A) → Lasts I → I k seen → Safe P I Q k seen p → Runs p k m c n l a → I l (seen ++ c)
 unfolding Safe Runs
 Runs-keeps P I Q (Done x) k l m n seen [] a lasts i h r = ends_here I k l seen r.1 i
 Runs-keeps P I Q (Done x) k l m n seen (e ∷ c) a lasts i h r = absurd r
@@ -25,7 +25,7 @@ Runs-keeps P I Q (Ask request reading next) k l m n seen (e ∷ c) a lasts i h r
 Runs-keeps P I Q (Recall next) k l m n seen c a lasts i h r = Runs-keeps P I Q (next k) k l m n seen c a lasts i h r
 Runs-keeps P I Q (Keep kept rest) k l m n seen c a lasts i h r = Runs-keeps P I Q rest kept l m n seen c a lasts h.0 h.1 r
 
-Stops-keeps : {K A : Type 0} (P : K → List Exchange → Request → Type 0) (I : K → List Exchange → Type 0) (Q : K → List Exchange → A → Type 0) (p : Proto K A) (k l : K) (m : ℕ) (seen c : List Exchange) → Lasts I → I k seen → Safe P I Q k seen p → Stops p k m c l → I l (seen ++ c)
+pub Stops-keeps : {K A : Type 0} (P : K → List Exchange → Request → Type 0) (I : K → List Exchange → Type 0) (Q : K → List Exchange → A → Type 0) (p : Proto K A) (k l : K) (m : ℕ) (seen c : List Exchange) → Lasts I → I k seen → Safe P I Q k seen p → Stops p k m c l → I l (seen ++ c)
 unfolding Safe Stops
 Stops-keeps P I Q (Done x) k l m seen [] lasts i h s = ends_here I k l seen s i
 Stops-keeps P I Q (Done x) k l m seen (e ∷ c) lasts i h s = absurd s
@@ -35,6 +35,14 @@ Stops-keeps P I Q (Ask request reading next) k l m seen (e ∷ c) lasts i h (inr
 Stops-keeps P I Q (Recall next) k l m seen c lasts i h s = Stops-keeps P I Q (next k) k l m seen c lasts i h s
 Stops-keeps P I Q (Keep kept rest) k l m seen c lasts i h (inl s) = lasts l seen c (subst (λ k. I k seen) s.1 i)
 Stops-keeps P I Q (Keep kept rest) k l m seen c lasts i h (inr s) = Stops-keeps P I Q rest kept l m seen c lasts h.0 h.1 s
+
+-- and it is so of each answer
+pub Safe-keeps : {K A : Type 0} (P : K → List Exchange → Request → Type 0) (I : K → List Exchange → Type 0) (Q : K → List Exchange → A → Type 0) (p : Proto K A) (k : K) (seen : List Exchange) → Lasts I → I k seen → Safe P I Q k seen p → Safe P I (λ l c a. I l c × Q l c a) k seen p
+unfolding Safe
+Safe-keeps P I Q (Done x) k seen lasts i h = (i, h)
+Safe-keeps P I Q (Ask request reading next) k seen lasts i h = (h.0, λ e before after reply r. Safe-keeps P I Q (next reply) k (seen ++ e ∷ []) lasts (lasts k seen (e ∷ []) i) (h.1 e before after reply r))
+Safe-keeps P I Q (Recall next) k seen lasts i h = Safe-keeps P I Q (next k) k seen lasts i h
+Safe-keeps P I Q (Keep kept rest) k seen lasts i h = (h.0, Safe-keeps P I Q rest kept seen lasts h.0 h.1)
 
 -- so it is of a call's requests and of what is kept after it, whatever it answered
 pub Meets-within : {K A E : Type 0} {of_memory : E → Bool} (P : List Exchange → Request → Type 0) (I : K → List Exchange → Type 0) (Q : K → List Exchange → Result A E → Type 0) (R : List Exchange → Type 0) {p : Proto K (Result A E)} {old new : Link} {k l : K} {r : Result A E} → Lasts I → I k []

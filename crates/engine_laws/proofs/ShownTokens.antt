@@ -394,7 +394,7 @@ shown_at : (x : Entry) (s : Settings) (url : Parts) (c : List Exchange) (token :
 shown_at x s url c None shown = tt
 shown_at x s url c (Some token) shown = shown.1
 
-request_ready : (x : Entry) (s : Settings) (method : Method) (url : Parts) (types : List ℕ) (token : Option RegistryTokenType) (l : Memory) (c : List Exchange) → Keeps x l c → MayShowAt x s url c token → (r : Result Request OciDistributionError) → request_of s method url (Some types) token ≡ r → Ready x s types l c r
+pub request_ready : (x : Entry) (s : Settings) (method : Method) (url : Parts) (types : List ℕ) (token : Option RegistryTokenType) (l : Memory) (c : List Exchange) → Keeps x l c → MayShowAt x s url c token → (r : Result Request OciDistributionError) → request_of s method url (Some types) token ≡ r → Ready x s types l c r
 request_ready x s method url types token l c keeps shown (Ok request) is = (keeps, subst (Each (SentValue x s c request)) (sym (request_values s method url (Some types) token request is)) (sent_by x s url c request token (request_url_is s method url (Some types) token request is) shown))
 request_ready x s method url types token l c keeps shown (Err e) is = by_cause e (bad_request x s method url types token c e (shown_at x s url c token shown) is) where
   by_cause : (e : OciDistributionError) → BadHeader x s types c → HeaderCause x s types c e
@@ -420,7 +420,7 @@ safe_ready x s types p f l c h each = Safe-bind (Carries x s) (Keeps x) (Ready x
 -- credentials that are handed in are stored
 pub store_safe : (x : Entry) (s : Settings) (types : List ℕ) (a : RegistryAuth) (l : Memory) (c : List Exchange) → x.handed ≡ Some a → Keeps x l c → Safe (Carries x s) (Keeps x) (Ended x s types) l c (store x.image a)
 unfolding store Safe bind
-store_safe x s types a l c handed keeps = let kept = keeps_stored x l c (resolved_registry x.image) a handed keeps in (kept, kept)
+store_safe x s types a l c handed keeps = let kept = keeps_stored x l c a handed keeps in (kept, kept)
 
 -- a step with no request, whose refusal is another one
 pub plain_step : {A B : Type 0} (x : Entry) (s : Settings) (types : List ℕ) (r : Result A OciDistributionError) (f : A → Row B) (l : Memory) (c : List Exchange) → Plain r → ((a : A) → r ≡ Ok a → Safe (Carries x s) (Keeps x) (Ended x s types) l c (f a)) → Safe (Carries x s) (Keeps x) (Ended x s types) l c (Done r >>= f)

@@ -37,6 +37,8 @@ use Rattle.engine_requests.specs.Addresses.{registry_text, manifest_text, blob_t
 use Rattle.engine_requests.specs.Answers.{is_success, is_client_error, envelope_in, header_digest}
 use Rattle.engine_requests.specs.Errors.{is_memory}
 use Rattle.engine_requests.specs.Documents.{document_read}
+use Rattle.engine_requests.specs.Sources.{Layer, described, place_of}
+use Rattle.engine_requests.specs.declared.sources.Place.TheVariants.{Unfit}
 use Rattle.engine_steps.specs.Blobs.{Destination, IntoSink, IntoMemory}
 use Rattle.engine_requests.specs.Index.{entry_reference}
 use Rattle.engine_pull.specs.Images.{is_accepted}
@@ -185,9 +187,14 @@ Cause Text Of Bad s c now e = ByLast (λ address answer. Of address answer e) c
 abbrev pub ManifestUrl : Settings → Reference → List ℕ → Type 0
 ManifestUrl s image text = (text ≡ registry_text s image) ⊎ (text ≡ manifest_text s image)
 
--- the address of the registry, or of the blob
-abbrev pub BlobUrl : Settings → Reference → List ℕ → List ℕ → Type 0
-BlobUrl s image digest text = (text ≡ registry_text s image) ⊎ (text ≡ blob_text s image digest)
+-- a URL that is listed and not asked: it does not read, or it has a user name or a password
+abbrev pub UnfitUrl : List (List ℕ) → List ℕ → Type 0
+UnfitUrl urls text = Contains urls text × (place_of text ≡ Some (Unfit text))
+
+-- the address of the registry, or of the blob, or such a URL of its descriptor
+abbrev pub BlobUrl : Settings → Reference → Layer → List ℕ → Type 0
+BlobUrl s image layer text = (text ≡ registry_text s image) ⊎ ((text ≡ blob_text s image layer.digest)
+    ⊎ UnfitUrl layer.urls text)
 
 -- the digest that a reference has
 abbrev pub OwnDigest : Reference → List ℕ → Type 0
@@ -272,21 +279,25 @@ pub record ManifestRead (c : List Exchange) (manifest : OciImageManifest) : Type
   pub body : Body c bytes
   pub reads : document_read bytes ≡ Ok (Image manifest)
 
--- the digest of a descriptor in a manifest that was read
-pub record ReadDigest (c : List Exchange) (text : List ℕ) : Type 0 where
+-- a descriptor in a manifest that was read: that of its configuration, or of one of its layers
+pub record ReadDescriptor (c : List Exchange) (x : OciDescriptor) : Type 0 where
   pub manifest : OciImageManifest
   pub read : ManifestRead c manifest
-  pub digest : (text ≡ manifest.config.digest) ⊎ ((x : OciDescriptor) × Contains manifest.layers x × (text ≡ x.digest))
+  pub is : (x ≡ manifest.config) ⊎ Contains manifest.layers x
+
+-- its digest
+abbrev pub ReadDigest : List Exchange → List ℕ → Type 0
+ReadDigest c text = (x : OciDescriptor) × ReadDescriptor c x × (text ≡ x.digest)
 
 -- the digest of the image's reference, of an index's entry or of a descriptor
 abbrev pub ImageDigest : Reference → List Exchange → List ℕ → Type 0
 ImageDigest image c text = FoundDigest image c text ⊎ ReadDigest c text
 
--- the address of the registry, of the image's document, of an entry's, or of a blob that a descriptor in
--- a manifest that was read names
+-- the address of the registry, of the image's document, of an entry's, or of a blob of a descriptor in a
+-- manifest that was read, or a URL of that descriptor which is not asked
 abbrev pub ImageUrl : Settings → Reference → List Exchange → List ℕ → Type 0
 ImageUrl s image c text = FoundUrl s image c text
-    ⊎ ((digest : List ℕ) × ReadDigest c digest × (text ≡ blob_text s image digest))
+    ⊎ ((x : OciDescriptor) × ReadDescriptor c x × BlobUrl s image (described x) text)
 
 -- of an image's manifest and its configuration, which is held: it is the body of the last answer, and no text
 abbrev pub ConfigCause : (List Exchange → Type 0) → Settings → Reference → List Exchange → ℕ

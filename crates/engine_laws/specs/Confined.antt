@@ -1,5 +1,6 @@
 -- Where credentials and tokens go: to the registry that is asked, and to the realm that it names.
 use Rattle.std.specs.Prelude.{◌≡◌, ◌⊎◌, ℕ, true, List, [], ◌∷◌, ◌++◌, Some, codes}
+use Rattle.std.specs.FinMap as map
 use Rattle.url.specs.Parts.{Parts, serialize}
 use Rattle.http_challenges.specs.declared.bearer.BearerChallenge.{BearerChallenge}
 use Rattle.oci_transport.specs.Headers.{values_of}
@@ -9,9 +10,11 @@ use Rattle.oci_transport.specs.declared.message.Answer.{Answer}
 use Rattle.oci_transport.specs.declared.message.Exchange.{Exchange}
 use Rattle.oci_transport.specs.declared.message.Method.TheVariants.{Get}
 use Rattle.oci_names.specs.declared.reference.Reference.{Reference}
+use Rattle.oci_names.specs.References.{resolved_registry}
 use Rattle.oci_auth.specs.Caches.{key_of, token_at}
 use Rattle.oci_auth.specs.Credentials.{authorization_of}
 use Rattle.oci_auth.specs.Keys.{Key}
+use Rattle.oci_auth.specs.declared.auth.RegistryAuth.{RegistryAuth}
 use Rattle.oci_auth.specs.declared.memory.Memory.{Memory}
 use Rattle.oci_auth.specs.declared.token_type.RegistryOperation.{RegistryOperation}
 use Rattle.oci_auth.specs.declared.token_type.RegistryTokenType.{RegistryTokenType}
@@ -84,7 +87,18 @@ abbrev pub KeptWell : Entry → Memory → List Exchange → Type 0
 KeptWell x l c = (key : Key) (moment : ℕ) (token : RegistryTokenType)
     → token_at l.tokens key moment ≡ Some token → KeptOrAdded x c key moment token
 
+-- the credentials were stored before under this registry, or they were handed in and it is the image's
+abbrev pub StoredOrHanded : Entry → List ℕ → RegistryAuth → Type 0
+StoredOrHanded x registry a = (map.get x.kept.credentials registry ≡ Some a)
+    ⊎ ((registry ≡ resolved_registry x.image) × (x.handed ≡ Some a))
+
+-- so it is of all that are stored
+abbrev pub StoredWell : Entry → Memory → Type 0
+StoredWell x l = (registry : List ℕ) (a : RegistryAuth)
+    → map.get l.credentials registry ≡ Some a → StoredOrHanded x registry a
+
 -- the requests of these exchanges carry what they may, and what is kept after them was kept before or came of them
 pub record Within (x : Entry) (s : Settings) (l : Memory) (c : List Exchange) : Type 0 where
   pub confined : AllConfined x s c
   pub kept : KeptWell x l c
+  pub stored : StoredWell x l

@@ -1,2 +1,4 @@
 pub mod Layers
 pub mod NoSink
+pub mod Tagged
+pub mod Trying

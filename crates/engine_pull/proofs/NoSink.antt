@@ -129,7 +129,3 @@ is_calm e h is = (rw is at h) refl
 -- a step before it was refused, with nothing put
 pub spills_refused : {A : Type 0} {p : Row A} (f : A → Row (List ℕ)) {old new : Link} {k l : Memory} {e : OciDistributionError} {r : Result Unit OciDistributionError} (tray : Tray) → Ends Calm p → Meets is_memory p old new k l (Err e) → Meets is_memory (p >>= f) old new k l (Err e) → IsErrAnd r (λ x. x ≡ e) → Spills (p >>= f) old new k l tray tray r
 spills_refused f {e = e} {r = r} tray calm met all is = let at = err_from_is_err_and r is in rw (at.1, at.2) (spills_none tray all (λ h. let sink : e ≡ refusal.SinkFault = cc in absurd (is_calm e (Meets-ends Calm calm met) sink)))
-
--- what a refusal spilled, at the exit of a `?`
-pub spills_on : {p : Row (List ℕ)} {old new : Link} {k l : Memory} {before after : Tray} {e : OciDistributionError} {r : Result Unit OciDistributionError} → Spills p old new k l before after (Err e) → IsErrAnd r (λ x. x ≡ e) → Spills p old new k l before after r
-spills_on {r = r} spills is = let at = err_from_is_err_and r is in rw (at.1, at.2) spills

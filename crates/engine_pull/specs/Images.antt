@@ -10,6 +10,7 @@ use Rattle.oci_manifests.specs.declared.blob.ImageLayer.{ImageLayer}
 use Rattle.oci_manifests.specs.declared.blob.Config.{Config}
 use Rattle.oci_protocol.specs.Proto.{Done, ◌>>=◌, ◌>>◌}
 use Rattle.engine_requests.specs.Contexts.{Context}
+use Rattle.engine_requests.specs.Sources.{described}
 use Rattle.engine_requests.specs.declared.error.OciDistributionError.{OciDistributionError}
 use Rattle.engine_requests.specs.declared.error.OciDistributionError.TheVariants as refusal
 use Rattle.engine_steps.specs.Rows.{Row}
@@ -54,14 +55,14 @@ config_of manifest content = record {
 unfoldable pub pull_layers : Context → Reference → List OciDescriptor → List ImageLayer → Row (List ImageLayer)
 pull_layers s image [] layers = Done (Ok layers)
 pull_layers s image (x ∷ xs) layers = do
-  content ← held_blob s image x.digest
+  content ← held_blob s image (described x)
   pull_layers s image xs (layers ++ layer_of x content ∷ [])
 
 -- an image whose layers are of these types
 unfoldable pub pull : Context → Reference → RegistryAuth → List (List ℕ) → Row ImageData
 pull s image a accepted = do
   found ← pull_image_manifest_and_list_digest s image a
-  config ← held_blob s image found.0.config.digest
+  config ← held_blob s image (described found.0.config)
   Done (layers_accepted accepted found.0.layers)
   layers ← pull_layers s image found.0.layers []
   Done (Ok (record {

@@ -1,3 +1,4 @@
 pub mod Images
 pub mod Manifests
 pub mod Pulls
+pub mod Referrers

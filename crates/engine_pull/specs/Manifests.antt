@@ -8,6 +8,7 @@ use Rattle.oci_manifests.specs.declared.manifest.OciImageManifest.{OciImageManif
 use Rattle.oci_protocol.specs.Proto.{Done, ◌>>=◌}
 use Rattle.engine_requests.specs.Contexts.{Context}
 use Rattle.engine_requests.specs.Index.{entry_found, entry_manifest, entry_reference, config_text}
+use Rattle.engine_requests.specs.Sources.{described}
 use Rattle.engine_steps.specs.Rows.{Row}
 use Rattle.engine_pull.specs.Pulls.{pull_manifest, held_blob}
 
@@ -44,7 +45,7 @@ unfoldable pub pull_manifest_and_config_and_list_digest : Context → Reference 
     → Row (OciImageManifest × List ℕ × List ℕ × Option (List ℕ))
 pull_manifest_and_config_and_list_digest s image a = do
   found ← pull_image_manifest_and_list_digest s image a
-  content ← held_blob s image found.0.config.digest
+  content ← held_blob s image (described found.0.config)
   config ← Done (config_text content)
   Done (Ok (found.0, found.1, config, found.2))
 

@@ -14,10 +14,12 @@ use Rattle.engine_requests.specs.Addresses.{manifest_text, blob_text, url_read}
 use Rattle.engine_requests.specs.Requests.{manifest_types}
 use Rattle.engine_requests.specs.Answers.{accepted, document_in, fits_reference}
 use Rattle.engine_requests.specs.Documents.{document_read}
+use Rattle.engine_requests.specs.Sources.{Layer, places_of}
 use Rattle.engine_steps.specs.declared.asking.Named.{Named}
 use Rattle.engine_steps.specs.declared.asking.Named.TheVariants.{ByHeader, Unnamed}
 use Rattle.engine_steps.specs.Rows.{Row, store, whole, named_after, prepared}
-use Rattle.engine_steps.specs.Blobs.{Destination, IntoSink, IntoMemory, attempt}
+use Rattle.engine_steps.specs.Blobs.{Destination, IntoSink, IntoMemory}
+use Rattle.engine_steps.specs.Offers.{tried}
 
 -- a document's bytes with their digest
 unfoldable pub document : Context → Reference → Parts → List ℕ → Row (List ℕ × List ℕ)
@@ -63,17 +65,24 @@ pull_manifest s image a = do
   document ← Done (document_read found.0)
   Done (Ok (document, found.1))
 
--- the bytes of a blob, which its digest names
-unfoldable pub blob_to : Destination → Context → Reference → List ℕ → Row (List ℕ)
-blob_to to s image digest = do
-  url ← Done (url_read (blob_text s.settings image digest))
+-- the same, where credentials are stored already
+unfoldable pub manifest_asked : Context → Reference → Row (OciManifest × List ℕ)
+manifest_asked s image = do
+  found ← manifest_document s image manifest_types
+  document ← Done (document_read found.0)
+  Done (Ok (document, found.1))
+
+-- the bytes of a blob, which its digest names: at the registry, or else at the URLs of its descriptor
+unfoldable pub blob_to : Destination → Context → Reference → Layer → Row (List ℕ)
+blob_to to s image layer = do
+  url ← Done (url_read (blob_text s.settings image layer.digest))
   request ← prepared s image Pull Get url manifest_types
-  attempt to s.settings.max_body_bytes digest request
+  tried to s.settings layer.digest (places_of layer.urls) request
 
 -- of a blob that goes into a sink
-abbrev pub pull_blob : Context → Reference → List ℕ → Row (List ℕ)
+abbrev pub pull_blob : Context → Reference → Layer → Row (List ℕ)
 pull_blob = blob_to IntoSink
 
 -- of a blob that is held in memory
-abbrev pub held_blob : Context → Reference → List ℕ → Row (List ℕ)
+abbrev pub held_blob : Context → Reference → Layer → Row (List ℕ)
 held_blob = blob_to IntoMemory

@@ -5,7 +5,7 @@ ghost use Rattle.oci_protocol.specs.Runs.{Meets};
 ghost use Rattle.engine_requests.specs.Contexts.{context_of};
 ghost use Rattle.engine_requests.specs.Errors.{is_memory, Says};
 ghost use Rattle.engine_pull.specs.Pulls.{document, manifest_document, pull_manifest_raw};
-ghost use Rattle.engine_pull.specs.Pulls.{digest_by, fetch_manifest_digest, pull_manifest};
+ghost use Rattle.engine_pull.specs.Pulls.{digest_by, fetch_manifest_digest, pull_manifest, manifest_asked};
 
 use engine_requests::{
     Call, MANIFEST_TYPES, OciDistributionError, accepted, document_in, fits_reference,
@@ -150,6 +150,21 @@ pub fn pull_manifest<T: Transport>(
         (T.state transport.old) (T.state transport.new) memory.old memory.new result }
 {
     let found = pull_manifest_raw(alloc, transport, memory, call, auth, MANIFEST_TYPES)?;
+    let document = read_document(alloc, &found.0)?;
+    Ok((document, found.1))
+}
+
+/// The same, where credentials are stored already.
+pub(crate) fn manifest_asked<T: Transport>(
+    alloc: Global,
+    transport: &mut T,
+    memory: &mut Memory,
+    call: &Call,
+) -> Result<(OciManifest, Text), OciDistributionError>
+    ensures { Meets is_memory (manifest_asked (context_of call.now) call.now.image.now)
+        (T.state transport.old) (T.state transport.new) memory.old memory.new result }
+{
+    let found = manifest_document(alloc, transport, memory, call, MANIFEST_TYPES)?;
     let document = read_document(alloc, &found.0)?;
     Ok((document, found.1))
 }

@@ -9,7 +9,7 @@ ghost use Rattle.engine_pull.specs.Images.{layers_accepted, layer_of, config_of,
 
 use crate::blobs::pulled_blob;
 use crate::manifests::pull_image_manifest_and_list_digest;
-use engine_requests::{Call, OciDistributionError};
+use engine_requests::{AsLayerDescriptor, Call, OciDistributionError};
 use json_values::{Blob, Copied, List, Text, copied, copy_all, row};
 use oci_auth::{Memory, RegistryAuth};
 use oci_manifests::blob::Config;
@@ -148,7 +148,8 @@ fn pull_layers<T: Transport>(
         (T.state transport.old) (T.state transport.new) memory.old memory.new result }
 {
     for descriptor in descriptors {
-        let content = pulled_blob(alloc, transport, memory, call, descriptor.digest.as_str())?;
+        let blob = descriptor.as_layer_descriptor();
+        let content = pulled_blob(alloc, transport, memory, call, &blob)?;
         let layer = layer_of(alloc, descriptor, content)?;
         layers.push(layer)?;
     }
@@ -169,13 +170,8 @@ pub fn pull<T: Transport>(
 {
     let found = pull_image_manifest_and_list_digest(alloc, transport, memory, call, auth)?;
     let (manifest, digest, _) = found;
-    let content = pulled_blob(
-        alloc,
-        transport,
-        memory,
-        call,
-        manifest.config.digest.as_str(),
-    )?;
+    let blob = manifest.config.as_layer_descriptor();
+    let content = pulled_blob(alloc, transport, memory, call, &blob)?;
     let config = config_of(alloc, &manifest, content)?;
     layers_accepted(alloc, accepted, manifest.layers.as_slice())?;
     let layers = pull_layers(

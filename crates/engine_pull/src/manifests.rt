@@ -11,7 +11,8 @@ ghost use Rattle.engine_pull.specs.Manifests.{pull_manifest_and_config_and_list_
 use crate::blobs::pulled_blob;
 use crate::documents::pull_manifest;
 use engine_requests::{
-    Call, OciDistributionError, config_text, entry_found, entry_manifest, entry_reference,
+    AsLayerDescriptor, Call, OciDistributionError, config_text, entry_found, entry_manifest,
+    entry_reference,
 };
 use json_values::Text;
 use oci_auth::{Memory, RegistryAuth};
@@ -134,13 +135,8 @@ pub fn pull_manifest_and_config_and_list_digest<T: Transport>(
 {
     let found = pull_image_manifest_and_list_digest(alloc, transport, memory, call, auth)?;
     let (manifest, digest, list_digest) = found;
-    let content = pulled_blob(
-        alloc,
-        transport,
-        memory,
-        call,
-        manifest.config.digest.as_str(),
-    )?;
+    let blob = manifest.config.as_layer_descriptor();
+    let content = pulled_blob(alloc, transport, memory, call, &blob)?;
     let config = config_text(alloc, &content)?;
     Ok((manifest, digest, config, list_digest))
 }

@@ -21,6 +21,10 @@ use Rattle.engine_requests.specs.Errors.{◌>>=◌}
 abbrev pub is_success : ℕ → Bool
 is_success status = nat_le 200 status && nat_lt status 300
 
+-- of the client or of the server
+abbrev pub is_error : ℕ → Bool
+is_error status = nat_le 400 status && nat_lt status 600
+
 abbrev pub is_client_error : ℕ → Bool
 is_client_error status = nat_le 400 status && nat_lt status 500
 

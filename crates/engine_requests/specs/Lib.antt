@@ -5,5 +5,7 @@ pub mod Contexts
 pub mod Documents
 pub mod Errors
 pub mod Index
+pub mod Referrers
 pub mod Requests
+pub mod Sources
 pub mod Tokens

@@ -22,7 +22,11 @@ fn registry_text(alloc: Global, settings: &Settings, image: &Reference) -> Resul
     Ok(text)
 }
 
-fn base_text(alloc: Global, settings: &Settings, image: &Reference) -> Result<Text, AllocError>
+pub(crate) fn base_text(
+    alloc: Global,
+    settings: &Settings,
+    image: &Reference,
+) -> Result<Text, AllocError>
     ensures { IfOk result (λ text. text ≡ base_text settings.now image.now) }
 {
     let mut text = registry_text(alloc, settings, image)?;

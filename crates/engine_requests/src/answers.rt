@@ -6,7 +6,7 @@ ghost use Rattle.oci_transport.specs.Headers.{first_of, digest_header};
 ghost use Rattle.oci_digests.specs.Parts.{parts_of};
 ghost use Rattle.oci_names.specs.References.{digest_of};
 ghost use Rattle.engine_requests.specs.Errors.{Says, SaysError};
-ghost use Rattle.engine_requests.specs.Answers.{is_success, is_client_error, envelope_in};
+ghost use Rattle.engine_requests.specs.Answers.{is_success, is_error, is_client_error, envelope_in};
 ghost use Rattle.engine_requests.specs.Answers.{by_envelope, refused_answer, accepted};
 ghost use Rattle.engine_requests.specs.Answers.{or_digest_error, header_digest, body_digest};
 ghost use Rattle.engine_requests.specs.Answers.{answer_digest, document_in, agreed, fits_reference};
@@ -26,10 +26,18 @@ pub struct Got {
     pub answer: Answer,
 }
 
-pub(crate) fn is_success(status: u16) -> bool
+/// Whether the status is one of success.
+pub fn is_success(status: u16) -> bool
     ensures { result ≡ is_success status }
 {
     200 <= status && status < 300
+}
+
+/// Whether the status is one of an error, the client's or the server's.
+pub fn is_error(status: u16) -> bool
+    ensures { result ≡ is_error status }
+{
+    400 <= status && status < 600
 }
 
 fn is_client_error(status: u16) -> bool
@@ -105,8 +113,8 @@ pub fn accepted(alloc: Global, got: Got) -> Result<Answer, OciDistributionError>
     Err(refused_answer(alloc, got))
 }
 
-// A refused digest, in the words of the client.
-fn of_digest<A: Drop>(checked: Result<A, DigestError>) -> Result<A, OciDistributionError>
+/// A refused digest, in the words of the client.
+pub fn of_digest<A: Drop>(checked: Result<A, DigestError>) -> Result<A, OciDistributionError>
     ensures { (said : Result A DigestError) → DigestSays checked said → Says result (or_digest_error said) }
 {
     match checked {

@@ -33,7 +33,8 @@ pub enum Plan {
     Pour(Option<Expected>, Expected),
 }
 
-fn digest_expected(alloc: Global, text: &str) -> Result<Expected, DigestError>
+/// A digest text with its algorithm. Where it names none that is known, the error says so.
+pub fn digest_expected(alloc: Global, text: &str) -> Result<Expected, DigestError>
     ensures { DigestSays result (digest_expected text.now) }
 {
     let algorithm = named_algorithm(alloc, text)?;

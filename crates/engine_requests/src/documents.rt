@@ -65,7 +65,7 @@ fn version_checked(
 
 // A manifest or an index, and not both.
 #[tactic(auto, using(crate::proofs::Tables::read_once, crate::proofs::Tables::read_twice, crate::proofs::Tables::read_by_none, crate::proofs::Tables::read_with_float))]
-fn tables_read(
+pub(crate) fn tables_read(
     alloc: Global,
     body: &Blob,
     json: &Option<Json>,

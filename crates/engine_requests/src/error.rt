@@ -17,11 +17,17 @@ pub enum GenericCause {
     ConfigNotText,
     /// A value that cannot stand in a header: the user agent, an accepted type or a token.
     HeaderText,
+    /// Referrers of a reference without a digest.
+    NoDigest,
+    /// A range of bytes whose end passes 2^64 - 1.
+    RangeOverflow,
 }
 
 /// How an answer departs from the OCI distribution specification.
 #[derive(Debug, Drop)]
 pub enum SpecViolation {
+    /// The tag under which the referrers of a digest are listed holds a manifest. The tag is told.
+    ReferrersTag(Text),
     /// A status of success other than the one that the request asks for.
     Status { expected: u16, got: u16, url: Text },
 }
@@ -61,6 +67,8 @@ pub enum OciDistributionError {
     /// The sink failed: the count of its faults rose.
     SinkFault,
     SpecViolationError(SpecViolation),
+    /// A piece was asked of a stream that had refused one.
+    StreamFailed,
     /// The transport failed: the count of its faults rose.
     TransportFault,
     /// The status 401.
@@ -105,6 +113,7 @@ impl OciDistributionError {
             Self::ServerError { .. } => "ServerError",
             Self::SinkFault => "SinkFault",
             Self::SpecViolationError(_) => "SpecViolationError",
+            Self::StreamFailed => "StreamFailed",
             Self::TransportFault => "TransportFault",
             Self::UnauthorizedError { .. } => "UnauthorizedError",
             Self::UnsupportedMediaTypeError(_) => "UnsupportedMediaTypeError",
@@ -118,13 +127,17 @@ impl OciDistributionError {
 
 impl Copied for SpecViolation {
     fn copy(&self, alloc: Global) -> Result<SpecViolation, AllocError> {
-        let SpecViolation::Status { expected, got, url } = self;
-        let url = url.copy(alloc)?;
-        Ok(SpecViolation::Status {
-            expected: *expected,
-            got: *got,
-            url,
-        })
+        match self {
+            Self::ReferrersTag(tag) => Ok(Self::ReferrersTag(tag.copy(alloc)?)),
+            Self::Status { expected, got, url } => {
+                let url = url.copy(alloc)?;
+                Ok(Self::Status {
+                    expected: *expected,
+                    got: *got,
+                    url,
+                })
+            }
+        }
     }
 }
 
@@ -169,6 +182,7 @@ impl Copied for OciDistributionError {
             Self::SpecViolationError(violation) => Ok(Self::SpecViolationError(violation.copy(
                 alloc,
             )?)),
+            Self::StreamFailed => Ok(Self::StreamFailed),
             Self::TransportFault => Ok(Self::TransportFault),
             Self::UnauthorizedError { url } => Ok(Self::UnauthorizedError {
                 url: url.copy(alloc)?,

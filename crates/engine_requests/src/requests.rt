@@ -39,8 +39,9 @@ pub fn listed(alloc: Global, types: &[Text]) -> Result<Text, AllocError>
     Ok(text)
 }
 
-// A value that cannot stand in a header is refused.
-fn with_header(
+/// The headers with one more field. A value that cannot stand in a header, or one more than a thousand fields, is
+/// `GenericError(HeaderText)`.
+pub fn with_header(
     mut headers: Headers,
     name: &str,
     value: &str,

@@ -75,7 +75,7 @@ fn scope_of(alloc: Global, image: &Reference, op: RegistryOperation) -> Result<T
 }
 
 // The URL with one more pair in its query.
-fn with_pair(mut url: Url, name: &str, value: &str) -> Result<Url, AllocError>
+pub(crate) fn with_pair(mut url: Url, name: &str, value: &str) -> Result<Url, AllocError>
     ensures { IfOk result (λ made. made ≡ append_query_pairs url ((name.now, value.now) ∷ [])) }
 {
     match url.append_query_pairs(&[(name, value)]) {

@@ -16,7 +16,7 @@ use Rattle.oci_digests.specs.declared.both.Digesters.{Digesters}
 use Rattle.oci_digests.specs.Both.{BothHold}
 use Rattle.oci_digests.specs.Names.{digest_text}
 use Rattle.oci_digests.specs.declared.error.DigestError.{DigestError}
-use Rattle.oci_protocol.specs.Proto.{limit_of, Done, ◌>>=◌}
+use Rattle.oci_protocol.specs.Proto.{Unread, Headed, limit_of, Done, ◌>>=◌}
 use Rattle.oci_protocol.specs.Follow.{Reaches, Misses, Cuts}
 use Rattle.oci_protocol.specs.Poured.{Pours, PoursFront}
 use Rattle.oci_protocol.specs.Runs.{Meets, Told, Performs, Breaks, Outcome}
@@ -32,12 +32,13 @@ use Rattle.engine_requests.specs.declared.blobs.Expected.{Expected}
 use Rattle.engine_requests.specs.declared.blobs.Plan.{Plan}
 use Rattle.engine_requests.specs.declared.blobs.Plan.TheVariants as plan
 use Rattle.engine_requests.specs.Errors.{is_memory, Says, SaysError, ◌>>◌}
-use Rattle.engine_requests.specs.Answers.{refused_answer, is_success, is_client_error, by_envelope, envelope_in}
+use Rattle.engine_requests.specs.Answers.{refused_answer, is_success, is_error, is_client_error, by_envelope, envelope_in}
 use Rattle.oci_digests.specs.Checks.{header_digest as digest_in, and_then as digest_and_then}
 use Rattle.oci_transport.specs.Headers.{first_of, digest_header}
 use Rattle.engine_requests.specs.Blobs.{digest_expected, given_expected, pouring, plan_by, planned, plan_of, compared, given_compared, both_compared, given_algorithm}
 use Rattle.engine_steps.specs.Rows.{Row}
-use Rattle.engine_steps.specs.Blobs.{Destination, IntoSink, IntoMemory, reading_into, reading_by, blob_reading, unread_by, read_by, blob_reply, attempt, IsFrontOfLast, IsFront, Spills}
+use Rattle.engine_steps.specs.Blobs.{Destination, IntoSink, IntoMemory, reading_into, reading_by, blob_reading, unread_by, read_by, blob_reply, attempt, IsFrontOfLast, IsFront, filled, Spills}
+use Rattle.engine_steps.specs.Offers.{offer_reading, offer_reply, offer, Takes, Offered, OfferedInto}
 use Rattle.engine_steps.proofs.Exits.{said, and_then}
 
 -- what a call told, where it met a protocol
@@ -118,6 +119,19 @@ front_told n request head last old mid new front reach good same steady part = b
   by_told None none = tells front [] (sym (append-nil front)) (Extends-untold reach.mid new _ none (Steady-more reach.mid mid new reach.sent.added.stays steady))
   by_told (Some before) h = let at = part reach.sent.body (reach.sent.rest before h) in tells reach.sent.body at.0 at.1 (Extends-still reach.mid mid new _ reach.sent.added same steady)
 
+-- ---- an offer whose answer is no error
+
+not_chosen : {A : Type 0} (b : Bool) (x y : A) → b ≡ false → (if b then x else y) ≡ y
+not_chosen true x y h = absurd (cc h)
+not_chosen false x y h = refl
+
+offered_reading : (to : Destination) (limit : ℕ) (digest : List ℕ) (head : AnswerHead) → is_error head.status ≡ false → offer_reading to limit digest head ≡ blob_reading to limit digest head
+unfolding offer_reading
+offered_reading to limit digest head good = not_chosen (is_error head.status) Unread (blob_reading to limit digest head) good
+
+offered_headed : (digest : List ℕ) (next : Row (List ℕ)) (head : AnswerHead) (last : Request) {old new : Link} {k l : Memory} {r : Result (List ℕ) OciDistributionError} → is_error head.status ≡ false → Meets is_memory (blob_reply digest last (Headed head)) old new k l r → Meets is_memory (offer_reply digest next last (Headed head)) old new k l r
+offered_headed digest next head last good met = rw (not_chosen (is_error head.status) next (blob_reply digest last (Headed head)) good) met
+
 -- ---- each exit
 
 pub blob_missed : (to : Destination) (limit : ℕ) (digest : List ℕ) (request : Request) (old new : Link) (k : Memory) → Misses 10 request old new → Meets is_memory (attempt to limit digest request) old new k k (Err refusal.TransportFault)
@@ -128,43 +142,71 @@ pub blob_cut : (to : Destination) (limit : ℕ) (digest : List ℕ) (request : R
 unfolding attempt
 blob_cut to limit digest request old new k c = cut is_memory 10 request (blob_reading to limit digest) (blob_reply digest) k refusal.WantOfMemory c refl
 
-pub blob_wanting : (to : Destination) (limit : ℕ) (digest : List ℕ) (request : Request) (head : AnswerHead) (last : Request) (old mid new : Link) (k : Memory) (e : OciDistributionError) → Reaches 10 request head last old mid → mid.faults ≤ new.faults → new.told ≡ mid.told → Steady mid new → is_memory e ≡ true → Meets is_memory (attempt to limit digest request) old new k k (Err e)
-unfolding attempt
-blob_wanting to limit digest request head last old mid new k e reach le same steady is = reached_cut is_memory 10 request (blob_reading to limit digest) (blob_reply digest) head last k e reach le same steady is
+pub blob_wanting : (to : Destination) (limit : ℕ) (digest : List ℕ) (request : Request) (head : AnswerHead) (last : Request) (old mid new : Link) (k : Memory) (e : OciDistributionError) → {row : Row (List ℕ)} → Takes to limit digest request head row → Reaches 10 request head last old mid → mid.faults ≤ new.faults → new.told ≡ mid.told → Steady mid new → is_memory e ≡ true → Meets is_memory row old new k k (Err e)
+unfolding attempt offer
+blob_wanting to limit digest request head last old mid new k e (inl row) reach le same steady is = rw row (reached_cut is_memory 10 request (blob_reading to limit digest) (blob_reply digest) head last k e reach le same steady is)
+blob_wanting to limit digest request head last old mid new k e (inr offered) reach le same steady is = rw offered.2 (reached_cut is_memory 10 request (offer_reading to limit digest) (offer_reply digest offered.1) head last k e reach le same steady is)
 
 unread_met : (p q : Plan) (r : Result (List ℕ) OciDistributionError) (link : Link) (k : Memory) → p ≡ q → Says r (unread_by q) → Meets is_memory (Done (unread_by p)) link link k k r
 unread_met p q r link k is says = said r (rw is says)
 
 -- the answer is not read, for this cause
-pub blob_unread : (to : Destination) (limit : ℕ) (digest : List ℕ) (request : Request) (head : AnswerHead) (last : Request) (old new : Link) (k : Memory) (e : DigestError) → Reaches 10 request head last old new → plan_of digest head ≡ plan.Refuse e → Meets is_memory (attempt to limit digest request) old new k k (Err (refusal.DigestError e))
-unfolding attempt blob_reading
-blob_unread to limit digest request head last old new k e reach is = reached_headed 10 request (blob_reading to limit digest) (blob_reply digest) head last reach (ap (reading_by to limit) is) (unread_met (plan_of digest head) (plan.Refuse e) (Err (refusal.DigestError e)) new k is refl)
+pub blob_unread : (to : Destination) (limit : ℕ) (digest : List ℕ) (request : Request) (head : AnswerHead) (last : Request) (old new : Link) (k : Memory) (e : DigestError) → {row : Row (List ℕ)} → Takes to limit digest request head row → Reaches 10 request head last old new → plan_of digest head ≡ plan.Refuse e → Meets is_memory row old new k k (Err (refusal.DigestError e))
+unfolding attempt offer blob_reading
+blob_unread to limit digest request head last old new k e (inl row) reach is = rw row (reached_headed 10 request (blob_reading to limit digest) (blob_reply digest) head last reach (ap (reading_by to limit) is) (unread_met (plan_of digest head) (plan.Refuse e) (Err (refusal.DigestError e)) new k is refl))
+blob_unread to limit digest request head last old new k e (inr offered) reach is = rw offered.2 (reached_headed 10 request (offer_reading to limit digest) (offer_reply digest offered.1) head last reach (offered_reading to limit digest head offered.0 ∙ ap (reading_by to limit) is) (offered_headed digest offered.1 head last offered.0 (unread_met (plan_of digest head) (plan.Refuse e) (Err (refusal.DigestError e)) new k is refl)))
 
 read_met : (url : List ℕ) (head : AnswerHead) (body : List ℕ) (p q : Plan) (r : Result (List ℕ) OciDistributionError) (link : Link) (k : Memory) → p ≡ q → Says r (read_by url (answer_of head body) q) → Meets is_memory (Done (read_by url (answer_of head body) p)) link link k k r
 read_met url head body p q r link k is says = said r (rw is says)
 
-pub blob_read : (to : Destination) (limit : ℕ) (digest : List ℕ) (request : Request) (head : AnswerHead) (last : Request) (body : List ℕ) (old mid new : Link) (k : Memory) (p : Plan) (r : Result (List ℕ) OciDistributionError) → Reaches 10 request head last old mid → plan_of digest head ≡ p → limit_of (reading_by to limit p) ≡ Some limit → mid.faults ≤ new.faults → new.told ≡ mid.told → Steady mid new → length body ≤ limit → ((rest : List ℕ) → mid.rest ≡ Some rest → body ≡ rest) → Says r (read_by last.url (answer_of head body) p) → Meets is_memory (attempt to limit digest request) old new k k r
-unfolding attempt blob_reading
-blob_read to limit digest request head last body old mid new k p r reach is reads le same steady small whole says = reached_answered 10 request (blob_reading to limit digest) (blob_reply digest) head last limit body reach (ap (λ (q : Plan). limit_of (reading_by to limit q)) is ∙ reads) le same steady small whole (read_met last.url head body (plan_of digest head) p r new k is says)
+pub blob_read : (to : Destination) (limit : ℕ) (digest : List ℕ) (request : Request) (head : AnswerHead) (last : Request) (body : List ℕ) (old mid new : Link) (k : Memory) (p : Plan) (r : Result (List ℕ) OciDistributionError) → {row : Row (List ℕ)} → Takes to limit digest request head row → Reaches 10 request head last old mid → plan_of digest head ≡ p → limit_of (reading_by to limit p) ≡ Some limit → mid.faults ≤ new.faults → new.told ≡ mid.told → Steady mid new → length body ≤ limit → ((rest : List ℕ) → mid.rest ≡ Some rest → body ≡ rest) → Says r (read_by last.url (answer_of head body) p) → Meets is_memory row old new k k r
+unfolding attempt offer blob_reading
+blob_read to limit digest request head last body old mid new k p r (inl row) reach is reads le same steady small whole says = rw row (reached_answered 10 request (blob_reading to limit digest) (blob_reply digest) head last limit body reach (ap (λ (q : Plan). limit_of (reading_by to limit q)) is ∙ reads) le same steady small whole (read_met last.url head body (plan_of digest head) p r new k is says))
+blob_read to limit digest request head last body old mid new k p r (inr offered) reach is reads le same steady small whole says = rw offered.2 (reached_answered 10 request (offer_reading to limit digest) (offer_reply digest offered.1) head last limit body reach (ap limit_of (offered_reading to limit digest head offered.0) ∙ (ap (λ (q : Plan). limit_of (reading_by to limit q)) is ∙ reads)) le same steady small whole (read_met last.url head body (plan_of digest head) p r new k is says))
 
-pub blob_long : (to : Destination) (limit : ℕ) (digest : List ℕ) (request : Request) (head : AnswerHead) (last : Request) (old mid new : Link) (k : Memory) (p : Plan) → Reaches 10 request head last old mid → plan_of digest head ≡ p → limit_of (reading_by to limit p) ≡ Some limit → mid.faults ≤ new.faults → new.told ≡ mid.told → Steady mid new → ((rest : List ℕ) → mid.rest ≡ Some rest → limit < length rest) → Meets is_memory (attempt to limit digest request) old new k k (Err refusal.BodyTooLong)
-unfolding attempt blob_reading
-blob_long to limit digest request head last old mid new k p reach is reads le same steady long = reached_long 10 request (blob_reading to limit digest) (blob_reply digest) head last limit reach (ap (λ (q : Plan). limit_of (reading_by to limit q)) is ∙ reads) le same steady long (Meets-err is_memory new k refusal.BodyTooLong refl)
+pub blob_long : (to : Destination) (limit : ℕ) (digest : List ℕ) (request : Request) (head : AnswerHead) (last : Request) (old mid new : Link) (k : Memory) (p : Plan) → {row : Row (List ℕ)} → Takes to limit digest request head row → Reaches 10 request head last old mid → plan_of digest head ≡ p → limit_of (reading_by to limit p) ≡ Some limit → mid.faults ≤ new.faults → new.told ≡ mid.told → Steady mid new → ((rest : List ℕ) → mid.rest ≡ Some rest → limit < length rest) → Meets is_memory row old new k k (Err refusal.BodyTooLong)
+unfolding attempt offer blob_reading
+blob_long to limit digest request head last old mid new k p (inl row) reach is reads le same steady long = rw row (reached_long 10 request (blob_reading to limit digest) (blob_reply digest) head last limit reach (ap (λ (q : Plan). limit_of (reading_by to limit q)) is ∙ reads) le same steady long (Meets-err is_memory new k refusal.BodyTooLong refl))
+blob_long to limit digest request head last old mid new k p (inr offered) reach is reads le same steady long = rw offered.2 (reached_long 10 request (offer_reading to limit digest) (offer_reply digest offered.1) head last limit reach (ap limit_of (offered_reading to limit digest head offered.0) ∙ (ap (λ (q : Plan). limit_of (reading_by to limit q)) is ∙ reads)) le same steady long (Meets-err is_memory new k refusal.BodyTooLong refl))
 
-pub blob_failed : (to : Destination) (limit : ℕ) (digest : List ℕ) (request : Request) (head : AnswerHead) (last : Request) (old mid new : Link) (k : Memory) → Reaches 10 request head last old mid → mid.faults ≤ new.faults → new.told ≡ mid.told → Steady mid new → Rose mid.faults new.faults → Meets is_memory (attempt to limit digest request) old new k k (Err refusal.TransportFault)
-unfolding attempt
-blob_failed to limit digest request head last old mid new k reach le same steady rose = reached_failed 10 request (blob_reading to limit digest) (blob_reply digest) head last reach le same steady rose (Meets-err is_memory new k refusal.TransportFault refl)
+pub blob_failed : (to : Destination) (limit : ℕ) (digest : List ℕ) (request : Request) (head : AnswerHead) (last : Request) (old mid new : Link) (k : Memory) → {row : Row (List ℕ)} → Takes to limit digest request head row → Reaches 10 request head last old mid → mid.faults ≤ new.faults → new.told ≡ mid.told → Steady mid new → Rose mid.faults new.faults → Meets is_memory row old new k k (Err refusal.TransportFault)
+unfolding attempt offer
+blob_failed to limit digest request head last old mid new k (inl row) reach le same steady rose = rw row (reached_failed 10 request (blob_reading to limit digest) (blob_reply digest) head last reach le same steady rose (Meets-err is_memory new k refusal.TransportFault refl))
+blob_failed to limit digest request head last old mid new k (inr offered) reach le same steady rose = rw offered.2 (reached_failed 10 request (offer_reading to limit digest) (offer_reply digest offered.1) head last reach le same steady rose (Meets-err is_memory new k refusal.TransportFault refl))
 
-pub blob_spilled : (limit : ℕ) (digest : List ℕ) (request : Request) (head : AnswerHead) (last : Request) (old mid new : Link) (k : Memory) (given : Option Expected) (own : Expected) → Reaches 10 request head last old mid → plan_of digest head ≡ plan.Pour given own → mid.faults ≤ new.faults → new.told ≡ mid.told → Steady mid new → Meets is_memory (attempt IntoSink limit digest request) old new k k (Err refusal.SinkFault)
-unfolding attempt blob_reading
-blob_spilled limit digest request head last old mid new k given own reach is le same steady = reached_spilled 10 request (blob_reading IntoSink limit digest) (blob_reply digest) head last limit reach (ap (reading_by IntoSink limit) is) le same steady (Meets-err is_memory new k refusal.SinkFault refl)
+pub blob_spilled : (limit : ℕ) (digest : List ℕ) (request : Request) (head : AnswerHead) (last : Request) (old mid new : Link) (k : Memory) (given : Option Expected) (own : Expected) → {row : Row (List ℕ)} → Takes IntoSink limit digest request head row → Reaches 10 request head last old mid → plan_of digest head ≡ plan.Pour given own → mid.faults ≤ new.faults → new.told ≡ mid.told → Steady mid new → Meets is_memory row old new k k (Err refusal.SinkFault)
+unfolding attempt offer blob_reading
+blob_spilled limit digest request head last old mid new k given own (inl row) reach is le same steady = rw row (reached_spilled 10 request (blob_reading IntoSink limit digest) (blob_reply digest) head last limit reach (ap (reading_by IntoSink limit) is) le same steady (Meets-err is_memory new k refusal.SinkFault refl))
+blob_spilled limit digest request head last old mid new k given own (inr offered) reach is le same steady = rw offered.2 (reached_spilled 10 request (offer_reading IntoSink limit digest) (offer_reply digest offered.1) head last limit reach (offered_reading IntoSink limit digest head offered.0 ∙ ap (reading_by IntoSink limit) is) le same steady (Meets-err is_memory new k refusal.SinkFault refl))
 
 -- an answer of another status is refused, or memory was wanting to say why
-pub blob_judged : (to : Destination) (limit : ℕ) (digest : List ℕ) (request : Request) (head : AnswerHead) (last : Request) (body : List ℕ) (old mid new : Link) (k : Memory) (e : OciDistributionError) → Reaches 10 request head last old mid → plan_of digest head ≡ plan.Judge → mid.faults ≤ new.faults → new.told ≡ mid.told → Steady mid new → length body ≤ limit → ((rest : List ℕ) → mid.rest ≡ Some rest → body ≡ rest) → SaysError e (refused_answer last.url (answer_of head body)) → Meets is_memory (attempt to limit digest request) old new k k (Err e)
-blob_judged to limit digest request head last body old mid new k e reach is le same steady small whole says = by_memory (is_memory e) refl says where
-  by_memory : (b : Bool) → is_memory e ≡ b → MatchBool b (Unit {0}) (e ≡ refused_answer last.url (answer_of head body)) → Meets is_memory (attempt to limit digest request) old new k k (Err e)
-  by_memory true of_memory says = blob_wanting to limit digest request head last old mid new k e reach le same steady of_memory
-  by_memory false other says = blob_read to limit digest request head last body old mid new k plan.Judge (Err e) reach is refl le same steady small whole (rw other (ap Err (sym says)))
+pub blob_judged : (to : Destination) (limit : ℕ) (digest : List ℕ) (request : Request) (head : AnswerHead) (last : Request) (body : List ℕ) (old mid new : Link) (k : Memory) (e : OciDistributionError) → {row : Row (List ℕ)} → Takes to limit digest request head row → Reaches 10 request head last old mid → plan_of digest head ≡ plan.Judge → mid.faults ≤ new.faults → new.told ≡ mid.told → Steady mid new → length body ≤ limit → ((rest : List ℕ) → mid.rest ≡ Some rest → body ≡ rest) → SaysError e (refused_answer last.url (answer_of head body)) → Meets is_memory row old new k k (Err e)
+blob_judged to limit digest request head last body old mid new k e {row} takes reach is le same steady small whole says = by_memory (is_memory e) refl says where
+  by_memory : (b : Bool) → is_memory e ≡ b → MatchBool b (Unit {0}) (e ≡ refused_answer last.url (answer_of head body)) → Meets is_memory row old new k k (Err e)
+  by_memory true of_memory says = blob_wanting to limit digest request head last old mid new k e takes reach le same steady of_memory
+  by_memory false other says = blob_read to limit digest request head last body old mid new k plan.Judge (Err e) takes reach is refl le same steady small whole (rw other (ap Err (sym says)))
+
+chosen_first : {A : Type 0} (b : Bool) (x y : A) → b ≡ true → (if b then x else y) ≡ x
+chosen_first true x y h = refl
+chosen_first false x y h = absurd (cc h)
+
+passed_reading : (to : Destination) (limit : ℕ) (digest : List ℕ) (head : AnswerHead) → is_error head.status ≡ true → offer_reading to limit digest head ≡ Unread
+unfolding offer_reading
+passed_reading to limit digest head bad = chosen_first (is_error head.status) Unread (blob_reading to limit digest head) bad
+
+-- ---- an offer whose answer is one of an error, and what comes next
+
+pub offer_passed : (to : Destination) (limit : ℕ) (digest : List ℕ) (next : Row (List ℕ)) (request : Request) (head : AnswerHead) (last : Request) (old new end : Link) (k l : Memory) (r : Result (List ℕ) OciDistributionError) → Reaches 10 request head last old new → is_error head.status ≡ true → Meets is_memory next new end k l r → Meets is_memory (offer to limit digest next request) old end k l r
+unfolding offer
+offer_passed to limit digest next request head last old new end k l r reach bad rest = reached_headed 10 request (offer_reading to limit digest) (offer_reply digest next) head last reach (passed_reading to limit digest head bad) (rw (chosen_first (is_error head.status) next (blob_reply digest last (Headed head)) bad) rest)
+
+pub offer_missed : (to : Destination) (limit : ℕ) (digest : List ℕ) (next : Row (List ℕ)) (request : Request) (old new : Link) (k : Memory) → Misses 10 request old new → Meets is_memory (offer to limit digest next request) old new k k (Err refusal.TransportFault)
+unfolding offer
+offer_missed to limit digest next request old new k m = missed 10 request (offer_reading to limit digest) (offer_reply digest next) m (λ last. Meets-err is_memory new k refusal.TransportFault refl)
+
+pub offer_cut : (to : Destination) (limit : ℕ) (digest : List ℕ) (next : Row (List ℕ)) (request : Request) (old new : Link) (k : Memory) → Cuts 10 request old new → Meets is_memory (offer to limit digest next request) old new k k (Err refusal.WantOfMemory)
+unfolding offer
+offer_cut to limit digest next request old new k c = cut is_memory 10 request (offer_reading to limit digest) (offer_reply digest next) k refusal.WantOfMemory c refl
 
 -- ---- a blob that is held
 
@@ -182,22 +224,22 @@ limit_into IntoSink limit = refl
 limit_into IntoMemory limit = refl
 
 -- the whole body was read, and what is said of its digests
-pub blob_compared : (to : Destination) (limit : ℕ) (digest : List ℕ) (request : Request) (head : AnswerHead) (last : Request) (body : List ℕ) (old mid new : Link) (k : Memory) (given : Option Expected) (own : Expected) (r : Result (List ℕ) OciDistributionError) → Reaches 10 request head last old mid → plan_of digest head ≡ plan.Pour given own → mid.faults ≤ new.faults → new.told ≡ mid.told → Steady mid new → length body ≤ limit → ((rest : List ℕ) → mid.rest ≡ Some rest → body ≡ rest) → Says r (both_compared given own body >> Ok body) → Meets is_memory (attempt to limit digest request) old new k k r
-blob_compared to limit digest request head last body old mid new k given own r reach is le same steady small whole says = blob_read to limit digest request head last body old mid new k (plan.Pour given own) r reach is (limit_into to limit) le same steady small whole says
+pub blob_compared : (to : Destination) (limit : ℕ) (digest : List ℕ) (request : Request) (head : AnswerHead) (last : Request) (body : List ℕ) (old mid new : Link) (k : Memory) (given : Option Expected) (own : Expected) (r : Result (List ℕ) OciDistributionError) → {row : Row (List ℕ)} → Takes to limit digest request head row → Reaches 10 request head last old mid → plan_of digest head ≡ plan.Pour given own → mid.faults ≤ new.faults → new.told ≡ mid.told → Steady mid new → length body ≤ limit → ((rest : List ℕ) → mid.rest ≡ Some rest → body ≡ rest) → Says r (both_compared given own body >> Ok body) → Meets is_memory row old new k k r
+blob_compared to limit digest request head last body old mid new k given own r takes reach is le same steady small whole says = blob_read to limit digest request head last body old mid new k (plan.Pour given own) r takes reach is (limit_into to limit) le same steady small whole says
 
 -- at the exit of a `?`
 pub compared_on : (e : OciDistributionError) (r s : Result (Unit {0}) OciDistributionError) → Says {A = Unit {0}} (Err e) s → IsErrAnd r (λ x. x ≡ e) → Says r s
 compared_on e r s says is = let at = err_from_is_err_and r is in rw (at.1, at.2) says
 
-pub held_other : (limit : ℕ) (digest : List ℕ) (request : Request) (head : AnswerHead) (last : Request) (body : List ℕ) (old mid new : Link) (k : Memory) (given : Option Expected) (own : Expected) (e : OciDistributionError) (r : Result (List ℕ) OciDistributionError) → Reaches 10 request head last old mid → plan_of digest head ≡ plan.Pour given own → mid.faults ≤ new.faults → new.told ≡ mid.told → Steady mid new → length body ≤ limit → ((rest : List ℕ) → mid.rest ≡ Some rest → body ≡ rest) → Says {A = Unit} (Err e) (both_compared given own body) → IsErrAnd r (λ x. x ≡ e) → Meets is_memory (attempt IntoMemory limit digest request) old new k k r
-held_other limit digest request head last body old mid new k given own e r reach is le same steady small whole bad from_is = let at = err_from_is_err_and r from_is in rw (at.1, at.2) (blob_compared IntoMemory limit digest request head last body old mid new k given own (Err e) reach is le same steady small whole (refused_says body e (both_compared given own body) bad))
+pub held_other : (limit : ℕ) (digest : List ℕ) (request : Request) (head : AnswerHead) (last : Request) (body : List ℕ) (old mid new : Link) (k : Memory) (given : Option Expected) (own : Expected) (e : OciDistributionError) (r : Result (List ℕ) OciDistributionError) → {row : Row (List ℕ)} → Takes IntoMemory limit digest request head row → Reaches 10 request head last old mid → plan_of digest head ≡ plan.Pour given own → mid.faults ≤ new.faults → new.told ≡ mid.told → Steady mid new → length body ≤ limit → ((rest : List ℕ) → mid.rest ≡ Some rest → body ≡ rest) → Says {A = Unit} (Err e) (both_compared given own body) → IsErrAnd r (λ x. x ≡ e) → Meets is_memory row old new k k r
+held_other limit digest request head last body old mid new k given own e r takes reach is le same steady small whole bad from_is = let at = err_from_is_err_and r from_is in rw (at.1, at.2) (blob_compared IntoMemory limit digest request head last body old mid new k given own (Err e) takes reach is le same steady small whole (refused_says body e (both_compared given own body) bad))
 
-pub held_whole : (limit : ℕ) (digest : List ℕ) (request : Request) (head : AnswerHead) (last : Request) (body : List ℕ) (old mid new : Link) (k : Memory) (given : Option Expected) (own : Expected) → Reaches 10 request head last old mid → plan_of digest head ≡ plan.Pour given own → mid.faults ≤ new.faults → new.told ≡ mid.told → Steady mid new → length body ≤ limit → ((rest : List ℕ) → mid.rest ≡ Some rest → body ≡ rest) → both_compared given own body ≡ Ok tt → Meets is_memory (attempt IntoMemory limit digest request) old new k k (Ok body)
-held_whole limit digest request head last body old mid new k given own reach is le same steady small whole good = blob_compared IntoMemory limit digest request head last body old mid new k given own (Ok body) reach is le same steady small whole (filled_says body (both_compared given own body) good)
+pub held_whole : (limit : ℕ) (digest : List ℕ) (request : Request) (head : AnswerHead) (last : Request) (body : List ℕ) (old mid new : Link) (k : Memory) (given : Option Expected) (own : Expected) → {row : Row (List ℕ)} → Takes IntoMemory limit digest request head row → Reaches 10 request head last old mid → plan_of digest head ≡ plan.Pour given own → mid.faults ≤ new.faults → new.told ≡ mid.told → Steady mid new → length body ≤ limit → ((rest : List ℕ) → mid.rest ≡ Some rest → body ≡ rest) → both_compared given own body ≡ Ok tt → Meets is_memory row old new k k (Ok body)
+held_whole limit digest request head last body old mid new k given own takes reach is le same steady small whole good = blob_compared IntoMemory limit digest request head last body old mid new k given own (Ok body) takes reach is le same steady small whole (filled_says body (both_compared given own body) good)
 
 -- memory was wanting to look at the head
-pub held_wanting : (limit : ℕ) (digest : List ℕ) (request : Request) (head : AnswerHead) (last : Request) (old new : Link) (k : Memory) (r : Result (List ℕ) OciDistributionError) → Reaches 10 request head last old new → IsErrAnd r (λ x. x ≡ refusal.WantOfMemory) → Meets is_memory (attempt IntoMemory limit digest request) old new k k r
-held_wanting limit digest request head last old new k r reach is = let at = err_from_is_err_and r is in rw (at.1, at.2) (blob_wanting IntoMemory limit digest request head last old new new k refusal.WantOfMemory reach (omega arith) refl (Steady-none new) refl)
+pub held_wanting : (limit : ℕ) (digest : List ℕ) (request : Request) (head : AnswerHead) (last : Request) (old new : Link) (k : Memory) (r : Result (List ℕ) OciDistributionError) → {row : Row (List ℕ)} → Takes IntoMemory limit digest request head row → Reaches 10 request head last old new → IsErrAnd r (λ x. x ≡ refusal.WantOfMemory) → Meets is_memory row old new k k r
+held_wanting limit digest request head last old new k r takes reach is = let at = err_from_is_err_and r is in rw (at.1, at.2) (blob_wanting IntoMemory limit digest request head last old new new k refusal.WantOfMemory takes reach (omega arith) refl (Steady-none new) refl)
 
 -- a front was put, and the call was refused
 pub spills_front : {p : Row (List ℕ)} {old mid new : Link} {k l : Memory} {e : OciDistributionError} (n : ℕ) (request : Request) (head : AnswerHead) (last : Request) (before after : Tray) → Reaches n request head last old mid → is_success head.status ≡ true → new.told ≡ mid.told → Steady mid new → before.faults ≤ after.faults → PoursFront mid before after → Meets is_memory p old new k l (Err e) → (◌≡◌ {A = Result Unit OciDistributionError} (Err e) (Err refusal.SinkFault) → Rose before.faults after.faults) → Spills p old new k l before after (Err e)
@@ -218,22 +260,22 @@ not_sink_answer url answer = by_status (nat_eq answer.status 401) (is_success an
   by_status false false false h = cc
 
 -- an answer of another status is refused, or memory was wanting to say why
-pub spills_judged : (limit : ℕ) (digest : List ℕ) (request : Request) (head : AnswerHead) (last : Request) (body : List ℕ) (old mid new : Link) (k : Memory) (tray : Tray) (e : OciDistributionError) → Reaches 10 request head last old mid → plan_of digest head ≡ plan.Judge → mid.faults ≤ new.faults → new.told ≡ mid.told → Steady mid new → length body ≤ limit → ((rest : List ℕ) → mid.rest ≡ Some rest → body ≡ rest) → SaysError e (refused_answer last.url (answer_of head body)) → Spills (attempt IntoSink limit digest request) old new k k tray tray (Err e)
-spills_judged limit digest request head last body old mid new k tray e reach is le same steady small whole says = by_memory (is_memory e) refl says where
-  by_memory : (b : Bool) → is_memory e ≡ b → MatchBool b (Unit {0}) (e ≡ refused_answer last.url (answer_of head body)) → Spills (attempt IntoSink limit digest request) old new k k tray tray (Err e)
-  by_memory true of_memory says = spills_none tray (blob_wanting IntoSink limit digest request head last old mid new k e reach le same steady of_memory) (λ h. let is : e ≡ refusal.SinkFault = cc in absurd (cc (rw is at of_memory)))
-  by_memory false other says = spills_none tray (blob_read IntoSink limit digest request head last body old mid new k plan.Judge (Err e) reach is refl le same steady small whole (rw other (ap Err (sym says)))) (λ h. let is : e ≡ refusal.SinkFault = cc in absurd (not_sink_answer last.url (answer_of head body) (sym says ∙ is)))
+pub spills_judged : (limit : ℕ) (digest : List ℕ) (request : Request) (head : AnswerHead) (last : Request) (body : List ℕ) (old mid new : Link) (k : Memory) (tray : Tray) (e : OciDistributionError) → {row : Row (List ℕ)} → Takes IntoSink limit digest request head row → Reaches 10 request head last old mid → plan_of digest head ≡ plan.Judge → mid.faults ≤ new.faults → new.told ≡ mid.told → Steady mid new → length body ≤ limit → ((rest : List ℕ) → mid.rest ≡ Some rest → body ≡ rest) → SaysError e (refused_answer last.url (answer_of head body)) → Spills row old new k k tray tray (Err e)
+spills_judged limit digest request head last body old mid new k tray e {row} takes reach is le same steady small whole says = by_memory (is_memory e) refl says where
+  by_memory : (b : Bool) → is_memory e ≡ b → MatchBool b (Unit {0}) (e ≡ refused_answer last.url (answer_of head body)) → Spills row old new k k tray tray (Err e)
+  by_memory true of_memory says = spills_none tray (blob_wanting IntoSink limit digest request head last old mid new k e takes reach le same steady of_memory) (λ h. let is : e ≡ refusal.SinkFault = cc in absurd (cc (rw is at of_memory)))
+  by_memory false other says = spills_none tray (blob_read IntoSink limit digest request head last body old mid new k plan.Judge (Err e) takes reach is refl le same steady small whole (rw other (ap Err (sym says)))) (λ h. let is : e ≡ refusal.SinkFault = cc in absurd (not_sink_answer last.url (answer_of head body) (sym says ∙ is)))
 
 -- ---- a body that was put whole
 
 -- the whole body was put, and has its digests
 pub spills_whole : (limit : ℕ) (digest : List ℕ) (request : Request) (head : AnswerHead) (last : Request) (old mid new : Link) (k : Memory) (before after : Tray) (from to : Digesters) (given : Option Expected) (own : Expected)
-    → Reaches 10 request head last old mid → plan_of digest head ≡ plan.Pour given own → mid.faults ≤ new.faults → new.told ≡ mid.told → Steady mid new → before.faults ≤ after.faults → Pours limit from to mid new before after → BothHold from (given_algorithm given) own.algorithm []
+    → {row : Row (List ℕ)} → Takes IntoSink limit digest request head row → Reaches 10 request head last old mid → plan_of digest head ≡ plan.Pour given own → mid.faults ≤ new.faults → new.told ≡ mid.told → Steady mid new → before.faults ≤ after.faults → Pours limit from to mid new before after → BothHold from (given_algorithm given) own.algorithm []
     → ((m : List ℕ) → BothHold to (given_algorithm given) own.algorithm m → both_compared given own m ≡ Ok tt)
-    → Spills (attempt IntoSink limit digest request) old new k k before after (Ok tt)
-spills_whole limit digest request head last old mid new k before after from to given own reach is le same steady count pours fresh good = record {
+    → Spills row old new k k before after (Ok tt)
+spills_whole limit digest request head last old mid new k before after from to given own takes reach is le same steady count pours fresh good = record {
   body = pours.body;
-  met = blob_read IntoSink limit digest request head last pours.body old mid new k (plan.Pour given own) (Ok pours.body) reach is refl le same steady pours.small pours.whole (filled_says pours.body _ (good pours.body (pours.hashed (given_algorithm given) own.algorithm fresh)));
+  met = blob_read IntoSink limit digest request head last pours.body old mid new k (plan.Pour given own) (Ok pours.body) takes reach is refl le same steady pours.small pours.whole (filled_says pours.body _ (good pours.body (pours.hashed (given_algorithm given) own.algorithm fresh)));
   put = pours.put;
   front = front_told 10 request head last old mid new pours.body reach (pours_success digest head given own is) same steady (λ rest h. ([], sym (pours.whole rest h) ∙ sym (append-nil pours.body)));
   count = count;
@@ -259,12 +301,12 @@ not_sink e x P never says h = let is : e ≡ refusal.SinkFault = cc in absurd (n
 
 -- the whole body was put, and has not its digests
 pub spills_other : (limit : ℕ) (digest : List ℕ) (request : Request) (head : AnswerHead) (last : Request) (old mid new : Link) (k : Memory) (before after : Tray) (from to : Digesters) (given : Option Expected) (own : Expected) (e : OciDistributionError) (r : Result Unit OciDistributionError)
-    → Reaches 10 request head last old mid → plan_of digest head ≡ plan.Pour given own → mid.faults ≤ new.faults → new.told ≡ mid.told → Steady mid new → before.faults ≤ after.faults → Pours limit from to mid new before after → BothHold from (given_algorithm given) own.algorithm []
+    → {row : Row (List ℕ)} → Takes IntoSink limit digest request head row → Reaches 10 request head last old mid → plan_of digest head ≡ plan.Pour given own → mid.faults ≤ new.faults → new.told ≡ mid.told → Steady mid new → before.faults ≤ after.faults → Pours limit from to mid new before after → BothHold from (given_algorithm given) own.algorithm []
     → ((m : List ℕ) → BothHold to (given_algorithm given) own.algorithm m → Says {A = Unit} (Err e) (both_compared given own m)) → IsErrAnd r (λ x. x ≡ e)
-    → Spills (attempt IntoSink limit digest request) old new k k before after r
-spills_other limit digest request head last old mid new k before after from to given own e r reach is le same steady count pours fresh bad from_is = let at = err_from_is_err_and r from_is in rw (at.1, at.2) (record {
+    → Spills row old new k k before after r
+spills_other limit digest request head last old mid new k before after from to given own e r takes reach is le same steady count pours fresh bad from_is = let at = err_from_is_err_and r from_is in rw (at.1, at.2) (record {
   body = pours.body;
-  met = blob_read IntoSink limit digest request head last pours.body old mid new k (plan.Pour given own) (Err e) reach is refl le same steady pours.small pours.whole (refused_says pours.body e _ (bad pours.body (pours.hashed (given_algorithm given) own.algorithm fresh)));
+  met = blob_read IntoSink limit digest request head last pours.body old mid new k (plan.Pour given own) (Err e) takes reach is refl le same steady pours.small pours.whole (refused_says pours.body e _ (bad pours.body (pours.hashed (given_algorithm given) own.algorithm fresh)));
   put = pours.put;
   front = front_told 10 request head last old mid new pours.body reach (pours_success digest head given own is) same steady (λ rest h. ([], sym (pours.whole rest h) ∙ sym (append-nil pours.body)));
   count = count;
@@ -298,3 +340,31 @@ spills_next {A} {p} f {old} {mid} {new} {k} {l} {j} {a} {before} {after} {r} fir
     count = second.count;
     fault = second.fault;
   }
+
+-- an offer that was passed over, and what comes next puts
+pub spills_passed : (limit : ℕ) (digest : List ℕ) (next : Row (List ℕ)) (request : Request) (head : AnswerHead) (last : Request) (old new end : Link) (k l : Memory) (before later : Tray) (r : Result Unit OciDistributionError) → Reaches 10 request head last old new → is_error head.status ≡ true → Spills next new end k l before later r → Spills (offer IntoSink limit digest next request) old end k l before later r
+spills_passed limit digest next request head last old new end k l before later r reach bad rest = record {
+  body = rest.body;
+  met = offer_passed IntoSink limit digest next request head last old new end k l (filled rest.body r) reach bad rest.met;
+  put = rest.put;
+  front = record {
+    conversation = (reach.follows.conversation ++ exchange ∷ []) ++ rest.front.conversation;
+    told = Extends-more old new end (reach.follows.conversation ++ exchange ∷ []) rest.front.conversation (Extends-more old reach.mid new reach.follows.conversation (exchange ∷ []) reach.follows.told reach.sent.added) rest.front.told;
+    holds = later_front rest.body (reach.follows.conversation ++ exchange ∷ []) rest.front.conversation rest.front.holds;
+  };
+  count = rest.count;
+  fault = rest.fault;
+} where
+  exchange : Exchange
+  exchange = record { request = last; answer = Some (answer_of head reach.sent.body); faults = reach.mid.faults }
+
+-- what a refusal spilled, at the exit of a `?`
+pub spills_on : {p : Row (List ℕ)} {old new : Link} {k l : Memory} {before after : Tray} {e : OciDistributionError} {r : Result Unit OciDistributionError} → Spills p old new k l before after (Err e) → IsErrAnd r (λ x. x ≡ e) → Spills p old new k l before after r
+spills_on {r = r} spills is = let at = err_from_is_err_and r is in rw (at.1, at.2) spills
+
+-- an offer that was refused, at the exit of a `?`
+pub offered_refused : (next p : Row (List ℕ)) (old new : Link) (k : Memory) (e : OciDistributionError) (r : Result (Option (List ℕ)) OciDistributionError) → Meets is_memory p old new k k (Err e) → IsErrAnd r (λ x. x ≡ e) → Offered next p old new k r
+offered_refused next p old new k e r met is = let at = err_from_is_err_and r is in rw (at.1, at.2) met
+
+pub offered_into_refused : (next p : Row (List ℕ)) (old new : Link) (k : Memory) (before after : Tray) (e : OciDistributionError) (r : Result Bool OciDistributionError) → Spills p old new k k before after (Err e) → IsErrAnd r (λ x. x ≡ e) → OfferedInto next p old new k before after r
+offered_into_refused next p old new k before after e r spills is = let at = err_from_is_err_and r is in rw (at.1, at.2) spills

@@ -1,3 +1,4 @@
 pub mod Blobs
+pub mod Offers
 pub mod Rows
 pub mod Untaken

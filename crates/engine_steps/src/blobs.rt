@@ -1,40 +1,41 @@
-// One request for a blob, whose bytes go to a sink as they come.
-ghost use Rattle.std.specs.Prelude.{◌≡◌};
+// One request for a blob.
+ghost use Rattle.std.specs.Prelude.{ℕ, List};
 ghost use Rattle.oci_auth.specs.declared.memory.Memory.{Memory};
+ghost use Rattle.oci_transport.specs.Link.{Link};
+ghost use Rattle.oci_transport.specs.declared.message.Request.{Request as Asked};
+ghost use Rattle.oci_protocol.specs.Follow.{Reaches};
 ghost use Rattle.oci_protocol.specs.Runs.{Meets};
-ghost use Rattle.engine_requests.specs.Errors.{is_memory, Says, SaysError};
+ghost use Rattle.engine_requests.specs.Errors.{is_memory, Says};
 ghost use Rattle.engine_requests.specs.Blobs.{both_compared};
 ghost use Rattle.engine_steps.specs.Blobs.{IntoSink, IntoMemory, attempt, Spills};
+ghost use Rattle.engine_steps.specs.Offers.{Takes, Offered, OfferedInto, offer};
+ghost use Rattle.engine_steps.specs.Rows.{Row};
 
 use crate::asking::with_body;
 use engine_requests::{
-    Expected, OciDistributionError, Plan, both_compared, digesters, plan_of, refused_answer,
+    Expected, OciDistributionError, Plan, both_compared, digesters, is_error, plan_of,
+    refused_answer,
 };
 use json_values::{Blob, Sink};
-use oci_protocol::{PourError, pour, reach};
+use oci_protocol::{PourError, Reached, pour, reach};
 use oci_transport::{BodyError, LinkError, Request, Transport, read_body};
 use std::alloc::Global;
 
-/// One request for a blob, whose bytes are put as they come. After a refusal the sink has taken a front of the last
-/// answer's body, or nothing.
+// Puts the body of the answer that was reached, as its plan says.
 #[tactic(none)]
-pub fn attempt<T: Transport, K: Sink>(
+fn put_reached<T: Transport, K: Sink>(
     alloc: Global,
     transport: &mut T,
     limit: u64,
     digest: &str,
-    request: &Request,
+    reached: Reached,
     out: &mut K,
 ) -> Result<(), OciDistributionError>
-    ensures { (k : Memory) → Spills (attempt IntoSink limit digest.now request.now)
-        (T.state transport.old) (T.state transport.new) k k (K.state out.old)
-        (K.state out.new) result }
+    ensures { (old : Link) (request : Asked) (k : Memory) (p : Row (List ℕ))
+        → Reaches 10 request reached.head reached.request old (T.state transport.old)
+        → Takes IntoSink limit digest.now request reached.head p
+        → Spills p old (T.state transport.new) k k (K.state out.old) (K.state out.new) result }
 {
-    let reached = match reach(alloc, transport, 10, request) {
-        Ok(reached) => reached,
-        Err(LinkError::Failed) => return Err(OciDistributionError::TransportFault),
-        Err(LinkError::WantOfMemory) => return Err(OciDistributionError::WantOfMemory),
-    };
     let plan = plan_of(alloc, digest, &reached.head)?;
     match plan {
         Plan::Refuse(error) => Err(OciDistributionError::DigestError(error)),
@@ -60,6 +61,56 @@ pub fn attempt<T: Transport, K: Sink>(
     }
 }
 
+/// One request for a blob, whose bytes are put as they come. After a refusal the sink has taken a front of the last
+/// answer's body, or nothing.
+#[tactic(none)]
+pub fn attempt<T: Transport, K: Sink>(
+    alloc: Global,
+    transport: &mut T,
+    limit: u64,
+    digest: &str,
+    request: &Request,
+    out: &mut K,
+) -> Result<(), OciDistributionError>
+    ensures { (k : Memory) → Spills (attempt IntoSink limit digest.now request.now)
+        (T.state transport.old) (T.state transport.new) k k (K.state out.old)
+        (K.state out.new) result }
+{
+    let reached = match reach(alloc, transport, 10, request) {
+        Ok(reached) => reached,
+        Err(LinkError::Failed) => return Err(OciDistributionError::TransportFault),
+        Err(LinkError::WantOfMemory) => return Err(OciDistributionError::WantOfMemory),
+    };
+    put_reached(alloc, transport, limit, digest, reached, out)?;
+    Ok(())
+}
+
+/// One request for a blob that may be somewhere else too. Its bytes are put as they come; where its answer is one of an
+/// error, it is not read, nothing is put, and the result is false.
+#[tactic(none)]
+pub fn offer<T: Transport, K: Sink>(
+    alloc: Global,
+    transport: &mut T,
+    limit: u64,
+    digest: &str,
+    request: &Request,
+    out: &mut K,
+) -> Result<bool, OciDistributionError>
+    ensures { (k : Memory) (next : Row (List ℕ)) → OfferedInto next (offer IntoSink limit digest.now next request.now)
+        (T.state transport.old) (T.state transport.new) k (K.state out.old) (K.state out.new) result }
+{
+    let reached = match reach(alloc, transport, 10, request) {
+        Ok(reached) => reached,
+        Err(LinkError::Failed) => return Err(OciDistributionError::TransportFault),
+        Err(LinkError::WantOfMemory) => return Err(OciDistributionError::WantOfMemory),
+    };
+    if is_error(reached.head.status) {
+        return Ok(false);
+    }
+    put_reached(alloc, transport, limit, digest, reached, out)?;
+    Ok(true)
+}
+
 // The bytes have the digest of the header, where it names one, and the descriptor's.
 fn have_digests(
     alloc: Global,
@@ -75,22 +126,19 @@ fn have_digests(
     Ok(())
 }
 
-/// One request for a blob, whose bytes are held whole. No sink takes part.
-pub fn held<T: Transport>(
+// Holds the body of the answer that was reached, as its plan says.
+fn held_reached<T: Transport>(
     alloc: Global,
     transport: &mut T,
     limit: u64,
     digest: &str,
-    request: &Request,
+    reached: Reached,
 ) -> Result<Blob, OciDistributionError>
-    ensures { (k : Memory) → Meets is_memory (attempt IntoMemory limit digest.now request.now)
-        (T.state transport.old) (T.state transport.new) k k result }
+    ensures { (old : Link) (request : Asked) (k : Memory) (p : Row (List ℕ))
+        → Reaches 10 request reached.head reached.request old (T.state transport.old)
+        → Takes IntoMemory limit digest.now request reached.head p
+        → Meets is_memory p old (T.state transport.new) k k result }
 {
-    let reached = match reach(alloc, transport, 10, request) {
-        Ok(reached) => reached,
-        Err(LinkError::Failed) => return Err(OciDistributionError::TransportFault),
-        Err(LinkError::WantOfMemory) => return Err(OciDistributionError::WantOfMemory),
-    };
     let plan = plan_of(alloc, digest, &reached.head)?;
     match plan {
         Plan::Refuse(error) => Err(OciDistributionError::DigestError(error)),
@@ -110,4 +158,50 @@ pub fn held<T: Transport>(
             Err(BodyError::WantOfMemory) => Err(OciDistributionError::WantOfMemory),
         },
     }
+}
+
+/// One request for a blob, whose bytes are held whole. No sink takes part.
+#[tactic(none)]
+pub fn held<T: Transport>(
+    alloc: Global,
+    transport: &mut T,
+    limit: u64,
+    digest: &str,
+    request: &Request,
+) -> Result<Blob, OciDistributionError>
+    ensures { (k : Memory) → Meets is_memory (attempt IntoMemory limit digest.now request.now)
+        (T.state transport.old) (T.state transport.new) k k result }
+{
+    let reached = match reach(alloc, transport, 10, request) {
+        Ok(reached) => reached,
+        Err(LinkError::Failed) => return Err(OciDistributionError::TransportFault),
+        Err(LinkError::WantOfMemory) => return Err(OciDistributionError::WantOfMemory),
+    };
+    let body = held_reached(alloc, transport, limit, digest, reached)?;
+    Ok(body)
+}
+
+/// One request for a blob that may be somewhere else too, whose bytes are held whole. None where its answer is one of an
+/// error, which is not read. No sink takes part.
+#[tactic(none)]
+pub fn held_offer<T: Transport>(
+    alloc: Global,
+    transport: &mut T,
+    limit: u64,
+    digest: &str,
+    request: &Request,
+) -> Result<Option<Blob>, OciDistributionError>
+    ensures { (k : Memory) (next : Row (List ℕ)) → Offered next (offer IntoMemory limit digest.now next request.now)
+        (T.state transport.old) (T.state transport.new) k result }
+{
+    let reached = match reach(alloc, transport, 10, request) {
+        Ok(reached) => reached,
+        Err(LinkError::Failed) => return Err(OciDistributionError::TransportFault),
+        Err(LinkError::WantOfMemory) => return Err(OciDistributionError::WantOfMemory),
+    };
+    if is_error(reached.head.status) {
+        return Ok(None);
+    }
+    let body = held_reached(alloc, transport, limit, digest, reached)?;
+    Ok(Some(body))
 }

@@ -1,7 +1,7 @@
 // Each call of the engine's client.
 use json_values::{List, MemorySink, PlainSink, Text};
 use oci_auth::{RegistryAuth, RegistryOperation};
-use oci_engine::{Client, ClientConfig};
+use oci_engine::{AsLayerDescriptor, Client, ClientConfig, LayerDescriptor};
 use oci_manifests::OciManifest;
 use oci_names::Reference;
 use oci_transport::Script;
@@ -123,7 +123,7 @@ fn is_poured(alloc: Global, script: &mut Script) -> Option<bool> {
     let (mut client, image) = begun(alloc)?;
     let mut sink = PlainSink::new(alloc);
     client
-        .pull_blob(alloc, script, 100, &image, LAYER_DIGEST, &mut sink)
+        .pull_blob(alloc, script, 100, &image, &LAYER_DIGEST, &mut sink)
         .ok()?;
     Some(sink.into_blob().as_slice() == b"hello world".as_slice())
 }
@@ -143,7 +143,7 @@ fn unpoured(alloc: Global, script: &mut Script) -> Option<&'static str> {
     failing.push(0u64).ok()?;
     let mut sink = MemorySink::new(alloc, failing);
     let refusal = client
-        .pull_blob(alloc, script, 100, &image, LAYER_DIGEST, &mut sink)
+        .pull_blob(alloc, script, 100, &image, &LAYER_DIGEST, &mut sink)
         .err()?;
     Some(refusal.name())
 }
@@ -159,6 +159,26 @@ fn sink_fails(alloc: Global) -> bool {
 fn a_blob_goes_to_its_sink(rt: HostRuntime) {
     assert!(rt; is_blob(rt.alloc(), "hello world") && !is_blob(rt.alloc(), "hello there"));
     assert!(rt; sink_fails(rt.alloc()));
+}
+
+fn is_pulled<L: AsLayerDescriptor>(alloc: Global, layer: &L) -> Option<bool> {
+    let (mut client, image) = begun(alloc)?;
+    let mut script = script(alloc, &[(LAYER_DIGEST, "hello world")]).ok()?;
+    let blob = client
+        .pulled_blob(alloc, &mut script, 100, &image, layer)
+        .ok()?;
+    Some(blob.as_slice() == b"hello world".as_slice())
+}
+
+#[test]
+fn a_blob_is_pulled_by_its_digest_or_a_descriptor(rt: HostRuntime) {
+    let layer = LayerDescriptor {
+        digest: LAYER_DIGEST,
+        urls: None,
+    };
+    assert!(rt; is_pulled(rt.alloc(), &LAYER_DIGEST) == Some(true));
+    assert!(rt; is_pulled(rt.alloc(), &layer) == Some(true));
+    assert!(rt; is_pulled(rt.alloc(), &&layer) == Some(true));
 }
 
 // Whether the registry asks for no token.

@@ -1,5 +1,5 @@
 -- Where a client's credentials and tokens go in a call.
-use Rattle.std.specs.Prelude.{ℕ, Option}
+use Rattle.std.specs.Prelude.{ℕ, Option, None}
 use Rattle.oci_transport.specs.Link.{Link}
 use Rattle.oci_names.specs.declared.reference.Reference.{Reference}
 use Rattle.oci_auth.specs.declared.auth.RegistryAuth.{RegistryAuth}
@@ -7,7 +7,8 @@ use Rattle.oci_auth.specs.declared.token_type.RegistryOperation.{RegistryOperati
 use Rattle.oci_auth.specs.declared.token_type.RegistryOperation.TheVariants.{Pull}
 use Rattle.oci_protocol.specs.Runs.{Told}
 use Rattle.engine_laws.specs.Confined.{Within}
-use Rattle.engine_laws.specs.Held.{asking}
+use Rattle.engine_laws.specs.Held.{asking, pulling}
+use Rattle.engine_laws.specs.Referrers.{WithinReferrers}
 use Rattle.oci_engine.specs.declared.client.Client.{Client}
 use Rattle.oci_engine.specs.Refusals.{at_moment}
 
@@ -23,3 +24,11 @@ StaysFor op before after moment image handed old new =
 -- of a call that pulls
 abbrev pub Stays : Client → Client → ℕ → Reference → Option RegistryAuth → Link → Link → Type 0
 Stays before after moment image handed old new = StaysFor Pull before after moment image handed old new
+
+-- of a call for referrers, which hands in nothing: to the image's registry, and once the list was not there to the
+-- tag's
+abbrev pub StaysWithTag : Client → Client → ℕ → Reference → Link → Link → Type 0
+StaysWithTag before after moment image old new =
+    Told
+    (WithinReferrers (pulling before.memory (at_moment before moment) image None) before.settings after.memory)
+    old new

@@ -9,11 +9,15 @@ use Rattle.oci_auth.specs.declared.auth.RegistryAuth.{RegistryAuth}
 use Rattle.oci_protocol.specs.Runs.{Told}
 use Rattle.engine_requests.specs.Contexts.{Context, within}
 use Rattle.engine_requests.specs.Requests.{manifest_types}
+use Rattle.engine_requests.specs.Sources.{Layer}
+use Rattle.oci_names.specs.References.{digest_of}
+use Rattle.engine_requests.specs.declared.error.GenericCause.TheVariants.{NoDigest}
 use Rattle.engine_requests.specs.declared.error.OciDistributionError.{OciDistributionError}
 use Rattle.engine_requests.specs.declared.error.OciDistributionError.TheVariants as refusal
 use Rattle.engine_steps.specs.Blobs.{Destination}
 use Rattle.oci_engine.specs.declared.client.Client.{Client}
 use Rattle.engine_laws.specs.Held.{pulling}
+use Rattle.engine_laws.specs.Referrers.{ReferrersCause}
 use Rattle.engine_laws.specs.Causes.{Cause, AnswerCause, DocumentCause, BadHeader, OwnDigest, ManifestUrl}
 use Rattle.engine_laws.specs.Causes.{BlobUrl, BlobCause, FoundCause, ConfigCause, ImageCause, IsRefusedAs}
 
@@ -80,8 +84,17 @@ PullRefused client moment image a accepted c now e =
     client.settings image accepted c now e
 
 -- of a blob of its repository, by where the blob goes
-abbrev pub BlobRefused : Destination → Client → ℕ → Reference → List ℕ → List Exchange → ℕ
+abbrev pub BlobRefused : Destination → Client → ℕ → Reference → Layer → List Exchange → ℕ
     → OciDistributionError → Type 0
-BlobRefused to client moment image digest c now e =
-    BlobCause (BlobUrl client.settings image digest) to
-    (BadHeaderOf client moment image None manifest_types) client.settings digest c now e
+BlobRefused to client moment image layer c now e =
+    BlobCause (BlobUrl client.settings image layer) to
+    (BadHeaderOf client moment image None manifest_types) client.settings layer.digest c now e
+
+-- of a list of referrers
+abbrev pub ReferrersRefused : Client → ℕ → Reference → List Exchange → ℕ → OciDistributionError → Type 0
+ReferrersRefused client moment image c now e =
+    ReferrersCause (pulling client.memory (at_moment client moment) image None) client.settings c now e
+
+-- a reference without a digest is refused as that, unless memory was wanting
+abbrev pub DigestWanted : {A : Type 0} → Reference → Result A OciDistributionError → Type 0
+DigestWanted image r = digest_of image ≡ None → IsRefusedAs (refusal.GenericError NoDigest) r

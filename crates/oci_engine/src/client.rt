@@ -25,7 +25,7 @@ ghost use Rattle.engine_laws.specs.TokenCauses.{TokenCause};
 use crate::config::ClientConfig;
 use crate::source::ClientConfigSource;
 use engine_pull::ImageData;
-use engine_requests::{Call, OciDistributionError, Settings};
+use engine_requests::{AsLayerDescriptor, Call, OciDistributionError, Settings};
 use json_values::{Blob, Sink, Text};
 use oci_auth::{Memory, RegistryAuth, RegistryOperation};
 use oci_manifests::OciManifest;
@@ -283,30 +283,32 @@ impl Client {
         )
     }
 
-    /// Puts the bytes of a blob of the image's repository into the sink, piece by piece as they come.
-    pub fn pull_blob<T: Transport, K: Sink>(
+    /// Puts the bytes of a blob of the image's repository into the sink, piece by piece as they come. While the registry
+    /// answers with an error, the URLs of the blob's descriptor are asked, in order and with no credentials; one that does
+    /// not read, or has a user name or a password, is `UrlParseError`.
+    pub fn pull_blob<T: Transport, L: AsLayerDescriptor, K: Sink>(
         &mut self,
         alloc: Global,
         transport: &mut T,
         moment: u64,
         image: &Reference,
-        digest: &str,
+        layer: &L,
         out: &mut K,
     ) -> Result<(), OciDistributionError>
-        ensures spills { Spills (pull_blob (at_moment self.old moment) image.now digest.now)
+        ensures spills { Spills (pull_blob (at_moment self.old moment) image.now (L.layer layer.now))
             (T.state transport.old) (T.state transport.new) self.old.memory self.new.memory
             (K.state out.old) (K.state out.new) result }
         ensures settings { self.new.settings ≡ self.old.settings }
         ensures confined { Stays self.old self.new moment image.now None
             (T.state transport.old) (T.state transport.new) }
-        ensures took { IfOk result (λ u. TookBlob digest.now
+        ensures took { IfOk result (λ u. TookBlob (L.layer layer.now).digest
             (T.state transport.old) (T.state transport.new) (K.state out.old) (K.state out.new)) }
-        ensures causes { RefusedFor (BlobRefused IntoSink self.old moment image.now digest.now)
+        ensures causes { RefusedFor (BlobRefused IntoSink self.old moment image.now (L.layer layer.now))
             (T.state transport.old) (T.state transport.new) result }
         ensures fault { FaultCounted (T.state transport.old) (T.state transport.new) result }
         ensures sink { result ≡ Err OciDistributionError.SinkFault
             → Rose (K.state out.old).faults (K.state out.new).faults }
-        ensures no_url { UrlRefused (blob_text self.old.settings image.now digest.now) result }
+        ensures no_url { UrlRefused (blob_text self.old.settings image.now (L.layer layer.now).digest) result }
         ensures bad_header { HasBadHeader self.old.settings manifest_types → IsEarly result }
     {
         let call = Call {
@@ -314,19 +316,20 @@ impl Client {
             image,
             moment,
         };
-        engine_pull::pull_blob(alloc, transport, &mut self.memory, &call, digest, out)
+        let layer = layer.as_layer_descriptor();
+        engine_pull::pull_blob(alloc, transport, &mut self.memory, &call, &layer, out)
     }
 
-    /// The bytes of a blob of the image's repository.
-    pub fn pulled_blob<T: Transport>(
+    /// The bytes of a blob of the image's repository, which is asked for at the same places.
+    pub fn pulled_blob<T: Transport, L: AsLayerDescriptor>(
         &mut self,
         alloc: Global,
         transport: &mut T,
         moment: u64,
         image: &Reference,
-        digest: &str,
+        layer: &L,
     ) -> Result<Blob, OciDistributionError>
-        ensures run { Meets is_memory (held_blob (at_moment self.old moment) image.now digest.now)
+        ensures run { Meets is_memory (held_blob (at_moment self.old moment) image.now (L.layer layer.now))
             (T.state transport.old) (T.state transport.new) self.old.memory self.new.memory result }
         ensures settings { self.new.settings ≡ self.old.settings }
         ensures confined { Stays self.old self.new moment image.now None
@@ -335,11 +338,11 @@ impl Client {
             (T.state transport.old) (T.state transport.new)) }
         ensures last { IfOk result (λ bytes. Told (λ c. LastBody c bytes)
             (T.state transport.old) (T.state transport.new)) }
-        ensures named { IfOk result (λ bytes. Names digest.now bytes) }
-        ensures causes { RefusedFor (BlobRefused IntoMemory self.old moment image.now digest.now)
+        ensures named { IfOk result (λ bytes. Names (L.layer layer.now).digest bytes) }
+        ensures causes { RefusedFor (BlobRefused IntoMemory self.old moment image.now (L.layer layer.now))
             (T.state transport.old) (T.state transport.new) result }
         ensures fault { FaultCounted (T.state transport.old) (T.state transport.new) result }
-        ensures no_url { UrlRefused (blob_text self.old.settings image.now digest.now) result }
+        ensures no_url { UrlRefused (blob_text self.old.settings image.now (L.layer layer.now).digest) result }
         ensures bad_header { HasBadHeader self.old.settings manifest_types → IsEarly result }
     {
         let call = Call {
@@ -347,6 +350,7 @@ impl Client {
             image,
             moment,
         };
-        engine_pull::pulled_blob(alloc, transport, &mut self.memory, &call, digest)
+        let layer = layer.as_layer_descriptor();
+        engine_pull::pulled_blob(alloc, transport, &mut self.memory, &call, &layer)
     }
 }

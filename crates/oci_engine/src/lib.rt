@@ -5,6 +5,7 @@ mod client;
 mod config;
 mod config_files;
 mod manifests;
+mod referrers;
 mod source;
 
 pub use client::Client;
@@ -15,7 +16,8 @@ pub use config::{
 pub use config_files::config_file;
 pub use engine_pull::ImageData;
 pub use engine_requests::{
-    ClientProtocol, GenericCause, OciDistributionError, Settings, SpecViolation,
+    AsLayerDescriptor, ClientProtocol, GenericCause, LayerDescriptor, OciDistributionError,
+    Settings, SpecViolation,
 };
 pub use oci_platforms::{
     PlatformResolver, ResolverPromise, current_platform_resolver, linux_amd64_resolver,

@@ -165,6 +165,7 @@ fn read_written<V: SignatureVerifier, O: Offline>(
 }
 
 // The same by the SHA-256 text of the bytes. None where a check of them fails.
+#[tactic(none)]
 fn signature_of<V: SignatureVerifier, O: Offline>(
     alloc: Global,
     log_keys: &LogKeys,
@@ -197,6 +198,7 @@ fn signature_of<V: SignatureVerifier, O: Offline>(
 }
 
 /// The image that a written chain says. None where no image can be built of it.
+#[tactic(none)]
 pub fn image_of<V: SignatureVerifier, O: Offline>(
     alloc: Global,
     log_keys: &LogKeys,

@@ -43,6 +43,7 @@ fn image_in(alloc: Global, text: &str) -> Result<Reference, AllocError>
 }
 
 // Whether an image can be built of what is written, and its chain holds under these terms.
+#[tactic(none)]
 fn holds_under(alloc: Global, terms: &Terms, chain: &WrittenChain) -> Result<bool, AllocError>
     ensures { IfOk result (λ holds. IsTrue holds ↔ HoldsUnder
         (meaning terms.now.policy (λ b. accepts (b.vtable, b.value))
@@ -72,6 +73,7 @@ fn holds_under(alloc: Global, terms: &Terms, chain: &WrittenChain) -> Result<boo
 
 /// Whether the chain that is written holds: whether an image can be built of it, of which `check_chain` answers true
 /// under the policy, the tables, the keys of logs, the accepted media types and the platform of the case.
+#[tactic(none)]
 pub fn chain_holds(alloc: Global, input: ChainInput) -> Result<bool, AllocError>
     requires { IsReady input.case }
     ensures { IfOk result (λ holds. IsTrue holds ↔ Holds input) }

@@ -1,2 +1,3 @@
 pub mod InWords
+pub mod InTurn
 pub mod NoMirror

@@ -7,6 +7,7 @@ use Rattle.oci_protocol.specs.Runs.{Told}
 use Rattle.engine_requests.specs.Contexts.{within}
 use Rattle.engine_laws.specs.Confined.{Within}
 use Rattle.engine_laws.specs.Held.{pulling}
+use Rattle.engine_laws.specs.Referrers.{WithinReferrers}
 use Rattle.sig_registry.specs.Clients.{Client}
 
 -- To the image's registry and to the realm that it names, and nowhere else: so it is of each request that was told.
@@ -15,3 +16,10 @@ use Rattle.sig_registry.specs.Clients.{Client}
 abbrev pub Stays : Client → Client → ℕ → Reference → Option RegistryAuth → Link → Link → Type 0
 Stays before after moment image handed old new =
     Told (Within (pulling before.kept (within before.settings moment) image handed) before.settings after.kept) old new
+
+-- The same of a call that may ask a tag in place of a list of referrers: from then on to the tag's registry.
+abbrev pub StaysWithTag : Client → Client → ℕ → Reference → Option RegistryAuth → Link → Link → Type 0
+StaysWithTag before after moment image handed old new =
+    Told
+    (WithinReferrers (pulling before.kept (within before.settings moment) image handed) before.settings after.kept)
+    old new

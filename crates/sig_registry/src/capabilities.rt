@@ -3,16 +3,18 @@ ghost use Rattle.std.specs.Prelude.{◌≡◌, Some, None, option_copied};
 ghost use Rattle.engine_requests.specs.declared.settings.Settings.{Settings};
 ghost use Rattle.engine_requests.specs.Contexts.{within};
 ghost use Rattle.engine_requests.specs.Requests.{listed};
+ghost use Rattle.engine_requests.specs.Sources.{described};
 ghost use Rattle.sig_registry.specs.Errors.{is_memory, FaultCounted, NoSinkFault};
 ghost use Rattle.sig_registry.specs.Clients.{Client, Made};
-ghost use Rattle.sig_registry.specs.Confinement.{Stays};
+ghost use Rattle.sig_registry.specs.Confinement.{Stays, StaysWithTag};
 ghost use Rattle.sig_registry.specs.Calls.{digest_call, manifest_call, image_call, document_call, blob_call};
+ghost use Rattle.sig_registry.specs.Calls.{referrers_call};
 
 use crate::error::SigstoreError;
 use json_values::{Blob, Text};
 use oci_auth::RegistryAuth;
 use oci_engine::{ImageData, PlatformResolver};
-use oci_manifests::{OciDescriptor, OciManifest};
+use oci_manifests::{OciDescriptor, OciImageIndex, OciManifest};
 use oci_names::Reference;
 use oci_transport::Transport;
 use std::alloc::Global;
@@ -72,6 +74,25 @@ pub trait ClientCapabilities {
         ensures confined { Stays (state self.old) (state self.new) moment image.now (Some auth.now)
             (T.state transport.old) (T.state transport.new) };
 
+    /// The index of what refers to the image's digest, of this type of artifacts where one is given. A token is got
+    /// first, whose refusal is `RegistryFetchManifestError`; another one is `RegistryPullManifestError`.
+    fn pull_referrers<T: Transport>(
+        &mut self,
+        alloc: Global,
+        transport: &mut T,
+        moment: u64,
+        image: &Reference,
+        auth: &RegistryAuth,
+        artifact_type: Option<&str>,
+    ) -> Result<OciImageIndex, SigstoreError>
+        ensures run { (s : Settings)
+            → Made is_memory s (referrers_call (within s moment) image.now auth.now (option_copied artifact_type.entry))
+            (state self.old) (state self.new) (T.state transport.old) (T.state transport.new) result }
+        ensures fault { FaultCounted (T.state transport.old) (T.state transport.new) result }
+        ensures no_sink { NoSinkFault result }
+        ensures confined { StaysWithTag (state self.old) (state self.new) moment image.now (Some auth.now)
+            (T.state transport.old) (T.state transport.new) };
+
     /// The bytes of the image's manifest or index with their digest; a refusal is `RegistryPullError`.
     fn pull_manifest_raw<T: Transport>(
         &mut self,
@@ -90,7 +111,7 @@ pub trait ClientCapabilities {
         ensures confined { Stays (state self.old) (state self.new) moment image.now (Some auth.now)
             (T.state transport.old) (T.state transport.new) };
 
-    /// The bytes of a blob of the image's repository; a refusal is `RegistryPullError`.
+    /// The bytes of the blob of a descriptor, which may list URLs; a refusal is `RegistryPullError`.
     fn pull_blob<T: Transport>(
         &mut self,
         alloc: Global,
@@ -99,7 +120,7 @@ pub trait ClientCapabilities {
         image: &Reference,
         layer: &OciDescriptor,
     ) -> Result<Blob, SigstoreError>
-        ensures run { (s : Settings) → Made is_memory s (blob_call (within s moment) image.now layer.now.digest)
+        ensures run { (s : Settings) → Made is_memory s (blob_call (within s moment) image.now (described layer.now))
             (state self.old) (state self.new) (T.state transport.old) (T.state transport.new) result }
         ensures fault { FaultCounted (T.state transport.old) (T.state transport.new) result }
         ensures no_sink { NoSinkFault result }

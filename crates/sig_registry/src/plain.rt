@@ -6,14 +6,15 @@ ghost use Rattle.engine_requests.specs.Requests.{listed};
 ghost use Rattle.sig_registry.specs.Errors.{is_memory, FaultCounted, NoSinkFault};
 ghost use Rattle.sig_registry.specs.Clients.{Made, plain_state};
 ghost use Rattle.sig_registry.specs.Calls.{digest_call, manifest_call, image_call, document_call, blob_call};
+ghost use Rattle.sig_registry.specs.Calls.{referrers_call};
 
 use crate::capabilities::ClientCapabilities;
 use crate::error::SigstoreError;
 use crate::wording::{Called, worded};
 use json_values::{Blob, Text};
-use oci_auth::RegistryAuth;
+use oci_auth::{RegistryAuth, RegistryOperation};
 use oci_engine::{Client, ImageData, PlatformResolver};
-use oci_manifests::{OciDescriptor, OciManifest};
+use oci_manifests::{OciDescriptor, OciImageIndex, OciManifest};
 use oci_names::Reference;
 use oci_transport::Transport;
 use std::alloc::Global;
@@ -78,6 +79,30 @@ impl ClientCapabilities for OciClient {
         worded(alloc, Called::PullManifest, image, outcome)
     }
 
+    fn pull_referrers<T: Transport>(
+        &mut self,
+        alloc: Global,
+        transport: &mut T,
+        moment: u64,
+        image: &Reference,
+        auth: &RegistryAuth,
+        artifact_type: Option<&str>,
+    ) -> Result<OciImageIndex, SigstoreError> {
+        let given = self.client.auth(
+            alloc,
+            transport,
+            moment,
+            image,
+            auth,
+            RegistryOperation::Pull,
+        );
+        let _token = worded(alloc, Called::FetchManifest, image, given)?;
+        let outcome = self
+            .client
+            .pull_referrers(alloc, transport, moment, image, artifact_type);
+        worded(alloc, Called::PullManifest, image, outcome)
+    }
+
     fn pull_manifest_raw<T: Transport>(
         &mut self,
         alloc: Global,
@@ -108,7 +133,7 @@ impl ClientCapabilities for OciClient {
     ) -> Result<Blob, SigstoreError> {
         let outcome = self
             .client
-            .pulled_blob(alloc, transport, moment, image, layer.digest.as_str());
+            .pulled_blob(alloc, transport, moment, image, layer);
         worded(alloc, Called::Pull, image, outcome)
     }
 

@@ -5,7 +5,7 @@ use crate::plain::OciClient;
 use json_values::{Blob, Text};
 use oci_auth::RegistryAuth;
 use oci_engine::{ImageData, PlatformResolver};
-use oci_manifests::{OciDescriptor, OciManifest};
+use oci_manifests::{OciDescriptor, OciImageIndex, OciManifest};
 use oci_names::Reference;
 use oci_transport::Transport;
 use std::alloc::Global;
@@ -69,6 +69,27 @@ impl ClientCapabilities for RegistryClient {
         match self {
             RegistryClient::Plain(client) => client.pull_manifest(
                 alloc, transport, moment, image, auth,
+            ),
+        }
+    }
+
+    fn pull_referrers<T: Transport>(
+        &mut self,
+        alloc: Global,
+        transport: &mut T,
+        moment: u64,
+        image: &Reference,
+        auth: &RegistryAuth,
+        artifact_type: Option<&str>,
+    ) -> Result<OciImageIndex, SigstoreError> {
+        match self {
+            RegistryClient::Plain(client) => client.pull_referrers(
+                alloc,
+                transport,
+                moment,
+                image,
+                auth,
+                artifact_type,
             ),
         }
     }

@@ -1,8 +1,8 @@
 use Rattle.oci_protocol.proofs.Laws.{Meets-refused}
 use Rattle.engine_steps.proofs.Exits.{said}
-use Rattle.engine_steps.proofs.Attempts.{spills_next}
+use Rattle.engine_steps.proofs.Attempts.{spills_next, spills_on}
 use Rattle.engine_pull.specs.Pulls.{blob_to}
-use Rattle.engine_pull.proofs.NoSink.{spills_refused, spills_on, done_calm, read_calm, prepared_calm}
+use Rattle.engine_pull.proofs.NoSink.{spills_refused, done_calm, read_calm, prepared_calm}
 use Rattle.engine_pull.proofs.blobs.pull_blob.Goals as goal
 
 pub returns-in_err-url : goal.returns-in_err-url

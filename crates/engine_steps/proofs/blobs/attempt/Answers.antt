@@ -1,6 +1,5 @@
-use Rattle.std.proofs.Common.{refl, sym, ◌∙◌, arith}
-use Rattle.oci_protocol.proofs.Extending.{Steady-none}
-use Rattle.engine_steps.proofs.Attempts.{fault_is_none, long_is_none, memory_is_none, digest_is_none, spills_none, spills_wanting, spills_front, spills_judged, spills_whole, spills_other, blob_missed, blob_cut, blob_wanting, blob_unread, blob_long, blob_failed, blob_spilled, pours_success}
+use Rattle.std.proofs.Common.{refl, inl}
+use Rattle.engine_steps.proofs.Attempts.{fault_is_none, memory_is_none, spills_none, blob_missed, blob_cut, spills_on}
 use Rattle.engine_steps.proofs.blobs.attempt.Goals as goal
 
 pub returns-in-Err-Failed : goal.returns-in-Err-Failed
@@ -9,38 +8,8 @@ returns-in-Err-Failed g c = λ k. spills_none _ (blob_missed _ _ _ _ _ _ k (c.in
 pub returns-in-Err-WantOfMemory : goal.returns-in-Err-WantOfMemory
 returns-in-Err-WantOfMemory g c = λ k. spills_none _ (blob_cut _ _ _ _ _ _ k (c.in-Err-WantOfMemory.ensures.cut (rw c.in-Err-WantOfMemory.field-0-is refl))) (memory_is_none _)
 
-pub returns-in_err-plan : goal.returns-in_err-plan
-returns-in_err-plan g c = λ k. spills_wanting _ _ c.from_residual.ensures.1 (blob_wanting _ _ _ _ _ _ _ _ _ k _ c.in-Ok.ensures.reached (omega arith) refl (Steady-none _) refl)
-
-pub returns-in-Refuse : goal.returns-in-Refuse
-returns-in-Refuse g c = λ k. spills_none _ (blob_unread _ _ _ _ _ _ _ _ k _ c.in-Ok.ensures.reached (sym c.in_ok-plan.ensures ∙ c.in-Refuse.is)) (digest_is_none _ _)
-
-pub returns-in-Ok-read_body : goal.returns-in-Ok-read_body
-returns-in-Ok-read_body g c = λ k. spills_judged _ _ _ _ _ _ _ _ _ k _ _ c.in-Ok.ensures.reached (sym c.in_ok-plan.ensures ∙ c.in-Judge.is) c.read_body.ensures.count c.read_body.ensures.told c.read_body.ensures.steady c.in-Ok-read_body.ensures.within c.in-Ok-read_body.ensures.whole (rw c.with_body.ensures at c.refused_answer.ensures)
-
-pub returns-in-Err-TransportFault : goal.returns-in-Err-TransportFault
-returns-in-Err-TransportFault g c = λ k. spills_none _ (blob_failed _ _ _ _ _ _ _ _ _ k c.in-Ok.ensures.reached c.read_body.ensures.count c.read_body.ensures.told c.read_body.ensures.steady (c.in-Err-TransportFault.ensures.fault (rw c.in-Err-TransportFault.field-0-is refl))) (fault_is_none _)
-
-pub returns-in-Err-BodyTooLong : goal.returns-in-Err-BodyTooLong
-returns-in-Err-BodyTooLong g c = λ k. spills_none _ (blob_long _ _ _ _ _ _ _ _ _ k _ c.in-Ok.ensures.reached (sym c.in_ok-plan.ensures ∙ c.in-Judge.is) refl c.read_body.ensures.count c.read_body.ensures.told c.read_body.ensures.steady (c.in-Err-BodyTooLong.ensures.long (rw c.in-Err-BodyTooLong.field-0-is refl))) (long_is_none _)
-
-pub returns-in-Judge : goal.returns-in-Judge
-returns-in-Judge g c = λ k. spills_none _ (blob_wanting _ _ _ _ _ _ _ _ _ k _ c.in-Ok.ensures.reached c.read_body.ensures.count c.read_body.ensures.told c.read_body.ensures.steady refl) (memory_is_none _)
-
-pub returns-in_err-both_compared-in-Ok-pour : goal.returns-in_err-both_compared-in-Ok-pour
-returns-in_err-both_compared-in-Ok-pour g c = λ k. spills_other _ _ _ _ _ _ _ _ k _ _ _ _ _ _ _ _ c.in-Ok.ensures.reached (sym c.in_ok-plan.ensures ∙ c.in-Pour.is) c.pour.ensures.count c.pour.ensures.told c.pour.ensures.steady c.pour.ensures.sink_count c.in-Ok-pour.ensures.poured c.digesters-digesters.ensures (λ m h. c.in_err-both_compared-in-Ok-pour.ensures m h) c.from_residual-in_err-both_compared-in-Ok-pour.ensures.1
-
-pub returns-in-Ok-pour : goal.returns-in-Ok-pour
-returns-in-Ok-pour g c = λ k. spills_whole _ _ _ _ _ _ _ _ k _ _ _ _ _ _ c.in-Ok.ensures.reached (sym c.in_ok-plan.ensures ∙ c.in-Pour.is) c.pour.ensures.count c.pour.ensures.told c.pour.ensures.steady c.pour.ensures.sink_count c.in-Ok-pour.ensures.poured c.digesters-digesters.ensures (λ m h. c.in_ok-both_compared-in-Ok-pour.ensures m h)
-
-pub returns-in-Err-TransportFault-pour : goal.returns-in-Err-TransportFault-pour
-returns-in-Err-TransportFault-pour g c = λ k. spills_front _ _ _ _ _ _ c.in-Ok.ensures.reached (pours_success _ _ _ _ (sym c.in_ok-plan.ensures ∙ c.in-Pour.is)) c.pour.ensures.told c.pour.ensures.steady c.pour.ensures.sink_count c.pour.ensures.front (blob_failed _ _ _ _ _ _ _ _ _ k c.in-Ok.ensures.reached c.pour.ensures.count c.pour.ensures.told c.pour.ensures.steady (c.in-Err-TransportFault-pour.ensures.fault (rw c.in-Err-TransportFault-pour.field-0-is refl))) (fault_is_none _)
-
-pub returns-in-Err-BodyTooLong-pour : goal.returns-in-Err-BodyTooLong-pour
-returns-in-Err-BodyTooLong-pour g c = λ k. spills_front _ _ _ _ _ _ c.in-Ok.ensures.reached (pours_success _ _ _ _ (sym c.in_ok-plan.ensures ∙ c.in-Pour.is)) c.pour.ensures.told c.pour.ensures.steady c.pour.ensures.sink_count c.pour.ensures.front (blob_long _ _ _ _ _ _ _ _ _ k _ c.in-Ok.ensures.reached (sym c.in_ok-plan.ensures ∙ c.in-Pour.is) refl c.pour.ensures.count c.pour.ensures.told c.pour.ensures.steady (c.in-Err-BodyTooLong-pour.ensures.long (rw c.in-Err-BodyTooLong-pour.field-0-is refl))) (long_is_none _)
-
-pub returns-in-Err-SinkFault : goal.returns-in-Err-SinkFault
-returns-in-Err-SinkFault g c = λ k. spills_front _ _ _ _ _ _ c.in-Ok.ensures.reached (pours_success _ _ _ _ (sym c.in_ok-plan.ensures ∙ c.in-Pour.is)) c.pour.ensures.told c.pour.ensures.steady c.pour.ensures.sink_count c.pour.ensures.front (blob_spilled _ _ _ _ _ _ _ _ k _ _ c.in-Ok.ensures.reached (sym c.in_ok-plan.ensures ∙ c.in-Pour.is) c.pour.ensures.count c.pour.ensures.told c.pour.ensures.steady) (λ h. c.in-Err-SinkFault.ensures.sink_fault (rw c.in-Err-SinkFault.field-0-is refl))
+pub returns-in_err-put_reached : goal.returns-in_err-put_reached
+returns-in_err-put_reached g c = λ k. spills_on (c.in_err-put_reached.ensures _ _ k _ c.in-Ok.ensures.reached (inl refl)) c.from_residual.ensures.1
 
 pub returns : goal.returns
-returns g c = λ k. spills_front _ _ _ _ _ _ c.in-Ok.ensures.reached (pours_success _ _ _ _ (sym c.in_ok-plan.ensures ∙ c.in-Pour.is)) c.pour.ensures.told c.pour.ensures.steady c.pour.ensures.sink_count c.pour.ensures.front (blob_wanting _ _ _ _ _ _ _ _ _ k _ c.in-Ok.ensures.reached c.pour.ensures.count c.pour.ensures.told c.pour.ensures.steady refl) (memory_is_none _)
+returns g c = λ k. c.in_ok-put_reached.ensures _ _ k _ c.in-Ok.ensures.reached (inl refl)

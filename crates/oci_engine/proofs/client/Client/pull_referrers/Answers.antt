@@ -1,0 +1,18 @@
+use Rattle.std.specs.Prelude.{option_copied}
+use Rattle.engine_laws.proofs.ReferrersCauses.{referrers_reason, referrers_fault, no_digest}
+use Rattle.engine_laws.proofs.ReferrersConfined.{referrers_confined}
+use Rattle.engine_laws.proofs.ExactRefusals.{met_only}
+use Rattle.engine_requests.specs.Contexts.{within}
+use Rattle.oci_engine.proofs.client.Client.pull_referrers.Goals as goal
+
+pub returns-clause-causes : goal.returns-clause-causes
+returns-clause-causes g c = referrers_reason (within c.args.self.now.settings c.args.moment) c.args.image.now (option_copied c.args.artifact_type) c.pull_referrers.ensures
+
+pub returns-clause-fault : goal.returns-clause-fault
+returns-clause-fault g c = referrers_fault (within c.args.self.now.settings c.args.moment) c.args.image.now (option_copied c.args.artifact_type) c.pull_referrers.ensures
+
+pub returns-clause-no_digest : goal.returns-clause-no_digest
+returns-clause-no_digest g c = λ none. met_only _ (no_digest (within c.args.self.now.settings c.args.moment) c.args.image.now (option_copied c.args.artifact_type) none) c.pull_referrers.ensures
+
+pub returns-clause-confined : goal.returns-clause-confined
+returns-clause-confined g c = referrers_confined (within c.args.self.now.settings c.args.moment) c.args.image.now (option_copied c.args.artifact_type) c.pull_referrers.ensures

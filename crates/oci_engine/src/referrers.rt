@@ -1,0 +1,47 @@
+// The call that answers what refers to a manifest.
+ghost use Rattle.std.specs.Prelude.{◌≡◌, option_copied};
+ghost use Rattle.oci_protocol.specs.Runs.{Meets};
+ghost use Rattle.engine_requests.specs.Errors.{is_memory};
+ghost use Rattle.engine_pull.specs.Referrers.{pull_referrers};
+ghost use Rattle.oci_engine.specs.Confinement.{StaysWithTag};
+ghost use Rattle.oci_engine.specs.Refusals.{RefusedFor, FaultCounted, at_moment};
+ghost use Rattle.oci_engine.specs.Refusals.{ReferrersRefused, DigestWanted};
+
+use crate::client::Client;
+use engine_requests::{Call, OciDistributionError};
+use oci_manifests::OciImageIndex;
+use oci_names::Reference;
+use oci_transport::Transport;
+use std::alloc::Global;
+
+impl Client {
+    /// The index of what refers to the image's digest, of this type of artifacts where one is given. A registry that
+    /// answers 404 is asked for the tag that stands for the list (OCI distribution specification, "Referrers Tag
+    /// Schema"): where there is no such tag the index has no entries. Credentials are those that are stored.
+    pub fn pull_referrers<T: Transport>(
+        &mut self,
+        alloc: Global,
+        transport: &mut T,
+        moment: u64,
+        image: &Reference,
+        artifact_type: Option<&str>,
+    ) -> Result<OciImageIndex, OciDistributionError>
+        ensures run { Meets is_memory
+            (pull_referrers (at_moment self.old moment) image.now (option_copied artifact_type.entry))
+            (T.state transport.old) (T.state transport.new) self.old.memory self.new.memory result }
+        ensures settings { self.new.settings ≡ self.old.settings }
+        ensures confined { StaysWithTag self.old self.new moment image.now
+            (T.state transport.old) (T.state transport.new) }
+        ensures causes { RefusedFor (ReferrersRefused self.old moment image.now)
+            (T.state transport.old) (T.state transport.new) result }
+        ensures fault { FaultCounted (T.state transport.old) (T.state transport.new) result }
+        ensures no_digest { DigestWanted image.now result }
+    {
+        let call = Call {
+            settings: &self.settings,
+            image,
+            moment,
+        };
+        engine_pull::pull_referrers(alloc, transport, &mut self.memory, &call, artifact_type)
+    }
+}

@@ -1,0 +1,67 @@
+-- Two calls of the registry's client, one after the other.
+use Rattle.std.proofs.Common.{◌≡◌, ◌≤◌, inl, ℕ, Bool, true, false, List, Option, Some, Result, Ok, Err, refl, sym, ap, subst, ◌∙◌, arith}
+use Rattle.std.specs.Prelude.{if◌then◌else◌}
+use Rattle.std.specs.Result.{IsErrAnd}
+use Rattle.std.proofs.lemmas.Result.{err_from_is_err_and}
+use Rattle.json_values.specs.Counts.{Rose}
+use Rattle.oci_transport.specs.Link.{Link}
+use Rattle.oci_names.specs.declared.reference.Reference.{Reference}
+use Rattle.oci_auth.specs.declared.auth.RegistryAuth.{RegistryAuth}
+use Rattle.oci_auth.specs.declared.memory.Memory.{Memory}
+use Rattle.oci_auth.specs.declared.token_type.RegistryOperation.TheVariants as operation
+use Rattle.oci_manifests.specs.declared.index.OciImageIndex.{OciImageIndex}
+use Rattle.oci_protocol.specs.Proto.{◌>>=◌}
+use Rattle.oci_protocol.specs.Runs.{Meets, Told}
+use Rattle.oci_protocol.proofs.Laws.{Meets-next, Meets-refused, Runs-count}
+use Rattle.engine_requests.specs.Contexts.{Context, within}
+use Rattle.engine_requests.specs.declared.settings.Settings.{Settings}
+use Rattle.engine_requests.specs.declared.error.OciDistributionError.{OciDistributionError}
+use Rattle.engine_requests.specs.Errors.{is_memory as engine_is_memory}
+use Rattle.engine_steps.specs.Rows.{Row as Engine, token_given}
+use Rattle.engine_pull.specs.Referrers.{pull_referrers}
+use Rattle.engine_laws.specs.Confined.{Within}
+use Rattle.engine_laws.specs.Held.{Entry, pulling}
+use Rattle.engine_laws.specs.Referrers.{WithinReferrers}
+use Rattle.engine_laws.proofs.ReferrersConfined.{given_referrers_confined}
+use Rattle.sig_registry.specs.declared.error.SigstoreError.{SigstoreError}
+use Rattle.sig_registry.specs.declared.error.SigstoreError.TheVariants as sigstore
+use Rattle.sig_registry.specs.declared.wording.Called.{Called}
+use Rattle.sig_registry.specs.Errors.{is_memory, refusal, worded, Says, FaultCounted, NoSinkFault}
+use Rattle.sig_registry.specs.Clients.{Row, Made, Client}
+
+-- the first one was refused
+pub made_refused : {A B : Type 0} (s : Settings) {p : Row A} (f : A → Row B) {c d : Client} {old new : Link} {e : SigstoreError} {r : Result B SigstoreError} → Made is_memory s p c d old new (Err e) → IsErrAnd r (λ x. x ≡ e) → Made is_memory s (p >>= f) c d old new r
+made_refused s f {r = r} first is = let at = err_from_is_err_and r is in rw (at.1, at.2) (record { made = λ same. (λ h. (h.0, Meets-refused f h.1)) (first.made same) })
+
+-- both were made
+pub made_next : {A B : Type 0} (s : Settings) {p : Row A} (f : A → Row B) {c m d : Client} {old mid new : Link} {a : A} {r : Result B SigstoreError} → Made is_memory s p c m old mid (Ok a) → Made is_memory s (f a) m d mid new r → Made is_memory s (p >>= f) c d old new r
+made_next s f first second = record { made = λ same. (λ h. (λ g. (g.0, Meets-next f h.1 g.1)) (second.made h.0)) (first.made same) }
+
+-- the first one's refusal is the result
+pub fault_passed : {A B : Type 0} {old new : Link} {e : SigstoreError} {r : Result B SigstoreError} → FaultCounted {A = A} old new (Err e) → IsErrAnd r (λ x. x ≡ e) → FaultCounted old new r
+fault_passed {r = r} h is = let at = err_from_is_err_and r is in rw (at.1, at.2) h
+
+pub no_sink_passed : {A B : Type 0} {e : SigstoreError} {r : Result B SigstoreError} → NoSinkFault {A = A} (Err e) → IsErrAnd r (λ x. x ≡ e) → NoSinkFault r
+no_sink_passed {r = r} h is = let at = err_from_is_err_and r is in rw (at.1, at.2) h
+
+-- an answer in the words of the call is the engine's
+pub worded_ok : {A : Type 0} (called : Called) (text : List ℕ) (r : Result A OciDistributionError) (a : A) → Says (Ok a) (worded called text r) → r ≡ Ok a
+worded_ok called text (Ok b) a is = let same : b ≡ a = cc is in ap Ok same
+worded_ok called text (Err e) a is = by_memory (engine_is_memory e) is where
+  by_memory : (b : Bool) → (if b then Err sigstore.WantOfMemory else Err (refusal called text e)) ≡ Ok a → Err e ≡ Ok a
+  by_memory true is = absurd (cc is)
+  by_memory false is = absurd (cc is)
+
+-- the count of a call that was answered does not fall, so a fault in the second is one of both
+pub rose_in_second : {A : Type 0} {p : Engine A} {old mid new : Link} {k l : Memory} {r : Result A OciDistributionError} {a : A} → Meets engine_is_memory p old mid k l r → r ≡ Ok a → Rose mid.faults new.faults → Rose old.faults new.faults
+rose_in_second {p = p} {old = old} {mid = mid} {new = new} {k = k} {l = l} {a = a} met is rose = by_answer (rw is at met) where
+  by_answer : Meets engine_is_memory p old mid k l (Ok a) → Rose old.faults new.faults
+  by_answer h = let le : old.faults ≤ mid.faults = Runs-count p k l old.faults mid.faults h.outcome.conversation (Ok a) h.outcome.runs in omega (arith, le, rose)
+
+-- where credentials go in both
+pub first_confined : (x : Entry) (s : Settings) (l : Memory) {old new : Link} → Told (Within x s l) old new → Told (WithinReferrers x s l) old new
+first_confined x s l told = record { conversation = told.conversation; told = told.told; holds = inl told.holds }
+
+pub both_confined : (s t : Settings) (moment : ℕ) (image : Reference) (a : RegistryAuth) (kind : Option (List ℕ)) {old mid new : Link} {k m l : Memory} {r : Result (Option (List ℕ)) OciDistributionError} {given : Option (List ℕ)} {o : Result OciImageIndex OciDistributionError} → t ≡ s → r ≡ Ok given
+    → Meets engine_is_memory (token_given (within s moment) image a operation.Pull) old mid k m r → Meets engine_is_memory (pull_referrers (within t moment) image kind) mid new m l o → Told (WithinReferrers (pulling k (within s moment) image (Some a)) s l) old new
+both_confined s t moment image a kind same is first second = given_referrers_confined (within s moment) image a kind (Meets-next (λ u. pull_referrers (within s moment) image kind) (rw is at first) (rw same at second))
