@@ -22,6 +22,7 @@ PAYLOAD = "application/vnd.dev.cosign.simplesigning.v1+json"
 SIGNATURE = "dev.cosignproject.cosign/signature"
 ENTRY = "dev.sigstore.cosign/bundle"
 CERTIFICATE = "dev.sigstore.cosign/certificate"
+BUNDLE = "application/vnd.dev.sigstore.bundle.v0.3+json"
 
 
 def digest(content, algorithm="sha256"):
@@ -116,15 +117,23 @@ def requests(*paths):
     return lines
 
 
+NO_REFERRERS = [TOKEN] + [TOKEN, answer(status=404)] * 2
+
+
+def listing(named):
+    """The requests for the referrers of a digest where no list of them is there: a token step, the list and its tag."""
+    return [f"GET {BASE}"] + requests(f"referrers/{named}", "manifests/" + named.replace(":", "-"))
+
+
 def search(signatures, layers, image=IMAGE):
-    """The answers and the requests of the search: the digest, the signatures' manifest twice, and its blobs."""
+    """The answers and the requests of the search: the digest, the signatures' manifest twice, its blobs, and referrers."""
     tag = digest(image).replace(":", "-") + ".sig"
     answers = [TOKEN, answer(None, digest(image))] + served(signatures) * 2 + served("{}")
     paths = [("HEAD", "manifests/v1"), f"manifests/{tag}", f"manifests/{tag}", "blobs/" + digest("{}")]
     for layer in layers:
         answers += served(layer)
         paths.append("blobs/" + digest(layer))
-    return answers, requests(*paths)
+    return answers + NO_REFERRERS, requests(*paths) + listing(digest(image))
 
 
 def write(name, stdin, lines, status=0, args=("pull",)):
@@ -249,6 +258,104 @@ def shelves():
     write("shelves/ten_redirects", case(None, [signature], shelf=ten), ["moment 100"] + asked + [f"GET {h}" for h in hosts[1:11]] + image_lines(signature))
     eleven = dict(shelf, redirects=dict(zip(hosts[:11], hosts[1:12])))
     write("shelves/eleven_redirects", case(None, [signature], shelf=eleven), [], 3)
+
+
+# ---- bundles of referrers
+
+
+def bundle(subject, kind="sha256", material=None):
+    """A bundle about the image of this digest, and the text that its signature signs."""
+    statement = compact({"_type": "https://in-toto.io/Statement/v1", "subject": [{"name": "app", "digest": {kind: subject.partition(":")[2]}}], "predicate": {}})
+    envelope = {"payload": base64_of(statement), "payloadType": "application/vnd.in-toto+json", "signatures": [{"sig": base64_of("sig1")}]}
+    content = compact({"mediaType": BUNDLE, "verificationMaterial": material or {}, "dsseEnvelope": envelope})
+    return content, f"DSSEv1 28 application/vnd.in-toto+json {len(statement)} {statement}"
+
+
+def refers(content):
+    """A manifest with this bundle."""
+    return manifest("{}", [descriptor(BUNDLE, content)])
+
+
+def referrers():
+    """Pulls of a registry in memory without signature tag."""
+    content, text = bundle(digest(IMAGE))
+    referrer = refers(content)
+    signs = [{"key": "k1", "message": digest(text), "signature": "sig1"}]
+    no_tag = requests(("HEAD", "manifests/v1"), f"manifests/{TAG}")
+    tag = compact(f"{REGISTRY}/app:{TAG}")
+    url = compact(f"{BASE}app/manifests/{TAG}")
+    skipped_tag = f"skipped Source Tag Refused RegistryPullManifestError {tag} ServerError 404 {url} 0"
+    listed = [f"GET {BASE}"] + requests(f"referrers/{digest(IMAGE)}")
+    fallback = digest(IMAGE).replace(":", "-")
+    unsatisfied = "refused Unsatisfied " + compact(digest(IMAGE))
+    pulled = requests("manifests/" + digest(IMAGE), "blobs/" + digest("{}"), "blobs/" + digest(CONTENT))
+
+    def asks(*contents):
+        """The pull of a referrer with these bundles."""
+        document = manifest("{}", [descriptor(BUNDLE, c) for c in contents])
+        return requests("manifests/" + digest(document), *["blobs/" + digest(c) for c in ("{}",) + contents])
+
+    def one(title, lines, signatures=signs, documents=(), blobs=(), tags=None, **others):
+        """A pull of a shelf with these referrers, their documents and their blobs."""
+        shelf = shelf_of(dict({"v1": digest(IMAGE)}, **(tags or {})), [IMAGE, *documents], ["{}", CONTENT, *blobs], **others)
+        write(f"referrers/{title}", case(None, shelf=shelf, signatures=signatures), ["moment 100"] + no_tag + lines, 0 if lines[-1].startswith("signature") else 1)
+
+    def answers_to(text):
+        return {digest(IMAGE): text}
+
+    found = asks(content) + pulled + image_lines(content)
+    index = index_of(descriptor(MANIFEST, referrer))
+    held = {"documents": [referrer], "blobs": [content]}
+    one("a_bundle", listed + found, referrers=answers_to(index), **held)
+    one("a_bundle_under_the_tag_of_referrers", listing(digest(IMAGE)) + found, documents=[referrer, index], blobs=[content], tags={fallback: digest(index)})
+    one("a_bundle_that_no_key_signed", listed + asks(content) + [unsatisfied, "collected " + digest(content), skipped_tag], signatures=[], referrers=answers_to(index), **held)
+    one("no_list", listing(digest(IMAGE)) + [unsatisfied, skipped_tag])
+    one("an_empty_list", listed + [unsatisfied, skipped_tag], referrers=answers_to(index_of()))
+    refused = f"skipped Source Referrers Refused RegistryPullManifestError {compact(REGISTRY + '/app@' + digest(IMAGE))} "
+    one("a_manifest_under_the_tag_of_referrers", listing(digest(IMAGE)) + [unsatisfied, skipped_tag, refused + f"SpecViolationError ReferrersTag {compact(fallback)}"], documents=[referrer], tags={fallback: digest(referrer)})
+    one("a_list_that_does_not_read", listed + [unsatisfied, skipped_tag, refused + "ManifestParsingError 2"], referrers=answers_to("{}"))
+    # An entry that is refused does not hide the others.
+    other, third = manifest("{}", [descriptor(LAYER, "x")]), refers("third")
+    entries = [dict(descriptor(MANIFEST, referrer), digest="x"), descriptor(MANIFEST, other), descriptor(MANIFEST, third), descriptor(MANIFEST, referrer)]
+    by_other = compact(f"{REGISTRY}/app@{digest(other)}")
+    lines = requests("manifests/" + digest(other), "blobs/" + digest("{}")) + asks("third") + asks(content)
+    told = [f"skipped Referrer \"x\" NotAReference \"{REGISTRY}/app@x\""]
+    told += [f"skipped Referrer {compact(digest(other))} Refused RegistryPullError {by_other} IncompatibleLayerMediaTypeError {compact(LAYER)}"]
+    told += [f"skipped Layer Referrers {compact(digest('third'))} Unreadable Content"]
+    many = {"documents": [other, third, referrer], "blobs": ["third", content]}
+    one("entries_that_are_refused", listed + lines + [unsatisfied, "collected " + digest(content), skipped_tag] + told, signatures=[], referrers=answers_to(index_of(*entries)), **many)
+    one("a_bundle_behind_entries_that_are_refused", listed + lines + pulled + image_lines(content), referrers=answers_to(index_of(*entries)), **many)
+    unread = [dict(descriptor(MANIFEST, referrer), digest=f"x{i}") for i in range(1000)]
+    told = [f'skipped Referrer "x{i}" NotAReference "{REGISTRY}/app@x{i}"' for i in range(1000)]
+    one("a_thousand_entries", listed + [unsatisfied, skipped_tag] + told, referrers=answers_to(index_of(*unread)))
+    elsewhere, signed_text = bundle(digest("x"))
+    lines = listed + asks(elsewhere) + [unsatisfied, skipped_tag, f"skipped Layer Referrers {compact(digest(elsewhere))} OtherDigest"]
+    one("a_bundle_of_another_image", lines, signatures=[{"key": "k1", "message": digest(signed_text), "signature": "sig1"}], referrers=answers_to(index_of(descriptor(MANIFEST, refers(elsewhere)))), documents=[refers(elsewhere)], blobs=[elsewhere])
+    # By a digest of SHA-512 the tag of the signatures is too long, and is not asked for.
+    named = digest(IMAGE, "sha512")
+    by_long, long_text = bundle(named, "sha512")
+    shelf = shelf_of({"v1": named}, [refers(by_long)], ["{}", CONTENT, by_long], referrers={named: index_of(descriptor(MANIFEST, refers(by_long)))})
+    shelf["documents"][named] = {"media_type": MANIFEST, "content": IMAGE}
+    lines = ["moment 100"] + requests(("HEAD", "manifests/v1")) + [f"GET {BASE}"] + requests(f"referrers/{named}") + asks(by_long)
+    answered = requests("manifests/" + named, "blobs/" + digest("{}"), "blobs/" + digest(CONTENT))
+    answered += [f"ok {named}", f"manifest {named}"] + image_lines(by_long)[2:]
+    long_tag = compact(f"{REGISTRY}/app:{named.replace(':', '-')}.sig")
+    signs = [{"key": "k1", "message": digest(long_text), "signature": "sig1"}]
+    write("referrers/a_bundle_of_an_image_by_sha512", case(None, shelf=shelf, signatures=signs), lines + answered)
+    told = [f"refused Unsatisfied {compact(named)}", "collected " + digest(by_long), f"skipped Source Tag NotAReference {long_tag}"]
+    write("referrers/a_tag_that_is_too_long", case(None, shelf=shelf, signatures=[]), lines + told, 1)
+    # A bundle with its log entry.
+    logged = {"body": base64_of("{}"), "integratedTime": 1, "logIndex": 2, "logID": "ab"}
+    promise = {"signedEntryTimestamp": base64_of("set1")}
+    material = {"tlogEntries": [{"inclusionPromise": promise, "logId": {"keyId": "qw=="}, "integratedTime": "1", "logIndex": "2", "canonicalizedBody": logged["body"]}]}
+    entry_content, entry_text = bundle(digest(IMAGE), material=material)
+    document = refers(entry_content)
+    signs = [{"key": "k1", "message": digest(entry_text), "signature": "sig1"}, log_signs(json.dumps(logged, separators=(",", ":"), sort_keys=True))]
+    shelf = shelf_of({"v1": digest(IMAGE)}, [IMAGE, document], ["{}", CONTENT, entry_content], referrers=answers_to(index_of(descriptor(MANIFEST, document))))
+    lines = ["moment 100"] + no_tag + listed + asks(entry_content)
+    write("referrers/a_bundle_with_its_log_entry", case(None, shelf=shelf, signatures=signs, log_keys={"ab": "lk"}), lines + pulled + image_lines(entry_content))
+    told = [unsatisfied, skipped_tag, f'skipped Layer Referrers {compact(digest(entry_content))} UnknownLogKey "ab"']
+    write("referrers/a_bundle_of_an_unknown_log", case(None, shelf=shelf, signatures=signs, log_keys={"cd": "lk"}), lines + told, 1)
 
 
 # ---- chains that are held to a case
@@ -403,7 +510,7 @@ def layer_case(notes, lines, signatures, keys=("k1",), constraints=None, **other
         lines = ["refused Unsatisfied " + compact(digest(IMAGE))] + lines
     else:
         image_answers, image_asked = base_run()[:2]
-        answers, asked, lines = answers + image_answers[10:], asked + image_asked[10:], image_lines(signature)
+        answers, asked, lines = answers + image_answers[15:], asked + image_asked[15:], image_lines(signature)
     stdin = case(answers, keys=list(keys), constraints=constraints, signatures=signatures, **others)
     return stdin, ["moment 100"] + asked + lines
 
@@ -497,8 +604,9 @@ def indexes():
         signature = payload(image=first)
         tag = digest(first).replace(":", "-") + ".sig"
         signatures = manifest("{}", [signed(signature)])
-        answers = [TOKEN, answer(None, digest(first))] + served(signatures) * 2 + served("{}") + served(signature) + served(first)
-        asked = requests(("HEAD", "manifests/v1"), f"manifests/{tag}", f"manifests/{tag}", "blobs/" + digest("{}"), "blobs/" + digest(signature), "manifests/" + digest(first))
+        answers = [TOKEN, answer(None, digest(first))] + served(signatures) * 2 + served("{}") + served(signature) + NO_REFERRERS + served(first)
+        asked = requests(("HEAD", "manifests/v1"), f"manifests/{tag}", f"manifests/{tag}", "blobs/" + digest("{}"), "blobs/" + digest(signature))
+        asked += listing(digest(first)) + requests("manifests/" + digest(first))
         for document in documents:
             answers += served(document)
             asked += requests("manifests/" + digest(document))
@@ -592,9 +700,9 @@ def digests():
     wanted = "sha512:" + "0" * 128
     answers, asked, signature = base_run()
     asked[1] = f"HEAD {BASE}app/manifests/{wanted}"
-    lines = ["moment 100"] + asked[:12]
+    lines = ["moment 100"] + asked[:17]
     lines += [f"refused RegistryPullError {compact(by_digest)} DigestError VerificationError {compact(wanted)} {compact(digest(IMAGE, 'sha512'))}"]
-    write("digests/another_digest_of_another_algorithm", case(answers[:12], [signature], reference=f"{REGISTRY}/app@{wanted}"), lines, 1)
+    write("digests/another_digest_of_another_algorithm", case(answers[:17], [signature], reference=f"{REGISTRY}/app@{wanted}"), lines, 1)
 
 
 # ---- the signatures' manifest and its image
@@ -604,7 +712,7 @@ def signatures():
     url = compact(f"{BASE}app/manifests/{TAG}")
     tag = compact(f"{REGISTRY}/app:{TAG}")
     unsatisfied = "refused Unsatisfied " + compact(digest(IMAGE))
-    front = ["moment 100"] + requests(("HEAD", "manifests/v1"), f"manifests/{TAG}") + [unsatisfied]
+    front = ["moment 100"] + requests(("HEAD", "manifests/v1"), f"manifests/{TAG}") + listing(digest(IMAGE)) + [unsatisfied]
     both = f"DigestError VerificationError {compact(digest('{}'))} {compact(digest('x'))}"
     ambiguous = compact({"schemaVersion": 2, "config": descriptor(CONFIG, "{}"), "layers": [], "manifests": []})
     refused = [
@@ -631,12 +739,12 @@ def signatures():
     ]
     for title, reply, text in refused:
         lines = front + [f"skipped Source Tag Refused RegistryPullManifestError {tag} {text}"]
-        write(f"signatures/{title}", case([TOKEN, NAMED, TOKEN, reply], accepted=[]), lines, 1)
+        write(f"signatures/{title}", case([TOKEN, NAMED, TOKEN, reply] + NO_REFERRERS, accepted=[]), lines, 1)
     # A body of so many bytes as the limit is read, and one of more is not.
     for title, body, text in [("a_body_within_the_limit", ["x", "2", "3", "4", "5"], "VersionedParsingError 5"), ("a_body_past_the_limit", ["x", "2", "3", "4", "5", "6"], "BodyTooLong")]:
         lines = front + [f"skipped Source Tag Refused RegistryPullManifestError {tag} {text}"]
-        write(f"signatures/{title}", case([TOKEN, NAMED, TOKEN, answer(body)], limit=5), lines, 1)
-    front = front[:-1] + requests(f"manifests/{TAG}")
+        write(f"signatures/{title}", case([TOKEN, NAMED, TOKEN, answer(body)] + NO_REFERRERS, limit=5), lines, 1)
+    front = ["moment 100"] + requests(("HEAD", "manifests/v1"), f"manifests/{TAG}", f"manifests/{TAG}")
     none = answer(manifest("{}", []))
     images = [
         ("no_layers", none, answer("{}"), True, "PullNoLayersError"),
@@ -645,8 +753,10 @@ def signatures():
         ("a_layer_of_another_type", answer(manifest("{}", [signed(payload()), descriptor("application/octet-stream", "x")])), answer("{}"), True, 'IncompatibleLayerMediaTypeError "application/octet-stream"'),
     ]
     for title, document, config, asked, text in images:
-        lines = front + (requests("blobs/" + digest("{}")) if asked else []) + [unsatisfied, f"skipped Source Tag Refused RegistryPullError {tag} {text}"]
-        write(f"signatures/{title}", case([TOKEN, NAMED] + [TOKEN, document] * 2 + [TOKEN, config], [payload()]), lines, 1)
+        lines = front + (requests("blobs/" + digest("{}")) if asked else []) + listing(digest(IMAGE))
+        lines += [unsatisfied, f"skipped Source Tag Refused RegistryPullError {tag} {text}"]
+        answers = [TOKEN, NAMED] + [TOKEN, document] * 2 + ([TOKEN, config] if asked else []) + NO_REFERRERS
+        write(f"signatures/{title}", case(answers, [payload()]), lines, 1)
 
 
 # ---- tokens
@@ -725,23 +835,31 @@ def references():
 
 
 def faults():
-    """A fault at each request of a pull, and at each piece of an answer. One of the token step is passed over."""
+    """A fault at each request of a pull, and at each piece of an answer. One of the token step is passed over, and one of the
+    referrers skips them."""
     answers, asked, signature = base_run()
     tag, by_digest = compact(f"{REGISTRY}/app:{TAG}"), compact(f"{REGISTRY}/app@{digest(IMAGE)}")
-    unsatisfied = "refused Unsatisfied " + compact(digest(IMAGE))
     ends = {2: [f'refused RegistryFetchManifestError "{REGISTRY}/app:v1" TransportFault']}
-    ends[4] = [unsatisfied, f"skipped Source Tag Refused RegistryPullManifestError {tag} TransportFault"]
-    for line in (6, 8, 10):
-        ends[line] = [unsatisfied, f"skipped Source Tag Refused RegistryPullError {tag} TransportFault"]
-    for line in (12, 14, 16):
+    for line in (17, 19, 21):
         ends[line] = [f"refused RegistryPullError {by_digest} TransportFault"]
     for line in range(1, len(asked) + 1):
         changes = [("fails", "fail"), ("breaks_at_once", dict(answers[line - 1], fault=0))]
         if "pieces" in answers[line - 1]:
             changes.append(("breaks_at_its_end", dict(answers[line - 1], fault=1)))
         for title, change in changes:
-            lines = ["moment 100"] + (asked[:line] + ends[line] if line in ends else asked + image_lines(signature))
-            write(f"faults/answer_{line:02}_{title}", case(answers[: line - 1] + [change] + answers[line:], [signature]), lines, 1 if line in ends else 0)
+            front = asked[:line]
+            if line in ends:
+                given, lines = answers[: line - 1] + [change], front + ends[line]
+            elif line in (4, 6, 8, 10):
+                called = "RegistryPullManifestError" if line == 4 else "RegistryPullError"
+                lines = ["refused Unsatisfied " + compact(digest(IMAGE)), f"skipped Source Tag Refused {called} {tag} TransportFault"]
+                given, lines = answers[: line - 1] + [change] + answers[10:15], front + asked[10:15] + lines
+            elif line in (13, 15) or (line == 11 and title == "fails"):
+                given, lines = answers[: line - 1] + [change] + answers[15:], front + asked[15:] + image_lines(signature)
+            else:
+                given, lines = answers[: line - 1] + [change] + answers[line:], asked + image_lines(signature)
+            status = 0 if lines[-1].startswith("signature") else 1
+            write(f"faults/answer_{line:02}_{title}", case(given, [signature]), ["moment 100"] + lines, status)
     # A fault behind the last piece and the end never comes.
     late = [dict(a, fault=len(a.get("pieces", [])) + 1) for a in answers]
     write("faults/behind_the_end", case(late, [signature]), ["moment 100"] + asked + image_lines(signature))
@@ -810,6 +928,7 @@ def canonical_texts():
 TABLES = {
     "pulls": pulls,
     "shelves": shelves,
+    "referrers": referrers,
     "chains": chains,
     "policies": policies,
     "layers": layers,

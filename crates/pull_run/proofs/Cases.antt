@@ -14,7 +14,6 @@ use Rattle.sig_registry.specs.Clients.{Kept, Client}
 use Rattle.cosign_layers.specs.Constraint.{has_no_item, accepts}
 use Rattle.cosign_layers.specs.Standing.{Meaning, Owns, meaning, is_signed, stands}
 use Rattle.cosign_layers.specs.Trust.{Trust, Valid}
-use Rattle.cosign_layers.specs.Judge.{vouched_in}
 use Rattle.cosign_layers.specs.Verifier.{valid_in}
 use Rattle.pull_case.specs.declared.constraint.WrittenConstraint.{WrittenConstraint}
 use Rattle.pull_case.specs.declared.constraint.WrittenConstraint.TheVariants.{Annotations, Email, Url}
@@ -31,7 +30,7 @@ use Rattle.cosign_client.specs.declared.refusal.PullRefusal.{PullRefusal}
 use Rattle.cosign_client.proofs.Images.{Seen}
 use Rattle.cosign_client.proofs.Chains.{verified_shows}
 use Rattle.engine_requests.specs.Contexts.{Context}
-use Rattle.std.specs.Prelude.{find, None, Option}
+use Rattle.std.specs.Prelude.{find}
 use Rattle.pull_case.specs.Policy.{constraint_by, constraints_by, policy_of, meaning_of, trust_of}
 use Rattle.pull_case.specs.declared.case.Case.{Case}
 use Rattle.pull_run.specs.declared.report.Report.{Report}
@@ -119,6 +118,7 @@ reports_case policy own case image l made reads keys constraints played =
         answered = played.answered;
         calm_is = played.calm_is;
         sound = each_sound case image fresh l 0 played.faults played.talks turn;
+        whole = played.whole;
       };
       written = played.written;
       refused = played.refused;

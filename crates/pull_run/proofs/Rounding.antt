@@ -22,13 +22,13 @@ use Rattle.cosign_chain.specs.declared.image.VerifiedImage.{VerifiedImage}
 use Rattle.cosign_client.specs.declared.refusal.PullRefusal.{PullRefusal}
 use Rattle.pull_report.specs.Report.{report}
 use Rattle.pull_run.specs.declared.report.Report.{Report}
-use Rattle.pull_run.specs.Pulls.{Talk, moment_of, joined, report_of, reports, is_answered, all_answered, InTurn}
+use Rattle.pull_run.specs.Pulls.{Talk, moment_of, joined, report_of, reports, is_answered, is_wanting, all_answered, InTurn, EachWhole}
 use Rattle.engine_requests.specs.declared.settings.Settings.{Settings}
 use Rattle.json_values.specs.Places.{by_bytes}
 use Rattle.std.specs.FinMap.{FinMap}
 use Rattle.cosign_layers.specs.Standing.{Owns}
 use Rattle.pull_run.specs.declared.pulls.Terms.{Terms}
-use Rattle.pull_run.specs.Rounds.{row_for, is_wanting, Rounds, Round, Played}
+use Rattle.pull_run.specs.Rounds.{row_for, Rounds, Round, Played}
 
 turn_more : (row : ℕ → Whole VerifiedImage) (k l j : Kept) (m n o : ℕ) (talks : List Talk) (talk : Talk) → InTurn row k m talks l n → Runs (row talk.moment) l n talk.conversation o j talk.result → InTurn row k m (talks ++ talk ∷ []) j o
 turn_more row k l j m n o [] talk h run = (j, o, rw (h.0, h.1) run, (refl, refl))
@@ -45,6 +45,10 @@ reports_more (t ∷ talks) talk = ap (λ c. report_of t ++ c) (reports_more talk
 moments_more : (talks : List Talk) (talk : Talk) → map moment_of (talks ++ talk ∷ []) ≡ map moment_of talks ++ talk.moment ∷ []
 moments_more [] talk = refl
 moments_more (t ∷ talks) talk = ap (λ ms. t.moment ∷ ms) (moments_more talks talk)
+
+whole_more : (talks : List Talk) (talk : Talk) → EachWhole talks → is_wanting talk.result ≡ false → EachWhole (talks ++ talk ∷ [])
+whole_more [] talk h is = (is, tt)
+whole_more (t ∷ talks) talk h is = (h.0, whole_more talks talk h.1 is)
 
 both_and : (a b c : Bool) → (a && (b && c)) ≡ ((a && b) && c)
 both_and true b c = refl
@@ -63,24 +67,25 @@ not_both true b = refl
 not_both false b = refl
 
 one_more : {row : ℕ → Whole VerifiedImage} {mid new : Link} {k l : Kept} {before after : Report} (talk : Talk)
-    → Extends mid new talk.conversation → Runs (row talk.moment) k mid.faults talk.conversation new.faults l talk.result → after.bytes ≡ before.bytes ++ report_of talk → after.refused ≡ (before.refused || not (is_answered talk.result))
+    → Extends mid new talk.conversation → Runs (row talk.moment) k mid.faults talk.conversation new.faults l talk.result → is_wanting talk.result ≡ false → after.bytes ≡ before.bytes ++ report_of talk → after.refused ≡ (before.refused || not (is_answered talk.result))
     → (moments : List ℕ) (start : Link) (j : Kept) → Rounds row moments start mid j k before → Rounds row (moments ++ talk.moment ∷ []) start new j l after
-one_more {row} {mid} {new} {k} {l} {before} {after} talk told run bytes refused moments start j rounds = record {
+one_more {row} {mid} {new} {k} {l} {before} {after} talk told run done bytes refused moments start j rounds = record {
   talks = rounds.talks ++ talk ∷ [];
   moments_are = moments_more rounds.talks talk ∙ ap (λ ms. ms ++ talk.moment ∷ []) rounds.moments_are;
   told = rw joined_more (Extends-more start mid new (joined rounds.talks) talk.conversation rounds.told told);
   in_turn = turn_more row j k l start.faults mid.faults new.faults rounds.talks talk rounds.in_turn run;
+  whole = whole_more rounds.talks talk rounds.whole done;
   written = bytes ∙ ap (λ b. b ++ report_of talk) rounds.written ∙ sym (reports_more rounds.talks talk);
   refused = refused ∙ ap (λ b. b || not (is_answered talk.result)) rounds.refused ∙ not_both (all_answered rounds.talks) (is_answered talk.result) ∙ ap not (sym (answered_more rounds.talks talk));
 }
 
 pub round : {row : ℕ → Whole VerifiedImage} {moment : ℕ} {mid new : Link} {k l : Kept} {before after : Report} (c : List Exchange) (r : Result VerifiedImage PullRefusal)
-    → Extends mid new c → Runs (row moment) k mid.faults c new.faults l r → after.bytes ≡ before.bytes ++ report moment c r → after.refused ≡ (before.refused || not (is_answered r)) → Round row moment mid new k l before after
-round {row} {moment} {mid} {new} {k} {l} {before} {after} c r told run bytes refused = record { more = one_more {row = row} {mid = mid} {new = new} {k = k} {l = l} {before = before} {after = after} (record { moment = moment; conversation = c; result = r }) told run bytes refused }
+    → Extends mid new c → Runs (row moment) k mid.faults c new.faults l r → is_wanting r ≡ false → after.bytes ≡ before.bytes ++ report moment c r → after.refused ≡ (before.refused || not (is_answered r)) → Round row moment mid new k l before after
+round {row} {moment} {mid} {new} {k} {l} {before} {after} c r told run done bytes refused = record { more = one_more {row = row} {mid = mid} {new = new} {k = k} {l = l} {before = before} {after = after} (record { moment = moment; conversation = c; result = r }) told run done bytes refused }
 
 -- no pull yet
 pub none_yet : {row : ℕ → Whole VerifiedImage} {link : Link} {k : Kept} (made : Report) → Extends link link [] → made.bytes ≡ [] → made.refused ≡ false → Rounds row [] link link k k made
-none_yet made told bytes refused = record { talks = []; moments_are = refl; told = told; in_turn = (refl, refl); written = bytes; refused = refused }
+none_yet made told bytes refused = record { talks = []; moments_are = refl; told = told; in_turn = (refl, refl); whole = tt; written = bytes; refused = refused }
 
 -- a pull that memory did not cut off was made whole
 pub whole : {p : Whole VerifiedImage} {old new : Link} {k l : Kept} (r : Result VerifiedImage PullRefusal) → is_wanting r ≡ false → Meets is_memory p old new k l r → Performs p old new k l r
@@ -97,7 +102,7 @@ pub told_round : {row : ℕ → Whole VerifiedImage} {moment : ℕ} {mid new : L
 told_round {row} {moment} {mid} {new} {k} {l} {before} {after} r old_told new_told old_is new_is done met bytes refused =
     let p = whole {p = row moment} {old = mid} {new = new} {k = k} {l = l} r done met in
     let all : new_told ≡ old_told ++ p.conversation = cc (new_is ∙ p.told.told old_told (sym old_is)) in
-    round {row = row} {moment = moment} {mid = mid} {new = new} {k = k} {l = l} {before = before} {after = after} p.conversation r p.told p.runs (bytes ∙ ap (λ (c : List Exchange). before.bytes ++ report moment c r) (take_rest new_told (length old_told) ∙ behind old_told p.conversation new_told all)) refused
+    round {row = row} {moment = moment} {mid = mid} {new = new} {k = k} {l = l} {before = before} {after = after} p.conversation r p.told p.runs done (bytes ∙ ap (λ (c : List Exchange). before.bytes ++ report moment c r) (take_rest new_told (length old_told) ∙ behind old_told p.conversation new_told all)) refused
 
 -- one pull more, by the same row
 pub next_round : {row same : ℕ → Whole VerifiedImage} {moments all : List ℕ} {moment : ℕ} {start mid new : Link} {j k l : Kept} {before after : Report}
@@ -127,6 +132,7 @@ played {row} {moments} {k} {l} {made} registry first last told faults table roun
       moments_are = rounds.moments_are;
       faults = (state_of last).faults;
       in_turn = subst (λ (n : ℕ). InTurn row k n rounds.talks l (state_of last).faults) faults rounds.in_turn;
+      whole = rounds.whole;
       answered = rounds.told.table (answering_by registry) [] table told;
       calm_is = subst (λ (a : Answering). IsTrue (calm a.fails 0 (joined rounds.talks) (state_of last).faults)) same (calm_is (joined rounds.talks) all);
       written = rounds.written;

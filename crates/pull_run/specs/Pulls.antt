@@ -12,6 +12,7 @@ use Rattle.engine_requests.specs.declared.settings.ClientProtocol.{ClientProtoco
 use Rattle.engine_requests.specs.declared.settings.Settings.{Settings}
 use Rattle.oci_platforms.specs.declared.promise.ResolverPromise.{ResolverPromise}
 use Rattle.sig_registry.specs.Clients.{Kept}
+use Rattle.cosign_client.specs.Refusal.{is_memory}
 use Rattle.cosign_client.specs.Sound.{Sound}
 use Rattle.cosign_client.specs.Verified.{Whole, verified}
 use Rattle.cosign_chain.specs.declared.image.VerifiedImage.{VerifiedImage}
@@ -48,6 +49,16 @@ reports talks = flat_map report_of talks
 abbrev pub is_answered : Result VerifiedImage PullRefusal → Bool
 is_answered (Ok image) = true
 is_answered (Err refusal) = false
+
+-- whether memory was wanting
+abbrev pub is_wanting : Result VerifiedImage PullRefusal → Bool
+is_wanting (Ok image) = false
+is_wanting (Err refusal) = is_memory refusal
+
+-- memory was wanting in none of the pulls
+abbrev pub EachWhole : List Talk → Type 0
+EachWhole [] = Unit {0}
+EachWhole (talk ∷ talks) = (is_wanting talk.result ≡ false) × EachWhole talks
 
 -- whether no pull was refused
 abbrev pub all_answered : List Talk → Bool
@@ -100,7 +111,7 @@ EachSound case image (talk ∷ talks) =
 
 -- The pulls of a case by a client that was fresh before the first. Each exchange was answered by the recorded answer
 -- at its place, or by the table of the shelf. A transport's fault stands only where one is recorded: over a shelf
--- nothing may fail, and the counts of the exchanges and the last one are equal.
+-- nothing may fail, and the counts of the exchanges and the last one are equal. Memory was wanting in none of them.
 pub record Pulled (case : Case) (talks : List Talk) : Type 0 where
   pub image : Reference
   pub reads : reference_of case.reference ≡ Ok image
@@ -111,6 +122,7 @@ pub record Pulled (case : Case) (talks : List Talk) : Type 0 where
   pub answered : AnsweredBy (answering_by case.registry) 0 (joined talks)
   pub calm_is : IsTrue (calm (answering_by case.registry).fails 0 (joined talks) faults)
   pub sound : EachSound case image talks
+  pub whole : EachWhole talks
 
 -- what was made of a case is the report of its pulls
 pub record ReportsCase (case : Case) (made : Report) : Type 0 where

@@ -1,9 +1,8 @@
 -- The pulls so far, and what the client and the replay came to.
-use Rattle.std.specs.Prelude.{◌≡◌, ℕ, Bool, not, IsTrue, List, ◌∷◌, [], ◌++◌, map, Some, Result, Ok, Err, false}
+use Rattle.std.specs.Prelude.{◌≡◌, ℕ, not, IsTrue, List, ◌∷◌, [], ◌++◌, map}
 use Rattle.std.specs.FinMap.{FinMap}
 use Rattle.oci_transport.specs.Link.{Link, Extends, AnsweredBy}
 use Rattle.oci_transport.specs.Calm.{calm}
-use Rattle.oci_transport.specs.declared.message.Exchange.{Exchange}
 use Rattle.oci_names.specs.declared.reference.Reference.{Reference}
 use Rattle.oci_auth.specs.declared.auth.RegistryAuth.{RegistryAuth}
 use Rattle.engine_requests.specs.Contexts.{within}
@@ -16,15 +15,13 @@ use Rattle.cosign_layers.specs.Judge.{vouched_in}
 use Rattle.cosign_layers.specs.Standing.{Meaning, Owns, meaning}
 use Rattle.cosign_layers.specs.Trust.{trust}
 use Rattle.cosign_layers.specs.Verifier.{valid_in}
-use Rattle.cosign_client.specs.Refusal.{is_memory}
 use Rattle.cosign_client.specs.Verified.{Whole, verified}
 use Rattle.cosign_chain.specs.declared.image.VerifiedImage.{VerifiedImage}
-use Rattle.cosign_client.specs.declared.refusal.PullRefusal.{PullRefusal}
 use Rattle.pull_case.specs.Registry.{answering_by}
 use Rattle.pull_case.specs.declared.registry.Registry.{Registry}
 use Rattle.pull_run.specs.declared.pulls.Terms.{Terms}
 use Rattle.pull_run.specs.declared.report.Report.{Report}
-use Rattle.pull_run.specs.Pulls.{Talk, moment_of, joined, reports, all_answered, InTurn}
+use Rattle.pull_run.specs.Pulls.{Talk, moment_of, joined, reports, all_answered, InTurn, EachWhole}
 
 -- the pull of an image at a moment, by these settings, credentials and this policy
 abbrev pub row_by : {V : Type 0} {H : V → Type 0}
@@ -38,11 +35,6 @@ row_for own terms settings log_keys =
     row_by (meaning terms.policy own (trust (valid_in terms.verifier) (vouched_in terms.judge) log_keys))
     settings (reference_in terms.image) (registry_auth terms.auth) terms.accepted
 
--- whether memory was wanting
-abbrev pub is_wanting : Result VerifiedImage PullRefusal → Bool
-is_wanting (Ok image) = false
-is_wanting (Err refusal) = is_memory refusal
-
 -- pulls at these moments, from one state of the transport and the client to another, with their report
 pub record Rounds (row : ℕ → Whole VerifiedImage) (moments : List ℕ) (old new : Link) (k l : Kept) (made : Report)
     : Type 0 where
@@ -50,6 +42,7 @@ pub record Rounds (row : ℕ → Whole VerifiedImage) (moments : List ℕ) (old 
   pub moments_are : map moment_of talks ≡ moments
   pub told : Extends old new (joined talks)
   pub in_turn : InTurn row k old.faults talks l new.faults
+  pub whole : EachWhole talks
   pub written : made.bytes ≡ reports talks
   pub refused : made.refused ≡ not (all_answered talks)
 
@@ -66,6 +59,7 @@ pub record Played (row : ℕ → Whole VerifiedImage) (registry : Registry) (mom
   pub moments_are : map moment_of talks ≡ moments
   pub faults : ℕ
   pub in_turn : InTurn row k 0 talks l faults
+  pub whole : EachWhole talks
   pub answered : AnsweredBy (answering_by registry) 0 (joined talks)
   pub calm_is : IsTrue (calm (answering_by registry).fails 0 (joined talks) faults)
   pub written : made.bytes ≡ reports talks

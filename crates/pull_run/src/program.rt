@@ -1,5 +1,6 @@
 // From the words and the input to the status.
 ghost use Rattle.std.specs.Prelude.{◌≡◌, ◌↔◌, None};
+ghost use Rattle.pull_run.specs.Complete.{EndsComplete};
 ghost use Rattle.pull_run.specs.Program.{SaysTask, SaysWord, Says, EndsUnread, EndsLong, EndsPast};
 ghost use Rattle.pull_run.specs.Task.{task_by};
 ghost use Rattle.pull_run.specs.Word.{word_of};
@@ -55,6 +56,8 @@ pub fn run<S: Source, K: Sink>(alloc: Global, words: &[Text], source: &mut S, si
     ensures unread { EndsUnread words.now result (S.state source.old) (S.state source.new) }
     ensures long { EndsLong words.now result (S.state source.old) (S.state source.new) }
     ensures past { EndsPast result (S.state source.old) (S.state source.new) }
+    ensures completes { EndsComplete words.now result
+        (S.state source.old) (S.state source.new) (K.state sink.old) (K.state sink.new) }
 {
     serve_word(alloc, word_of(words), source, sink).code()
 }

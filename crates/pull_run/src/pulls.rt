@@ -7,8 +7,8 @@ ghost use Rattle.pull_case.specs.Case.{case_in, IsReady};
 ghost use Rattle.pull_case.specs.Registry.{Leads};
 ghost use Rattle.pull_case.specs.Replay.{IsCalm, state_of};
 ghost use Rattle.pull_report.specs.Report.{report as lines_of};
-ghost use Rattle.pull_run.specs.Pulls.{is_answered, settings_by, fresh, ReportsCase};
-ghost use Rattle.pull_run.specs.Rounds.{row_for, is_wanting, Round, Played};
+ghost use Rattle.pull_run.specs.Pulls.{is_answered, is_wanting, settings_by, fresh, ReportsCase};
+ghost use Rattle.pull_run.specs.Rounds.{row_for, Round, Played};
 
 use crate::report::Report;
 use crate::task::Task;

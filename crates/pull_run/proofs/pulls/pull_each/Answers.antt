@@ -1,4 +1,4 @@
-use Rattle.std.proofs.Common.{refl, ap, ◌∙◌}
+use Rattle.std.proofs.Common.{refl, ◌∙◌}
 use Rattle.std.proofs.lemmas.List.{take_all}
 use Rattle.oci_protocol.proofs.Extending.{Extends-none}
 use Rattle.pull_run.proofs.Rounding.{none_yet, next_round, played, take_more, new_is_calm, row_as}
