@@ -51,7 +51,7 @@ none_read task x told old new is none h = cc (sym none ∙ ap task.reads (sym (i
 long_input : (bytes told : List ℕ) (old new : Spring) → old.left ≡ Some told → input_limit < length told → IsInput bytes old new → ⊥
 long_input bytes told old new is long h = omega (arith, h.1, long, ap length (input_is bytes told old new is h))
 
-past_all : (told : List ℕ) (old new : Spring) → old.left ≡ Some told → length told ≤ input_limit → TakesMore input_limit old new → ⊥
+pub past_all : (told : List ℕ) (old new : Spring) → old.left ≡ Some told → length told ≤ input_limit → TakesMore input_limit old new → ⊥
 past_all told old new is short h = by_left old.left new.left is h.1 where
   by_left : (left right : Option (List ℕ)) → left ≡ Some told → Consumes left right h.0 → ⊥
   by_left left None left_is taken = absurd (rw left_is at taken)
