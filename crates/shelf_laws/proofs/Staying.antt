@@ -55,7 +55,7 @@ hub : (x : List ℕ) (b : Bool) → bytes_eq x (codes "docker.io") ≡ b → (le
 hub x true is = refl
 hub x false is = ap (λ b. if b then codes "index.docker.io" else x) is
 
-resolved_again : (image : Reference) → namespace_of image ≡ None → (if bytes_eq (resolved_registry image) (codes "docker.io") then codes "index.docker.io" else resolved_registry image) ≡ resolved_registry image
+pub resolved_again : (image : Reference) → namespace_of image ≡ None → (if bytes_eq (resolved_registry image) (codes "docker.io") then codes "index.docker.io" else resolved_registry image) ≡ resolved_registry image
 resolved_again image none = by_mirror image.mirror none where
   by_mirror : (m : Option (List ℕ)) → (if is_some m then Some image.registry else None) ≡ None
       → (let resolved : List ℕ = unwrap_or m (if bytes_eq image.registry (codes "docker.io") then codes "index.docker.io" else image.registry) in if bytes_eq resolved (codes "docker.io") then codes "index.docker.io" else resolved)
