@@ -1,15 +1,14 @@
 -- The referrers of a digest on a shelf, as the row that pulls them answers.
-use Rattle.std.specs.Prelude.{codes, nat_eq, if◌then◌else◌}
+use Rattle.std.specs.Prelude.{codes, if◌then◌else◌}
 use Rattle.std.specs.List.{list_any}
 use Rattle.std.specs.FinMap as map
-use Rattle.std.proofs.Common.{◌≡◌, ◌≤◌, ℕ, Bool, true, false, ◌==◌, List, [], ◌∷◌, ◌++◌, length, Option, Some, None, Result, Ok, Err, refl, sym, ap, ◌∙◌, subst, arith}
-use Rattle.url.specs.Parts.{Parts, serialize}
-use Rattle.hex.specs.Hex.{encode_lower}
+use Rattle.std.proofs.Common.{◌≡◌, ◌≤◌, ℕ, ◌==◌, List, ◌++◌, length, Option, Some, None, Result, Ok, Err, refl, sym, ap, ◌∙◌, subst, arith}
+use Rattle.url.specs.Parts.{Parts}
 use Rattle.oci_names.specs.declared.reference.Reference.{Reference}
 use Rattle.oci_names.specs.References.{digest_of}
 use Rattle.oci_auth.specs.declared.auth.RegistryAuth.{RegistryAuth}
 use Rattle.oci_auth.specs.declared.memory.Memory.{Memory}
-use Rattle.oci_digests.specs.Names.{Names, hash_of}
+use Rattle.oci_digests.specs.Names.{Names}
 use Rattle.oci_manifests.specs.declared.document.OciManifest.{OciManifest}
 use Rattle.oci_manifests.specs.declared.document.OciManifest.TheVariants.{ImageIndex}
 use Rattle.oci_manifests.specs.declared.index.OciImageIndex.{OciImageIndex}
@@ -22,22 +21,21 @@ use Rattle.oci_link.specs.Table.{answer, found, not_found, bytes_answer, referre
 use Rattle.oci_link.specs.declared.shelf.Shelf.{Shelf}
 use Rattle.engine_requests.specs.declared.answers.Got.{Got}
 use Rattle.engine_requests.specs.declared.error.OciDistributionError.{OciDistributionError}
-use Rattle.engine_requests.specs.Addresses.{manifest_name, url_read}
+use Rattle.engine_requests.specs.Addresses.{url_read}
 use Rattle.engine_requests.specs.Contexts.{Context}
 use Rattle.engine_requests.specs.Documents.{document_read}
 use Rattle.engine_requests.specs.Errors.{◌>>=◌ as ◌into◌}
-use Rattle.engine_requests.specs.Referrers.{digest_given, referrers_text, referrers_url, with_artifact_type, index_read, referrers_in, referrers_tag, fallback_reference, tagged_index}
+use Rattle.engine_requests.specs.Referrers.{digest_given, referrers_text, referrers_url, with_artifact_type, referrers_in, referrers_tag, fallback_reference, tagged_index}
 use Rattle.engine_requests.specs.Requests.{manifest_types}
 use Rattle.engine_requests.specs.declared.settings.Settings.{Settings}
-use Rattle.engine_steps.specs.Rows.{Row}
 use Rattle.engine_pull.specs.Pulls.{manifest_asked}
 use Rattle.engine_pull.specs.Referrers.{referrers_asked, referrers_tagged, referrers_by, pull_referrers}
 use Rattle.shelf_laws.specs.Comes.{Yields, Gives}
 use Rattle.shelf_laws.specs.Home.{front_of, Home, IsAt, CanBeShown, Settled}
-use Rattle.shelf_laws.specs.Shelves.{IsShort, HasDocument, TagLists, ListsBy, Lists}
+use Rattle.shelf_laws.specs.Shelves.{IsShort, TagLists, ListsBy, Lists}
 use Rattle.shelf_laws.proofs.Coming.{Stands, Gives-done, Gives-next, Gives-caught}
-use Rattle.shelf_laws.proofs.DigestTags.{dashed_name, dashed_text, dashed_segment, dashed_colonless}
-use Rattle.shelf_laws.proofs.Documents.{accepted_is, named_segment, asked_gives, answer_gives}
+use Rattle.shelf_laws.proofs.DigestTags.{dashed_text, dashed_segment, dashed_colonless}
+use Rattle.shelf_laws.proofs.Documents.{named_segment, asked_gives, answer_gives}
 use Rattle.shelf_laws.proofs.PlainNames.{item_plain}
 use Rattle.shelf_laws.proofs.Places.{item_path, answers_referrers, referrers_text_is}
 use Rattle.shelf_laws.proofs.Requests.{yields_ok, IsUrl, url_reads, stands_200, stands_404}
@@ -79,9 +77,9 @@ module _ {s : Settings} {registry : List ℕ} {shelf : Shelf} (home : Home s reg
       answer_gives home short image at a can moment request (bytes_answer map.empty listed)
       (answers_referrers home request digest segment (made.url_is ∙ is.text_is) ∙ ap (λ m. referrers_answer shelf m digest) made.method_is)
       (stands request listed) (short_body listed refl))) where
-    unrestricted : (P : Parts → Type 0) (r : Result Parts OciDistributionError) → Yields P r → Yields P (r into λ url. Ok (with_artifact_type None url))
-    unrestricted P (Ok url) h = h
-    unrestricted P (Err e) h = h
+        unrestricted : (P : Parts → Type 0) (r : Result Parts OciDistributionError) → Yields P r → Yields P (r into λ url. Ok (with_artifact_type None url))
+        unrestricted P (Ok url) h = h
+        unrestricted P (Err e) h = h
 
   tag_gives : (index : OciImageIndex) → TagLists shelf digest index → Gives I (answer shelf) (λ x. x ≡ index) (referrers_tagged ctx image digest None)
   unfolding referrers_tagged manifest_asked

@@ -128,7 +128,7 @@ module _ {s : Settings} {registry : List ℕ} {shelf : Shelf} (home : Home s reg
     unfolding pull_manifest_raw manifest_document
     raw_stays types listed = Stays-next _ (Gives-stays (store_gives home image at a can moment)) (λ u. Stays-next _ (Stays-done (url_read (manifest_text s image))) (λ url. document_stays url types listed))
 
-    manifest_stays : Stays I (answer shelf) (pull_manifest ctx image a)
+    pub manifest_stays : Stays I (answer shelf) (pull_manifest ctx image a)
     unfolding pull_manifest
     manifest_stays = Stays-next _ (raw_stays manifest_types refl) (λ found. Stays-next _ (Stays-done (document_read found.0)) (λ d. Stays-done _))
 
