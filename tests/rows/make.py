@@ -22,6 +22,7 @@ PAYLOAD = "application/vnd.dev.cosign.simplesigning.v1+json"
 SIGNATURE = "dev.cosignproject.cosign/signature"
 ENTRY = "dev.sigstore.cosign/bundle"
 CERTIFICATE = "dev.sigstore.cosign/certificate"
+BUNDLE = "application/vnd.dev.sigstore.bundle.v0.3+json"
 
 
 def digest(content, algorithm="sha256"):
@@ -116,15 +117,23 @@ def requests(*paths):
     return lines
 
 
+NO_REFERRERS = [TOKEN] + [TOKEN, answer(status=404)] * 2
+
+
+def listing(named):
+    """The requests for the referrers of a digest where no list of them is there: a token step, the list and its tag."""
+    return [f"GET {BASE}"] + requests(f"referrers/{named}", "manifests/" + named.replace(":", "-"))
+
+
 def search(signatures, layers, image=IMAGE):
-    """The answers and the requests of the search: the digest, the signatures' manifest twice, and its blobs."""
+    """The answers and the requests of the search: the digest, the signatures' manifest twice, its blobs, and referrers."""
     tag = digest(image).replace(":", "-") + ".sig"
     answers = [TOKEN, answer(None, digest(image))] + served(signatures) * 2 + served("{}")
     paths = [("HEAD", "manifests/v1"), f"manifests/{tag}", f"manifests/{tag}", "blobs/" + digest("{}")]
     for layer in layers:
         answers += served(layer)
         paths.append("blobs/" + digest(layer))
-    return answers, requests(*paths)
+    return answers + NO_REFERRERS, requests(*paths) + listing(digest(image))
 
 
 def write(name, stdin, lines, status=0, args=("pull",)):
@@ -158,6 +167,20 @@ def base_case():
     return case(answers, [signature]), ["moment 100"] + asked + image_lines(signature)
 
 
+def shelf_of(tags, documents, blobs, **others):
+    """A registry in memory with these tags, documents and blobs, each by its digest."""
+    held = {digest(d): {"media_type": json.loads(d).get("mediaType", MANIFEST), "content": d} for d in documents}
+    found = {"repository": "app", "tags": tags, "documents": held, "blobs": {digest(b): b for b in blobs}, "referrers": {}}
+    found.update(others)
+    return found
+
+
+def base_shelf(**others):
+    signature = payload()
+    signatures = manifest("{}", [signed(signature)])
+    return shelf_of({"v1": digest(IMAGE), TAG: digest(signatures)}, [IMAGE, signatures], ["{}", CONTENT, signature], **others)
+
+
 # ---- whole pulls
 
 
@@ -188,6 +211,250 @@ def pulls():
     tag = compact(f"{REGISTRY}/app@{digest(IMAGE)}")
     lines = ["moment 100"] + asked + [f"GET {other}"] * 10 + [f"refused RegistryPullError {tag} ServerError 307 {compact(other)} 0"]
     write("pulls/eleven_redirects", case(answers[:-1] + again, [signature]), lines, 1)
+
+
+def shelves():
+    """Pulls of a registry in memory."""
+    answers, asked, signature = base_run()
+    shelf = base_shelf()
+    whole = ["moment 100"] + asked + image_lines(signature)
+    write("shelves/base_case", case(None, [signature], shelf=shelf), whole)
+    second = ["moment 200"] + asked + image_lines(signature)
+    write("shelves/two_moments", case(None, [signature], shelf=shelf, moments=[100, 200]), whole + second)
+    blob, other = f"{BASE}app/blobs/{digest(CONTENT)}", f"http://cdn.example/v2/app/blobs/{digest(CONTENT)}"
+    moved = dict(shelf, redirects={blob: other})
+    write("shelves/a_redirect_to_another_host", case(None, [signature], shelf=moved), ["moment 100"] + asked + [f"GET {other}"] + image_lines(signature))
+    lines = ["moment 100"] + requests(("HEAD", "manifests/v1"), "manifests/v1")
+    url = f"{BASE}app/manifests/v1"
+    lines += [f'refused RegistryFetchManifestError "{REGISTRY}/app:v1" ServerError 404 "{url}" 0']
+    write("shelves/another_repository", case(None, [signature], shelf=dict(shelf, repository="other")), lines, 1)
+    # A tag whose digest is no digest of the document: a registry may say anything.
+    lies = dict(shelf, documents=dict(shelf["documents"], **{digest(IMAGE): {"media_type": MANIFEST, "content": IMAGE + " "}}))
+    tag = compact(f"{REGISTRY}/app@{digest(IMAGE)}")
+    error = f"DigestError VerificationError {compact(digest(IMAGE))} {compact(digest(IMAGE + ' '))}"
+    lines = ["moment 100"] + asked[: asked.index(f"GET {BASE}app/manifests/{digest(IMAGE)}") + 1] + [f"refused RegistryPullError {tag} {error}"]
+    write("shelves/a_document_of_another_digest", case(None, [signature], shelf=lies), lines, 1)
+    no_case = [
+        ("answers_and_a_shelf", {"answers": [], "shelf": shelf}),
+        ("neither_answers_nor_a_shelf", {}),
+        ("a_shelf_of_null", {"shelf": {}}),
+        ("a_shelf_without_referrers", {"shelf": {n: v for n, v in shelf.items() if n != "referrers"}}),
+        ("a_shelf_with_another_member", {"shelf": dict(shelf, at=1)}),
+        ("a_document_with_another_member", {"shelf": dict(shelf, documents={"d": {"media_type": "m", "content": "c", "at": 1}})}),
+        ("a_document_without_content", {"shelf": dict(shelf, documents={"d": {"media_type": "m"}})}),
+        ("a_tag_that_is_no_text", {"shelf": dict(shelf, tags={"v1": 1})}),
+        ("redirects_of_null", {"shelf": dict(shelf, redirects=None)}),
+        ("a_redirect_to_itself", {"shelf": dict(shelf, redirects={blob: blob})}),
+        ("a_redirect_to_another_path", {"shelf": dict(shelf, redirects={blob: "http://cdn.example/x"})}),
+        ("a_redirect_to_no_url", {"shelf": dict(shelf, redirects={blob: "x" + blob[4:]})}),
+        ("a_redirect_to_another_text_of_its_url", {"shelf": dict(shelf, redirects={blob: other.replace("http", "HTTP")})}),
+    ]
+    for title, members in no_case:
+        stdin = case(members.pop("answers", None), [signature], **members)
+        write(f"shelves/{title}", stdin.replace('"shelf":{}', '"shelf":null'), [], 3)
+    # Ten redirects lead, and eleven do not.
+    hosts = [blob] + [f"http://h{i}.example/v2/app/blobs/{digest(CONTENT)}" for i in range(1, 12)]
+    ten = dict(shelf, redirects=dict(zip(hosts[:10], hosts[1:11])))
+    write("shelves/ten_redirects", case(None, [signature], shelf=ten), ["moment 100"] + asked + [f"GET {h}" for h in hosts[1:11]] + image_lines(signature))
+    eleven = dict(shelf, redirects=dict(zip(hosts[:11], hosts[1:12])))
+    write("shelves/eleven_redirects", case(None, [signature], shelf=eleven), [], 3)
+
+
+# ---- bundles of referrers
+
+
+def bundle(subject, kind="sha256", material=None):
+    """A bundle about the image of this digest, and the text that its signature signs."""
+    statement = compact({"_type": "https://in-toto.io/Statement/v1", "subject": [{"name": "app", "digest": {kind: subject.partition(":")[2]}}], "predicate": {}})
+    envelope = {"payload": base64_of(statement), "payloadType": "application/vnd.in-toto+json", "signatures": [{"sig": base64_of("sig1")}]}
+    content = compact({"mediaType": BUNDLE, "verificationMaterial": material or {}, "dsseEnvelope": envelope})
+    return content, f"DSSEv1 28 application/vnd.in-toto+json {len(statement)} {statement}"
+
+
+def refers(content):
+    """A manifest with this bundle."""
+    return manifest("{}", [descriptor(BUNDLE, content)])
+
+
+def referrers():
+    """Pulls of a registry in memory without signature tag."""
+    content, text = bundle(digest(IMAGE))
+    referrer = refers(content)
+    signs = [{"key": "k1", "message": digest(text), "signature": "sig1"}]
+    no_tag = requests(("HEAD", "manifests/v1"), f"manifests/{TAG}")
+    tag = compact(f"{REGISTRY}/app:{TAG}")
+    url = compact(f"{BASE}app/manifests/{TAG}")
+    skipped_tag = f"skipped Source Tag Refused RegistryPullManifestError {tag} ServerError 404 {url} 0"
+    listed = [f"GET {BASE}"] + requests(f"referrers/{digest(IMAGE)}")
+    fallback = digest(IMAGE).replace(":", "-")
+    unsatisfied = "refused Unsatisfied " + compact(digest(IMAGE))
+    pulled = requests("manifests/" + digest(IMAGE), "blobs/" + digest("{}"), "blobs/" + digest(CONTENT))
+
+    def asks(*contents):
+        """The pull of a referrer with these bundles."""
+        document = manifest("{}", [descriptor(BUNDLE, c) for c in contents])
+        return requests("manifests/" + digest(document), *["blobs/" + digest(c) for c in ("{}",) + contents])
+
+    def one(title, lines, signatures=signs, documents=(), blobs=(), tags=None, **others):
+        """A pull of a shelf with these referrers, their documents and their blobs."""
+        shelf = shelf_of(dict({"v1": digest(IMAGE)}, **(tags or {})), [IMAGE, *documents], ["{}", CONTENT, *blobs], **others)
+        write(f"referrers/{title}", case(None, shelf=shelf, signatures=signatures), ["moment 100"] + no_tag + lines, 0 if lines[-1].startswith("signature") else 1)
+
+    def answers_to(text):
+        return {digest(IMAGE): text}
+
+    found = asks(content) + pulled + image_lines(content)
+    index = index_of(descriptor(MANIFEST, referrer))
+    held = {"documents": [referrer], "blobs": [content]}
+    one("a_bundle", listed + found, referrers=answers_to(index), **held)
+    one("a_bundle_under_the_tag_of_referrers", listing(digest(IMAGE)) + found, documents=[referrer, index], blobs=[content], tags={fallback: digest(index)})
+    one("a_bundle_that_no_key_signed", listed + asks(content) + [unsatisfied, "collected " + digest(content), skipped_tag], signatures=[], referrers=answers_to(index), **held)
+    one("no_list", listing(digest(IMAGE)) + [unsatisfied, skipped_tag])
+    one("an_empty_list", listed + [unsatisfied, skipped_tag], referrers=answers_to(index_of()))
+    refused = f"skipped Source Referrers Refused RegistryPullManifestError {compact(REGISTRY + '/app@' + digest(IMAGE))} "
+    one("a_manifest_under_the_tag_of_referrers", listing(digest(IMAGE)) + [unsatisfied, skipped_tag, refused + f"SpecViolationError ReferrersTag {compact(fallback)}"], documents=[referrer], tags={fallback: digest(referrer)})
+    one("a_list_that_does_not_read", listed + [unsatisfied, skipped_tag, refused + "ManifestParsingError 2"], referrers=answers_to("{}"))
+    # An entry that is refused does not hide the others.
+    other, third = manifest("{}", [descriptor(LAYER, "x")]), refers("third")
+    entries = [dict(descriptor(MANIFEST, referrer), digest="x"), descriptor(MANIFEST, other), descriptor(MANIFEST, third), descriptor(MANIFEST, referrer)]
+    by_other = compact(f"{REGISTRY}/app@{digest(other)}")
+    lines = requests("manifests/" + digest(other), "blobs/" + digest("{}")) + asks("third") + asks(content)
+    told = [f"skipped Referrer \"x\" NotAReference \"{REGISTRY}/app@x\""]
+    told += [f"skipped Referrer {compact(digest(other))} Refused RegistryPullError {by_other} IncompatibleLayerMediaTypeError {compact(LAYER)}"]
+    told += [f"skipped Layer Referrers {compact(digest('third'))} Unreadable Content"]
+    many = {"documents": [other, third, referrer], "blobs": ["third", content]}
+    one("entries_that_are_refused", listed + lines + [unsatisfied, "collected " + digest(content), skipped_tag] + told, signatures=[], referrers=answers_to(index_of(*entries)), **many)
+    one("a_bundle_behind_entries_that_are_refused", listed + lines + pulled + image_lines(content), referrers=answers_to(index_of(*entries)), **many)
+    unread = [dict(descriptor(MANIFEST, referrer), digest=f"x{i}") for i in range(1000)]
+    told = [f'skipped Referrer "x{i}" NotAReference "{REGISTRY}/app@x{i}"' for i in range(1000)]
+    one("a_thousand_entries", listed + [unsatisfied, skipped_tag] + told, referrers=answers_to(index_of(*unread)))
+    elsewhere, signed_text = bundle(digest("x"))
+    lines = listed + asks(elsewhere) + [unsatisfied, skipped_tag, f"skipped Layer Referrers {compact(digest(elsewhere))} OtherDigest"]
+    one("a_bundle_of_another_image", lines, signatures=[{"key": "k1", "message": digest(signed_text), "signature": "sig1"}], referrers=answers_to(index_of(descriptor(MANIFEST, refers(elsewhere)))), documents=[refers(elsewhere)], blobs=[elsewhere])
+    # By a digest of SHA-512 the tag of the signatures is too long, and is not asked for.
+    named = digest(IMAGE, "sha512")
+    by_long, long_text = bundle(named, "sha512")
+    shelf = shelf_of({"v1": named}, [refers(by_long)], ["{}", CONTENT, by_long], referrers={named: index_of(descriptor(MANIFEST, refers(by_long)))})
+    shelf["documents"][named] = {"media_type": MANIFEST, "content": IMAGE}
+    lines = ["moment 100"] + requests(("HEAD", "manifests/v1")) + [f"GET {BASE}"] + requests(f"referrers/{named}") + asks(by_long)
+    answered = requests("manifests/" + named, "blobs/" + digest("{}"), "blobs/" + digest(CONTENT))
+    answered += [f"ok {named}", f"manifest {named}"] + image_lines(by_long)[2:]
+    long_tag = compact(f"{REGISTRY}/app:{named.replace(':', '-')}.sig")
+    signs = [{"key": "k1", "message": digest(long_text), "signature": "sig1"}]
+    write("referrers/a_bundle_of_an_image_by_sha512", case(None, shelf=shelf, signatures=signs), lines + answered)
+    told = [f"refused Unsatisfied {compact(named)}", "collected " + digest(by_long), f"skipped Source Tag NotAReference {long_tag}"]
+    write("referrers/a_tag_that_is_too_long", case(None, shelf=shelf, signatures=[]), lines + told, 1)
+    # A bundle with its log entry.
+    logged = {"body": base64_of("{}"), "integratedTime": 1, "logIndex": 2, "logID": "ab"}
+    promise = {"signedEntryTimestamp": base64_of("set1")}
+    material = {"tlogEntries": [{"inclusionPromise": promise, "logId": {"keyId": "qw=="}, "integratedTime": "1", "logIndex": "2", "canonicalizedBody": logged["body"]}]}
+    entry_content, entry_text = bundle(digest(IMAGE), material=material)
+    document = refers(entry_content)
+    signs = [{"key": "k1", "message": digest(entry_text), "signature": "sig1"}, log_signs(json.dumps(logged, separators=(",", ":"), sort_keys=True))]
+    shelf = shelf_of({"v1": digest(IMAGE)}, [IMAGE, document], ["{}", CONTENT, entry_content], referrers=answers_to(index_of(descriptor(MANIFEST, document))))
+    lines = ["moment 100"] + no_tag + listed + asks(entry_content)
+    write("referrers/a_bundle_with_its_log_entry", case(None, shelf=shelf, signatures=signs, log_keys={"ab": "lk"}), lines + pulled + image_lines(entry_content))
+    told = [unsatisfied, skipped_tag, f'skipped Layer Referrers {compact(digest(entry_content))} UnknownLogKey "ab"']
+    write("referrers/a_bundle_of_an_unknown_log", case(None, shelf=shelf, signatures=signs, log_keys={"cd": "lk"}), lines + told, 1)
+
+
+# ---- chains that are held to a case
+
+
+def chain_of(first, layers, signature, notes, image=None):
+    """A chain from this document to an image with these layers."""
+    found = {"digest": digest(first), "first": first, "config": "{}", "layers": layers}
+    if image is not None:
+        found["entry"] = {"digest": digest(image), "content": image}
+    found["signature"] = {"kind": "payload", "content": signature, "annotations": notes}
+    return found
+
+
+def chains():
+    signature = payload()
+    notes = {SIGNATURE: base64_of("sig1")}
+    policy = json.loads(case([], [signature]))
+    chain = chain_of(IMAGE, [CONTENT], signature, notes)
+
+    def one(title, status, chain, case=policy):
+        lines = {0: ["chain holds"], 1: ["chain fails"], 3: []}[status]
+        write(f"chains/{title}", compact({"case": case, "chain": chain}), lines, status, args=["check"])
+
+    one("an_image", 0, chain)
+    one("an_image_by_its_digest", 0, chain, dict(policy, reference=f"{REGISTRY}/app@{digest(IMAGE, 'sha512')}"))
+    one("another_image_by_its_digest", 1, chain, dict(policy, reference=f"{REGISTRY}/app@{digest('x')}"))
+    # Each part of the chain, broken once.
+    other = payload(image="other")
+    for title, changes in [
+        ("another_digest", {"digest": digest("x")}),
+        ("a_digest_by_sha512", {"digest": digest(IMAGE, "sha512")}),
+        ("another_first_document", {"first": IMAGE + " "}),
+        ("a_first_document_that_is_no_json", {"first": "x", "digest": digest("x")}),
+        ("another_configuration", {"config": "x"}),
+        ("another_layer", {"layers": ["x"]}),
+        ("no_layers", {"layers": []}),
+        ("a_layer_too_many", {"layers": [CONTENT, CONTENT]}),
+        ("a_signature_of_another_image", {"signature": {"kind": "payload", "content": other, "annotations": notes}}),
+        ("a_signature_of_other_bytes", {"signature": {"kind": "payload", "content": signature, "annotations": {SIGNATURE: base64_of("sig2")}}}),
+        ("a_payload_without_signature", {"signature": {"kind": "payload", "content": signature, "annotations": {}}}),
+        ("a_payload_as_a_bundle", {"signature": {"kind": "bundle", "content": signature, "annotations": notes}}),
+        ("an_entry_beside_a_manifest", {"entry": {"digest": digest(IMAGE), "content": IMAGE}}),
+    ]:
+        one(title, 1, dict(chain, **changes))
+    # And the policy and the tables that it is held to.
+    for title, changes in [
+        ("no_key", {"keys": []}),
+        ("another_key", {"keys": ["k2"]}),
+        ("no_constraint", {"constraints": []}),
+        ("a_constraint_that_is_not_satisfied", {"constraints": [{"annotations": {"a": "1"}}]}),
+        ("a_signature_that_is_not_valid", {"signatures": []}),
+        ("a_layer_of_a_type_that_is_not_accepted", {"accepted": ["application/octet-stream"]}),
+    ]:
+        one(title, 1, chain, dict(policy, **changes))
+    two = manifest("{}", [descriptor(LAYER, CONTENT), descriptor(LAYER, "second", {"a": "1"})])
+    by_two = payload(image=two)
+    signs = dict(policy, signatures=[{"key": "k1", "message": digest(by_two), "signature": "sig1"}])
+    one("two_layers", 0, chain_of(two, [CONTENT, "second"], by_two, notes), signs)
+    one("two_layers_in_another_order", 1, chain_of(two, ["second", CONTENT], by_two, notes), signs)
+    one("a_layer_too_few", 1, chain_of(two, [CONTENT], by_two, notes), signs)
+    old = compact(dict(json.loads(IMAGE), schemaVersion=1))
+    by_old = payload(image=old)
+    one("a_manifest_of_another_version", 1, chain_of(old, [CONTENT], by_old, notes), dict(policy, signatures=[{"key": "k1", "message": digest(by_old), "signature": "sig1"}]))
+    # An index, of which the platform picks the manifest.
+    index = index_of(entry("arm64", "x"), entry("amd64", IMAGE))
+    by_index = payload(image=index)
+    signs = dict(policy, signatures=[{"key": "k1", "message": digest(by_index), "signature": "sig1"}], platform="linux/amd64")
+    indexed = chain_of(index, [CONTENT], by_index, notes, IMAGE)
+    one("an_image_of_an_index", 0, indexed, signs)
+    one("an_image_of_an_index_by_its_digest", 0, indexed, dict(signs, platform={"digest": digest(IMAGE)}))
+    one("an_image_of_an_index_without_platform", 1, indexed, dict(signs, platform=None))
+    one("an_image_of_an_index_for_another_platform", 1, indexed, dict(signs, platform="linux/arm64"))
+    one("an_index_without_entry", 1, chain_of(index, [CONTENT], by_index, notes), signs)
+    one("an_entry_of_other_bytes", 1, dict(indexed, entry={"digest": digest(IMAGE), "content": IMAGE + " "}), signs)
+    one("an_entry_of_another_digest", 1, dict(indexed, entry={"digest": digest("x"), "content": IMAGE}), signs)
+    # A certificate with its log entry.
+    note, _, canonical = log_entry(log_body(signature))
+    keyless = dict(policy, keys=[], constraints=[{"email": "a@b.example", "issuer": None}], log_keys={"ab": "lk"}, vouched=[{"certificate": "CERT", "key": "ck", "email": "a@b.example"}])
+    keyless["signatures"] = [{"key": "ck", "message": digest(signature), "signature": "sig1"}, log_signs(canonical)]
+    certified = chain_of(IMAGE, [CONTENT], signature, dict(notes, **{ENTRY: note, CERTIFICATE: "CERT"}))
+    one("a_certificate", 0, certified, keyless)
+    one("a_certificate_that_nobody_vouches_for", 1, certified, dict(keyless, vouched=[]))
+    one("a_certificate_where_no_log_is_known", 1, certified, dict(keyless, log_keys={}))
+    # Input that is no case and chain.
+    for title, changes in [
+        ("a_chain_with_another_member", {"at": 1}),
+        ("an_entry_of_null", {"entry": None}),
+        ("an_entry_without_digest", {"entry": {"content": IMAGE}}),
+        ("a_kind_that_is_not_known", {"signature": dict(chain["signature"], kind="other")}),
+        ("a_signature_without_annotations", {"signature": {"kind": "payload", "content": signature}}),
+        ("layers_that_are_no_list", {"layers": CONTENT}),
+        ("a_digest_that_is_no_text", {"digest": 1}),
+    ]:
+        one(title, 3, dict(chain, **changes))
+    one("a_chain_without_configuration", 3, {n: v for n, v in chain.items() if n != "config"})
+    one("a_case_without_moment", 3, chain, dict(policy, moments=[]))
+    write("chains/a_case_alone", compact(policy), [], 3, args=["check"])
+    write("chains/no_json", "x", [], 3, args=["check"])
 
 
 def policies():
@@ -243,7 +510,7 @@ def layer_case(notes, lines, signatures, keys=("k1",), constraints=None, **other
         lines = ["refused Unsatisfied " + compact(digest(IMAGE))] + lines
     else:
         image_answers, image_asked = base_run()[:2]
-        answers, asked, lines = answers + image_answers[10:], asked + image_asked[10:], image_lines(signature)
+        answers, asked, lines = answers + image_answers[15:], asked + image_asked[15:], image_lines(signature)
     stdin = case(answers, keys=list(keys), constraints=constraints, signatures=signatures, **others)
     return stdin, ["moment 100"] + asked + lines
 
@@ -337,8 +604,9 @@ def indexes():
         signature = payload(image=first)
         tag = digest(first).replace(":", "-") + ".sig"
         signatures = manifest("{}", [signed(signature)])
-        answers = [TOKEN, answer(None, digest(first))] + served(signatures) * 2 + served("{}") + served(signature) + served(first)
-        asked = requests(("HEAD", "manifests/v1"), f"manifests/{tag}", f"manifests/{tag}", "blobs/" + digest("{}"), "blobs/" + digest(signature), "manifests/" + digest(first))
+        answers = [TOKEN, answer(None, digest(first))] + served(signatures) * 2 + served("{}") + served(signature) + NO_REFERRERS + served(first)
+        asked = requests(("HEAD", "manifests/v1"), f"manifests/{tag}", f"manifests/{tag}", "blobs/" + digest("{}"), "blobs/" + digest(signature))
+        asked += listing(digest(first)) + requests("manifests/" + digest(first))
         for document in documents:
             answers += served(document)
             asked += requests("manifests/" + digest(document))
@@ -432,9 +700,9 @@ def digests():
     wanted = "sha512:" + "0" * 128
     answers, asked, signature = base_run()
     asked[1] = f"HEAD {BASE}app/manifests/{wanted}"
-    lines = ["moment 100"] + asked[:12]
+    lines = ["moment 100"] + asked[:17]
     lines += [f"refused RegistryPullError {compact(by_digest)} DigestError VerificationError {compact(wanted)} {compact(digest(IMAGE, 'sha512'))}"]
-    write("digests/another_digest_of_another_algorithm", case(answers[:12], [signature], reference=f"{REGISTRY}/app@{wanted}"), lines, 1)
+    write("digests/another_digest_of_another_algorithm", case(answers[:17], [signature], reference=f"{REGISTRY}/app@{wanted}"), lines, 1)
 
 
 # ---- the signatures' manifest and its image
@@ -444,7 +712,7 @@ def signatures():
     url = compact(f"{BASE}app/manifests/{TAG}")
     tag = compact(f"{REGISTRY}/app:{TAG}")
     unsatisfied = "refused Unsatisfied " + compact(digest(IMAGE))
-    front = ["moment 100"] + requests(("HEAD", "manifests/v1"), f"manifests/{TAG}") + [unsatisfied]
+    front = ["moment 100"] + requests(("HEAD", "manifests/v1"), f"manifests/{TAG}") + listing(digest(IMAGE)) + [unsatisfied]
     both = f"DigestError VerificationError {compact(digest('{}'))} {compact(digest('x'))}"
     ambiguous = compact({"schemaVersion": 2, "config": descriptor(CONFIG, "{}"), "layers": [], "manifests": []})
     refused = [
@@ -471,12 +739,12 @@ def signatures():
     ]
     for title, reply, text in refused:
         lines = front + [f"skipped Source Tag Refused RegistryPullManifestError {tag} {text}"]
-        write(f"signatures/{title}", case([TOKEN, NAMED, TOKEN, reply], accepted=[]), lines, 1)
+        write(f"signatures/{title}", case([TOKEN, NAMED, TOKEN, reply] + NO_REFERRERS, accepted=[]), lines, 1)
     # A body of so many bytes as the limit is read, and one of more is not.
     for title, body, text in [("a_body_within_the_limit", ["x", "2", "3", "4", "5"], "VersionedParsingError 5"), ("a_body_past_the_limit", ["x", "2", "3", "4", "5", "6"], "BodyTooLong")]:
         lines = front + [f"skipped Source Tag Refused RegistryPullManifestError {tag} {text}"]
-        write(f"signatures/{title}", case([TOKEN, NAMED, TOKEN, answer(body)], limit=5), lines, 1)
-    front = front[:-1] + requests(f"manifests/{TAG}")
+        write(f"signatures/{title}", case([TOKEN, NAMED, TOKEN, answer(body)] + NO_REFERRERS, limit=5), lines, 1)
+    front = ["moment 100"] + requests(("HEAD", "manifests/v1"), f"manifests/{TAG}", f"manifests/{TAG}")
     none = answer(manifest("{}", []))
     images = [
         ("no_layers", none, answer("{}"), True, "PullNoLayersError"),
@@ -485,8 +753,10 @@ def signatures():
         ("a_layer_of_another_type", answer(manifest("{}", [signed(payload()), descriptor("application/octet-stream", "x")])), answer("{}"), True, 'IncompatibleLayerMediaTypeError "application/octet-stream"'),
     ]
     for title, document, config, asked, text in images:
-        lines = front + (requests("blobs/" + digest("{}")) if asked else []) + [unsatisfied, f"skipped Source Tag Refused RegistryPullError {tag} {text}"]
-        write(f"signatures/{title}", case([TOKEN, NAMED] + [TOKEN, document] * 2 + [TOKEN, config], [payload()]), lines, 1)
+        lines = front + (requests("blobs/" + digest("{}")) if asked else []) + listing(digest(IMAGE))
+        lines += [unsatisfied, f"skipped Source Tag Refused RegistryPullError {tag} {text}"]
+        answers = [TOKEN, NAMED] + [TOKEN, document] * 2 + ([TOKEN, config] if asked else []) + NO_REFERRERS
+        write(f"signatures/{title}", case(answers, [payload()]), lines, 1)
 
 
 # ---- tokens
@@ -565,23 +835,31 @@ def references():
 
 
 def faults():
-    """A fault at each request of a pull, and at each piece of an answer. One of the token step is passed over."""
+    """A fault at each request of a pull, and at each piece of an answer. One of the token step is passed over, and one of the
+    referrers skips them."""
     answers, asked, signature = base_run()
     tag, by_digest = compact(f"{REGISTRY}/app:{TAG}"), compact(f"{REGISTRY}/app@{digest(IMAGE)}")
-    unsatisfied = "refused Unsatisfied " + compact(digest(IMAGE))
     ends = {2: [f'refused RegistryFetchManifestError "{REGISTRY}/app:v1" TransportFault']}
-    ends[4] = [unsatisfied, f"skipped Source Tag Refused RegistryPullManifestError {tag} TransportFault"]
-    for line in (6, 8, 10):
-        ends[line] = [unsatisfied, f"skipped Source Tag Refused RegistryPullError {tag} TransportFault"]
-    for line in (12, 14, 16):
+    for line in (17, 19, 21):
         ends[line] = [f"refused RegistryPullError {by_digest} TransportFault"]
     for line in range(1, len(asked) + 1):
         changes = [("fails", "fail"), ("breaks_at_once", dict(answers[line - 1], fault=0))]
         if "pieces" in answers[line - 1]:
             changes.append(("breaks_at_its_end", dict(answers[line - 1], fault=1)))
         for title, change in changes:
-            lines = ["moment 100"] + (asked[:line] + ends[line] if line in ends else asked + image_lines(signature))
-            write(f"faults/answer_{line:02}_{title}", case(answers[: line - 1] + [change] + answers[line:], [signature]), lines, 1 if line in ends else 0)
+            front = asked[:line]
+            if line in ends:
+                given, lines = answers[: line - 1] + [change], front + ends[line]
+            elif line in (4, 6, 8, 10):
+                called = "RegistryPullManifestError" if line == 4 else "RegistryPullError"
+                lines = ["refused Unsatisfied " + compact(digest(IMAGE)), f"skipped Source Tag Refused {called} {tag} TransportFault"]
+                given, lines = answers[: line - 1] + [change] + answers[10:15], front + asked[10:15] + lines
+            elif line in (13, 15) or (line == 11 and title == "fails"):
+                given, lines = answers[: line - 1] + [change] + answers[15:], front + asked[15:] + image_lines(signature)
+            else:
+                given, lines = answers[: line - 1] + [change] + answers[line:], asked + image_lines(signature)
+            status = 0 if lines[-1].startswith("signature") else 1
+            write(f"faults/answer_{line:02}_{title}", case(given, [signature]), ["moment 100"] + lines, status)
     # A fault behind the last piece and the end never comes.
     late = [dict(a, fault=len(a.get("pieces", [])) + 1) for a in answers]
     write("faults/behind_the_end", case(late, [signature]), ["moment 100"] + asked + image_lines(signature))
@@ -649,6 +927,9 @@ def canonical_texts():
 
 TABLES = {
     "pulls": pulls,
+    "shelves": shelves,
+    "referrers": referrers,
+    "chains": chains,
     "policies": policies,
     "layers": layers,
     "indexes": indexes,

@@ -76,7 +76,7 @@ expected_err text (Ok a) e is h = absurd (cc h)
 expected_err text (Err x) e is h = let same : x ≡ e = cc h in is ∙ ap Err same
 
 -- a claimed text is not expected
-not_expected : (digest : List ℕ) (answer : Answer) (text : List ℕ) (e : DigestError) → Claimed (AskedDigest digest) answer text → digest_expected text ≡ Err e → DigestCause (AskedDigest digest) answer e
+pub not_expected : (digest : List ℕ) (answer : Answer) (text : List ℕ) (e : DigestError) → Claimed (AskedDigest digest) answer text → digest_expected text ≡ Err e → DigestCause (AskedDigest digest) answer e
 not_expected digest answer text e claimed is = name_claimed (AskedDigest digest) answer text e claimed (name_cause text e (expected_err text (named_algorithm text) e refl is))
 
 pour_shape : (digest : List ℕ) (answer : Answer) (good : Bool) (given : Option Expected) (own : Expected) → is_success answer.status ≡ good → GivenShape answer given → digest_expected digest ≡ Ok own → PlanShape digest answer (pouring good given own)
@@ -205,7 +205,7 @@ early_where T to s digest P m n c (Err e) h = blob_cause T to s digest c n e (ea
 -- ---- the places of a descriptor
 
 -- a place of these URLs
-abbrev OfUrls : List (List ℕ) → Place → Type 0
+abbrev pub OfUrls : List (List ℕ) → Place → Type 0
 OfUrls urls p = (text : List ℕ) × Contains urls text × (place_of text ≡ Some p)
 
 contains_head : (x : List ℕ) (xs : List (List ℕ)) → Contains (x ∷ xs) x
@@ -214,7 +214,7 @@ contains_head x xs = (0, omega arith, refl)
 contains_tail : (x y : List ℕ) (xs : List (List ℕ)) → Contains xs y → Contains (x ∷ xs) y
 contains_tail x y xs h = (suc h.0, omega (arith, h.1), h.2)
 
-each_more : (P Q : Place → Type 0) → ((p : Place) → P p → Q p) → (places : List Place) → EachPlace P places → EachPlace Q places
+pub each_more : (P Q : Place → Type 0) → ((p : Place) → P p → Q p) → (places : List Place) → EachPlace P places → EachPlace Q places
 each_more P Q more [] h = tt
 each_more P Q more (p ∷ ps) h = (more p h.0, each_more P Q more ps h.1)
 
@@ -222,12 +222,12 @@ with_first : (text : List ℕ) (texts : List (List ℕ)) (places : List Place) (
 with_first text texts places None is rest = each_more (OfUrls texts) (OfUrls (text ∷ texts)) (λ p h. (h.0, contains_tail text h.0 texts h.1, h.2)) places rest
 with_first text texts places (Some p) is rest = ((text, contains_head text texts, is), each_more (OfUrls texts) (OfUrls (text ∷ texts)) (λ p h. (h.0, contains_tail text h.0 texts h.1, h.2)) places rest)
 
-places_are : (urls : List (List ℕ)) → EachPlace (OfUrls urls) (places_of urls)
+pub places_are : (urls : List (List ℕ)) → EachPlace (OfUrls urls) (places_of urls)
 places_are [] = tt
 places_are (text ∷ texts) = with_first text texts (places_of texts) (place_of text) refl (places_are texts)
 
 -- an unfit URL is no URL of a request, and the place has its text
-abbrev UnfitAs : List ℕ → Option Place → Type 0
+abbrev pub UnfitAs : List ℕ → Option Place → Type 0
 UnfitAs text (Some (Unfit other)) = (text ≡ other) × (request_url text ≡ None)
 UnfitAs text o = Unit {0}
 
@@ -245,11 +245,11 @@ unfit_read : (text : List ℕ) (r : Parsed Parts) → readable r ≡ request_url
 unfit_read text (Ok url) is = by_owner text url (bytes_eq url.scheme (codes "http") || bytes_eq url.scheme (codes "https")) (is_empty url.username && is_empty url.password) (λ free. sym is ∙ owned url (bytes_eq url.scheme (codes "http") || bytes_eq url.scheme (codes "https")) (is_empty url.username && is_empty url.password) free)
 unfit_read text (Err e) is = (refl, sym is)
 
-unfit_as : (text : List ℕ) → UnfitAs text (place_of text)
+pub unfit_as : (text : List ℕ) → UnfitAs text (place_of text)
 unfolding place_of request_url
 unfit_as text = unfit_read text (parse_url None text) refl
 
-unfit_is : (text other : List ℕ) (o : Option Place) → UnfitAs text o → o ≡ Some (Unfit other) → (text ≡ other) × (request_url text ≡ None)
+pub unfit_is : (text other : List ℕ) (o : Option Place) → UnfitAs text o → o ≡ Some (Unfit other) → (text ≡ other) × (request_url text ≡ None)
 unfit_is text other (Some (Unfit found)) h is = let same : found ≡ other = cc is in (h.0 ∙ same, h.1)
 unfit_is text other (Some (Web url)) h is = absurd (cc is)
 unfit_is text other None h is = absurd (cc is)
@@ -267,7 +267,7 @@ place_refused T to s digest urls listed (Unfit text) has e is m =
     let here : UnfitUrl urls text = (subst (Contains urls) unfit.0 has.1, subst (λ (t : List ℕ). place_of t ≡ Some (Unfit text)) unfit.0 has.2) in
     subst (λ (x : OciDistributionError). LooseBlob T to s digest [] m x) same (subst (λ (t : List ℕ). request_url t ≡ None) unfit.0 unfit.1, listed text here)
 
-made_accepts : (s : Settings) (p : Place) (request : Request) → asked_at s p ≡ Ok request → first_of (codes "accept") request.headers ≡ Some manifest_types
+pub made_accepts : (s : Settings) (p : Place) (request : Request) → asked_at s p ≡ Ok request → first_of (codes "accept") request.headers ≡ Some manifest_types
 unfolding asked_at
 made_accepts s (Web url) request is = accepts_of s Get url manifest_types None request is
 made_accepts s (Unfit text) request is = absurd (cc is)

@@ -35,7 +35,7 @@ use Rattle.engine_laws.proofs.SafeKeeps.{Meets-within}
 use Rattle.engine_laws.proofs.ShownTokens.{Carries, Ended, Asked, store_safe, step_safe}
 use Rattle.engine_laws.proofs.HeaderCauses.{digest_sound, raw_sound, manifest_sound, found_sound, one_sound, config_sound, text_sound, image_sound, blob_sound}
 
-call_within : {A : Type 0} (x : Entry) (s : Settings) (Q : Memory → List Exchange → Result A OciDistributionError → Type 0) (l : Memory) {p : Row A} {old new : Link} {r : Result A OciDistributionError} → Safe (Carries x s) (Keeps x) Q x.kept [] p → Meets is_memory p old new x.kept l r → Told (Within x s l) old new
+pub call_within : {A : Type 0} (x : Entry) (s : Settings) (Q : Memory → List Exchange → Result A OciDistributionError → Type 0) (l : Memory) {p : Row A} {old new : Link} {r : Result A OciDistributionError} → Safe (Carries x s) (Keeps x) Q x.kept [] p → Meets is_memory p old new x.kept l r → Told (Within x s l) old new
 call_within x s Q l h met = Meets-within (Confined x s) (Keeps x) Q (Within x s l) (keeps_more x) (keeps_first x) (λ c confined keeps. record { confined = confined; kept = keeps.added; stored = keeps.stored }) h met
 
 pub digest_confined : (s : Context) (image : Reference) (a : RegistryAuth) {old new : Link} {k l : Memory} {r : Result (List ℕ) OciDistributionError} → Meets is_memory (fetch_manifest_digest s image a) old new k l r → Told (Within (pulling k s image (Some a)) s.settings l) old new

@@ -140,7 +140,7 @@ offer_sound to x s types limit digest next request l c sent keeps rest = safe_fo
   by_reply last SinkFailed d h = reply_sound x s types digest l last SinkFailed d h
 
 -- a request at a listed URL, which shows no token
-place_ready : (x : Entry) (s : Settings) (p : Place) (l : Memory) (c : List Exchange) → Keeps x l c → Ready x s manifest_types l c (asked_at s p)
+pub place_ready : (x : Entry) (s : Settings) (p : Place) (l : Memory) (c : List Exchange) → Keeps x l c → Ready x s manifest_types l c (asked_at s p)
 unfolding asked_at
 place_ready x s (Web url) l c keeps = request_ready x s Get url manifest_types None l c keeps tt (request_of s Get url (Some manifest_types) None) refl
 place_ready x s (Unfit text) l c keeps = tt

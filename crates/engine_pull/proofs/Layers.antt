@@ -21,8 +21,8 @@ pub at_next : {A : Type 0} (xs : List A) (i : ℕ) (x : A) → i < length xs →
 at_next {A} xs i x lt is = rw add-one (drop-cons xs i x lt ∙ ap (λ (y : A). y ∷ drop (suc i) xs) (sym is))
 
 -- a blob by the same digest and the same URLs
-pub held_as : {s : Context} {image : Reference} {a b : Layer} {old new : Link} {k l : Memory} {r : Result (List ℕ) OciDistributionError} → a ≡ b → Meets is_memory (held_blob s image a) old new k l r → Meets is_memory (held_blob s image b) old new k l r
-held_as is met = rw is at met
+pub held_as : (s : Context) (image : Reference) {a b : Layer} {old new : Link} {k l : Memory} {r : Result (List ℕ) OciDistributionError} → a ≡ b → Meets is_memory (held_blob s image a) old new k l r → Meets is_memory (held_blob s image b) old new k l r
+held_as s image is met = rw is at met
 
 pub layers_end : (s : Context) (image : Reference) (xs : List OciDescriptor) (layers : List ImageLayer) (link : Link) (k : Memory) → xs ≡ [] → Meets is_memory (pull_layers s image xs layers) link link k k (Ok layers)
 unfolding pull_layers

@@ -1,5 +1,5 @@
 -- A blob's request, and then the places that its URLs name.
-use Rattle.std.proofs.Common.{◌≡◌, ◌<◌, ℕ, ◌+◌, suc, Bool, true, false, List, [], ◌∷◌, Option, Some, None, Result, Ok, Err, length, drop, get_or, refl, ap, ◌∙◌, add-one}
+use Rattle.std.proofs.Common.{◌≡◌, ◌<◌, ℕ, ◌+◌, Bool, true, false, List, [], ◌∷◌, Option, Some, None, Result, Ok, Err, length, drop, get_or, refl, ap, ◌∙◌}
 use Rattle.std.specs.Result.{IsErrAnd}
 use Rattle.json_values.specs.Tray.{Tray}
 use Rattle.oci_transport.specs.Link.{Link}
@@ -73,17 +73,17 @@ pub put_wanting : {p : Row (List ℕ)} {link : Link} {k : Memory} {tray : Tray} 
 put_wanting {p} {link} {k} {tray} {r} is = spills_wanting tray r is (Meets-memory is_memory p link k refusal.WantOfMemory refl)
 
 -- what was offered was taken, or passed over
-pub put_taken : {next p : Row (List ℕ)} {old new : Link} {k : Memory} {before after : Tray} (b : Bool) → b ≡ true → OfferedInto next p old new k before after (Ok b) → Spills p old new k k before after (Ok tt)
-put_taken true h offered = offered
-put_taken false h offered = absurd (cc h)
+pub put_taken : (next : Row (List ℕ)) {p : Row (List ℕ)} {old new : Link} {k : Memory} {before after : Tray} (b : Bool) → b ≡ true → OfferedInto next p old new k before after (Ok b) → Spills p old new k k before after (Ok tt)
+put_taken next true h offered = offered
+put_taken next false h offered = absurd (cc h)
 
 pub put_passed : {next p : Row (List ℕ)} {old new end : Link} {k l : Memory} {before after later : Tray} {r : Result Unit OciDistributionError} (b : Bool) → b ≡ false → OfferedInto next p old new k before after (Ok b) → Spills next new end k l after later r → Spills p old end k l before later r
 put_passed true h offered rest = absurd (cc h)
 put_passed {end = end} {l = l} {later = later} {r = r} false h offered rest = offered end l later r rest
 
 -- the request at the next place is refused
-pub put_unasked : (s : Settings) (digest : List ℕ) (p : Place) (ps : List Place) {link : Link} {k : Memory} {tray : Tray} {e : OciDistributionError} {r : Result Unit OciDistributionError} → Says {A = Request} (Err e) (asked_at s p) → IsErrAnd r (λ x. x ≡ e) → Spills (then_at IntoSink s digest p ps) link link k k tray tray r
-put_unasked s digest p ps {tray = tray} {e = e} says is = spills_refused (λ next. tried IntoSink s digest ps next) tray (done_calm (asked_at s p) (asked_calm s p)) (said {A = Request} (Err e) says) (Meets-refused (λ next. tried IntoSink s digest ps next) (said {A = Request} (Err e) says)) is
+pub put_unasked : (s : Settings) (digest : List ℕ) (p : Place) (ps : List Place) {link : Link} {k : Memory} {tray : Tray} (e : OciDistributionError) {r : Result Unit OciDistributionError} → Says {A = Request} (Err e) (asked_at s p) → IsErrAnd r (λ x. x ≡ e) → Spills (then_at IntoSink s digest p ps) link link k k tray tray r
+put_unasked s digest p ps {tray = tray} e says is = spills_refused (λ next. tried IntoSink s digest ps next) tray (done_calm (asked_at s p) (asked_calm s p)) (said {A = Request} (Err e) says) (Meets-refused (λ next. tried IntoSink s digest ps next) (said {A = Request} (Err e) says)) is
 
 -- it is made
 pub put_asked : (s : Settings) (digest : List ℕ) (p : Place) (ps : List Place) (next : Request) {mid end : Link} {k l : Memory} {before after : Tray} {r : Result Unit OciDistributionError} → Says (Ok next) (asked_at s p) → Spills (tried IntoSink s digest ps next) mid end k l before after r → Spills (then_at IntoSink s digest p ps) mid end k l before after r
@@ -105,16 +105,16 @@ pub held_at : (s : Settings) (digest : List ℕ) (urls : List (List ℕ)) (i : �
 held_at s digest urls i text p request lt is some rest = rw (tried_at IntoMemory s digest (places_of (drop i urls)) p (places_of (drop (i + 1) urls)) request (places_next urls i text p lt is some)) rest
 
 -- what was offered was taken, or passed over
-pub held_taken : {next p : Row (List ℕ)} {old new : Link} {k : Memory} (o : Option (List ℕ)) (bytes : List ℕ) → o ≡ Some bytes → Offered next p old new k (Ok o) → Meets is_memory p old new k k (Ok bytes)
-held_taken (Some found) bytes h offered = let same : found ≡ bytes = cc h in rw (← same) offered
-held_taken None bytes h offered = absurd (cc h)
+pub held_taken : (next : Row (List ℕ)) {p : Row (List ℕ)} {old new : Link} {k : Memory} (o : Option (List ℕ)) (bytes : List ℕ) → o ≡ Some bytes → Offered next p old new k (Ok o) → Meets is_memory p old new k k (Ok bytes)
+held_taken next (Some found) bytes h offered = let same : found ≡ bytes = cc h in rw (← same) offered
+held_taken next None bytes h offered = absurd (cc h)
 
 pub held_passed : {next p : Row (List ℕ)} {old new end : Link} {k l : Memory} {r : Result (List ℕ) OciDistributionError} (o : Option (List ℕ)) → o ≡ None → Offered next p old new k (Ok o) → Meets is_memory next new end k l r → Meets is_memory p old end k l r
 held_passed (Some found) h offered rest = absurd (cc h)
 held_passed {end = end} {l = l} {r = r} None h offered rest = offered end l r rest
 
-pub held_unasked : (s : Settings) (digest : List ℕ) (p : Place) (ps : List Place) {link : Link} {k : Memory} {e : OciDistributionError} {r : Result (List ℕ) OciDistributionError} → Says {A = Request} (Err e) (asked_at s p) → IsErrAnd r (λ x. x ≡ e) → Meets is_memory (then_at IntoMemory s digest p ps) link link k k r
-held_unasked s digest p ps {e = e} says is = refused (λ next. tried IntoMemory s digest ps next) (said {A = Request} (Err e) says) is
+pub held_unasked : (s : Settings) (digest : List ℕ) (p : Place) (ps : List Place) {link : Link} {k : Memory} (e : OciDistributionError) {r : Result (List ℕ) OciDistributionError} → Says {A = Request} (Err e) (asked_at s p) → IsErrAnd r (λ x. x ≡ e) → Meets is_memory (then_at IntoMemory s digest p ps) link link k k r
+held_unasked s digest p ps e says is = refused (λ next. tried IntoMemory s digest ps next) (said {A = Request} (Err e) says) is
 
 pub held_asked : (s : Settings) (digest : List ℕ) (p : Place) (ps : List Place) (next : Request) {mid end : Link} {k l : Memory} {r : Result (List ℕ) OciDistributionError} → Says (Ok next) (asked_at s p) → Meets is_memory (tried IntoMemory s digest ps next) mid end k l r → Meets is_memory (then_at IntoMemory s digest p ps) mid end k l r
 held_asked s digest p ps next says rest = and_then (λ next. tried IntoMemory s digest ps next) (said (Ok next) says) rest

@@ -1,5 +1,4 @@
 // Blobs, into a sink or into memory.
-ghost use Rattle.std.specs.Prelude.{◌≡◌};
 ghost use Rattle.oci_auth.specs.declared.memory.Memory.{Memory};
 ghost use Rattle.oci_protocol.specs.Runs.{Meets};
 ghost use Rattle.engine_requests.specs.Contexts.{context_of};
@@ -20,7 +19,6 @@ use oci_transport::{Method, Request, Transport};
 use std::alloc::Global;
 
 // One request, and while its answer is one of an error the places that the URLs name, in order.
-#[tactic(none)]
 fn tried<T: Transport, K: Sink>(
     alloc: Global,
     transport: &mut T,
@@ -50,7 +48,6 @@ fn tried<T: Transport, K: Sink>(
 }
 
 // The same, with the bytes held.
-#[tactic(none)]
 fn held_tried<T: Transport>(
     alloc: Global,
     transport: &mut T,

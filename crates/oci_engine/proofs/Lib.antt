@@ -1,1 +1,5 @@
 pub mod Constants
+pub mod StreamCalls
+pub mod StreamCauses
+pub mod StreamRanges
+pub mod StreamSafety

@@ -2,6 +2,7 @@ pub mod Clients
 pub mod ConfigFiles
 pub mod Confinement
 pub mod Refusals
+pub mod StreamRefusals
 pub use Rattle.engine_laws.specs.Answered
 pub use Rattle.engine_laws.specs.Causes
 pub use Rattle.engine_laws.specs.Confined

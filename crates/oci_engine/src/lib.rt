@@ -7,6 +7,7 @@ mod config_files;
 mod manifests;
 mod referrers;
 mod source;
+mod streams;
 
 pub use client::Client;
 pub use config::{
@@ -19,6 +20,7 @@ pub use engine_requests::{
     AsLayerDescriptor, ClientProtocol, GenericCause, LayerDescriptor, OciDistributionError,
     Settings, SpecViolation,
 };
+pub use engine_streams::{BlobResponse, SizedStream};
 pub use oci_platforms::{
     PlatformResolver, ResolverPromise, current_platform_resolver, linux_amd64_resolver,
     windows_amd64_resolver,

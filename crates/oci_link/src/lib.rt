@@ -13,6 +13,7 @@ mod table;
 
 pub use faulty_shelf::FaultyShelf;
 pub use http_challenges::{BearerChallenge, Challenge, ChallengeError, challenges};
+pub use link_guard::{Guarded, Hosts, Rules};
 pub use oci_transport::{
     Answer, AnswerHead, BodyError, Conversation, DIGEST_HEADER, Exchange, HeaderError, Headers,
     LinkError, Method, Recorded, Request, Script, Transport, UrlError, header_text, read_body,

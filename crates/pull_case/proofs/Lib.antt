@@ -2,3 +2,4 @@ pub mod Added
 pub mod AnswerParts
 pub mod CaseParts
 pub mod Full
+pub mod Quieting

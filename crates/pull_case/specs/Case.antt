@@ -1,5 +1,5 @@
 -- Recorded cases: what to pull, under which policy, and what the registry answers.
-use Rattle.std.specs.Prelude.{ℕ, nat_lt, List, [], ◌∷◌, Option, Some, None, is_ok, length, if◌then◌else◌, codes}
+use Rattle.std.specs.Prelude.{ℕ, nat_lt, List, [], ◌∷◌, Option, Some, None, is_ok, IsOk, length, if◌then◌else◌, codes}
 use Rattle.std.specs.FinMap.{empty}
 use Rattle.std.specs.Str.{bytes_eq}
 use Rattle.serde_json.specs.Data.{Data}
@@ -10,11 +10,11 @@ use Rattle.oci_names.specs.References.{reference_of}
 use Rattle.oci_auth.specs.declared.auth.RegistryAuth.TheVariants.{Anonymous}
 use Rattle.engine_requests.specs.declared.settings.ClientProtocol.{ClientProtocol}
 use Rattle.engine_requests.specs.declared.settings.ClientProtocol.TheVariants.{Http, Https}
-use Rattle.pull_case.specs.Answer.{answer_of}
 use Rattle.pull_case.specs.Auth.{auth_of}
 use Rattle.pull_case.specs.Constraint.{constraint_of}
 use Rattle.pull_case.specs.Members.{unless_absent, number_of, passing}
 use Rattle.pull_case.specs.Platform.{platform_of}
+use Rattle.pull_case.specs.Registry.{registry_of, Leads}
 use Rattle.pull_case.specs.Trust.{signature_of, judge_of, judge_by, log_keys_of}
 use Rattle.pull_case.specs.declared.case.Case.{Case}
 
@@ -51,14 +51,16 @@ members =
     ∷ codes "signatures"
     ∷ codes "vouched"
     ∷ codes "answers"
+    ∷ codes "shelf"
     ∷ []
 
 -- An object with no members but these. The protocol may be absent, which is `https`, the credentials, which are
 -- anonymous, the platform, which is none, as null is, the limit of a body, which is the client's own, and the keys of
--- logs and what is vouched, which are none.
+-- logs and what is vouched, which are none. Exactly one of `answers` and `shelf` is there.
 unfoldable pub case_of : Data → Option Case
 case_of d = do
   known ← only members d
+  registry ← registry_of d
   reference ← required reference_text_of (codes "reference") d
   protocol ← at_name (unless_absent Https protocol_of) (codes "protocol") d
   auth ← at_name (unless_absent Anonymous auth_of) (codes "auth") d
@@ -71,7 +73,6 @@ case_of d = do
   log_keys ← at_name (unless_absent empty log_keys_of) (codes "log_keys") d
   signatures ← required (list_of signature_of) (codes "signatures") d
   vouched ← at_name (unless_absent (judge_by []) judge_of) (codes "vouched") d
-  answers ← required (list_of answer_of) (codes "answers") d
   Some (record {
     reference = reference;
     protocol = protocol;
@@ -85,9 +86,13 @@ case_of d = do
     log_keys = log_keys;
     signatures = signatures;
     vouched = vouched;
-    answers = answers;
+    registry = registry;
   })
 
 -- the case that a JSON text without floats says
 abbrev pub case_in : List ℕ → Option Case
 case_in bytes = plain_json_of bytes >>= case_of
+
+-- its reference reads as one, and the redirects of its shelf lead to an end
+abbrev pub IsReady : Case → Type 0
+IsReady case = IsOk (reference_of case.reference) × Leads case.registry

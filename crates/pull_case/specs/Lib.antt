@@ -5,4 +5,8 @@ pub mod Constraint
 pub mod Members
 pub mod Platform
 pub mod Policy
+pub mod Quiet
+pub mod Registry
+pub mod Replay
+pub mod Shelf
 pub mod Trust

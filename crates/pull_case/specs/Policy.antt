@@ -1,7 +1,13 @@
--- The policy of a case.
-use Rattle.std.specs.Prelude.{List, map}
+-- The policy of a case, and whom it trusts.
+use Rattle.std.specs.Prelude.{List, map, false}
+use Rattle.cosign_layers.specs.Judge.{vouched_in}
+use Rattle.cosign_layers.specs.Standing.{Meaning, meaning}
+use Rattle.cosign_layers.specs.Trust.{Trust, trust}
+use Rattle.cosign_layers.specs.Verifier.{valid_in}
 use Rattle.cosign_layers.specs.declared.constraint.Constraint.{Constraint}
 use Rattle.cosign_layers.specs.declared.constraint.Constraint.TheVariants as constraint
+use Rattle.cosign_layers.specs.declared.policy.PullPolicy.{PullPolicy}
+use Rattle.pull_case.specs.declared.case.Case.{Case}
 use Rattle.pull_case.specs.declared.constraint.WrittenConstraint.{WrittenConstraint}
 use Rattle.pull_case.specs.declared.constraint.WrittenConstraint.TheVariants as written
 
@@ -14,3 +20,14 @@ constraint_by (written.Url asked) = constraint.Url asked
 -- these constraints, in order
 abbrev pub constraints_by : {V : Type 0} {H : V → Type 0} → List WrittenConstraint → List (Constraint V H)
 constraints_by written = map constraint_by written
+
+-- the policy of a case; no box of a caller stands in it
+abbrev pub policy_of : Case → PullPolicy ⊥ (λ v. ⊥)
+policy_of case = record { keys = case.keys; constraints = constraints_by case.constraints }
+
+-- whom a case trusts: the signatures that are valid, what is vouched of certificates, and the keys of logs
+abbrev pub trust_of : Case → Trust
+trust_of case = trust (valid_in (record { rows = case.signatures })) (vouched_in case.vouched) case.log_keys
+
+abbrev pub meaning_of : Case → Meaning ⊥ (λ v. ⊥)
+meaning_of case = meaning (policy_of case) (λ box layer. false) (trust_of case)

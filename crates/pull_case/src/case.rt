@@ -1,18 +1,17 @@
-ghost use Rattle.std.specs.Prelude.{◌≡◌, ◌<◌, IfOk, IfSome, IsOk, length};
-ghost use Rattle.oci_names.specs.References.{reference_of};
-ghost use Rattle.pull_case.specs.Case.{case_in};
+ghost use Rattle.std.specs.Prelude.{◌≡◌, ◌<◌, IfOk, IfSome, length};
+ghost use Rattle.pull_case.specs.Case.{case_in, IsReady};
 
 use crate::constraint::WrittenConstraint;
 use crate::entries::{Entries, OrUsual};
 use crate::members::{Moments, ReferenceText};
 use crate::platform::Platform;
+use crate::registry::{Registry, read_registry};
 use cosign_layers::{LogKeys, SignedRow, TableJudge};
 use engine_requests::ClientProtocol;
 use json_tables::{ReadError, Reads, only, read_plain, read_row};
 use json_values::{Blob, List, Text, row};
 use oci_auth::RegistryAuth;
 use oci_platforms::PlatformResolver;
-use oci_transport::Recorded;
 use serde_json::Value;
 use std::alloc::{AllocError, Global};
 
@@ -48,11 +47,8 @@ pub struct Case {
     /// three may be absent or null: what is vouched of certificates, no two of which are equal; nothing where the
     /// member is absent.
     pub vouched: TableJudge,
-    /// A list of what the registry answers, in order. Each is `"fail"`, a send that fails, or an object with the
-    /// member `status` (100 to 999) and perhaps `headers` (a list of pairs of a name and a text, which
-    /// `Headers::add` takes), `pieces` (the body, a list of bytes of which none is empty) and `fault` (before how
-    /// many pieces a call fails).
-    pub answers: List<Recorded>,
+    /// What the registry answers: the member `answers` or the member `shelf`, and not both.
+    pub registry: Registry,
 }
 
 const NAMES: &[&str] = &[
@@ -69,12 +65,11 @@ const NAMES: &[&str] = &[
     "signatures",
     "vouched",
     "answers",
+    "shelf",
 ];
 
-// The members from each one on, as they stand in `NAMES`.
-type Answers = (Entries<Recorded>, ());
-
-type Judge = (OrUsual<TableJudge>, Answers);
+// The members from each one on, as they stand in `NAMES`; the registry is read by itself.
+type Judge = (OrUsual<TableJudge>, ());
 
 type Signatures = (Entries<SignedRow>, Judge);
 
@@ -106,6 +101,7 @@ impl Reads for Case {
     #[tactic(auto, unfolding(crate::specs::Case::case_of))]
     fn read_value(alloc: Global, value: &Value) -> Result<Case, ReadError> {
         only(value, NAMES)?;
+        let registry = read_registry(alloc, value)?;
         let row![
             reference,
             protocol,
@@ -118,8 +114,7 @@ impl Reads for Case {
             constraints,
             log_keys,
             signatures,
-            vouched,
-            answers
+            vouched
         ]: Members = read_row::<Case, _>(alloc, value, NAMES)?;
         Ok(Case {
             reference: reference.text,
@@ -134,7 +129,7 @@ impl Reads for Case {
             log_keys: log_keys.value,
             signatures: signatures.list,
             vouched: vouched.value,
-            answers: answers.list,
+            registry,
         })
     }
 }
@@ -143,7 +138,7 @@ impl Reads for Case {
 /// stands in it, or where it is no object of the members that `Case` names.
 pub fn read_case(alloc: Global, bytes: &[u8]) -> Result<Option<Case>, AllocError>
     ensures exact { IfOk result (λ found. found ≡ case_in bytes.now) }
-    ensures parses { IfOk result (λ found. IfSome found (λ case. IsOk (reference_of case.reference))) }
+    ensures ready { IfOk result (λ found. IfSome found IsReady) }
     ensures timed { IfOk result (λ found. IfSome found (λ case. 0 < length case.moments)) }
 {
     let case = read_plain(alloc, bytes)?;

@@ -1,14 +1,15 @@
 // Members whose values are of other crates' types, and lists of such.
 ghost use Rattle.serde_json.specs.Data.{Data};
-ghost use Rattle.serde_json.specs.View.{view, items_view};
+ghost use Rattle.serde_json.specs.View.{view, items_view, members_view};
 ghost use Rattle.std.specs.Prelude.{◌≡◌, Option};
+ghost use Rattle.std.specs.FinMap.{empty};
 ghost use Rattle.json_tables.specs.Outcomes.{Gives};
-ghost use Rattle.json_tables.specs.Reading.{items_by, list_of, present};
+ghost use Rattle.json_tables.specs.Reading.{items_by, list_of, map_of, members_by, present};
 ghost use Rattle.pull_case.specs.Members.{unless_absent};
 
 use json_tables::{Member, ReadError};
-use json_values::List;
-use serde_json::Value;
+use json_values::{List, Text, TextMap};
+use serde_json::{Map, Value};
 use std::alloc::Global;
 use std::marker::Model;
 
@@ -56,6 +57,50 @@ fn read_entries<T: Entry + Drop>(alloc: Global, items: &[Value]) -> Result<List<
         list.push(T::read_entry(alloc, item)?)?;
     }
     Ok(list)
+}
+
+/// Entries by name. A contract sees the map of their values.
+#[derive(Drop)]
+pub struct EntryMap<T> {
+    pub map: TextMap<T>,
+}
+
+impl<T> Model for EntryMap<T> {
+    ghost use Rattle.std.specs.FinMap.{FinMap, code};
+    ghost use Rattle.std.specs.Coded.{coded_ℕ, coded_list};
+    ghost use Rattle.json_values.specs.Places.{by_bytes};
+
+    ghost Value = { FinMap by_bytes T };
+
+    ghost coded = { code (coded_list coded_ℕ) T.code };
+
+    ghost view = { λ entries. entries.map };
+}
+
+impl<T: Entry + Drop> Member for EntryMap<T> {
+    ghost found = { present (map_of T.entry) };
+
+    fn read_member(alloc: Global, member: Option<&Value>) -> Result<EntryMap<T>, ReadError> {
+        let Some(Value::Object(members)) = member else {
+            return Err(ReadError::Shape);
+        };
+        let map = read_map(alloc, members)?;
+        Ok(EntryMap { map })
+    }
+}
+
+fn read_map<T: Entry + Drop>(
+    alloc: Global,
+    members: &Map<String, Value>,
+) -> Result<TextMap<T>, ReadError>
+    ensures { Gives result (members_by T.entry empty (members_view members.now.entries)) }
+{
+    let mut found = TextMap::new(alloc);
+    for (name, member) in members.iter() {
+        let value = T::read_entry(alloc, member)?;
+        found.insert(Text::new(alloc, name.as_str())?, value)?;
+    }
+    Ok(found)
 }
 
 /// What an absent member stands for.

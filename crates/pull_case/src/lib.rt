@@ -10,8 +10,14 @@ mod headers;
 mod members;
 mod platform;
 mod policy;
+mod quiet_shelf;
+mod registry;
+mod replay;
+mod shelf;
 mod trust;
 
 pub use case::{Case, read_case};
 pub use constraint::WrittenConstraint;
 pub use policy::case_policy;
+pub use registry::Registry;
+pub use replay::Replay;

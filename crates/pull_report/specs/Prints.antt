@@ -46,8 +46,11 @@ digest_print digest.WantOfMemory = codes "WantOfMemory"
 abbrev pub cause_print : GenericCause → List ℕ
 cause_print cause.ConfigNotText = codes "ConfigNotText"
 cause_print cause.HeaderText = codes "HeaderText"
+cause_print cause.NoDigest = codes "NoDigest"
+cause_print cause.RangeOverflow = codes "RangeOverflow"
 
 abbrev pub violation_print : SpecViolation → List ℕ
+violation_print (violation.ReferrersTag tag) = spaced (codes "ReferrersTag" ∷ quoted_text tag ∷ [])
 violation_print (violation.Status expected got url) =
     spaced (codes "Status" ∷ decimal expected ∷ decimal got ∷ quoted_text url ∷ [])
 
@@ -79,6 +82,7 @@ distribution_print (distribution.ServerError code url message) =
 distribution_print distribution.SinkFault = codes "SinkFault"
 distribution_print (distribution.SpecViolationError violation) =
     spaced (codes "SpecViolationError" ∷ violation_print violation ∷ [])
+distribution_print distribution.StreamFailed = codes "StreamFailed"
 distribution_print distribution.TransportFault = codes "TransportFault"
 distribution_print (distribution.UnauthorizedError url) =
     spaced (codes "UnauthorizedError" ∷ quoted_text url ∷ [])

@@ -33,6 +33,8 @@ impl Printed for GenericCause {
         match self {
             Self::ConfigNotText => word(out, "ConfigNotText"),
             Self::HeaderText => word(out, "HeaderText"),
+            Self::NoDigest => word(out, "NoDigest"),
+            Self::RangeOverflow => word(out, "RangeOverflow"),
         }
     }
 }
@@ -44,6 +46,7 @@ impl Printed for SpecViolation {
 
     fn write_print(&self, alloc: Global, out: &mut Blob) -> Result<(), AllocError> {
         match self {
+            Self::ReferrersTag(tag) => print1(alloc, out, "ReferrersTag", tag),
             Self::Status { expected, got, url } => print3(alloc, out, "Status", expected, got, url),
         }
     }
@@ -95,6 +98,7 @@ impl Printed for OciDistributionError {
             Self::SpecViolationError(violation) => {
                 print1(alloc, out, "SpecViolationError", violation)
             }
+            Self::StreamFailed => word(out, "StreamFailed"),
             Self::TransportFault => word(out, "TransportFault"),
             Self::UnauthorizedError { url } => { print1(alloc, out, "UnauthorizedError", url) }
             Self::UnsupportedMediaTypeError(media_type) => {

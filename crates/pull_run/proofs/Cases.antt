@@ -14,7 +14,6 @@ use Rattle.sig_registry.specs.Clients.{Kept, Client}
 use Rattle.cosign_layers.specs.Constraint.{has_no_item, accepts}
 use Rattle.cosign_layers.specs.Standing.{Meaning, Owns, meaning, is_signed, stands}
 use Rattle.cosign_layers.specs.Trust.{Trust, Valid}
-use Rattle.cosign_layers.specs.Judge.{vouched_in}
 use Rattle.cosign_layers.specs.Verifier.{valid_in}
 use Rattle.pull_case.specs.declared.constraint.WrittenConstraint.{WrittenConstraint}
 use Rattle.pull_case.specs.declared.constraint.WrittenConstraint.TheVariants.{Annotations, Email, Url}
@@ -31,11 +30,11 @@ use Rattle.cosign_client.specs.declared.refusal.PullRefusal.{PullRefusal}
 use Rattle.cosign_client.proofs.Images.{Seen}
 use Rattle.cosign_client.proofs.Chains.{verified_shows}
 use Rattle.engine_requests.specs.Contexts.{Context}
-use Rattle.std.specs.Prelude.{find, None, Option}
-use Rattle.pull_case.specs.Policy.{constraint_by, constraints_by}
+use Rattle.std.specs.Prelude.{find}
+use Rattle.pull_case.specs.Policy.{constraint_by, constraints_by, policy_of, meaning_of, trust_of}
 use Rattle.pull_case.specs.declared.case.Case.{Case}
 use Rattle.pull_run.specs.declared.report.Report.{Report}
-use Rattle.pull_run.specs.Pulls.{Talk, InTurn, policy_of, meaning_of, trust_of, settings_of, fresh, row_of, SoundResult, EachSound, ReportsCase}
+use Rattle.pull_run.specs.Pulls.{Talk, InTurn, settings_of, fresh, row_of, SoundResult, EachSound, ReportsCase}
 use Rattle.pull_run.specs.Rounds.{row_by, row_for, Played}
 use Rattle.pull_run.specs.declared.pulls.Terms.{Terms}
 use Rattle.sig_registry.specs.Conversions.{registry_auth}
@@ -104,7 +103,7 @@ each_sound case image k l m n (talk ∷ talks) h = (sound_result case image m h.
 -- what was played of a case is its report
 pub reports_case : {V : Type 0} {H : V → Type 0} (policy : PullPolicy V H) (own : DynBox V Global H → SignatureLayer → Bool) (case : Case) (image : Reference) (l : Kept) (made : Report)
     → reference_of case.reference ≡ Ok image → policy.keys ≡ case.keys → policy.constraints ≡ constraints_by case.constraints
-    → Played (row_by (meaning policy own (trust_of case)) (settings_of case) image case.auth case.accepted) case.answers case.moments fresh l made → ReportsCase case made
+    → Played (row_by (meaning policy own (trust_of case)) (settings_of case) image case.auth case.accepted) case.registry case.moments fresh l made → ReportsCase case made
 reports_case policy own case image l made reads keys constraints played =
     let turn = subst (λ row. InTurn row fresh 0 played.talks l played.faults) (row_same policy own case image (policy_is policy case keys constraints)) played.in_turn in
     record {
@@ -119,6 +118,7 @@ reports_case policy own case image l made reads keys constraints played =
         answered = played.answered;
         calm_is = played.calm_is;
         sound = each_sound case image fresh l 0 played.faults played.talks turn;
+        whole = played.whole;
       };
       written = played.written;
       refused = played.refused;
@@ -130,7 +130,7 @@ pub reports_fresh : {V : Type 0} {H : V → Type 0} (own : Owns V H) (case : Cas
     → registry_auth terms.auth ≡ case.auth → terms.accepted ≡ case.accepted
     → terms.verifier ≡ record { rows = case.signatures } → terms.judge ≡ case.vouched
     → reference_of case.reference ≡ Ok (reference_in terms.image) → terms.policy.keys ≡ case.keys → terms.policy.constraints ≡ constraints_by case.constraints
-    → Played (row_for own terms client.settings log_keys) case.answers moments client.kept l made → ReportsCase case made
+    → Played (row_for own terms client.settings log_keys) case.registry moments client.kept l made → ReportsCase case made
 reports_fresh own case terms client log_keys moments l made is logs_are moments_are auth_is accepted_are verifier_is judge_is reads keys constraints played =
     reports_case terms.policy own case (reference_in terms.image) l made reads keys constraints
     (rw (is, logs_are, moments_are, auth_is, accepted_are, verifier_is, judge_is) at played)

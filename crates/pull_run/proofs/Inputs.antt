@@ -1,10 +1,10 @@
 -- How the input was read.
-use Rattle.std.proofs.Common.{◌≡◌, ◌≤◌, ◌<◌, ◌+◌, ◌-◌, ℕ, List, [], ◌++◌, Option, Some, None, Result, Ok, Err, length, refl, sym, ap, ◌∙◌, append-nil, length-append, arith}
+use Rattle.std.proofs.Common.{◌≡◌, ◌+◌, ℕ, List, ◌++◌, Option, Some, None, Result, Ok, Err, length, sym, ap, ◌∙◌, append-nil, length-append}
 use Rattle.std.specs.Prelude.{Result, IfOk}
 use Rattle.std.specs.Result.{IsErr, IsErrAnd}
 use Rattle.std.specs.Io.KnownBytes.{Consumes, IsAtEnd}
 use Rattle.pull_edge.specs.Source.{Spring}
-use Rattle.pull_edge.specs.Reading.{Reads, TakesWithin, TakesMore}
+use Rattle.pull_edge.specs.Reading.{Reads, TakesWithin}
 use Rattle.pull_edge.specs.declared.reading.ReadRefusal.{ReadRefusal}
 use Rattle.pull_edge.specs.declared.reading.ReadRefusal.TheVariants as read
 use Rattle.pull_run.specs.Input.{input_limit, IsInput, IsRead, ReadsInput}

@@ -1,4 +1,7 @@
+pub mod Answering
 pub mod Cases
+pub mod Completing
 pub mod Inputs
 pub mod Rounding
 pub mod Statuses
+pub mod Verdicts

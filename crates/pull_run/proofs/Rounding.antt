@@ -7,10 +7,11 @@ use Rattle.std.proofs.Math.Nat.{le-add_right}
 use Rattle.std.proofs.Math.Seq.{drop-append_seam, take-suc}
 use Rattle.oci_transport.specs.Link.{Link, Extends, Answering}
 use Rattle.oci_transport.specs.Calm.{calm}
-use Rattle.oci_transport.specs.Playback.{answering}
-use Rattle.oci_transport.specs.Script.{state_of, answers_of}
-use Rattle.oci_transport.specs.declared.recorded.Recorded.{Recorded}
-use Rattle.oci_transport.specs.declared.script.Script.{Script}
+use Rattle.pull_case.specs.Registry.{answering_by}
+use Rattle.pull_case.specs.Replay.{state_of, answering_of, IsCalm}
+use Rattle.pull_case.specs.declared.registry.Registry.{Registry}
+use Rattle.pull_case.specs.declared.replay.Replay.{Replay}
+use Rattle.pull_case.specs.declared.replay.Replay.TheVariants.{Script, Shelf}
 use Rattle.oci_transport.specs.declared.message.Exchange.{Exchange}
 use Rattle.oci_protocol.specs.Runs.{Runs, Performs, Breaks, Meets}
 use Rattle.oci_protocol.proofs.Extending.{Extends-more}
@@ -21,13 +22,13 @@ use Rattle.cosign_chain.specs.declared.image.VerifiedImage.{VerifiedImage}
 use Rattle.cosign_client.specs.declared.refusal.PullRefusal.{PullRefusal}
 use Rattle.pull_report.specs.Report.{report}
 use Rattle.pull_run.specs.declared.report.Report.{Report}
-use Rattle.pull_run.specs.Pulls.{Talk, moment_of, joined, report_of, reports, is_answered, all_answered, InTurn}
+use Rattle.pull_run.specs.Pulls.{Talk, moment_of, joined, report_of, reports, is_answered, is_wanting, all_answered, InTurn, EachWhole}
 use Rattle.engine_requests.specs.declared.settings.Settings.{Settings}
 use Rattle.json_values.specs.Places.{by_bytes}
 use Rattle.std.specs.FinMap.{FinMap}
 use Rattle.cosign_layers.specs.Standing.{Owns}
 use Rattle.pull_run.specs.declared.pulls.Terms.{Terms}
-use Rattle.pull_run.specs.Rounds.{row_for, is_wanting, Rounds, Round, IsCalm, Played}
+use Rattle.pull_run.specs.Rounds.{row_for, Rounds, Round, Played}
 
 turn_more : (row : ℕ → Whole VerifiedImage) (k l j : Kept) (m n o : ℕ) (talks : List Talk) (talk : Talk) → InTurn row k m talks l n → Runs (row talk.moment) l n talk.conversation o j talk.result → InTurn row k m (talks ++ talk ∷ []) j o
 turn_more row k l j m n o [] talk h run = (j, o, rw (h.0, h.1) run, (refl, refl))
@@ -44,6 +45,10 @@ reports_more (t ∷ talks) talk = ap (λ c. report_of t ++ c) (reports_more talk
 moments_more : (talks : List Talk) (talk : Talk) → map moment_of (talks ++ talk ∷ []) ≡ map moment_of talks ++ talk.moment ∷ []
 moments_more [] talk = refl
 moments_more (t ∷ talks) talk = ap (λ ms. t.moment ∷ ms) (moments_more talks talk)
+
+whole_more : (talks : List Talk) (talk : Talk) → EachWhole talks → is_wanting talk.result ≡ false → EachWhole (talks ++ talk ∷ [])
+whole_more [] talk h is = (is, tt)
+whole_more (t ∷ talks) talk h is = (h.0, whole_more talks talk h.1 is)
 
 both_and : (a b c : Bool) → (a && (b && c)) ≡ ((a && b) && c)
 both_and true b c = refl
@@ -62,24 +67,25 @@ not_both true b = refl
 not_both false b = refl
 
 one_more : {row : ℕ → Whole VerifiedImage} {mid new : Link} {k l : Kept} {before after : Report} (talk : Talk)
-    → Extends mid new talk.conversation → Runs (row talk.moment) k mid.faults talk.conversation new.faults l talk.result → after.bytes ≡ before.bytes ++ report_of talk → after.refused ≡ (before.refused || not (is_answered talk.result))
+    → Extends mid new talk.conversation → Runs (row talk.moment) k mid.faults talk.conversation new.faults l talk.result → is_wanting talk.result ≡ false → after.bytes ≡ before.bytes ++ report_of talk → after.refused ≡ (before.refused || not (is_answered talk.result))
     → (moments : List ℕ) (start : Link) (j : Kept) → Rounds row moments start mid j k before → Rounds row (moments ++ talk.moment ∷ []) start new j l after
-one_more {row} {mid} {new} {k} {l} {before} {after} talk told run bytes refused moments start j rounds = record {
+one_more {row} {mid} {new} {k} {l} {before} {after} talk told run done bytes refused moments start j rounds = record {
   talks = rounds.talks ++ talk ∷ [];
   moments_are = moments_more rounds.talks talk ∙ ap (λ ms. ms ++ talk.moment ∷ []) rounds.moments_are;
   told = rw joined_more (Extends-more start mid new (joined rounds.talks) talk.conversation rounds.told told);
   in_turn = turn_more row j k l start.faults mid.faults new.faults rounds.talks talk rounds.in_turn run;
+  whole = whole_more rounds.talks talk rounds.whole done;
   written = bytes ∙ ap (λ b. b ++ report_of talk) rounds.written ∙ sym (reports_more rounds.talks talk);
   refused = refused ∙ ap (λ b. b || not (is_answered talk.result)) rounds.refused ∙ not_both (all_answered rounds.talks) (is_answered talk.result) ∙ ap not (sym (answered_more rounds.talks talk));
 }
 
 pub round : {row : ℕ → Whole VerifiedImage} {moment : ℕ} {mid new : Link} {k l : Kept} {before after : Report} (c : List Exchange) (r : Result VerifiedImage PullRefusal)
-    → Extends mid new c → Runs (row moment) k mid.faults c new.faults l r → after.bytes ≡ before.bytes ++ report moment c r → after.refused ≡ (before.refused || not (is_answered r)) → Round row moment mid new k l before after
-round {row} {moment} {mid} {new} {k} {l} {before} {after} c r told run bytes refused = record { more = one_more {row = row} {mid = mid} {new = new} {k = k} {l = l} {before = before} {after = after} (record { moment = moment; conversation = c; result = r }) told run bytes refused }
+    → Extends mid new c → Runs (row moment) k mid.faults c new.faults l r → is_wanting r ≡ false → after.bytes ≡ before.bytes ++ report moment c r → after.refused ≡ (before.refused || not (is_answered r)) → Round row moment mid new k l before after
+round {row} {moment} {mid} {new} {k} {l} {before} {after} c r told run done bytes refused = record { more = one_more {row = row} {mid = mid} {new = new} {k = k} {l = l} {before = before} {after = after} (record { moment = moment; conversation = c; result = r }) told run done bytes refused }
 
 -- no pull yet
 pub none_yet : {row : ℕ → Whole VerifiedImage} {link : Link} {k : Kept} (made : Report) → Extends link link [] → made.bytes ≡ [] → made.refused ≡ false → Rounds row [] link link k k made
-none_yet made told bytes refused = record { talks = []; moments_are = refl; told = told; in_turn = (refl, refl); written = bytes; refused = refused }
+none_yet made told bytes refused = record { talks = []; moments_are = refl; told = told; in_turn = (refl, refl); whole = tt; written = bytes; refused = refused }
 
 -- a pull that memory did not cut off was made whole
 pub whole : {p : Whole VerifiedImage} {old new : Link} {k l : Kept} (r : Result VerifiedImage PullRefusal) → is_wanting r ≡ false → Meets is_memory p old new k l r → Performs p old new k l r
@@ -89,14 +95,14 @@ whole {p} {old} {new} {k} {l} (Err e) is met = rw is at met.outcome
 behind : (before added after : List Exchange) → after ≡ before ++ added → drop (length before) after ≡ added
 behind before added after is = rw is (drop-append_seam before added)
 
--- a pull whose conversation was cut off from the whole of a script
+-- a pull whose conversation was cut off from the whole of a replay
 pub told_round : {row : ℕ → Whole VerifiedImage} {moment : ℕ} {mid new : Link} {k l : Kept} {before after : Report} (r : Result VerifiedImage PullRefusal) (old_told new_told : List Exchange)
     → Some old_told ≡ mid.told → Some new_told ≡ new.told → is_wanting r ≡ false → Meets is_memory (row moment) mid new k l r
     → after.bytes ≡ before.bytes ++ report moment (take (length new_told - length old_told) (drop (length old_told) new_told)) r → after.refused ≡ (before.refused || not (is_answered r)) → Round row moment mid new k l before after
 told_round {row} {moment} {mid} {new} {k} {l} {before} {after} r old_told new_told old_is new_is done met bytes refused =
     let p = whole {p = row moment} {old = mid} {new = new} {k = k} {l = l} r done met in
     let all : new_told ≡ old_told ++ p.conversation = cc (new_is ∙ p.told.told old_told (sym old_is)) in
-    round {row = row} {moment = moment} {mid = mid} {new = new} {k = k} {l = l} {before = before} {after = after} p.conversation r p.told p.runs (bytes ∙ ap (λ (c : List Exchange). before.bytes ++ report moment c r) (take_rest new_told (length old_told) ∙ behind old_told p.conversation new_told all)) refused
+    round {row = row} {moment = moment} {mid = mid} {new = new} {k = k} {l = l} {before = before} {after = after} p.conversation r p.told p.runs done (bytes ∙ ap (λ (c : List Exchange). before.bytes ++ report moment c r) (take_rest new_told (length old_told) ∙ behind old_told p.conversation new_told all)) refused
 
 -- one pull more, by the same row
 pub next_round : {row same : ℕ → Whole VerifiedImage} {moments all : List ℕ} {moment : ℕ} {start mid new : Link} {j k l : Kept} {before after : Report}
@@ -109,19 +115,25 @@ pub row_as : {V : Type 0} {H : V → Type 0} (own : Owns V H) (terms : Terms V H
 row_as own terms {s} {t} {k} {l} e f =
     ap (λ (x : Settings). row_for own terms x k) e ∙ ap (λ (x : FinMap by_bytes (List ℕ)). row_for own terms t x) f
 
--- all pulls over the answers of a new script
-pub played : {row : ℕ → Whole VerifiedImage} {moments : List ℕ} {k l : Kept} {made : Report} (answers : List Recorded) (first last : Script)
-    → (state_of first).told ≡ Some [] → (state_of first).faults ≡ 0 → (state_of first).answers ≡ Some (answering answers)
-    → Rounds row moments (state_of first) (state_of last) k l made → IsCalm last → Played row answers moments k l made
-played {row} {moments} {k} {l} {made} answers first last told faults table rounds calm_is =
+-- a replay answers by its registry
+pub answers_by : (replay : Replay) → (state_of replay).answers ≡ Some (answering_of replay)
+answers_by (Script s) = refl
+answers_by (Shelf t) = refl
+
+-- all pulls over a new replay of a registry
+pub played : {row : ℕ → Whole VerifiedImage} {moments : List ℕ} {k l : Kept} {made : Report} (registry : Registry) (first last : Replay)
+    → (state_of first).told ≡ Some [] → (state_of first).faults ≡ 0 → (state_of first).answers ≡ Some (answering_by registry)
+    → Rounds row moments (state_of first) (state_of last) k l made → IsCalm last → Played row registry moments k l made
+played {row} {moments} {k} {l} {made} registry first last told faults table rounds calm_is =
     let all = rounds.told.told [] told in
-    let same : answering (answers_of last) ≡ answering answers = cc (rounds.told.stays.steady (answering answers) table) in
+    let same : answering_of last ≡ answering_by registry = cc (sym (answers_by last) ∙ rounds.told.stays.steady (answering_by registry) table) in
     record {
       talks = rounds.talks;
       moments_are = rounds.moments_are;
       faults = (state_of last).faults;
       in_turn = subst (λ (n : ℕ). InTurn row k n rounds.talks l (state_of last).faults) faults rounds.in_turn;
-      answered = rounds.told.table (answering answers) [] table told;
+      whole = rounds.whole;
+      answered = rounds.told.table (answering_by registry) [] table told;
       calm_is = subst (λ (a : Answering). IsTrue (calm a.fails 0 (joined rounds.talks) (state_of last).faults)) same (calm_is (joined rounds.talks) all);
       written = rounds.written;
       refused = rounds.refused;
@@ -130,13 +142,13 @@ played {row} {moments} {k} {l} {made} answers first last told faults table round
 calm_none : (fails : ℕ → Bool) (n : ℕ) (c : List Exchange) → [] ≡ c → IsTrue (calm fails 0 c n)
 calm_none fails n c is = rw (← is) refl
 
--- nothing was asked of a new script
-pub new_is_calm : (script : Script) → (state_of script).told ≡ Some [] → IsCalm script
-new_is_calm script is = λ told told_is. calm_none (answering (answers_of script)).fails (state_of script).faults told (cc (sym is ∙ told_is))
+-- nothing was asked of a new replay
+pub new_is_calm : (replay : Replay) → (state_of replay).told ≡ Some [] → IsCalm replay
+new_is_calm replay is = λ told told_is. calm_none (answering_of replay).fails (state_of replay).faults told (cc (sym is ∙ told_is))
 
--- what the conversation of a script says of it
-pub told_is_calm : (script : Script) (all : List Exchange) → Some all ≡ (state_of script).told → IsTrue (calm (answering (answers_of script)).fails 0 all (state_of script).faults) → IsCalm script
-told_is_calm script all is holds = λ told told_is. subst (λ (c : List Exchange). IsTrue (calm (answering (answers_of script)).fails 0 c (state_of script).faults)) (cc (is ∙ told_is)) holds
+-- what the conversation of a replay says of it
+pub told_is_calm : (replay : Replay) (all : List Exchange) → Some all ≡ (state_of replay).told → IsTrue (calm (answering_of replay).fails 0 all (state_of replay).faults) → IsCalm replay
+told_is_calm replay all is holds = λ told told_is. subst (λ (c : List Exchange). IsTrue (calm (answering_of replay).fails 0 c (state_of replay).faults)) (cc (is ∙ told_is)) holds
 
 front_le : (a c b : List Exchange) → b ≡ a ++ c → length a ≤ length b
 front_le a c b is = rw (is, length-append) (le-add_right (length a) (length c))

@@ -1,6 +1,6 @@
 -- With which status an input ends, by what the statuses say.
 use Rattle.std.specs.Io.KnownBytes.{Consumes}
-use Rattle.std.proofs.Common.{◌≡◌, ◌≤◌, ◌<◌, ◌+◌, ◌-◌, inl, inr, ℕ, List, [], Option, Some, None, Ok, Err, length, refl, sym, ap, ◌∙◌, arith}
+use Rattle.std.proofs.Common.{◌≡◌, ◌≤◌, ◌<◌, inl, inr, ℕ, List, [], Option, Some, None, Err, length, refl, sym, ap, ◌∙◌, arith}
 use Rattle.std.specs.Prelude.{◌↔◌}
 use Rattle.json_values.specs.Tray.{Tray}
 use Rattle.pull_edge.specs.Source.{Spring}
@@ -12,7 +12,7 @@ use Rattle.pull_run.specs.declared.status.Status.TheVariants as status
 use Rattle.pull_run.specs.declared.word.Word.{Word}
 use Rattle.pull_run.specs.Input.{input_limit, IsInput, IsRead, ReadsInput}
 use Rattle.pull_run.specs.Output.{Puts}
-use Rattle.pull_run.specs.Program.{Makes, SaysTask, SaysWord, Says, EndsWith, EndsUnread, EndsLong, EndsPast}
+use Rattle.pull_run.specs.Program.{SaysTask, SaysWord, Says, EndsWith, EndsUnread, EndsLong, EndsPast}
 use Rattle.pull_run.specs.Status.{code_of}
 use Rattle.pull_run.specs.Task.{Task, task_by, task_of}
 use Rattle.pull_run.specs.Word.{word_of}

@@ -1,4 +1,6 @@
 pub mod Canon
+pub mod Check
+pub mod Complete
 pub mod Input
 pub mod Output
 pub mod Program

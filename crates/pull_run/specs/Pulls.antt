@@ -1,8 +1,7 @@
--- The pulls of a case: one at each of its moments, by one client, over the case's recorded answers.
+-- The pulls of a case: one at each of its moments, by one client, over what the case's registry answers.
 use Rattle.std.specs.Prelude.{◌≡◌, ℕ, Bool, true, false, not, IsTrue, ◌&&◌, List, [], ◌∷◌, map, flat_map, Option, Some, None, Result, Ok, Err, codes}
 use Rattle.oci_transport.specs.Link.{AnsweredBy}
 use Rattle.oci_transport.specs.Calm.{calm}
-use Rattle.oci_transport.specs.Playback.{answering}
 use Rattle.oci_transport.specs.declared.message.Exchange.{Exchange}
 use Rattle.oci_names.specs.declared.reference.Reference.{Reference}
 use Rattle.oci_names.specs.References.{reference_of}
@@ -13,16 +12,13 @@ use Rattle.engine_requests.specs.declared.settings.ClientProtocol.{ClientProtoco
 use Rattle.engine_requests.specs.declared.settings.Settings.{Settings}
 use Rattle.oci_platforms.specs.declared.promise.ResolverPromise.{ResolverPromise}
 use Rattle.sig_registry.specs.Clients.{Kept}
-use Rattle.cosign_layers.specs.Judge.{vouched_in}
-use Rattle.cosign_layers.specs.Standing.{Meaning, meaning}
-use Rattle.cosign_layers.specs.Trust.{Trust, trust}
-use Rattle.cosign_layers.specs.Verifier.{valid_in}
-use Rattle.cosign_layers.specs.declared.policy.PullPolicy.{PullPolicy}
+use Rattle.cosign_client.specs.Refusal.{is_memory}
 use Rattle.cosign_client.specs.Sound.{Sound}
 use Rattle.cosign_client.specs.Verified.{Whole, verified}
 use Rattle.cosign_chain.specs.declared.image.VerifiedImage.{VerifiedImage}
 use Rattle.cosign_client.specs.declared.refusal.PullRefusal.{PullRefusal}
-use Rattle.pull_case.specs.Policy.{constraints_by}
+use Rattle.pull_case.specs.Policy.{meaning_of}
+use Rattle.pull_case.specs.Registry.{answering_by}
 use Rattle.pull_case.specs.declared.case.Case.{Case}
 use Rattle.pull_report.specs.Report.{report}
 use Rattle.pull_run.specs.declared.report.Report.{Report}
@@ -54,6 +50,16 @@ abbrev pub is_answered : Result VerifiedImage PullRefusal → Bool
 is_answered (Ok image) = true
 is_answered (Err refusal) = false
 
+-- whether memory was wanting
+abbrev pub is_wanting : Result VerifiedImage PullRefusal → Bool
+is_wanting (Ok image) = false
+is_wanting (Err refusal) = is_memory refusal
+
+-- memory was wanting in none of the pulls
+abbrev pub EachWhole : List Talk → Type 0
+EachWhole [] = Unit {0}
+EachWhole (talk ∷ talks) = (is_wanting talk.result ≡ false) × EachWhole talks
+
 -- whether no pull was refused
 abbrev pub all_answered : List Talk → Bool
 all_answered [] = true
@@ -66,17 +72,6 @@ InTurn row k m (talk ∷ talks) l n =
     (kept : Kept) × (count : ℕ)
     × Runs (row talk.moment) k m talk.conversation count kept talk.result
     × InTurn row kept count talks l n
-
--- the policy of a case; no box of a caller stands in it
-abbrev pub policy_of : Case → PullPolicy ⊥ (λ v. ⊥)
-policy_of case = record { keys = case.keys; constraints = constraints_by case.constraints }
-
--- whom a case trusts: the signatures that are valid, what is vouched of certificates, and the keys of logs
-abbrev pub trust_of : Case → Trust
-trust_of case = trust (valid_in (record { rows = case.signatures })) (vouched_in case.vouched) case.log_keys
-
-abbrev pub meaning_of : Case → Meaning ⊥ (λ v. ⊥)
-meaning_of case = meaning (policy_of case) (λ box layer. false) (trust_of case)
 
 -- the limit of a body that is held, or the usual one
 abbrev pub limit_by : Option ℕ → ℕ
@@ -114,8 +109,9 @@ EachSound case image [] = Unit {0}
 EachSound case image (talk ∷ talks) =
     SoundResult case image talk.conversation talk.result × EachSound case image talks
 
--- The pulls of a case by a client that was fresh before the first. Each exchange was answered by the
--- recorded answer at its place, and a transport's fault stands only where one is recorded.
+-- The pulls of a case by a client that was fresh before the first. Each exchange was answered by the recorded answer
+-- at its place, or by the table of the shelf. A transport's fault stands only where one is recorded: over a shelf
+-- nothing may fail, and the counts of the exchanges and the last one are equal. Memory was wanting in none of them.
 pub record Pulled (case : Case) (talks : List Talk) : Type 0 where
   pub image : Reference
   pub reads : reference_of case.reference ≡ Ok image
@@ -123,9 +119,10 @@ pub record Pulled (case : Case) (talks : List Talk) : Type 0 where
   pub kept : Kept
   pub faults : ℕ
   pub in_turn : InTurn (row_of case image) fresh 0 talks kept faults
-  pub answered : AnsweredBy (answering case.answers) 0 (joined talks)
-  pub calm_is : IsTrue (calm (answering case.answers).fails 0 (joined talks) faults)
+  pub answered : AnsweredBy (answering_by case.registry) 0 (joined talks)
+  pub calm_is : IsTrue (calm (answering_by case.registry).fails 0 (joined talks) faults)
   pub sound : EachSound case image talks
+  pub whole : EachWhole talks
 
 -- what was made of a case is the report of its pulls
 pub record ReportsCase (case : Case) (made : Report) : Type 0 where

@@ -1,13 +1,8 @@
--- The pulls so far, and what the client and the script came to.
-use Rattle.std.specs.Prelude.{◌≡◌, ℕ, Bool, not, IsTrue, List, ◌∷◌, [], ◌++◌, map, Some, Result, Ok, Err, false}
+-- The pulls so far, and what the client and the replay came to.
+use Rattle.std.specs.Prelude.{◌≡◌, ℕ, not, IsTrue, List, ◌∷◌, [], ◌++◌, map}
 use Rattle.std.specs.FinMap.{FinMap}
 use Rattle.oci_transport.specs.Link.{Link, Extends, AnsweredBy}
 use Rattle.oci_transport.specs.Calm.{calm}
-use Rattle.oci_transport.specs.Playback.{answering}
-use Rattle.oci_transport.specs.Script.{state_of, answers_of}
-use Rattle.oci_transport.specs.declared.message.Exchange.{Exchange}
-use Rattle.oci_transport.specs.declared.recorded.Recorded.{Recorded}
-use Rattle.oci_transport.specs.declared.script.Script.{Script}
 use Rattle.oci_names.specs.declared.reference.Reference.{Reference}
 use Rattle.oci_auth.specs.declared.auth.RegistryAuth.{RegistryAuth}
 use Rattle.engine_requests.specs.Contexts.{within}
@@ -20,13 +15,13 @@ use Rattle.cosign_layers.specs.Judge.{vouched_in}
 use Rattle.cosign_layers.specs.Standing.{Meaning, Owns, meaning}
 use Rattle.cosign_layers.specs.Trust.{trust}
 use Rattle.cosign_layers.specs.Verifier.{valid_in}
-use Rattle.cosign_client.specs.Refusal.{is_memory}
 use Rattle.cosign_client.specs.Verified.{Whole, verified}
 use Rattle.cosign_chain.specs.declared.image.VerifiedImage.{VerifiedImage}
-use Rattle.cosign_client.specs.declared.refusal.PullRefusal.{PullRefusal}
+use Rattle.pull_case.specs.Registry.{answering_by}
+use Rattle.pull_case.specs.declared.registry.Registry.{Registry}
 use Rattle.pull_run.specs.declared.pulls.Terms.{Terms}
 use Rattle.pull_run.specs.declared.report.Report.{Report}
-use Rattle.pull_run.specs.Pulls.{Talk, moment_of, joined, reports, all_answered, InTurn}
+use Rattle.pull_run.specs.Pulls.{Talk, moment_of, joined, reports, all_answered, InTurn, EachWhole}
 
 -- the pull of an image at a moment, by these settings, credentials and this policy
 abbrev pub row_by : {V : Type 0} {H : V → Type 0}
@@ -40,11 +35,6 @@ row_for own terms settings log_keys =
     row_by (meaning terms.policy own (trust (valid_in terms.verifier) (vouched_in terms.judge) log_keys))
     settings (reference_in terms.image) (registry_auth terms.auth) terms.accepted
 
--- whether memory was wanting
-abbrev pub is_wanting : Result VerifiedImage PullRefusal → Bool
-is_wanting (Ok image) = false
-is_wanting (Err refusal) = is_memory refusal
-
 -- pulls at these moments, from one state of the transport and the client to another, with their report
 pub record Rounds (row : ℕ → Whole VerifiedImage) (moments : List ℕ) (old new : Link) (k l : Kept) (made : Report)
     : Type 0 where
@@ -52,6 +42,7 @@ pub record Rounds (row : ℕ → Whole VerifiedImage) (moments : List ℕ) (old 
   pub moments_are : map moment_of talks ≡ moments
   pub told : Extends old new (joined talks)
   pub in_turn : InTurn row k old.faults talks l new.faults
+  pub whole : EachWhole talks
   pub written : made.bytes ≡ reports talks
   pub refused : made.refused ≡ not (all_answered talks)
 
@@ -61,19 +52,15 @@ pub record Round (row : ℕ → Whole VerifiedImage) (moment : ℕ) (mid new : L
   pub more : (moments : List ℕ) (start : Link) (j : Kept)
       → Rounds row moments start mid j k before → Rounds row (moments ++ moment ∷ []) start new j l after
 
--- a script failed only where it is recorded
-abbrev pub IsCalm : Script → Type 0
-IsCalm script = (told : List Exchange) → (state_of script).told ≡ Some told
-    → IsTrue (calm (answering (answers_of script)).fails 0 told (state_of script).faults)
-
--- pulls at these moments over these recorded answers, with their report
-pub record Played (row : ℕ → Whole VerifiedImage) (answers : List Recorded) (moments : List ℕ) (k l : Kept)
+-- pulls at these moments over what this registry answers, with their report
+pub record Played (row : ℕ → Whole VerifiedImage) (registry : Registry) (moments : List ℕ) (k l : Kept)
     (made : Report) : Type 0 where
   pub talks : List Talk
   pub moments_are : map moment_of talks ≡ moments
   pub faults : ℕ
   pub in_turn : InTurn row k 0 talks l faults
-  pub answered : AnsweredBy (answering answers) 0 (joined talks)
-  pub calm_is : IsTrue (calm (answering answers).fails 0 (joined talks) faults)
+  pub whole : EachWhole talks
+  pub answered : AnsweredBy (answering_by registry) 0 (joined talks)
+  pub calm_is : IsTrue (calm (answering_by registry).fails 0 (joined talks) faults)
   pub written : made.bytes ≡ reports talks
   pub refused : made.refused ≡ not (all_answered talks)

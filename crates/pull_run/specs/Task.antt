@@ -2,11 +2,13 @@
 use Rattle.std.specs.Prelude.{ℕ, List, Option}
 use Rattle.json_values.specs.JsonText.{json_of}
 use Rattle.pull_case.specs.Case.{case_in}
+use Rattle.pull_chain.specs.Input.{chain_input_in}
 use Rattle.pull_run.specs.Canon.{PrintsValue}
+use Rattle.pull_run.specs.Check.{PrintsVerdict}
 use Rattle.pull_run.specs.Pulls.{ReportsCase}
 use Rattle.pull_run.specs.declared.report.Report.{Report}
 use Rattle.pull_run.specs.declared.word.Word.{Word}
-use Rattle.pull_run.specs.declared.word.Word.TheVariants.{Pull, Canon}
+use Rattle.pull_run.specs.declared.word.Word.TheVariants.{Pull, Canon, Check}
 
 -- what the input has to read as, and what is made of that
 pub record Task : Type 1 where
@@ -21,3 +23,4 @@ task_by {X} reads Gives = record { Input = X; reads = reads; Gives = Gives }
 abbrev pub task_of : Word → Task
 task_of Pull = task_by case_in ReportsCase
 task_of Canon = task_by json_of PrintsValue
+task_of Check = task_by chain_input_in PrintsVerdict

@@ -1,11 +1,12 @@
 -- The words that the program takes.
 use Rattle.std.specs.Prelude.{ℕ, List, [], ◌∷◌, Option, Some, None, if◌then◌else◌, codes, bytes_eq}
 use Rattle.pull_run.specs.declared.word.Word.{Word}
-use Rattle.pull_run.specs.declared.word.Word.TheVariants.{Pull, Canon}
+use Rattle.pull_run.specs.declared.word.Word.TheVariants.{Pull, Canon, Check}
 
--- the one word `pull` or `canon`
+-- the one word `pull`, `canon` or `check`
 abbrev pub word_of : List (List ℕ) → Option Word
 word_of (word ∷ []) =
     if bytes_eq word (codes "pull") then Some Pull
-    else (if bytes_eq word (codes "canon") then Some Canon else None)
+    else (if bytes_eq word (codes "canon") then Some Canon
+    else (if bytes_eq word (codes "check") then Some Check else None))
 word_of words = None

@@ -1,7 +1,9 @@
-//! What the words of the program ask for: pulls of a recorded case with their report, and canonical texts of JSON.
+//! What the words of the program ask for: pulls of a recorded case with their report, canonical texts of JSON, and
+//! whether a recorded chain holds.
 #![tactic(auto)]
 
 mod canon;
+mod check;
 mod input;
 mod program;
 mod pulls;
@@ -11,6 +13,7 @@ mod task;
 mod word;
 
 pub use canon::canon_line;
+pub use check::check_chain;
 pub use program::run;
 pub use pulls::pull_case;
 pub use report::Report;

@@ -1,5 +1,6 @@
 // From the words and the input to the status.
 ghost use Rattle.std.specs.Prelude.{◌≡◌, ◌↔◌, None};
+ghost use Rattle.pull_run.specs.Complete.{EndsComplete};
 ghost use Rattle.pull_run.specs.Program.{SaysTask, SaysWord, Says, EndsUnread, EndsLong, EndsPast};
 ghost use Rattle.pull_run.specs.Task.{task_by};
 ghost use Rattle.pull_run.specs.Word.{word_of};
@@ -11,6 +12,7 @@ use crate::task::Task;
 use crate::word::{Word, word_of};
 use json_values::{Json, Sink, Text};
 use pull_case::Case;
+use pull_chain::ChainInput;
 use pull_edge::Source;
 use std::alloc::Global;
 
@@ -41,6 +43,7 @@ fn serve_word<S: Source, K: Sink>(
     match word {
         Some(Word::Pull) => serve::<Case, S, K>(alloc, source, sink),
         Some(Word::Canon) => serve::<Json, S, K>(alloc, source, sink),
+        Some(Word::Check) => serve::<ChainInput, S, K>(alloc, source, sink),
         None => Status::Usage,
     }
 }
@@ -53,6 +56,8 @@ pub fn run<S: Source, K: Sink>(alloc: Global, words: &[Text], source: &mut S, si
     ensures unread { EndsUnread words.now result (S.state source.old) (S.state source.new) }
     ensures long { EndsLong words.now result (S.state source.old) (S.state source.new) }
     ensures past { EndsPast result (S.state source.old) (S.state source.new) }
+    ensures completes { EndsComplete words.now result
+        (S.state source.old) (S.state source.new) (K.state sink.old) (K.state sink.new) }
 {
     serve_word(alloc, word_of(words), source, sink).code()
 }

@@ -1,13 +1,14 @@
 // The pulls of a case.
 ghost use Rattle.std.specs.Prelude.{◌≡◌, ◌++◌, ◌||◌, false, not, Ok, IsOk, IfOk, IfSome, OnOk};
-ghost use Rattle.oci_transport.specs.Script.{state_of};
 ghost use Rattle.oci_names.specs.References.{reference_of};
 ghost use Rattle.sig_registry.specs.Direct.{reference_in};
 ghost use Rattle.cosign_client.specs.State.{client_state};
-ghost use Rattle.pull_case.specs.Case.{case_in};
+ghost use Rattle.pull_case.specs.Case.{case_in, IsReady};
+ghost use Rattle.pull_case.specs.Registry.{Leads};
+ghost use Rattle.pull_case.specs.Replay.{IsCalm, state_of};
 ghost use Rattle.pull_report.specs.Report.{report as lines_of};
-ghost use Rattle.pull_run.specs.Pulls.{is_answered, settings_by, fresh, ReportsCase};
-ghost use Rattle.pull_run.specs.Rounds.{row_for, is_wanting, Round, IsCalm, Played};
+ghost use Rattle.pull_run.specs.Pulls.{is_answered, is_wanting, settings_by, fresh, ReportsCase};
+ghost use Rattle.pull_run.specs.Rounds.{row_for, Round, Played};
 
 use crate::report::Report;
 use crate::task::Task;
@@ -16,8 +17,8 @@ use cosign_layers::{LogKeys, PullPolicy, TableJudge, TableVerifier};
 use json_values::{Blob, List, Text};
 use oci_engine::{ClientConfig, ClientProtocol};
 use oci_platforms::PlatformResolver;
-use oci_transport::{Exchange, Recorded, Script};
-use pull_case::{Case, case_policy, read_case};
+use oci_transport::Exchange;
+use pull_case::{Case, Registry, Replay, case_policy, read_case};
 use pull_report::write_report;
 use sig_registry::{Auth, OciClient, OciReference, SigstoreError};
 use std::alloc::{AllocError, Global};
@@ -69,23 +70,23 @@ struct Terms {
 fn pull_at(
     alloc: Global,
     client: &mut Client,
-    script: &mut Script,
+    replay: &mut Replay,
     terms: &Terms,
     moment: u64,
     report: &mut Report,
 ) -> Result<(), AllocError>
     ensures round { OnOk result (Round (row_for (λ b. accepts (b.vtable, b.value)) terms.now
         (client_state client.old).settings client.old.rekor_pub_keys)
-        moment (state_of script.old) (state_of script.new)
+        moment (state_of replay.old) (state_of replay.new)
         (client_state client.old).kept (client_state client.new).kept report.old report.new) }
     ensures settings { (client_state client.new).settings ≡ (client_state client.old).settings }
     ensures log_keys { client.new.rekor_pub_keys ≡ client.old.rekor_pub_keys }
-    ensures calm { OnOk result (IsCalm script.new) }
+    ensures calm { OnOk result (IsCalm replay.new) }
 {
-    let before = script.conversation().as_slice().len();
+    let before = replay.conversation().as_slice().len();
     let outcome = client.verified_pull(
         alloc,
-        script,
+        replay,
         moment,
         &terms.image,
         &terms.auth,
@@ -94,29 +95,30 @@ fn pull_at(
         &terms.verifier,
         &terms.judge,
     );
-    let conversation = script.conversation().as_slice();
+    let conversation = replay.conversation().as_slice();
     add_report(alloc, report, moment, &conversation[before..], &outcome)
 }
 
-// One pull at each moment, in turn, over these recorded answers.
+// One pull at each moment, in turn, over what this registry answers.
 fn pull_each(
     alloc: Global,
     client: &mut Client,
-    answers: List<Recorded>,
+    registry: Registry,
     terms: &Terms,
     moments: &[u64],
 ) -> Result<Report, AllocError>
+    requires { Leads registry }
     ensures { IfOk result (Played (row_for (λ b. accepts (b.vtable, b.value)) terms.now
         (client_state client.old).settings client.old.rekor_pub_keys)
-        answers moments.now (client_state client.old).kept (client_state client.new).kept) }
+        registry moments.now (client_state client.old).kept (client_state client.new).kept) }
 {
-    let mut script = Script::new(alloc, answers);
+    let mut replay = Replay::new(alloc, registry);
     let mut report = Report {
         bytes: Blob::empty(alloc),
         refused: false,
     };
     for moment in moments {
-        pull_at(alloc, client, &mut script, terms, *moment, &mut report)?;
+        pull_at(alloc, client, &mut replay, terms, *moment, &mut report)?;
     }
     Ok(report)
 }
@@ -158,14 +160,13 @@ fn image_in(alloc: Global, text: &str) -> Result<OciReference, AllocError>
 impl Task for Case {
     ghost reads = { case_in };
 
-    ghost Valid = { λ case. IsOk (reference_of case.reference) };
+    ghost Valid = { IsReady };
 
     ghost Gives = { ReportsCase };
 
     fn read(alloc: Global, bytes: &[u8]) -> Result<Option<Case>, AllocError>
         ensures exact { IfOk result (λ found. found ≡ case_in bytes.now) }
-        ensures valid { IfOk result (λ found.
-            IfSome found (λ case. IsOk (reference_of case.reference))) }
+        ensures valid { IfOk result (λ found. IfSome found IsReady) }
     {
         read_case(alloc, bytes)
     }
@@ -175,9 +176,9 @@ impl Task for Case {
     }
 }
 
-/// Makes the pulls of a case over its recorded answers, and writes their report.
+/// Makes the pulls of a case over what its registry answers, and writes their report.
 pub fn pull_case(alloc: Global, case: Case) -> Result<Report, AllocError>
-    requires { IsOk (reference_of case.reference) }
+    requires { IsReady case }
     ensures { IfOk result (ReportsCase case) }
 {
     let terms = Terms {
@@ -200,7 +201,7 @@ pub fn pull_case(alloc: Global, case: Case) -> Result<Report, AllocError>
     pull_each(
         alloc,
         &mut client,
-        case.answers,
+        case.registry,
         &terms,
         case.moments.as_slice(),
     )

@@ -11,6 +11,8 @@ pub enum Word {
     Pull,
     /// Writes the canonical text of the JSON in the input.
     Canon,
+    /// Writes whether the chain in the input holds.
+    Check,
 }
 
 /// What these words ask for, if they are a form that the program takes.
@@ -20,6 +22,7 @@ pub fn word_of(words: &[Text]) -> Option<Word>
     match words {
         [word] if word.as_str() == "pull" => Some(Word::Pull),
         [word] if word.as_str() == "canon" => Some(Word::Canon),
+        [word] if word.as_str() == "check" => Some(Word::Check),
         _ => None,
     }
 }

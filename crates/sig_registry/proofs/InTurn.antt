@@ -16,6 +16,9 @@ use Rattle.oci_protocol.proofs.Laws.{Meets-next, Meets-refused, Runs-count}
 use Rattle.engine_requests.specs.Contexts.{Context, within}
 use Rattle.engine_requests.specs.declared.settings.Settings.{Settings}
 use Rattle.engine_requests.specs.declared.error.OciDistributionError.{OciDistributionError}
+use Rattle.engine_requests.specs.declared.error.OciDistributionError.TheVariants as engine
+use Rattle.oci_transport.specs.declared.message.Exchange.{Exchange}
+use Rattle.oci_engine.specs.Refusals.{RefusedFor}
 use Rattle.engine_requests.specs.Errors.{is_memory as engine_is_memory}
 use Rattle.engine_steps.specs.Rows.{Row as Engine, token_given}
 use Rattle.engine_pull.specs.Referrers.{pull_referrers}
@@ -26,23 +29,37 @@ use Rattle.engine_laws.proofs.ReferrersConfined.{given_referrers_confined}
 use Rattle.sig_registry.specs.declared.error.SigstoreError.{SigstoreError}
 use Rattle.sig_registry.specs.declared.error.SigstoreError.TheVariants as sigstore
 use Rattle.sig_registry.specs.declared.wording.Called.{Called}
-use Rattle.sig_registry.specs.Errors.{is_memory, refusal, worded, Says, FaultCounted, NoSinkFault}
+use Rattle.sig_registry.specs.Errors.{is_memory, refusal, worded, Says, IsRefusedBy, NoSinkFault}
+use Rattle.sig_registry.proofs.InWords.{worded_fault, worded_no_sink}
 use Rattle.sig_registry.specs.Clients.{Row, Made, Client}
 
+-- a refusal that is the result of both
+result_is : {B : Type 0} (e : SigstoreError) (r : Result B SigstoreError) → IsErrAnd r (λ x. x ≡ e) → r ≡ Err e
+result_is e r is = let at = err_from_is_err_and r is in at.1 ∙ ap Err at.2
+
 -- the first one was refused
-pub made_refused : {A B : Type 0} (s : Settings) {p : Row A} (f : A → Row B) {c d : Client} {old new : Link} {e : SigstoreError} {r : Result B SigstoreError} → Made is_memory s p c d old new (Err e) → IsErrAnd r (λ x. x ≡ e) → Made is_memory s (p >>= f) c d old new r
-made_refused s f {r = r} first is = let at = err_from_is_err_and r is in rw (at.1, at.2) (record { made = λ same. (λ h. (h.0, Meets-refused f h.1)) (first.made same) })
+pub made_refused : {A B : Type 0} (s : Settings) {p : Row A} (f : A → Row B) {c d : Client} {old new : Link} (e : SigstoreError) (r : Result B SigstoreError) → Made is_memory s p c d old new (Err e) → IsErrAnd r (λ x. x ≡ e) → Made is_memory s (p >>= f) c d old new r
+made_refused {A} {B} s {p} f {c} {d} {old} {new} e r first is = record { made = by_settings } where
+  by_settings : c.settings ≡ s → (d.settings ≡ s) × Meets is_memory (p >>= f) old new c.kept d.kept r
+  by_settings same =
+      let h : (d.settings ≡ s) × Meets is_memory p old new c.kept d.kept (Err e) = first.made same in
+      (h.0, subst (λ z. Meets is_memory (p >>= f) old new c.kept d.kept z) (sym (result_is e r is)) (Meets-refused f h.1))
 
 -- both were made
-pub made_next : {A B : Type 0} (s : Settings) {p : Row A} (f : A → Row B) {c m d : Client} {old mid new : Link} {a : A} {r : Result B SigstoreError} → Made is_memory s p c m old mid (Ok a) → Made is_memory s (f a) m d mid new r → Made is_memory s (p >>= f) c d old new r
-made_next s f first second = record { made = λ same. (λ h. (λ g. (g.0, Meets-next f h.1 g.1)) (second.made h.0)) (first.made same) }
+pub made_next : {A B : Type 0} (s : Settings) {p : Row A} (f : A → Row B) {c m d : Client} {old mid new : Link} (a : A) (r : Result B SigstoreError) → Made is_memory s p c m old mid (Ok a) → Made is_memory s (f a) m d mid new r → Made is_memory s (p >>= f) c d old new r
+made_next {A} {B} s {p} f {c} {m} {d} {old} {mid} {new} a r first second = record { made = by_settings } where
+  by_settings : c.settings ≡ s → (d.settings ≡ s) × Meets is_memory (p >>= f) old new c.kept d.kept r
+  by_settings same =
+      let h : (m.settings ≡ s) × Meets is_memory p old mid c.kept m.kept (Ok a) = first.made same in
+      let g : (d.settings ≡ s) × Meets is_memory (f a) mid new m.kept d.kept r = second.made h.0 in
+      (g.0, Meets-next f h.1 g.1)
 
 -- the first one's refusal is the result
-pub fault_passed : {A B : Type 0} {old new : Link} {e : SigstoreError} {r : Result B SigstoreError} → FaultCounted {A = A} old new (Err e) → IsErrAnd r (λ x. x ≡ e) → FaultCounted old new r
-fault_passed {r = r} h is = let at = err_from_is_err_and r is in rw (at.1, at.2) h
+pub refused_fault : {A B : Type 0} (called : Called) (text : List ℕ) (given : Result A OciDistributionError) (e : SigstoreError) (r : Result B SigstoreError) (P : Type 0) → (given ≡ Err engine.TransportFault → P) → Says (Err e) (worded called text given) → IsErrAnd r (λ x. x ≡ e) → IsRefusedBy engine.TransportFault r → P
+refused_fault {A} {B} called text given e r P fault says is held = worded_fault called text given (Err e) P fault says (let Q : Result B SigstoreError → Type 0 = IsRefusedBy engine.TransportFault in subst Q (result_is e r is) held)
 
-pub no_sink_passed : {A B : Type 0} {e : SigstoreError} {r : Result B SigstoreError} → NoSinkFault {A = A} (Err e) → IsErrAnd r (λ x. x ≡ e) → NoSinkFault r
-no_sink_passed {r = r} h is = let at = err_from_is_err_and r is in rw (at.1, at.2) h
+pub refused_no_sink : {A B : Type 0} (called : Called) (text : List ℕ) (Why : List Exchange → ℕ → OciDistributionError → Type 0) (old new : Link) (given : Result A OciDistributionError) (e : SigstoreError) (r : Result B SigstoreError) → ((c : List Exchange) (n : ℕ) → Why c n engine.SinkFault → ⊥) → RefusedFor Why old new given → Says (Err e) (worded called text given) → IsErrAnd r (λ x. x ≡ e) → NoSinkFault r
+refused_no_sink {A} {B} called text Why old new given e r never causes says is held = worded_no_sink called text Why old new given (Err e) never causes says (let Q : Result B SigstoreError → Type 0 = IsRefusedBy engine.SinkFault in subst Q (result_is e r is) held)
 
 -- an answer in the words of the call is the engine's
 pub worded_ok : {A : Type 0} (called : Called) (text : List ℕ) (r : Result A OciDistributionError) (a : A) → Says (Ok a) (worded called text r) → r ≡ Ok a
@@ -53,9 +70,9 @@ worded_ok called text (Err e) a is = by_memory (engine_is_memory e) is where
   by_memory false is = absurd (cc is)
 
 -- the count of a call that was answered does not fall, so a fault in the second is one of both
-pub rose_in_second : {A : Type 0} {p : Engine A} {old mid new : Link} {k l : Memory} {r : Result A OciDistributionError} {a : A} → Meets engine_is_memory p old mid k l r → r ≡ Ok a → Rose mid.faults new.faults → Rose old.faults new.faults
-rose_in_second {p = p} {old = old} {mid = mid} {new = new} {k = k} {l = l} {a = a} met is rose = by_answer (rw is at met) where
-  by_answer : Meets engine_is_memory p old mid k l (Ok a) → Rose old.faults new.faults
+pub rose_in_second : {A : Type 0} {p : Engine A} {old mid : Link} {k l : Memory} {r : Result A OciDistributionError} {a : A} {n : ℕ} → Meets engine_is_memory p old mid k l r → r ≡ Ok a → Rose mid.faults n → Rose old.faults n
+rose_in_second {p = p} {old = old} {mid = mid} {k = k} {l = l} {a = a} {n = n} met is rose = by_answer (rw is at met) where
+  by_answer : Meets engine_is_memory p old mid k l (Ok a) → Rose old.faults n
   by_answer h = let le : old.faults ≤ mid.faults = Runs-count p k l old.faults mid.faults h.outcome.conversation (Ok a) h.outcome.runs in omega (arith, le, rose)
 
 -- where credentials go in both

@@ -2,6 +2,8 @@
 #![tactic(auto)]
 
 #[cfg(test)]
+mod guards;
+#[cfg(test)]
 mod headers;
 #[cfg(test)]
 mod scripts;

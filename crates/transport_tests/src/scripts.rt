@@ -19,7 +19,7 @@ fn pieces(alloc: Global, count: u64) -> Result<List<Blob>, AllocError>
     Ok(pieces)
 }
 
-fn recorded(
+pub(crate) fn recorded(
     alloc: Global,
     count: u64,
     fails: bool,

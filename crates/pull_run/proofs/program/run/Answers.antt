@@ -1,3 +1,4 @@
+use Rattle.pull_run.proofs.Completing.{says_complete}
 use Rattle.pull_run.proofs.Statuses.{says_unread, says_long, says_past, says_usage}
 use Rattle.pull_run.proofs.program.run.Goals as goal
 
@@ -22,4 +23,9 @@ returns-clause-long g c =
 pub returns-clause-past : goal.returns-clause-past
 returns-clause-past g c =
     says_past c.args.words.now c.code.result (g.S.Source.state c.args.source.now) (g.S.Source.state c.serve_word.new.source) (g.K.Sink.state c.args.sink.now) (g.K.Sink.state c.serve_word.new.sink)
+    (c.serve_word.result, c.code.ensures, rw c.word_of.ensures at c.serve_word.ensures)
+
+pub returns-clause-completes : goal.returns-clause-completes
+returns-clause-completes g c =
+    says_complete c.args.words.now c.code.result (g.S.Source.state c.args.source.now) (g.S.Source.state c.serve_word.new.source) (g.K.Sink.state c.args.sink.now) (g.K.Sink.state c.serve_word.new.sink)
     (c.serve_word.result, c.code.ensures, rw c.word_of.ensures at c.serve_word.ensures)

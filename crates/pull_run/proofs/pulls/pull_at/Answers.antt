@@ -1,4 +1,4 @@
-use Rattle.oci_transport.specs.Script.{state_of}
+use Rattle.pull_case.specs.Replay.{state_of}
 use Rattle.cosign_client.specs.State.{client_state}
 use Rattle.pull_run.specs.Rounds.{row_for}
 use Rattle.pull_run.proofs.Rounding.{told_round, told_is_calm, no_shorter, from_ok, always}
@@ -13,7 +13,7 @@ slice_bounds-add_report-start g c = rw (c.as_slice-before.ensures, c.as_slice-co
 pub returns-clause-round : goal.returns-clause-round
 returns-clause-round g c = from_ok c.add_report.result c.add_report.ensures.bytes c.add_report.ensures.refused c.add_report.ensures.whole (λ bytes refused whole. told_round
     {row = row_for (λ b. (goal.VerificationConstraint-dyn g (b.vtable, b.value)).accepts b.value) c.args.terms.now (client_state c.args.client.now).settings c.args.client.now.rekor_pub_keys}
-    {moment = c.args.moment} {mid = state_of c.args.script.now} {new = state_of c.verified_pull-outcome.new.transport} {k = (client_state c.args.client.now).kept} {l = (client_state c.verified_pull-outcome.new.self).kept} {before = c.args.report.now} {after = c.add_report.new.report}
+    {moment = c.args.moment} {mid = state_of c.args.replay.now} {new = state_of c.verified_pull-outcome.new.transport} {k = (client_state c.args.client.now).kept} {l = (client_state c.verified_pull-outcome.new.self).kept} {before = c.args.report.now} {after = c.add_report.new.report}
     c.verified_pull-outcome.result c.conversation.result.now c.conversation-2.result.now c.conversation.ensures.told c.conversation-2.ensures.told whole (rw c.as_slice.ensures at c.verified_pull-outcome.ensures.run) (rw (c.as_slice-before.ensures, c.as_slice-conversation.ensures) at bytes) refused)
 
 pub returns-clause-settings : goal.returns-clause-settings

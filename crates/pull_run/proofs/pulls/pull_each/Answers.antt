@@ -1,11 +1,11 @@
-use Rattle.std.proofs.Common.{refl, ap, ◌∙◌}
+use Rattle.std.proofs.Common.{refl, ◌∙◌}
 use Rattle.std.proofs.lemmas.List.{take_all}
 use Rattle.oci_protocol.proofs.Extending.{Extends-none}
 use Rattle.pull_run.proofs.Rounding.{none_yet, next_round, played, take_more, new_is_calm, row_as}
 use Rattle.pull_run.proofs.pulls.pull_each.Goals as goal
 
 pub loop-moment-init : goal.loop-moment-init
-loop-moment-init g c = (none_yet _ (Extends-none _) c.empty.ensures refl, refl, refl, new_is_calm c.new-script.result c.new-script.ensures.told)
+loop-moment-init g c = (none_yet _ (Extends-none _) c.empty.ensures refl, refl, refl, new_is_calm c.new-replay.result c.new-replay.ensures.told)
 
 pub loop-moment-preserved : goal.loop-moment-preserved
 loop-moment-preserved g c = (
@@ -18,4 +18,4 @@ loop-moment-preserved g c = (
 )
 
 pub returns : goal.returns
-returns g c = played c.args.answers c.new-script.result c.loop-moment.script c.new-script.ensures.told c.new-script.ensures.faults c.new-script.ensures.table (rw (take_all _ _ c.loop-moment-test.false) at c.loop-moment.invariant.0) c.loop-moment.invariant.3
+returns g c = played c.args.registry c.new-replay.result c.loop-moment.replay c.new-replay.ensures.told c.new-replay.ensures.faults c.new-replay.ensures.table (rw (take_all _ _ c.loop-moment-test.false) at c.loop-moment.invariant.0) c.loop-moment.invariant.3

@@ -1,13 +1,13 @@
 use Rattle.std.proofs.Common.{◌≡◌, take}
-use Rattle.oci_transport.specs.Script.{state_of}
+use Rattle.pull_case.specs.Replay.{state_of, IsCalm}
 use Rattle.cosign_client.specs.State.{client_state}
-use Rattle.pull_run.specs.Rounds.{row_for, Rounds, IsCalm}
+use Rattle.pull_run.specs.Rounds.{row_for, Rounds}
 use Rattle.pull_run.proofs.pulls.pull_each.Given as goal
 
--- the pulls so far; the settings and the keys of logs stay, and the script failed only where it is recorded
+-- the pulls so far; the settings and the keys of logs stay, and the replay failed only where it is recorded
 abbrev pub invariant-loop-moment : goal.invariant-loop-moment
 invariant-loop-moment g l =
-    Rounds (row_for (λ b. (goal.VerificationConstraint-dyn g (b.vtable, b.value)).accepts b.value) l.terms (client_state l.fn.client).settings l.fn.client.rekor_pub_keys) (take l.moment-index l.moments) (state_of l.initial.script) (state_of l.script) (client_state l.fn.client).kept (client_state l.client).kept l.report
+    Rounds (row_for (λ b. (goal.VerificationConstraint-dyn g (b.vtable, b.value)).accepts b.value) l.terms (client_state l.fn.client).settings l.fn.client.rekor_pub_keys) (take l.moment-index l.moments) (state_of l.initial.replay) (state_of l.replay) (client_state l.fn.client).kept (client_state l.client).kept l.report
     × ((client_state l.client).settings ≡ (client_state l.fn.client).settings)
     × (l.client.rekor_pub_keys ≡ l.fn.client.rekor_pub_keys)
-    × IsCalm l.script
+    × IsCalm l.replay

@@ -1,0 +1,5 @@
+pub mod Decimals
+pub mod Judging
+pub mod Pieces
+pub mod Responses
+pub mod Walking

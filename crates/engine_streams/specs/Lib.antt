@@ -1,0 +1,4 @@
+pub mod Heads
+pub mod Ranges
+pub mod Rows
+pub mod Streams

@@ -1,0 +1,136 @@
+// What the head of a blob's answer says of its body.
+ghost use Rattle.std.specs.Prelude.{◌≡◌, IfOk};
+ghost use Rattle.std.specs.List.{list_all};
+ghost use Rattle.oci_transport.specs.Headers.{first_of};
+ghost use Rattle.engine_requests.specs.Errors.{Says};
+ghost use Rattle.engine_streams.specs.Heads.{is_digit, is_decimal, decimal_of, content_length, expected, given};
+ghost use Rattle.engine_streams.specs.Heads.{unless_part, opening, is_streamed};
+
+use crate::range::{ByteRange, is_part};
+use engine_requests::{
+    Expected, OciDistributionError, digest_expected, header_digest, is_success, of_digest,
+};
+use json_values::Text;
+use oci_transport::{AnswerHead, Headers};
+use std::alloc::Global;
+use std::str;
+
+/// The digests that the bytes of a blob have to have: that of the answer's header, where it names one, and the
+/// descriptor's.
+#[derive(Drop)]
+pub struct Digests {
+    pub given: Option<Expected>,
+    pub own: Expected,
+}
+
+/// What the head of an answer says of the body that is left.
+#[derive(Drop)]
+pub struct Opening {
+    /// In bytes, by the header `content-length`.
+    pub content_length: Option<u64>,
+    pub digest_header_value: Option<Text>,
+    /// What the bytes are compared with. None where they are a part of the blob.
+    pub digests: Option<Digests>,
+}
+
+fn is_digit(byte: u8) -> bool
+    ensures { result ≡ is_digit byte }
+{
+    48 <= byte && byte <= 57
+}
+
+fn all_digits(text: &[u8]) -> bool
+    ensures { result ≡ list_all is_digit text.now }
+{
+    text.iter().all(|byte| is_digit(*byte))
+}
+
+fn is_decimal(text: &[u8]) -> bool
+    ensures { result ≡ is_decimal text.now }
+{
+    if text.is_empty() {
+        return false;
+    }
+    all_digits(text)
+}
+
+#[tactic(auto, using(crate::proofs::Decimals::not_utf8, crate::proofs::Decimals::not_decimal, crate::proofs::Decimals::decimal_read))]
+fn decimal_of(text: &[u8]) -> Option<u64>
+    ensures { result ≡ decimal_of text.now }
+{
+    if !is_decimal(text) {
+        return None;
+    }
+    let Ok(digits) = str::from_utf8(text) else {
+        return None;
+    };
+    digits.parse::<u64>().ok()
+}
+
+fn content_length(headers: &Headers) -> Option<u64>
+    ensures { result ≡ content_length headers.now }
+{
+    match headers.first("content-length") {
+        Some(value) => decimal_of(value),
+        None => None,
+    }
+}
+
+fn expected(alloc: Global, text: &str) -> Result<Expected, OciDistributionError>
+    ensures { Says result (expected text.now) }
+{
+    let expected = of_digest(digest_expected(alloc, text))?;
+    Ok(expected)
+}
+
+fn given(alloc: Global, value: &Option<Text>) -> Result<Option<Expected>, OciDistributionError>
+    ensures { Says result (given value.now) }
+{
+    match value {
+        Some(text) => {
+            let expected = expected(alloc, text.as_str())?;
+            Ok(Some(expected))
+        }
+        None => Ok(None),
+    }
+}
+
+fn unless_part(part: bool, given: Option<Expected>, own: Expected) -> Option<Digests>
+    ensures { result ≡ unless_part part given own }
+{
+    if part {
+        return None;
+    }
+    Some(Digests { given, own })
+}
+
+/// What is said of the body: the descriptor's digest is looked at, and then the header's. `DigestError` where one of
+/// them is none, or of an algorithm that is not known.
+#[tactic(auto, unfolding(crate::specs::Heads::opening))]
+pub(crate) fn read_head(
+    alloc: Global,
+    range: &Option<ByteRange>,
+    digest: &str,
+    head: &AnswerHead,
+) -> Result<Opening, OciDistributionError>
+    ensures { Says result (opening range.now digest.now head.now) }
+{
+    let own = expected(alloc, digest)?;
+    let value = header_digest(alloc, &head.headers)?;
+    let given = given(alloc, &value)?;
+    Ok(Opening {
+        content_length: content_length(&head.headers),
+        digest_header_value: value,
+        digests: unless_part(is_part(range, head.status), given, own),
+    })
+}
+
+/// Whether the body of an answer of this status is streamed.
+pub(crate) fn is_streamed(range: &Option<ByteRange>, status: u16) -> bool
+    ensures { result ≡ is_streamed range.now status }
+{
+    match range {
+        Some(_) => status == 200 || status == 206,
+        None => is_success(status),
+    }
+}

@@ -1,0 +1,12 @@
+//! Streams of blobs: the body of a blob's answer, given piece by piece as it is asked for.
+#![tactic(auto)]
+
+mod asking;
+mod blobs;
+mod head;
+mod range;
+mod stream;
+
+pub use blobs::{BlobResponse, pull_blob_stream, pull_blob_stream_partial};
+pub use range::ByteRange;
+pub use stream::SizedStream;

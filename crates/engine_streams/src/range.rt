@@ -1,0 +1,102 @@
+// Which bytes of a blob are asked for.
+ghost use Rattle.std.specs.Prelude.{◌≡◌, IfOk};
+ghost use Rattle.engine_requests.specs.Errors.{Says};
+ghost use Rattle.engine_streams.specs.Ranges.{onward_text, text_by, range_text, onward, with_range, is_part};
+
+use engine_requests::{GenericCause, OciDistributionError, with_header};
+use json_values::{Text, write_decimal};
+use oci_transport::Request;
+use std::alloc::{AllocError, Global};
+
+/// Bytes of a blob: those from the offset on, and no more than the length where one is given.
+#[derive(Clone, Copy)]
+pub struct ByteRange {
+    pub offset: u64,
+    pub length: Option<u64>,
+}
+
+fn onward_text(alloc: Global, offset: u64) -> Result<Text, AllocError>
+    ensures { IfOk result (λ text. text ≡ onward_text offset) }
+{
+    let mut text = Text::new(alloc, "bytes=")?;
+    let digits = write_decimal(alloc, offset)?;
+    text.push_str(digits.as_str())?;
+    text.push_str("-")?;
+    Ok(text)
+}
+
+fn text_by(alloc: Global, offset: u64, length: Option<u64>) -> Result<Text, OciDistributionError>
+    ensures { Says result (text_by offset length) }
+{
+    let mut text = onward_text(alloc, offset)?;
+    let Some(length) = length else {
+        return Ok(text);
+    };
+    let Some(end) = offset.checked_add(length) else {
+        return Err(OciDistributionError::GenericError(GenericCause::RangeOverflow));
+    };
+    let digits = write_decimal(alloc, end.saturating_sub(1))?;
+    text.push_str(digits.as_str())?;
+    Ok(text)
+}
+
+/// The header `range` of the registry's request, where a part is asked for. `RangeOverflow` where the range would end
+/// past the greatest place.
+pub(crate) fn range_text(
+    alloc: Global,
+    range: &Option<ByteRange>,
+) -> Result<Option<Text>, OciDistributionError>
+    ensures { Says result (range_text range.now) }
+{
+    let Some(range) = range else {
+        return Ok(None);
+    };
+    let text = text_by(alloc, range.offset, range.length)?;
+    Ok(Some(text))
+}
+
+/// The same of the requests at other places, which have no last byte.
+pub(crate) fn onward(alloc: Global, range: &Option<ByteRange>) -> Result<Option<Text>, AllocError>
+    ensures { IfOk result (λ text. text ≡ onward range.now) }
+{
+    let Some(range) = range else {
+        return Ok(None);
+    };
+    let text = onward_text(alloc, range.offset)?;
+    Ok(Some(text))
+}
+
+/// The request for these bytes.
+pub(crate) fn with_range(
+    request: Request,
+    range: &Option<Text>,
+) -> Result<Request, OciDistributionError>
+    ensures { Says result (with_range range.now request) }
+{
+    let Some(range) = range else {
+        return Ok(request);
+    };
+    let Request {
+        method,
+        url,
+        headers,
+        body,
+    } = request;
+    let headers = with_header(headers, "range", range.as_str())?;
+    Ok(Request {
+        method,
+        url,
+        headers,
+        body,
+    })
+}
+
+/// Whether an answer of this status is a part of the blob.
+pub(crate) fn is_part(range: &Option<ByteRange>, status: u16) -> bool
+    ensures { result ≡ is_part range.now status }
+{
+    match range {
+        Some(_) => status == 206,
+        None => false,
+    }
+}

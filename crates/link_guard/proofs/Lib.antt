@@ -1,0 +1,4 @@
+pub mod Knowing
+pub mod Lists
+pub mod Steps
+pub mod Told

@@ -1,0 +1,12 @@
+use Rattle.engine_requests.specs.Contexts.{within}
+use Rattle.oci_engine.proofs.StreamCalls.{stream_confined, stream_reason, stream_fault}
+use Rattle.oci_engine.proofs.client.Client.pull_blob_stream.Goals as goal
+
+pub returns-clause-confined : goal.returns-clause-confined
+returns-clause-confined g c = stream_confined (within c.args.self.now.settings c.args.moment) c.args.image.now _ (rw c.as_layer_descriptor-layer.ensures at c.pull_blob_stream.ensures.run)
+
+pub returns-clause-causes : goal.returns-clause-causes
+returns-clause-causes g c = stream_reason (within c.args.self.now.settings c.args.moment) c.args.image.now _ _ (rw c.as_layer_descriptor-layer.ensures at c.pull_blob_stream.ensures.run)
+
+pub returns-clause-fault : goal.returns-clause-fault
+returns-clause-fault g c = stream_fault (within c.args.self.now.settings c.args.moment) c.args.image.now _ _ (rw c.as_layer_descriptor-layer.ensures at c.pull_blob_stream.ensures.run)

@@ -1,0 +1,12 @@
+use Rattle.engine_requests.specs.Contexts.{within}
+use Rattle.oci_engine.proofs.StreamCalls.{partial_confined, partial_reason, partial_fault}
+use Rattle.oci_engine.proofs.client.Client.pull_blob_stream_partial.Goals as goal
+
+pub returns-clause-confined : goal.returns-clause-confined
+returns-clause-confined g c = partial_confined (within c.args.self.now.settings c.args.moment) c.args.image.now _ _ c.ranges.offset.fits (rw c.as_layer_descriptor-layer.ensures at c.pull_blob_stream_partial.ensures.run)
+
+pub returns-clause-causes : goal.returns-clause-causes
+returns-clause-causes g c = partial_reason (within c.args.self.now.settings c.args.moment) c.args.image.now _ _ _ c.ranges.offset.fits (rw c.as_layer_descriptor-layer.ensures at c.pull_blob_stream_partial.ensures.run)
+
+pub returns-clause-fault : goal.returns-clause-fault
+returns-clause-fault g c = partial_fault (within c.args.self.now.settings c.args.moment) c.args.image.now _ _ _ (rw c.as_layer_descriptor-layer.ensures at c.pull_blob_stream_partial.ensures.run)

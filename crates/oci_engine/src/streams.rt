@@ -1,0 +1,94 @@
+// The calls that open a stream of a blob.
+ghost use Rattle.std.specs.Prelude.{◌≡◌, [], Some, None, IfOk};
+ghost use Rattle.oci_protocol.specs.Runs.{Meets};
+ghost use Rattle.engine_requests.specs.Errors.{is_memory};
+ghost use Rattle.engine_streams.specs.Rows.{blob_stream, blob_stream_partial, opening_in, response_in};
+ghost use Rattle.engine_streams.specs.Rows.{stream_in, IsLeft};
+ghost use Rattle.engine_streams.specs.Streams.{IsOpen, opening_of};
+ghost use Rattle.oci_engine.specs.Confinement.{Stays};
+ghost use Rattle.oci_engine.specs.Refusals.{RefusedFor, FaultCounted, at_moment};
+ghost use Rattle.oci_engine.specs.StreamRefusals.{StreamRefused, range_of};
+
+use crate::client::Client;
+use engine_requests::{AsLayerDescriptor, Call, OciDistributionError};
+use engine_streams::{BlobResponse, ByteRange, SizedStream};
+use oci_names::Reference;
+use oci_transport::Transport;
+use std::alloc::Global;
+
+impl Client {
+    /// A blob of the image's repository, which is given piece by piece. It is asked for where `pull_blob` asks, and
+    /// nothing of the answer's body is taken yet: hand the transport to the stream's `next`, and send nothing over it
+    /// before the stream's end.
+    pub fn pull_blob_stream<T: Transport, L: AsLayerDescriptor>(
+        &mut self,
+        alloc: Global,
+        transport: &mut T,
+        moment: u64,
+        image: &Reference,
+        layer: &L,
+    ) -> Result<SizedStream, OciDistributionError>
+        ensures run { Meets is_memory (blob_stream (at_moment self.old moment) image.now (L.layer layer.now))
+            (T.state transport.old) (T.state transport.new) self.old.memory self.new.memory (opening_in result) }
+        ensures settings { self.new.settings ≡ self.old.settings }
+        ensures confined { Stays self.old self.new moment image.now None
+            (T.state transport.old) (T.state transport.new) }
+        ensures fresh { IfOk result (λ stream. IsOpen self.old.settings.max_body_bytes [] stream) }
+        ensures left { IfOk result (λ stream. IsLeft None (L.layer layer.now).digest (opening_of stream)
+            (T.state transport.old) (T.state transport.new)) }
+        ensures causes { RefusedFor (StreamRefused None self.old moment image.now (L.layer layer.now))
+            (T.state transport.old) (T.state transport.new) result }
+        ensures fault { FaultCounted (T.state transport.old) (T.state transport.new) result }
+    {
+        let call = Call {
+            settings: &self.settings,
+            image,
+            moment,
+        };
+        let layer = layer.as_layer_descriptor();
+        engine_streams::pull_blob_stream(alloc, transport, &mut self.memory, &call, &layer)
+    }
+
+    /// Bytes of a blob from the offset on, and no more than the length where one is given, piece by piece. A registry
+    /// may answer the whole blob. `RangeOverflow`, with no request, where offset and length pass 2^64 - 1.
+    pub fn pull_blob_stream_partial<T: Transport, L: AsLayerDescriptor>(
+        &mut self,
+        alloc: Global,
+        transport: &mut T,
+        moment: u64,
+        image: &Reference,
+        layer: &L,
+        offset: u64,
+        length: Option<u64>,
+    ) -> Result<BlobResponse, OciDistributionError>
+        ensures run { Meets is_memory
+            (blob_stream_partial (at_moment self.old moment) image.now (L.layer layer.now) (range_of offset length))
+            (T.state transport.old) (T.state transport.new) self.old.memory self.new.memory (response_in result) }
+        ensures settings { self.new.settings ≡ self.old.settings }
+        ensures confined { Stays self.old self.new moment image.now None
+            (T.state transport.old) (T.state transport.new) }
+        ensures fresh { IfOk result (λ response. IsOpen self.old.settings.max_body_bytes [] (stream_in response)) }
+        ensures left { IfOk result (λ response. IsLeft (Some (range_of offset length)) (L.layer layer.now).digest
+            (opening_of (stream_in response)) (T.state transport.old) (T.state transport.new)) }
+        ensures causes { RefusedFor
+            (StreamRefused (Some (range_of offset length)) self.old moment image.now (L.layer layer.now))
+            (T.state transport.old) (T.state transport.new) result }
+        ensures fault { FaultCounted (T.state transport.old) (T.state transport.new) result }
+    {
+        let call = Call {
+            settings: &self.settings,
+            image,
+            moment,
+        };
+        let layer = layer.as_layer_descriptor();
+        let range = ByteRange { offset, length };
+        engine_streams::pull_blob_stream_partial(
+            alloc,
+            transport,
+            &mut self.memory,
+            &call,
+            &layer,
+            range,
+        )
+    }
+}

@@ -1,0 +1,27 @@
+-- What a replay of a case's registry shows.
+use Rattle.std.specs.Prelude.{◌≡◌, IsTrue, List, Some}
+use Rattle.oci_transport.specs.Calm.{calm}
+use Rattle.oci_transport.specs.Link.{Link, Answering}
+use Rattle.oci_transport.specs.Playback as recorded
+use Rattle.oci_transport.specs.Script as script
+use Rattle.oci_transport.specs.declared.message.Exchange.{Exchange}
+use Rattle.oci_link.specs.State as shelf
+use Rattle.pull_case.specs.declared.replay.Replay.{Replay}
+use Rattle.pull_case.specs.declared.replay.Replay.TheVariants.{Script, Shelf}
+use Rattle.pull_case.specs.declared.quiet_shelf.QuietShelf.{QuietShelf}
+
+abbrev pub quiet_state_of : QuietShelf → Link
+quiet_state_of t = shelf.state_of t.transport
+
+abbrev pub state_of : Replay → Link
+state_of (Script s) = script.state_of s
+state_of (Shelf t) = quiet_state_of t
+
+abbrev pub answering_of : Replay → Answering
+answering_of (Script s) = recorded.answering (script.answers_of s)
+answering_of (Shelf t) = shelf.answering (shelf.shelf_of t.transport)
+
+-- it failed only where what it answers by may fail
+abbrev pub IsCalm : Replay → Type 0
+IsCalm replay = (told : List Exchange) → (state_of replay).told ≡ Some told
+    → IsTrue (calm (answering_of replay).fails 0 told (state_of replay).faults)

@@ -1,0 +1,57 @@
+// A shelf's transport that had no fault so far.
+ghost use Rattle.std.specs.Prelude.{◌≡◌, [], IsTrue, Some, false};
+ghost use Rattle.oci_transport.specs.Calm.{calm};
+ghost use Rattle.oci_link.specs.Leads.{redirects_lead};
+ghost use Rattle.oci_link.specs.State.{answering, shelf_of, state_of};
+ghost use Rattle.pull_case.specs.Quiet.{IsQuiet};
+
+use json_values::Blob;
+use oci_link::{Shelf, ShelfTransport};
+use oci_transport::{AnswerHead, Conversation, LinkError, Request, Transport};
+use std::alloc::Global;
+
+/// The transport of a shelf, which tells that no exchange of it failed.
+#[derive(Drop)]
+pub struct QuietShelf {
+    transport: ShelfTransport,
+    ghost quiet: { IsQuiet transport },
+}
+
+impl QuietShelf {
+    /// Answers from this shelf, whose redirects have to lead.
+    pub fn new(alloc: Global, shelf: Shelf) -> QuietShelf
+        requires { IsTrue (redirects_lead shelf) }
+        ensures told { (state_of result.transport).told ≡ Some [] }
+        ensures faults { (state_of result.transport).faults ≡ 0 }
+        ensures table { (state_of result.transport).answers ≡ Some (answering shelf) }
+        ensures shelf { shelf_of result.transport ≡ shelf }
+    {
+        QuietShelf {
+            transport: ShelfTransport::new(alloc, shelf),
+        }
+    }
+
+    /// All exchanges so far.
+    pub fn conversation(&self) -> &Conversation
+        ensures told { Some result.now ≡ (state_of self.now.transport).told }
+        ensures calm { IsTrue (calm (λ place. false) 0 result.now 0) }
+    {
+        self.transport.conversation()
+    }
+}
+
+impl Transport for QuietShelf {
+    ghost state = { λ t. state_of t.transport };
+
+    fn send(&mut self, alloc: Global, request: &Request) -> Result<AnswerHead, LinkError> {
+        self.transport.send(alloc, request)
+    }
+
+    fn piece(&mut self, alloc: Global) -> Result<Blob, LinkError> {
+        self.transport.piece(alloc)
+    }
+
+    fn faults(&self) -> u64 {
+        self.transport.faults()
+    }
+}

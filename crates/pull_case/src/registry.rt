@@ -1,0 +1,45 @@
+// What a case's registry answers.
+ghost use Rattle.serde_json.specs.View.{view};
+ghost use Rattle.json_tables.specs.Outcomes.{Gives};
+ghost use Rattle.pull_case.specs.Registry.{registry_of};
+
+use crate::entries::Entries;
+use crate::shelf::read_shelf;
+use json_tables::{Member, ReadError};
+use json_values::List;
+use oci_link::Shelf;
+use oci_transport::Recorded;
+use serde_json::Value;
+use std::alloc::Global;
+
+/// What the registry of a case answers.
+#[derive(Drop)]
+pub enum Registry {
+    /// A list of answers, in order. Each is `"fail"`, a send that fails, or an object with the member `status`
+    /// (100 to 999) and perhaps `headers` (a list of pairs of a name and a text, which `Headers::add` takes),
+    /// `pieces` (the body, a list of bytes of which none is empty) and `fault` (before how many pieces a call
+    /// fails).
+    Answers(List<Recorded>),
+    /// `{"repository": text, "tags": {tag: digest}, "documents": {digest: {"media_type": text, "content": bytes}},
+    /// "blobs": {digest: bytes}, "referrers": {digest: bytes}}`, and perhaps `redirects`, an object from URLs to
+    /// those that they redirect to, which have to lead (`Shelf::redirects_lead`).
+    Shelf(Shelf),
+}
+
+/// Exactly one of the members `answers` and `shelf`.
+#[tactic(auto, unfolding(crate::specs::Registry::registry_of))]
+pub fn read_registry(alloc: Global, value: &Value) -> Result<Registry, ReadError>
+    ensures { Gives result (registry_of (view value.now)) }
+{
+    match (value.get("answers"), value.get("shelf")) {
+        (Some(answers), None) => {
+            let answers: Entries<Recorded> = Member::read_member(alloc, Some(answers))?;
+            Ok(Registry::Answers(answers.list))
+        }
+        (None, Some(shelf)) => {
+            let shelf = read_shelf(alloc, shelf)?;
+            Ok(Registry::Shelf(shelf))
+        }
+        _ => Err(ReadError::Shape),
+    }
+}

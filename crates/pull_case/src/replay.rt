@@ -1,0 +1,74 @@
+// A transport that answers as a case says.
+ghost use Rattle.std.specs.Prelude.{◌≡◌, [], IsTrue, Some};
+ghost use Rattle.oci_transport.specs.Calm.{calm};
+ghost use Rattle.pull_case.specs.Registry.{Leads, answering_by};
+ghost use Rattle.pull_case.specs.Replay.{answering_of, state_of};
+
+use crate::quiet_shelf::QuietShelf;
+use crate::registry::Registry;
+use json_values::Blob;
+use oci_transport::{AnswerHead, Conversation, LinkError, Request, Script, Transport};
+use std::alloc::Global;
+
+/// Answers as the registry of a case, and tells all that it did. It fails only where a recorded answer says so, or
+/// behind the last of them.
+#[derive(Drop)]
+pub enum Replay {
+    /// Recorded answers, in order.
+    Script(Script),
+    /// The table of answers of a shelf.
+    Shelf(QuietShelf),
+}
+
+impl Replay {
+    /// A replay of this registry, of which nothing was asked yet.
+    pub fn new(alloc: Global, registry: Registry) -> Replay
+        requires { Leads registry }
+        ensures told { (state_of result).told ≡ Some [] }
+        ensures faults { (state_of result).faults ≡ 0 }
+        ensures table { (state_of result).answers ≡ Some (answering_by registry) }
+    {
+        match registry {
+            Registry::Answers(answers) => Replay::Script(Script::new(alloc, answers)),
+            Registry::Shelf(shelf) => Replay::Shelf(QuietShelf::new(alloc, shelf)),
+        }
+    }
+
+    /// All exchanges so far.
+    pub fn conversation(&self) -> &Conversation
+        ensures told { Some result.now ≡ (state_of self.now).told }
+        ensures calm { IsTrue (calm (answering_of self.now).fails 0 result.now (state_of self.now).faults) }
+    {
+        match self {
+            Replay::Script(script) => script.conversation(),
+            Replay::Shelf(shelf) => shelf.conversation(),
+        }
+    }
+}
+
+impl Transport for Replay {
+    ghost use Rattle.pull_case.specs.Replay.{state_of};
+
+    ghost state = { state_of };
+
+    fn send(&mut self, alloc: Global, request: &Request) -> Result<AnswerHead, LinkError> {
+        match self {
+            Replay::Script(script) => script.send(alloc, request),
+            Replay::Shelf(shelf) => shelf.send(alloc, request),
+        }
+    }
+
+    fn piece(&mut self, alloc: Global) -> Result<Blob, LinkError> {
+        match self {
+            Replay::Script(script) => script.piece(alloc),
+            Replay::Shelf(shelf) => shelf.piece(alloc),
+        }
+    }
+
+    fn faults(&self) -> u64 {
+        match self {
+            Replay::Script(script) => script.faults(),
+            Replay::Shelf(shelf) => shelf.faults(),
+        }
+    }
+}

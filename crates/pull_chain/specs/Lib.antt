@@ -1,0 +1,4 @@
+pub mod Built
+pub mod Holds
+pub mod Input
+pub mod Parts

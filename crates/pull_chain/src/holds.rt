@@ -1,0 +1,99 @@
+// Whether a written chain holds.
+ghost use Rattle.std.specs.Prelude.{◌≡◌, ◌↔◌, IfOk, IsOk, IsTrue, Ok, option_copied};
+ghost use Rattle.oci_names.specs.References.{reference_of};
+ghost use Rattle.cosign_layers.specs.Standing.{meaning};
+ghost use Rattle.cosign_layers.specs.Trust.{trust};
+ghost use Rattle.cosign_layers.specs.Judge.{vouched_in};
+ghost use Rattle.cosign_layers.specs.Verifier.{valid_in};
+ghost use Rattle.pull_case.specs.Case.{IsReady};
+ghost use Rattle.pull_chain.specs.Holds.{Holds, HoldsUnder};
+
+use crate::built::image_of;
+use crate::input::{ChainInput, WrittenChain};
+use cosign_chain::check_chain;
+use cosign_layers::{LogKeys, PullPolicy, TableJudge, TableVerifier};
+use json_values::{List, Text};
+use oci_names::{ParseError, Reference};
+use oci_platforms::{PlatformResolver, ResolverPromise};
+use pull_case::case_policy;
+use std::alloc::{AllocError, Global};
+
+// What a chain is held to.
+#[derive(Drop)]
+struct Terms {
+    image: Reference,
+    accepted: List<Text>,
+    platform: Option<PlatformResolver>,
+    policy: PullPolicy,
+    log_keys: LogKeys,
+    verifier: TableVerifier,
+    judge: TableJudge,
+}
+
+// The reference in a text that reads as one.
+fn image_in(alloc: Global, text: &str) -> Result<Reference, AllocError>
+    requires { IsOk (reference_of text.now) }
+    ensures { IfOk result (λ image. reference_of text.now ≡ Ok image) }
+{
+    match Reference::parse(alloc, text) {
+        Ok(image) => Ok(image),
+        Err(ParseError::WantOfMemory) => Err(AllocError),
+        Err(_) => unreachable!(),
+    }
+}
+
+// What a resolver promises, where there is one.
+fn promise_of(platform: &Option<PlatformResolver>) -> Option<&ResolverPromise>
+    ensures { option_copied result ≡ platform.now }
+{
+    match platform {
+        Some(resolver) => Some(resolver.promise()),
+        None => None,
+    }
+}
+
+// Whether an image can be built of what is written, and its chain holds under these terms.
+fn holds_under(alloc: Global, terms: &Terms, chain: &WrittenChain) -> Result<bool, AllocError>
+    ensures { IfOk result (λ holds. IsTrue holds ↔ HoldsUnder
+        (meaning terms.now.policy (λ b. accepts (b.vtable, b.value))
+        (trust (valid_in terms.now.verifier) (vouched_in terms.now.judge) terms.now.log_keys))
+        terms.now.image terms.now.accepted terms.now.platform chain.now) }
+{
+    let found = image_of(alloc, &terms.log_keys, &terms.verifier, &terms.judge, chain)?;
+    let Some(found) = found else {
+        return Ok(false);
+    };
+    let promise = promise_of(&terms.platform);
+    check_chain(
+        alloc,
+        &terms.image,
+        terms.accepted.as_slice(),
+        promise,
+        &terms.policy,
+        &terms.log_keys,
+        &terms.verifier,
+        &terms.judge,
+        &found,
+    )
+}
+
+/// Whether the chain that is written holds: whether an image can be built of it, of which `check_chain` answers true
+/// under the policy, the tables, the keys of logs, the accepted media types and the platform of the case.
+pub fn chain_holds(alloc: Global, input: ChainInput) -> Result<bool, AllocError>
+    requires { IsReady input.case }
+    ensures { IfOk result (λ holds. IsTrue holds ↔ Holds input) }
+{
+    let case = input.case;
+    let terms = Terms {
+        image: image_in(alloc, case.reference.as_str())?,
+        policy: case_policy(alloc, case.keys, case.constraints.as_slice())?,
+        accepted: case.accepted,
+        platform: case.platform,
+        log_keys: case.log_keys,
+        verifier: TableVerifier {
+            rows: case.signatures,
+        },
+        judge: case.vouched,
+    };
+    holds_under(alloc, &terms, &input.chain)
+}

@@ -1,0 +1,39 @@
+-- Which cases end with 0: those whose registry is a shelf that has the image, signed as the policy asks.
+use Rattle.std.specs.Prelude.{◌≡◌, ◌≤◌, ◌⊎◌, ℕ, List, [], ◌∷◌, length, Some, Ok}
+use Rattle.json_values.specs.Counts.{Rose}
+use Rattle.json_values.specs.Tray.{Tray}
+use Rattle.pull_edge.specs.Source.{Spring}
+use Rattle.oci_link.specs.declared.shelf.Shelf.{Shelf}
+use Rattle.oci_names.specs.References.{reference_of}
+use Rattle.oci_names.specs.declared.reference.Reference.{Reference}
+use Rattle.cosign_client.specs.Shelves.{TaggedShelf}
+use Rattle.pull_case.specs.Case.{case_in}
+use Rattle.pull_case.specs.Policy.{meaning_of}
+use Rattle.pull_case.specs.declared.case.Case.{Case}
+use Rattle.pull_case.specs.declared.registry.Registry.TheVariants as registries
+use Rattle.pull_run.specs.Input.{input_limit}
+use Rattle.pull_run.specs.Pulls.{settings_of}
+use Rattle.pull_run.specs.Word.{word_of}
+use Rattle.pull_run.specs.declared.word.Word.TheVariants.{Pull}
+
+-- it has one moment, and its registry is a shelf that has the image, for which a layer under its signature tag stands
+pub record HasImage (case : Case) : Type 0 where
+  pub moment : ℕ
+  pub one : case.moments ≡ moment ∷ []
+  pub shelf : Shelf
+  pub held : case.registry ≡ registries.Shelf shelf
+  pub image : Reference
+  pub reads : reference_of case.reference ≡ Ok image
+  pub tagged : TaggedShelf (meaning_of case) (settings_of case) image case.auth case.accepted shelf
+
+-- with 0, unless memory was wanting, or the source or the sink failed
+abbrev pub EndsDone : ℕ → Spring → Spring → Tray → Tray → Type 0
+EndsDone code old new before after =
+    (code ≡ 0) ⊎ ((code ≡ 6) ⊎ (((code ≡ 4) × Rose old.faults new.faults)
+    ⊎ ((code ≡ 5) × Rose before.faults after.faults)))
+
+-- the pull of such a case ends so
+abbrev pub EndsComplete : List (List ℕ) → ℕ → Spring → Spring → Tray → Tray → Type 0
+EndsComplete words code old new before after = (bytes : List ℕ) (case : Case) → word_of words ≡ Some Pull
+    → old.left ≡ Some bytes → length bytes ≤ input_limit → case_in bytes ≡ Some case → HasImage case
+    → EndsDone code old new before after

@@ -1,0 +1,7 @@
+//! Tests of the calls that an index leads on, and of the references that the search takes.
+#![tactic(auto)]
+
+#[cfg(test)]
+mod indexes;
+#[cfg(test)]
+mod references;
