@@ -37,11 +37,13 @@ wrong-bodies:
 # Measures ratios within one run.
 bench: program
 	cd crates/docs_bench && rt run -- documents < stdin > /dev/null
+	cd crates/stream_bench && xargs rt run -- < args
 	python3 bench/run.py
 	python3 bench/canon.py
 	python3 bench/documents.py
 	python3 bench/signatures.py
 	python3 bench/bundles.py
+	python3 bench/streams.py
 
 # Makes each allocation of the stored run fail in turn.
 allocations: program
