@@ -2,7 +2,7 @@
 use Rattle.std.specs.Prelude.{codes, bytes_eq, unwrap_or, find, slice_index_or, MatchBool, if◌then◌else◌}
 use Rattle.std.specs.Option.{option_or}
 use Rattle.std.specs.List.{All}
-use Rattle.std.proofs.Common.{◌≡◌, ◌<◌, ◌≤◌, ◌^◌, ◌-◌, ℕ, zero, suc, Bool, true, false, cond, List, [], ◌∷◌, ◌++◌, length, is_some, Option, Some, None, Result, Ok, Err, refl, sym, ap, ◌∙◌, subst, arith}
+use Rattle.std.proofs.Common.{◌≡◌, ◌⊎◌, inl, inr, ◌<◌, ◌≤◌, ◌^◌, ◌-◌, ℕ, zero, suc, Bool, true, false, cond, List, [], ◌∷◌, ◌++◌, length, is_some, Option, Some, None, Result, Ok, Err, refl, sym, ap, ◌∙◌, subst, arith}
 use Rattle.std.proofs.lemmas.List.Folds.{find-append}
 use Rattle.std.proofs.lemmas.List.Elements.{All-head, All-tail}
 use Rattle.oci_names.specs.Grammar.{is_digest}
@@ -11,7 +11,8 @@ use Rattle.oci_names.specs.Words.{Tag, Path}
 use Rattle.oci_names.specs.References.{registry_of, digest_of, whole_text, resolved_registry, reads_back}
 use Rattle.oci_names.specs.declared.reference.Reference.{Reference}
 use Rattle.oci_auth.specs.declared.auth.RegistryAuth.{RegistryAuth}
-use Rattle.oci_digests.specs.Names.{Names}
+use Rattle.oci_digests.specs.Names.{Names, digest_text}
+use Rattle.oci_digests.specs.declared.digester.Algorithm.TheVariants.{Sha256}
 use Rattle.oci_digests.proofs.Validated.{is_validated}
 use Rattle.oci_manifests.specs.declared.document.OciManifest.{OciManifest}
 use Rattle.oci_manifests.specs.declared.document.OciManifest.TheVariants.{Image, ImageIndex}
@@ -23,7 +24,7 @@ use Rattle.oci_manifests.specs.declared.blob.ImageLayer.{ImageLayer}
 use Rattle.oci_transport.specs.Link.{Link, AnsweredBy}
 use Rattle.oci_transport.specs.declared.message.Request.{Request}
 use Rattle.oci_transport.specs.declared.message.Answer.{Answer}
-use Rattle.oci_protocol.specs.Proto.{Proto, Done}
+use Rattle.oci_protocol.specs.Proto.{Proto, Done, ◌>>=◌, ◌>>◌}
 use Rattle.oci_protocol.specs.Runs.{Runs, Meets}
 use Rattle.oci_transport.specs.declared.message.Exchange.{Exchange}
 use Rattle.oci_protocol.specs.Ends.{UnlessMemory}
@@ -51,7 +52,7 @@ use Rattle.sig_registry.specs.Calls.{in_words, digest_call, manifest_call, image
 use Rattle.shelf_laws.specs.Comes.{Yields, OrMemory, Gives, Stays, Reaches}
 use Rattle.shelf_laws.specs.Home.{Home, IsAt, CanBeShown, Settled}
 use Rattle.shelf_laws.specs.Shelves.{HasBlob, HasLayer, LeadsTo, ImageOn, layers_on}
-use Rattle.shelf_laws.proofs.Coming.{Gives-done, Gives-next, Gives-more, Gives-caught, Gives-stays, Stays-done, Stays-bind, Stays-next, Reaches-done, Reaches-bind, Reaches-strict, Reaches-stays, Reaches-after, Reaches-next, TableOf, Runs-over, Meets-comes}
+use Rattle.shelf_laws.proofs.Coming.{Gives-done, Gives-next, Gives-more, Gives-caught, Gives-stays, Stays-done, Stays-bind, Stays-next, Reaches-done, Reaches-bind, Reaches-gives, Reaches-strict, Reaches-stays, Reaches-after, Reaches-next, TableOf, Runs-over, Meets-comes}
 use Rattle.shelf_laws.proofs.DigestTags.{sha256_named, tag_of_signatures}
 use Rattle.shelf_laws.proofs.Documents.{NoOther, raw_gives, digest_gives, blob_gives}
 use Rattle.shelf_laws.proofs.Images.{Points, points_itself, types_accepted, manifest_gives, pull_gives}
@@ -59,16 +60,17 @@ use Rattle.shelf_laws.proofs.PlainNames.{tag_segment}
 use Rattle.shelf_laws.proofs.Pointing.{tag_named, image_points}
 use Rattle.shelf_laws.proofs.References.{Spelled, spelled, resolved_domain, tag_reads_back, digest_reads_back, digest_is_digest, digest_is_known}
 use Rattle.shelf_laws.proofs.Requests.{yields_ok}
-use Rattle.shelf_laws.proofs.Staying.{pull_stays, referrers_stay}
+use Rattle.shelf_laws.proofs.Listing.{referrers_give}
+use Rattle.shelf_laws.proofs.Staying.{manifest_stays, pull_stays, referrers_stay}
 use Rattle.shelf_laws.proofs.Tokens.{given_gives}
 use Rattle.cosign_layers.specs.Constraint.{has_no_item}
-use Rattle.cosign_layers.specs.Standing.{Meaning}
+use Rattle.cosign_layers.specs.Standing.{Meaning, StandsFor}
 use Rattle.cosign_layers.specs.Trust.{Trust}
 use Rattle.cosign_layers.specs.declared.layer.SignatureLayer.{SignatureLayer}
 use Rattle.cosign_layers.proofs.Supports.{stands_by as supports_stand}
 use Rattle.cosign_chain.specs.declared.image.VerifiedImage.{VerifiedImage}
 use Rattle.cosign_client.specs.Image.{named_by_reference, document_in, entry_in, layers_row, blobs_row, with_image, entry_call, entry_row, manifest_row, after_document, image_row}
-use Rattle.cosign_client.specs.Part.{skipping, appended, layer_part, named_layer, read_layer, descriptor_part, descriptors_part}
+use Rattle.cosign_client.specs.Part.{skipping, appended, layer_part, named_layer, read_layer, descriptor_part, descriptors_part, read_bundle, bundle_part, bundles_part}
 use Rattle.cosign_client.specs.References.{signature_tag, tag_reference, digest_reference, or_not_valid, reading_back}
 use Rattle.cosign_client.specs.Refusal.{is_memory, refused_as}
 use Rattle.cosign_client.specs.Search.{payload_type, document_part, tag_layers, or_skipped, tag_by, tag_source, behind, bundle_type, referrer_part, referrer_by, referrer_row, referrers_row, listed_row, referrers_source, trusted_layers, searched}
@@ -82,7 +84,7 @@ use Rattle.cosign_client.specs.declared.found.SourceKind.TheVariants.{Tag as ByT
 use Rattle.cosign_client.specs.declared.found.TrustedLayers.{TrustedLayers}
 use Rattle.cosign_client.specs.declared.refusal.PullRefusal.{PullRefusal}
 use Rattle.cosign_client.specs.declared.refusal.PullRefusal.TheVariants as refusal
-use Rattle.cosign_client.specs.Shelves.{ValidShelf, TaggedShelf, AnswersFrom, IsSettled, OkOrMemory}
+use Rattle.cosign_client.specs.Shelves.{SignedByTag, SignedByReferrer, ImageShelf, WideShelf, ValidShelf, TaggedShelf, AnswersFrom, IsSettled, OkOrMemory}
 
 -- ---- some layer stands
 
@@ -115,6 +117,16 @@ stood p trust d layers x layer reads passes (y ∷ xs) zero lt is =
 stood p trust d layers x layer reads passes (y ∷ xs) (suc k) lt is =
     has_right p (descriptor_part trust d layers y).collected (descriptors_part trust d layers xs).collected (stood p trust d layers x layer reads passes xs k (omega (arith, lt)) is)
 
+-- a bundle that is read and passes
+bundle_stood : (p : SignatureLayer → Bool) (trust : Trust) (d : List ℕ) (x : ImageLayer) (layer : SignatureLayer) → read_bundle trust d (digest_text Sha256 x.content) x ≡ Ok layer → p layer ≡ true
+    → (xs : List ImageLayer) (k : ℕ) → k < length xs → slice_index_or xs k x ≡ x → Has p (bundles_part trust d xs).collected
+bundle_stood p trust d x layer reads passes [] k lt is = absurd (omega (arith, lt))
+bundle_stood p trust d x layer reads passes (y ∷ xs) zero lt is =
+    has_left p (bundle_part trust d y).collected (bundles_part trust d xs).collected
+    (subst (λ (z : ImageLayer). Has p (bundle_part trust d z).collected) (sym is) (subst (λ r. Has p (layer_part Referrers (digest_text Sha256 x.content) r).collected) (sym reads) (has_one p layer passes)))
+bundle_stood p trust d x layer reads passes (y ∷ xs) (suc k) lt is =
+    has_right p (bundle_part trust d y).collected (bundles_part trust d xs).collected (bundle_stood p trust d x layer reads passes xs k (omega (arith, lt)) is)
+
 -- ---- calls in words
 
 module _ {I : Kept → Type 0} {table : Request → Answer} where
@@ -137,7 +149,7 @@ some_constraint : {C : Type 0} (cs : List C) → 0 < length cs → has_no_item c
 some_constraint [] h = absurd (omega (arith, h))
 some_constraint (c ∷ cs) h = refl
 
-module _ {V : Type 0} {H : V → Type 0} (meaning : Meaning V H) (s : Settings) (image : Reference) (a : RegistryAuth) (accepted : List (List ℕ)) (shelf : Shelf) (valid : TaggedShelf meaning s image a accepted shelf) (moment : ℕ) where
+module _ {V : Type 0} {H : V → Type 0} (meaning : Meaning V H) (s : Settings) (image : Reference) (a : RegistryAuth) (accepted : List (List ℕ)) (shelf : Shelf) (valid : ImageShelf s image a accepted shelf) (moment : ℕ) where
   abbrev registry : List ℕ
   registry = resolved_registry image
 
@@ -174,60 +186,83 @@ module _ {V : Type 0} {H : V → Type 0} (meaning : Meaning V H) (s : Settings) 
   at_digest : IsAt registry shelf (digest_reference image digest)
   at_digest = record { registry_is = own_registry; repository_is = valid.asked.repository_is; no_mirror = refl }
 
-  tag_is : Tag (signature_tag digest)
-  tag_is = (spelled (tag_reference image digest) valid.tag_reads).tag_is
-
   points_image : Points shelf image digest
   points_image = image_points shelf image digest first spelling valid.image_on.there valid.named
-
-  points_tag : Points shelf (tag_reference image digest) valid.signed.signatures
-  points_tag = record { plain = tag_segment (signature_tag digest) tag_is; points = tag_named shelf (signature_tag digest) tag_is ∙ valid.signed.tagged; other = tt }
 
   digest_back : reads_back (digest_reference image digest) ≡ true
   digest_back =
       let named = valid.image_on.there.named in
       digest_reads_back image spelling digest (ap is_digest named.1 ∙ digest_is_digest named.0 first) (ap digest_refusal named.1 ∙ digest_is_known named.0 first)
 
-  abbrev signatures_on : ImageOn s shelf valid.signed.signatures (payload_type ∷ [])
-  signatures_on = record { first = valid.signed.there.0; there = valid.signed.there.1; document = Image valid.signed.manifest; reads = valid.signed.there.2; manifest = valid.signed.manifest; leads = refl; blobs = valid.signed.payloads }
-
   abbrev source : Reference
   source = digest_reference image digest
 
+  -- a part in which a layer stands
+  abbrev Stood : Part → Type 0
+  Stood part = Has (stands_by meaning) part.collected
+
+  stands_is : (layer : SignatureLayer) → StandsFor meaning digest layer → stands_by meaning layer ≡ true
+  stands_is layer h = supports_stand meaning.trust.valid meaning.policy meaning.own layer h.supports
+
+  words_stay : {A : Type 0} {p : Engine A} (called : Called) (r : Reference) → Stays I (answer shelf) p → Stays I (answer shelf) (in_words called r p)
+  unfolding in_words
+  words_stay called r h = Stays-bind (λ x. Done (worded called (whole_text r) x)) h (λ x. Stays-done _)
+
   -- ---- the signature tag
 
-  passes : stands_by meaning valid.signed.standing.layer ≡ true
-  passes = supports_stand meaning.trust.valid meaning.policy meaning.own valid.signed.standing.layer valid.signed.standing.stands_for.supports
+  module _ (tag_reads : reads_back (tag_reference image digest) ≡ true) (signed : SignedByTag meaning digest shelf) where
+    tag_is : Tag (signature_tag digest)
+    tag_is = (spelled (tag_reference image digest) tag_reads).tag_is
 
-  -- a layer that stands is under the tag
-  stood_here : Has (stands_by meaning) (descriptors_part meaning.trust digest (layers_on shelf valid.signed.manifest.layers) valid.signed.manifest.layers).collected
-  stood_here = stood (stands_by meaning) meaning.trust digest (layers_on shelf valid.signed.manifest.layers) valid.signed.standing.descriptor valid.signed.standing.layer valid.signed.standing.reads passes valid.signed.manifest.layers valid.signed.standing.listed.0 valid.signed.standing.listed.1 valid.signed.standing.listed.2
+    points_tag : Points shelf (tag_reference image digest) signed.signatures
+    points_tag = record { plain = tag_segment (signature_tag digest) tag_is; points = tag_named shelf (signature_tag digest) tag_is ∙ signed.tagged; other = tt }
 
-  tag_gives : Gives I (answer shelf) (λ (part : Part). Has (stands_by meaning) part.collected) (tag_layers meaning.trust digest ctx (tag_reference image digest) a)
+    abbrev signatures_on : ImageOn s shelf signed.signatures (payload_type ∷ [])
+    signatures_on = record { first = signed.there.0; there = signed.there.1; document = Image signed.manifest; reads = signed.there.2; manifest = signed.manifest; leads = refl; blobs = signed.payloads }
+
+    -- a layer that stands is under the tag
+    stood_here : Has (stands_by meaning) (descriptors_part meaning.trust digest (layers_on shelf signed.manifest.layers) signed.manifest.layers).collected
+    stood_here = stood (stands_by meaning) meaning.trust digest (layers_on shelf signed.manifest.layers) signed.standing.descriptor signed.standing.layer signed.standing.reads (stands_is signed.standing.layer signed.standing.stands_for) signed.manifest.layers signed.standing.listed.0 signed.standing.listed.1 signed.standing.listed.2
+
+    tag_gives : Gives I (answer shelf) Stood (tag_layers meaning.trust digest ctx (tag_reference image digest) a)
+    unfolding tag_layers manifest_call image_call
+    tag_gives =
+        Gives-next _ (words_give PullManifest (tag_reference image digest) (manifest_gives home valid.short a can moment (tag_reference image digest) signed.signatures signed.there.0 (Image signed.manifest) at_tag points_tag signed.there.1 signed.there.2)) (λ document known.
+        Gives-next _ (words_give Pull (tag_reference image digest) (pull_gives home valid.short a can moment (tag_reference image digest) signed.signatures (payload_type ∷ []) signatures_on at_tag points_tag)) (λ pulled same.
+        Gives-done (Ok (document_part meaning.trust digest document.0 pulled)) (subst (λ (p : OciManifest × List ℕ). Has (stands_by meaning) (document_part meaning.trust digest p.0 pulled).collected) (sym known) (subst (λ (layers : List ImageLayer). Has (stands_by meaning) (descriptors_part meaning.trust digest layers signed.manifest.layers).collected) (sym same) stood_here))))
+
+    source_gives : Gives I (answer shelf) Stood (tag_source meaning.trust ctx image a digest)
+    unfolding tag_source
+    source_gives = subst (λ b. Gives I (answer shelf) Stood (tag_by meaning.trust digest ctx (tag_reference image digest) a b)) (sym tag_reads) (Gives-caught (λ r. Done (or_skipped ByTag r)) tag_gives (λ part is. Gives-done (Ok part) is))
+
+  -- what a part is of which nothing is known
+  abbrev AnyPart : Part → Type 0
+  AnyPart part = Unit {0}
+
+  skipped_by : (b : Bool) (cause : Skipped) (e : SigstoreError) → of_memory e ≡ b → OrMemory of_memory AnyPart (if b then Err e else Ok (skipping cause))
+  skipped_by true cause e is = is
+  skipped_by false cause e is = tt
+
+  skipped_any : (r : Result Part SigstoreError) → OrMemory of_memory AnyPart (or_skipped ByTag r)
+  skipped_any (Ok part) = tt
+  skipped_any (Err e) = skipped_by (of_memory e) (Source ByTag (Refused e)) e refl
+
+  tag_stays : Stays I (answer shelf) (tag_layers meaning.trust digest ctx (tag_reference image digest) a)
   unfolding tag_layers manifest_call image_call
-  tag_gives =
-      Gives-next _ (words_give PullManifest (tag_reference image digest) (manifest_gives home valid.short a can moment (tag_reference image digest) valid.signed.signatures valid.signed.there.0 (Image valid.signed.manifest) at_tag points_tag valid.signed.there.1 valid.signed.there.2)) (λ document known.
-      Gives-next _ (words_give Pull (tag_reference image digest) (pull_gives home valid.short a can moment (tag_reference image digest) valid.signed.signatures (payload_type ∷ []) signatures_on at_tag points_tag)) (λ pulled same.
-      Gives-done (Ok (document_part meaning.trust digest document.0 pulled)) (subst (λ (p : OciManifest × List ℕ). Has (stands_by meaning) (document_part meaning.trust digest p.0 pulled).collected) (sym known) (subst (λ (layers : List ImageLayer). Has (stands_by meaning) (descriptors_part meaning.trust digest layers valid.signed.manifest.layers).collected) (sym same) stood_here))))
+  tag_stays = Stays-next _ (words_stay PullManifest (tag_reference image digest) (manifest_stays home a can moment (tag_reference image digest) at_tag)) (λ document. Stays-next _ (words_stay Pull (tag_reference image digest) (pull_stays home a can moment (tag_reference image digest) at_tag (payload_type ∷ []))) (λ pulled. Stays-done _))
 
-  source_gives : Gives I (answer shelf) (λ (part : Part). Has (stands_by meaning) part.collected) (tag_source meaning.trust ctx image a digest)
+  by_reading : (b : Bool) → Reaches I (answer shelf) (OrMemory of_memory AnyPart) (tag_by meaning.trust digest ctx (tag_reference image digest) a b)
+  by_reading false = Reaches-done (Ok (skipping (Source ByTag (NotAReference (whole_text (tag_reference image digest)))))) tt
+  by_reading true = Reaches-bind _ (Reaches-stays tag_stays) (λ r u. Reaches-done (or_skipped ByTag r) (skipped_any r))
+
+  source_reaches : Reaches I (answer shelf) (OrMemory of_memory AnyPart) (tag_source meaning.trust ctx image a digest)
   unfolding tag_source
-  source_gives =
-      subst (λ b. Gives I (answer shelf) (λ (part : Part). Has (stands_by meaning) part.collected) (tag_by meaning.trust digest ctx (tag_reference image digest) a b)) (sym valid.tag_reads)
-      (Gives-caught (λ r. Done (or_skipped ByTag r)) tag_gives (λ part is. Gives-done (Ok part) is))
-
-  -- the digest, and a layer that stands
-  abbrev Found : TrustedLayers → Type 0
-  Found found = (found.digest ≡ digest) × Has (stands_by meaning) found.collected
+  source_reaches = by_reading (reads_back (tag_reference image digest))
 
   -- ---- the referrers, whatever they are
 
   at_referrer : (x : List ℕ) → IsAt registry shelf (digest_reference source x)
   at_referrer x = record { registry_is = own_registry; repository_is = valid.asked.repository_is; no_mirror = refl }
-
-  words_stay : {A : Type 0} {p : Engine A} (called : Called) (r : Reference) → Stays I (answer shelf) p → Stays I (answer shelf) (in_words called r p)
-  unfolding in_words
-  words_stay called r h = Stays-bind (λ x. Done (worded called (whole_text r) x)) h (λ x. Stays-done _)
 
   listing_stays : Stays I (answer shelf) (referrers_call ctx source a None)
   unfolding referrers_call
@@ -237,45 +272,107 @@ module _ {V : Type 0} {H : V → Type 0} (meaning : Meaning V H) (s : Settings) 
   unfolding image_call
   referrer_stays x = words_stay Pull (digest_reference source x) (pull_stays home a can moment (digest_reference source x) (at_referrer x) (bundle_type ∷ []))
 
-  -- a part in which a layer stands
-  abbrev Stood : Part → Type 0
-  Stood part = Has (stands_by meaning) part.collected
+  -- what is so of a part and of all that stand behind it
+  record Grows (P : Part → Type 0) : Type 0 where
+    grows : (part more : Part) → P part → P (appended part more)
 
-  behind_by : (b : Bool) (part : Part) (cause : Skipped) (e : SigstoreError) → of_memory e ≡ b → Stood part → OrMemory of_memory Stood (if b then Err e else Ok (appended part (skipping cause)))
-  behind_by true part cause e is h = is
-  behind_by false part cause e is h = has_left (stands_by meaning) part.collected [] h
+  stood_grows : Grows Stood
+  stood_grows = record { grows = λ part more h. has_left (stands_by meaning) part.collected more.collected h }
 
-  behind_stands : (part : Part) (place : SkipCause → Skipped) (r : Result Part SigstoreError) → Stood part → OrMemory of_memory Stood (behind part place r)
-  behind_stands part place (Ok more) h = has_left (stands_by meaning) part.collected more.collected h
-  behind_stands part place (Err e) h = behind_by (of_memory e) part (place (Refused e)) e refl h
+  any_grows : Grows AnyPart
+  any_grows = record { grows = λ part more h. tt }
 
-  referrer_reaches : (x : List ℕ) (part : Part) (b : Bool) → Stood part → Reaches I (answer shelf) (OrMemory of_memory Stood) (referrer_by meaning.trust digest ctx (digest_reference source x) a x part b)
-  referrer_reaches x part false h = Reaches-done (Ok (appended part (skipping (Referrer x (NotAReference (whole_text (digest_reference source x))))))) (has_left (stands_by meaning) part.collected [] h)
-  referrer_reaches x part true h = Reaches-bind _ (Reaches-stays (referrer_stays x)) (λ r u. Reaches-done _ (behind_stands part (Referrer x) (referrer_part meaning.trust digest r) h))
+  module _ (P : Part → Type 0) (growing : Grows P) where
+    behind_by : (b : Bool) (part : Part) (cause : Skipped) (e : SigstoreError) → of_memory e ≡ b → P part → OrMemory of_memory P (if b then Err e else Ok (appended part (skipping cause)))
+    behind_by true part cause e is h = is
+    behind_by false part cause e is h = growing.grows part (skipping cause) h
 
-  each_reaches : (xs : List ImageIndexEntry) (part : Part) → Stood part → Reaches I (answer shelf) (OrMemory of_memory Stood) (referrers_row meaning.trust digest ctx source a xs part)
-  unfolding referrers_row referrer_row
-  each_reaches [] part h = Reaches-done (Ok part) h
-  each_reaches (x ∷ xs) part h = Reaches-next _ (referrer_reaches x.digest part (reads_back (digest_reference source x.digest)) h) (λ more stands. each_reaches xs more stands)
+    behind_is : (part : Part) (place : SkipCause → Skipped) (r : Result Part SigstoreError) → P part → OrMemory of_memory P (behind part place r)
+    behind_is part place (Ok more) h = growing.grows part more h
+    behind_is part place (Err e) h = behind_by (of_memory e) part (place (Refused e)) e refl h
 
-  listed_reaches : (part : Part) (r : Result OciImageIndex SigstoreError) → Stood part → Reaches I (answer shelf) (OrMemory of_memory Stood) (listed_row meaning.trust digest ctx source a part r)
-  listed_reaches part (Ok index) h = each_reaches index.manifests part h
-  listed_reaches part (Err e) h = Reaches-done _ (behind_stands part (Source Referrers) (Err e) h)
+    referrer_reaches : (x : List ℕ) (part : Part) (b : Bool) → P part → Reaches I (answer shelf) (OrMemory of_memory P) (referrer_by meaning.trust digest ctx (digest_reference source x) a x part b)
+    referrer_reaches x part false h = Reaches-done (Ok (appended part (skipping (Referrer x (NotAReference (whole_text (digest_reference source x))))))) (growing.grows part (skipping (Referrer x (NotAReference (whole_text (digest_reference source x))))) h)
+    referrer_reaches x part true h = Reaches-bind _ (Reaches-stays (referrer_stays x)) (λ r u. Reaches-done _ (behind_is part (Referrer x) (referrer_part meaning.trust digest r) h))
+
+    each_reaches : (xs : List ImageIndexEntry) (part : Part) → P part → Reaches I (answer shelf) (OrMemory of_memory P) (referrers_row meaning.trust digest ctx source a xs part)
+    unfolding referrers_row referrer_row
+    each_reaches [] part h = Reaches-done (Ok part) h
+    each_reaches (x ∷ xs) part h = Reaches-next _ (referrer_reaches x.digest part (reads_back (digest_reference source x.digest)) h) (λ more holds. each_reaches xs more holds)
+
+    listed_reaches : (part : Part) (r : Result OciImageIndex SigstoreError) → P part → Reaches I (answer shelf) (OrMemory of_memory P) (listed_row meaning.trust digest ctx source a part r)
+    listed_reaches part (Ok index) h = each_reaches index.manifests part h
+    listed_reaches part (Err e) h = Reaches-done _ (behind_is part (Source Referrers) (Err e) h)
 
   referrers_reach : (part : Part) → Stood part → Reaches I (answer shelf) (OrMemory of_memory Stood) (referrers_source meaning.trust digest ctx source a part)
   unfolding referrers_source
-  referrers_reach part h = Reaches-bind _ (Reaches-stays listing_stays) (λ r u. listed_reaches part r h)
+  referrers_reach part h = Reaches-bind _ (Reaches-stays listing_stays) (λ r u. listed_reaches Stood stood_grows part r h)
+
+  any_row : (y : ImageIndexEntry) (part : Part) → Reaches I (answer shelf) (OrMemory of_memory AnyPart) (referrer_row meaning.trust digest ctx source a y.digest part)
+  unfolding referrer_row
+  any_row y part = referrer_reaches AnyPart any_grows y.digest part (reads_back (digest_reference source y.digest)) tt
+
+  -- ---- a referrer that stands
+
+  module _ (signed : SignedByReferrer meaning s image digest shelf) where
+    abbrev x : List ℕ
+    x = signed.entry.digest
+
+    points_entry : Points shelf (digest_reference source x) x
+    points_entry = points_itself shelf (digest_reference source x) x signed.bundles.first refl signed.bundles.there
+
+    bundles_stand : Has (stands_by meaning) (bundles_part meaning.trust digest (layers_on shelf signed.bundles.manifest.layers)).collected
+    bundles_stand = bundle_stood (stands_by meaning) meaning.trust digest signed.bundle signed.layer signed.reads (stands_is signed.layer signed.stands_for) (layers_on shelf signed.bundles.manifest.layers) signed.listed.0 signed.listed.1 signed.listed.2
+
+    entry_gives : (part : Part) → Gives I (answer shelf) Stood (referrer_by meaning.trust digest ctx (digest_reference source x) a x part true)
+    unfolding image_call
+    entry_gives part =
+        Gives-caught (λ r. Done (behind part (Referrer x) (referrer_part meaning.trust digest r)))
+        (words_give Pull (digest_reference source x) (pull_gives home valid.short a can moment (digest_reference source x) x (bundle_type ∷ []) signed.bundles (at_referrer x) points_entry))
+        (λ pulled same. Gives-done (Ok (appended part (bundles_part meaning.trust digest pulled.layers))) (has_right (stands_by meaning) part.collected (bundles_part meaning.trust digest pulled.layers).collected (subst (λ (layers : List ImageLayer). Has (stands_by meaning) (bundles_part meaning.trust digest layers).collected) (sym same) bundles_stand)))
+
+    row_gives : (part : Part) → Gives I (answer shelf) Stood (referrer_row meaning.trust digest ctx source a x part)
+    unfolding referrer_row
+    row_gives part = subst (λ b. Gives I (answer shelf) Stood (referrer_by meaning.trust digest ctx (digest_reference source x) a x part b)) (sym signed.entry_reads) (entry_gives part)
+
+    -- from any part, as far as that entry, and then on
+    each_stands : (xs : List ImageIndexEntry) (k : ℕ) (part : Part) → k < length xs → slice_index_or xs k signed.entry ≡ signed.entry → Reaches I (answer shelf) (OrMemory of_memory Stood) (referrers_row meaning.trust digest ctx source a xs part)
+    unfolding referrers_row
+    each_stands [] k part lt is = absurd (omega (arith, lt))
+    each_stands (y ∷ xs) zero part lt is = Reaches-after _ (subst (λ (z : ImageIndexEntry). Gives I (answer shelf) Stood (referrer_row meaning.trust digest ctx source a z.digest part)) (sym is) (row_gives part)) (λ more holds. each_reaches Stood stood_grows xs more holds)
+    each_stands (y ∷ xs) (suc k) part lt is = Reaches-next _ (any_row y part) (λ more u. each_stands xs k more (omega (arith, lt)) is)
+
+    listing_gives : Gives I (answer shelf) (λ (index : OciImageIndex). index ≡ signed.index) (referrers_call ctx source a None)
+    unfolding referrers_call
+    listing_gives = Gives-next _ (words_give FetchManifest source (given_gives home source at_digest a can moment)) (λ u given. words_give PullManifest source (referrers_give home valid.short source at_digest a can moment digest first valid.image_on.there.named signed.index refl signed.lists))
+
+    listed_stands : (part : Part) (r : Result OciImageIndex SigstoreError) → Yields (λ (index : OciImageIndex). index ≡ signed.index) r → Reaches I (answer shelf) (OrMemory of_memory Stood) (listed_row meaning.trust digest ctx source a part r)
+    listed_stands part (Ok index) is = subst (λ (i : OciImageIndex). Reaches I (answer shelf) (OrMemory of_memory Stood) (referrers_row meaning.trust digest ctx source a i.manifests part)) (sym is) (each_stands signed.index.manifests signed.among.0 part signed.among.1 signed.among.2)
+    listed_stands part (Err e) is = absurd is
+
+    referrers_stand : (part : Part) → Reaches I (answer shelf) (OrMemory of_memory Stood) (referrers_source meaning.trust digest ctx source a part)
+    unfolding referrers_source
+    referrers_stand part = Reaches-bind _ (Reaches-gives listing_gives) (λ r is. listed_stands part r is)
 
   -- ---- the search
 
-  search_reaches : Reaches I (answer shelf) (OrMemory of_memory Found) (searched meaning.trust ctx image a)
+  -- the digest, and a layer that stands
+  abbrev Found : TrustedLayers → Type 0
+  Found found = (found.digest ≡ digest) × Has (stands_by meaning) found.collected
+
+  abbrev Signed : Type 0
+  Signed = ((reads_back (tag_reference image digest) ≡ true) × SignedByTag meaning digest shelf) ⊎ SignedByReferrer meaning s image digest shelf
+
+  both_reach : Signed → Reaches I (answer shelf) (OrMemory of_memory Found) (tag_source meaning.trust ctx image a digest >>= λ tag. referrers_source meaning.trust digest ctx source a tag >>= λ found. Done (Ok (trusted_layers digest found)))
+  both_reach (inl (tag_reads, signed)) = Reaches-after _ (source_gives tag_reads signed) (λ tag is. Reaches-next _ (referrers_reach tag is) (λ found stands. Reaches-done (Ok (trusted_layers digest found)) (refl, stands)))
+  both_reach (inr signed) = Reaches-next _ source_reaches (λ tag u. Reaches-next _ (referrers_stand signed tag) (λ found stands. Reaches-done (Ok (trusted_layers digest found)) (refl, stands)))
+
+  search_reaches : Signed → Reaches I (answer shelf) (OrMemory of_memory Found) (searched meaning.trust ctx image a)
   unfolding searched digest_call
-  search_reaches =
+  search_reaches signed =
       Reaches-after _ (words_give FetchManifest image (digest_gives home valid.short image at_image a can moment digest first valid.image_on.there points_image.plain points_image.points points_image.other)) (λ d known.
-      Reaches-after _ (Gives-done (reading_back (digest_reference image d)) (yields_ok (λ u. Unit {0}) (reading_back (digest_reference image d)) tt (ap (λ (t : List ℕ). reading_back (digest_reference image t)) known ∙ ap (or_not_valid (digest_reference image digest)) digest_back) tt)) (λ u read.
-      Reaches-after _ (subst (λ (t : List ℕ). Gives I (answer shelf) Stood (tag_source meaning.trust ctx image a t)) (sym known) source_gives) (λ tag is.
-      Reaches-next _ (subst (λ (t : List ℕ). Reaches I (answer shelf) (OrMemory of_memory Stood) (referrers_source meaning.trust t ctx (digest_reference image t) a tag)) (sym known) (referrers_reach tag is)) (λ found stands.
-      Reaches-done (Ok (trusted_layers d found)) (known, stands)))))
+      subst (λ (t : List ℕ). Reaches I (answer shelf) (OrMemory of_memory Found) (Done (reading_back (digest_reference image t)) >> (tag_source meaning.trust ctx image a t >>= λ tag. referrers_source meaning.trust t ctx (digest_reference image t) a tag >>= λ found. Done (Ok (trusted_layers t found))))) (sym known)
+      (Reaches-after _ (Gives-done (reading_back source) (yields_ok (λ u. Unit {0}) (reading_back source) tt (ap (or_not_valid source) digest_back) tt)) (λ u read. both_reach signed)))
 
   -- ---- the image
 
@@ -352,8 +449,12 @@ module _ {V : Type 0} {H : V → Type 0} (meaning : Meaning V H) (s : Settings) 
   unfolding part_of
   part_reaches {A} {P} h = Reaches-bind (λ r. Done (as_whole r)) h (λ r is. Reaches-done (as_whole r) (as_whole_is P r is))
 
-  constrained_is : constrained (is_unconstrained meaning.policy) ≡ Ok tt
-  constrained_is = ap constrained (some_constraint meaning.policy.constraints valid.signed.standing.stands_for.constrained)
+  constraint_is : Signed → 0 < length meaning.policy.constraints
+  constraint_is (inl (tag_reads, signed)) = signed.standing.stands_for.constrained
+  constraint_is (inr signed) = signed.stands_for.constrained
+
+  constrained_is : Signed → constrained (is_unconstrained meaning.policy) ≡ Ok tt
+  constrained_is signed = ap constrained (some_constraint meaning.policy.constraints (constraint_is signed))
 
   readable_is : readable image ≡ Ok tt
   readable_is = ap (readable_by image) valid.asked.reads_back_is
@@ -371,12 +472,12 @@ module _ {V : Type 0} {H : V → Type 0} (meaning : Meaning V H) (s : Settings) 
       Gives-next _ (subst (λ (t : List ℕ). Gives I (answer shelf) (λ pulled. Unit {0}) (part_of (image_row ctx image (digest_reference image t) a accepted))) (sym same) (part_gives image_gives)) (λ pulled u.
       Gives-done (Ok (verified_image stood pulled)) tt))
 
-  pub verified_reaches : Reaches I (answer shelf) (OrMemory is_memory (λ (v : VerifiedImage). Unit {0})) (verified meaning ctx image a accepted)
+  pub verified_reaches : Signed → Reaches I (answer shelf) (OrMemory is_memory (λ (v : VerifiedImage). Unit {0})) (verified meaning ctx image a accepted)
   unfolding verified
-  verified_reaches =
-      Reaches-after _ (Gives-done (constrained (is_unconstrained meaning.policy)) (yields_ok (λ u. Unit {0}) (constrained (is_unconstrained meaning.policy)) tt constrained_is tt)) (λ u checked.
+  verified_reaches signed =
+      Reaches-after _ (Gives-done (constrained (is_unconstrained meaning.policy)) (yields_ok (λ u. Unit {0}) (constrained (is_unconstrained meaning.policy)) tt (constrained_is signed) tt)) (λ u checked.
       Reaches-after _ (Gives-done (readable image) (yields_ok (λ u. Unit {0}) (readable image) tt readable_is tt)) (λ u read.
-      Reaches-next _ (part_reaches search_reaches) (λ found is. Reaches-strict is_memory (found_gives found is))))
+      Reaches-next _ (part_reaches (search_reaches signed)) (λ found is. Reaches-strict is_memory (found_gives found is))))
 
   -- ---- the call
 
@@ -397,16 +498,23 @@ module _ {V : Type 0} {H : V → Type 0} (meaning : Meaning V H) (s : Settings) 
   answered l (Err e) h = by_memory (is_memory e) e (I l) refl h
 
   -- over a shelf that is valid a client that is settled gets the image, or memory is wanting
-  pub completed : {old new : Link} {k l : Kept} (r : Result VerifiedImage PullRefusal) → AnswersFrom shelf old → IsSettled image a k → Meets is_memory (verified meaning ctx image a accepted) old new k l r → OkOrMemory r
-  completed {old} {new} {k} {l} r from settled met =
+  pub completed_wide : Signed → {old new : Link} {k l : Kept} (r : Result VerifiedImage PullRefusal) → AnswersFrom shelf old → IsSettled image a k → Meets is_memory (verified meaning ctx image a accepted) old new k l r → OkOrMemory r
+  completed_wide signed {old} {new} {k} {l} r from settled met =
       answered l r (Meets-comes (answer shelf) (λ l r. I l × OrMemory is_memory (λ (v : VerifiedImage). Unit {0}) r) (answering shelf) (verified meaning ctx image a accepted) from.before old new k l r table_of from.answers from.told from.faults
-      (verified_reaches.reaches k (subst (λ (t : List ℕ). Settled registry t a k) valid.asked.repository_is settled)) met)
+      ((verified_reaches signed).reaches k (subst (λ (t : List ℕ). Settled registry t a k) valid.asked.repository_is settled)) met)
 
   -- the same of a whole run without faults
-  pub run_completed : (k l : Kept) (place m n : ℕ) (c : List Exchange) (r : Result VerifiedImage PullRefusal) → IsSettled image a k → AnsweredBy (answering shelf) place c → n ≤ m → m < 2 ^ 64 - 1 → Runs (verified meaning ctx image a accepted) k m c n l r → OrMemory is_memory (λ (v : VerifiedImage). Unit {0}) r
-  run_completed k l place m n c r settled answered_is le lt run =
+  pub run_wide : Signed → (k l : Kept) (place m n : ℕ) (c : List Exchange) (r : Result VerifiedImage PullRefusal) → IsSettled image a k → AnsweredBy (answering shelf) place c → n ≤ m → m < 2 ^ 64 - 1 → Runs (verified meaning ctx image a accepted) k m c n l r → OrMemory is_memory (λ (v : VerifiedImage). Unit {0}) r
+  run_wide signed k l place m n c r settled answered_is le lt run =
       (Runs-over (answer shelf) (λ l r. I l × OrMemory is_memory (λ (v : VerifiedImage). Unit {0}) r) (answering shelf) (verified meaning ctx image a accepted) place k l m n c r table_of
-      (verified_reaches.reaches k (subst (λ (t : List ℕ). Settled registry t a k) valid.asked.repository_is settled)) answered_is le lt run).1
+      ((verified_reaches signed).reaches k (subst (λ (t : List ℕ). Settled registry t a k) valid.asked.repository_is settled)) answered_is le lt run).1
+
+abbrev pub image_shelf : {V : Type 0} {H : V → Type 0} {meaning : Meaning V H} {s : Settings} {image : Reference} {a : RegistryAuth} {accepted : List (List ℕ)} {shelf : Shelf} → TaggedShelf meaning s image a accepted shelf → ImageShelf s image a accepted shelf
+image_shelf t = record { asked = t.asked; digest = t.digest; named = t.named; image_on = t.image_on; short = t.short }
+
+-- a shelf by the tag is wide
+pub tagged_wide : {V : Type 0} {H : V → Type 0} (meaning : Meaning V H) (s : Settings) (image : Reference) (a : RegistryAuth) (accepted : List (List ℕ)) (shelf : Shelf) → TaggedShelf meaning s image a accepted shelf → WideShelf meaning s image a accepted shelf
+tagged_wide meaning s image a accepted shelf t = record { has = image_shelf t; signed = inl (t.tag_reads, t.signed) }
 
 -- a valid shelf is one by the tag
 pub valid_tagged : {V : Type 0} {H : V → Type 0} (meaning : Meaning V H) (s : Settings) (image : Reference) (a : RegistryAuth) (accepted : List (List ℕ)) (shelf : Shelf) → ValidShelf meaning s image a accepted shelf → TaggedShelf meaning s image a accepted shelf
@@ -422,3 +530,10 @@ valid_tagged meaning s image a accepted shelf valid =
       signed = valid.signed;
       short = valid.short;
     }
+
+module _ {V : Type 0} {H : V → Type 0} (meaning : Meaning V H) (s : Settings) (image : Reference) (a : RegistryAuth) (accepted : List (List ℕ)) (shelf : Shelf) (tagged : TaggedShelf meaning s image a accepted shelf) (moment : ℕ) where
+  pub completed : {old new : Link} {k l : Kept} (r : Result VerifiedImage PullRefusal) → AnswersFrom shelf old → IsSettled image a k → Meets is_memory (verified meaning (record { settings = s; moment = moment }) image a accepted) old new k l r → OkOrMemory r
+  completed r from settled met = completed_wide meaning s image a accepted shelf (image_shelf tagged) moment (inl (tagged.tag_reads, tagged.signed)) r from settled met
+
+  pub run_completed : (k l : Kept) (place m n : ℕ) (c : List Exchange) (r : Result VerifiedImage PullRefusal) → IsSettled image a k → AnsweredBy (answering shelf) place c → n ≤ m → m < 2 ^ 64 - 1 → Runs (verified meaning (record { settings = s; moment = moment }) image a accepted) k m c n l r → OrMemory is_memory (λ (v : VerifiedImage). Unit {0}) r
+  run_completed k l place m n c r settled answered_is le lt run = run_wide meaning s image a accepted shelf (image_shelf tagged) moment (inl (tagged.tag_reads, tagged.signed)) k l place m n c r settled answered_is le lt run

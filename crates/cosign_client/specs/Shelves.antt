@@ -1,13 +1,16 @@
 -- Which registries in memory give a verified image: each one of these does.
-use Rattle.std.specs.Prelude.{◌≡◌, true, ◌<◌, ◌-◌, ◌^◌, ℕ, List, [], ◌∷◌, ◌++◌, Contains, Option, Some, None, Result, Ok, Err, IsTrue}
+use Rattle.std.specs.Prelude.{◌≡◌, ◌⊎◌, true, ◌<◌, ◌-◌, ◌^◌, ℕ, List, [], ◌∷◌, ◌++◌, Contains, Option, Some, None, Result, Ok, Err, IsTrue}
 use Rattle.std.specs.FinMap as map
 use Rattle.oci_names.specs.declared.reference.Reference.{Reference}
 use Rattle.oci_names.specs.References.{repository_of, digest_of, tag_of, resolved_registry, reads_back}
 use Rattle.oci_auth.specs.declared.auth.RegistryAuth.{RegistryAuth}
 use Rattle.oci_auth.specs.declared.memory.Memory.{Memory}
-use Rattle.oci_digests.specs.Names.{name_of}
+use Rattle.oci_digests.specs.Names.{name_of, digest_text}
 use Rattle.oci_digests.specs.declared.digester.Algorithm.TheVariants.{Sha256}
 use Rattle.oci_manifests.specs.declared.descriptor.OciDescriptor.{OciDescriptor}
+use Rattle.oci_manifests.specs.declared.blob.ImageLayer.{ImageLayer}
+use Rattle.oci_manifests.specs.declared.index.OciImageIndex.{OciImageIndex}
+use Rattle.oci_manifests.specs.declared.index_entry.ImageIndexEntry.{ImageIndexEntry}
 use Rattle.oci_manifests.specs.declared.manifest.OciImageManifest.{OciImageManifest}
 use Rattle.oci_transport.specs.Headers.{is_header_value}
 use Rattle.oci_transport.specs.Link.{Link}
@@ -18,14 +21,14 @@ use Rattle.oci_link.specs.declared.shelf.Shelf.{Shelf}
 use Rattle.engine_requests.specs.Addresses.{manifest_name}
 use Rattle.engine_requests.specs.declared.settings.Settings.{Settings}
 use Rattle.shelf_laws.specs.Home.{IsWrittenPlainly, RedirectsNothing, CanBeShown, Settled}
-use Rattle.shelf_laws.specs.Shelves.{IsShort, HasManifest, HasBlobs, ImageOn, layers_on}
+use Rattle.shelf_laws.specs.Shelves.{IsShort, HasManifest, HasBlobs, ImageOn, Lists, layers_on}
 use Rattle.cosign_layers.specs.Standing.{Meaning, StandsFor}
 use Rattle.cosign_layers.specs.Trust.{Trust}
 use Rattle.cosign_layers.specs.declared.layer.SignatureLayer.{SignatureLayer}
 use Rattle.cosign_layers.specs.declared.rejection.LayerRejection.{LayerRejection}
-use Rattle.cosign_client.specs.Part.{named_layer, read_layer}
-use Rattle.cosign_client.specs.References.{signature_tag, tag_reference}
-use Rattle.cosign_client.specs.Search.{payload_type}
+use Rattle.cosign_client.specs.Part.{named_layer, read_layer, read_bundle}
+use Rattle.cosign_client.specs.References.{signature_tag, tag_reference, digest_reference}
+use Rattle.cosign_client.specs.Search.{payload_type, bundle_type}
 use Rattle.cosign_client.specs.declared.refusal.PullRefusal.{PullRefusal}
 use Rattle.cosign_client.specs.declared.refusal.PullRefusal.TheVariants as refusal
 
@@ -69,6 +72,39 @@ pub record IsAsked (s : Settings) (image : Reference) (a : RegistryAuth) (shelf 
   pub agent : IsTrue (is_header_value s.user_agent)
   pub credentials : CanBeShown a
   pub direct : RedirectsNothing shelf
+
+-- One of the digest's referrers has a reference that reads back, and the shelf has its image of bundles; of one of them a
+-- layer is read that stands.
+pub record SignedByReferrer {V : Type 0} {H : V → Type 0} (meaning : Meaning V H) (s : Settings)
+    (image : Reference) (d : List ℕ) (shelf : Shelf) : Type 0 where
+  pub index : OciImageIndex
+  pub lists : Lists shelf d index
+  pub entry : ImageIndexEntry
+  pub among : Contains index.manifests entry
+  pub entry_reads : reads_back (digest_reference image entry.digest) ≡ true
+  pub bundles : ImageOn s shelf entry.digest (bundle_type ∷ [])
+  pub bundle : ImageLayer
+  pub listed : Contains (layers_on shelf bundles.manifest.layers) bundle
+  pub layer : SignatureLayer
+  pub reads : read_bundle meaning.trust d (digest_text Sha256 bundle.content) bundle ≡ Ok layer
+  pub stands_for : StandsFor meaning d layer
+
+-- the shelf is asked for the image and has it, by a digest of any algorithm, and nothing is too long
+pub record ImageShelf (s : Settings) (image : Reference) (a : RegistryAuth) (accepted : List (List ℕ))
+    (shelf : Shelf) : Type 0 where
+  pub asked : IsAsked s image a shelf
+  pub digest : List ℕ
+  pub named : digest_on shelf image ≡ Some digest
+  pub image_on : ImageOn s shelf digest accepted
+  pub short : IsShort s shelf
+
+-- it has the image, and a layer stands, under the tag of its signatures, which makes a reference that reads back, or of
+-- one of its referrers
+pub record WideShelf {V : Type 0} {H : V → Type 0} (meaning : Meaning V H) (s : Settings) (image : Reference)
+    (a : RegistryAuth) (accepted : List (List ℕ)) (shelf : Shelf) : Type 0 where
+  pub has : ImageShelf s image a accepted shelf
+  pub signed : ((reads_back (tag_reference image has.digest) ≡ true) × SignedByTag meaning has.digest shelf)
+      ⊎ SignedByReferrer meaning s image has.digest shelf
 
 -- The shelf is asked for the image and has it, by a SHA-256 digest, for which a layer under its tag stands that has
 -- no log entry and no certificate. Nothing is too long.

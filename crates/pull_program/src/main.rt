@@ -21,7 +21,8 @@ fn arguments<R: Env + Alloc>(rt: &R, alloc: Global) -> io::Result<List<Text>> {
 // What a status other than 0 and 1 means, and what to do.
 fn advice(status: u8) -> &'static str {
     match status {
-        2 => "usage: pull_program pull < CASE, pull_program canon < JSON, or pull_program check < INPUT",
+        2 =>
+            "usage: pull_program pull < CASE, pull_program canon < JSON, or pull_program check < INPUT",
         3 =>
             "the input is not a case (see crates/pull_case/README.md for its members), no chain, or not JSON",
         4 => "the input could not be read",

@@ -1,12 +1,11 @@
 // The search for signatures, and the verified pull.
-use cosign_client::{Client, PullRefusal, VerifiedImage, check_links};
+use cosign_client::{Client, ClientBuilder, PullRefusal, VerifiedImage, check_links};
 use cosign_layers::{
-    AnnotationVerifier, Constraint, LogKeys, NoCertificates, PullPolicy, SignedRow, TableVerifier,
+    AnnotationVerifier, Constraint, NoCertificates, PullPolicy, SignedRow, TableVerifier,
 };
 use json_values::{Annotations, Blob, List, Text};
-use oci_engine::ClientConfig;
 use oci_transport::Script;
-use sig_registry::{Auth, OciClient, OciReference};
+use sig_registry::{Auth, OciReference};
 use std::alloc::{AllocError, Global};
 use test_answers::{CONFIG_DIGEST, LAYER_DIGEST, LAYER_TYPE, MANIFEST, MANIFEST_DIGEST, script};
 
@@ -21,6 +20,9 @@ const PAYLOAD: &str =
 
 const PAYLOAD_DIGEST: &str =
     "sha256:bec3f566a399bddd277a387434dcaf295311323236c6b1e2b5dd93ccd6795098";
+
+const SIGNATURE_TAG: &str =
+    "sha256-517b86da29754bfa57e312c35d4cf22caa38dbce39ecd24684830c1f9777a635.sig";
 
 const SIGNATURES: &str =
     r#"{"schemaVersion":2,"mediaType":"application/vnd.oci.image.manifest.v1+json","config":{"mediaType":"application/vnd.oci.image.config.v1+json","digest":"sha256:44136fa355b3678a1146ad16f7e8649e94fb4fc21fe77e8310c060f61caaff8a","size":2},"layers":[{"mediaType":"application/vnd.dev.cosign.simplesigning.v1+json","digest":"sha256:bec3f566a399bddd277a387434dcaf295311323236c6b1e2b5dd93ccd6795098","size":234,"annotations":{"dev.cosignproject.cosign/signature":"c2lnMQ=="}}]}"#;
@@ -95,18 +97,9 @@ fn accepted(alloc: Global) -> Result<List<Text>, AllocError> {
     Ok(accepted)
 }
 
-fn client(alloc: Global) -> Result<Client, AllocError> {
-    let config = ClientConfig::default(alloc)?;
-    let engine = oci_engine::Client::new(alloc, config);
-    Ok(Client {
-        registry_client: OciClient::new(engine),
-        rekor_pub_keys: LogKeys::new(alloc),
-    })
-}
-
 fn terms(alloc: Global) -> Option<Asked> {
     let image = OciReference::parse(alloc, IMAGE).ok()?;
-    let client = client(alloc).ok()?;
+    let client = ClientBuilder::new().build(alloc).ok()?;
     let accepted = accepted(alloc).ok()?;
     let policy = policy(alloc).ok()?;
     let verifier = verifier(alloc).ok()?;
@@ -165,7 +158,7 @@ fn an_image_comes_where_its_layer_stands_and_its_links_check(rt: HostRuntime) {
     assert!(rt; links(rt.alloc()) == Some((true, false)));
 }
 
-// How many layers were collected, and how many sources were skipped.
+// How many layers were collected, and how many causes were skipped.
 fn searched(alloc: Global, script: &mut Script) -> Option<(usize, usize)> {
     let mut asked = terms(alloc)?;
     let found = asked
@@ -197,12 +190,23 @@ fn a_search_collects_the_layers_under_the_tag(rt: HostRuntime) {
     assert!(rt; search(rt.alloc(), 13) == Some((1, 0)));
 }
 
-#[test]
-fn referrers_that_fail_are_skipped(rt: HostRuntime) {
-    assert!(rt; search(rt.alloc(), 10) == Some((1, 1)));
+// The tag under which the signatures of the answered digest stand.
+fn triangulated(alloc: Global, script: &mut Script) -> Option<bool> {
+    let mut asked = terms(alloc)?;
+    let (tag, _) = asked
+        .client
+        .triangulate(alloc, script, 100, &asked.image, &Auth::Anonymous)
+        .ok()?;
+    Some(tag.tag()? == SIGNATURE_TAG)
+}
+
+fn triangulate(alloc: Global) -> Option<bool> {
+    let given = ANSWERS.get(..2)?;
+    let mut script = script(alloc, given).ok()?;
+    triangulated(alloc, &mut script)
 }
 
 #[test]
-fn each_source_that_fails_is_skipped(rt: HostRuntime) {
-    assert!(rt; search(rt.alloc(), 2) == Some((0, 2)));
+fn the_digest_gives_the_signature_tag(rt: HostRuntime) {
+    assert!(rt; triangulate(rt.alloc()) == Some(true));
 }

@@ -56,7 +56,7 @@ use Rattle.engine_pull.specs.Pulls.{document, manifest_document, pull_manifest_r
 use Rattle.shelf_laws.specs.Comes.{Comes, Yields, Gives, IsHeld}
 use Rattle.shelf_laws.specs.Home.{front_of, Home, IsAt, CanBeShown, Settled}
 use Rattle.shelf_laws.specs.Shelves.{IsShort, HasDocument, HasBlob}
-use Rattle.shelf_laws.proofs.Coming.{Comes-follow, Gives-done, Gives-next}
+use Rattle.shelf_laws.proofs.Coming.{Stands, Comes-follow, Gives-done, Gives-next}
 use Rattle.shelf_laws.proofs.DigestTexts.{digest_all, is_lower_digit}
 use Rattle.shelf_laws.proofs.PlainNames.{digest_segment, item_plain}
 use Rattle.shelf_laws.proofs.Places.{item_path, answers_manifest, answers_blob, manifest_text_is, blob_text_is}
@@ -123,7 +123,7 @@ pub record IsGood (digest body : List ℕ) (x : Answer) : Type 0 where
 header_is : (digest bytes : List ℕ) {body : List ℕ} {x : Answer} → Names digest bytes → IsGood digest body x → header_digest x.headers ≡ Ok (Some digest)
 header_is digest bytes named good = ap (λ o. or_digest_error (digest_in o)) good.names ∙ ap or_digest_error (digest_in_is digest bytes named)
 
-accepted_is : (url : List ℕ) (x : Answer) → x.status ≡ 200 → accepted url x ≡ Ok x
+pub accepted_is : (url : List ℕ) (x : Answer) → x.status ≡ 200 → accepted url x ≡ Ok x
 accepted_is url x is = ap (λ n. if nat_eq n 200 then Ok x else Err (refused_answer url x)) is
 
 -- the reference has no digest, or this one
@@ -234,6 +234,14 @@ module _ {s : Settings} {registry : List ℕ} {shelf : Shelf} (home : Home s reg
         (subst (λ reply. Comes (answer shelf) (λ l r. I l × Yields (λ got. IsGood digest bytes got.answer) r) (whole_reply request reply) k) (sym (within_reads limit x (subst (λ (b : List ℕ). length b ≤ limit) (sym good.body_is) le))) (h, good));
   }
 
+  -- a whole answer that is no redirect
+  pub answer_gives : (request : Request) (x : Answer) → answer shelf request ≡ x → Stands 10 request x → length x.body ≤ limit → Gives I (answer shelf) (λ got. got.answer ≡ x) (whole 10 request limit)
+  unfolding whole read_within Comes
+  answer_gives request x is stands le = record {
+    gives = λ k h. Comes-follow (answer shelf) (λ l r. I l × Yields (λ got. got.answer ≡ x) r) 10 request (read_within limit) whole_reply x k is stands tt
+        (subst (λ reply. Comes (answer shelf) (λ l r. I l × Yields (λ got. got.answer ≡ x) r) (whole_reply request reply) k) (sym (within_reads limit x le)) (h, refl));
+  }
+
   attempt_gives : (request : Request) (x : Answer) (digest bytes : List ℕ) → answer shelf request ≡ x → Names digest bytes → IsGood digest bytes x → length bytes ≤ limit → Gives I (answer shelf) (λ (b : List ℕ). b ≡ bytes) (attempt IntoMemory limit digest request)
   unfolding attempt blob_reading Comes
   attempt_gives request x digest bytes is (alg, named) good le = record {
@@ -302,13 +310,17 @@ module _ {s : Settings} {registry : List ℕ} {shelf : Shelf} (home : Home s reg
       Gives-next _ (whole_gives request (document_answer Get digest (Some has.document)) digest bytes (shelf_document Get digest bytes has request segment points refl (record { method_is = is.method_is; url_is = is.url_is ∙ text })) (document_good Get digest bytes has.document has.named has.content refl) (has_short digest bytes has)) (λ got good.
       Gives-done (document_in image got) (yields_ok (λ found. found ≡ (bytes, digest)) (document_in image got) (bytes, digest) (document_is image got digest bytes has.named other good) refl)))
 
+  -- the document of the image
+  pub asked_gives : (digest bytes types : List ℕ) → HasDocument shelf digest bytes → Segment name_of_image → digest_named shelf name_of_image ≡ Some digest → NoOther (digest_of image) digest → is_header_value types ≡ true → Gives I (answer shelf) (λ found. found ≡ (bytes, digest)) (manifest_document ctx image types)
+  unfolding manifest_document
+  asked_gives digest bytes types has segment points other listed =
+      Gives-next _ (Gives-done (url_read (manifest_text s image)) (url_reads home (manifest_text s image) (item_path shelf.repository (codes "manifests") name_of_image) (manifest_text_is home at) (manifests_plain segment))) (λ url is.
+      document_gives digest bytes types url has segment points other listed is.text_is)
+
   -- the document of the image, with credentials that are handed in
   pub raw_gives : (digest bytes types : List ℕ) → HasDocument shelf digest bytes → Segment name_of_image → digest_named shelf name_of_image ≡ Some digest → NoOther (digest_of image) digest → is_header_value types ≡ true → Gives I (answer shelf) (λ found. found ≡ (bytes, digest)) (pull_manifest_raw ctx image a types)
-  unfolding pull_manifest_raw manifest_document
-  raw_gives digest bytes types has segment points other listed =
-      Gives-next _ (store_gives home image at a can moment) (λ u stored_is.
-      Gives-next _ (Gives-done (url_read (manifest_text s image)) (url_reads home (manifest_text s image) (item_path shelf.repository (codes "manifests") name_of_image) (manifest_text_is home at) (manifests_plain segment))) (λ url is.
-      document_gives digest bytes types url has segment points other listed is.text_is))
+  unfolding pull_manifest_raw
+  raw_gives digest bytes types has segment points other listed = Gives-next _ (store_gives home image at a can moment) (λ u stored_is. asked_gives digest bytes types has segment points other listed)
 
   fitting : (digest bytes : List ℕ) (url : Parts) (got : Got) → Names digest bytes → NoOther (digest_of image) digest → got.answer.status ≡ 200 → Gives I (answer shelf) (λ (d : List ℕ). d ≡ digest) (digest_by ctx image url (ByHeader digest got))
   fitting digest bytes url got named other good =

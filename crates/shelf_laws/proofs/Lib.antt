@@ -3,6 +3,7 @@ pub mod DigestTags
 pub mod DigestTexts
 pub mod Documents
 pub mod Images
+pub mod Listing
 pub mod PlainNames
 pub mod Places
 pub mod Pointing

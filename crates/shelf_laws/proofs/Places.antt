@@ -10,13 +10,14 @@ use Rattle.oci_names.specs.References.{repository_of, tag_of, digest_of, namespa
 use Rattle.oci_transport.specs.declared.message.Request.{Request}
 use Rattle.oci_transport.specs.Urls.{host_of, port_of, same_text, same_port, same_place, targets}
 use Rattle.oci_link.specs.PlainPaths.{PlainPath, Segment, Scheme, ReadsAs}
-use Rattle.oci_link.specs.Table.{answer, manifest_answer, blob_answer, is_get, found, not_found}
+use Rattle.oci_link.specs.Table.{answer, manifest_answer, blob_answer, referrers_answer, is_get, found, not_found}
 use Rattle.oci_link.specs.declared.shelf.Shelf.{Shelf}
 use Rattle.oci_link.specs.Paths.{path_of}
-use Rattle.oci_link.proofs.ShelfAnswers.{path_of-at, answer-base, answer-manifest, answer-blob}
+use Rattle.oci_link.proofs.ShelfAnswers.{path_of-at, answer-base, answer-manifest, answer-blob, answer-referrers}
 use Rattle.engine_requests.specs.declared.settings.ClientProtocol.{ClientProtocol}
 use Rattle.engine_requests.specs.declared.settings.ClientProtocol.TheVariants.{Http, Https, HttpsExcept}
 use Rattle.engine_requests.specs.declared.settings.Settings.{Settings}
+use Rattle.engine_requests.specs.Referrers.{referrers_text}
 use Rattle.engine_requests.specs.Addresses.{is_listed, scheme_for, registry_text, base_text, manifest_name, manifest_text, blob_text, mirrored}
 use Rattle.shelf_laws.specs.Home.{front_of, Home, IsAt}
 use Rattle.shelf_laws.proofs.DigestTexts.{and_both}
@@ -77,6 +78,10 @@ module _ {s : Settings} {registry : List ℕ} {shelf : Shelf} (home : Home s reg
   answers_blob request name named is =
       answer-blob shelf request name (home.direct request.url) (ap path_of is ∙ path_at (codes "v2/" ++ (shelf.repository ++ (codes "/blobs/" ++ name))) (item_plain shelf.repository (codes "blobs") name home.path (98, codes "lobs", refl, refl, refl) named))
 
+  pub answers_referrers : (request : Request) (name : List ℕ) → Segment name → request.url ≡ front_of s registry ++ item_path shelf.repository (codes "referrers") name → answer shelf request ≡ referrers_answer shelf request.method name
+  answers_referrers request name named is =
+      answer-referrers shelf request name (home.direct request.url) (ap path_of is ∙ path_at (codes "v2/" ++ (shelf.repository ++ (codes "/referrers/" ++ name))) (item_plain shelf.repository (codes "referrers") name home.path (114, codes "eferrers", refl, refl, refl) named))
+
   -- a URL with the registry's scheme, host and port goes to the registry
   pub goes_home : (read : Parts) → read.scheme ≡ home.written.url.scheme → read.host ≡ home.written.url.host → read.port ≡ home.written.url.port → targets read home.written.url ≡ true
   goes_home read scheme host port = same_targets read home.written.url scheme host port
@@ -100,3 +105,6 @@ module _ {s : Settings} {registry : List ℕ} {shelf : Shelf} (home : Home s reg
 
     pub blob_text_is : (digest : List ℕ) → blob_text s image digest ≡ front_of s registry ++ item_path shelf.repository (codes "blobs") digest
     blob_text_is digest = item_text (codes "blobs") digest
+
+    pub referrers_text_is : (digest : List ℕ) → referrers_text s image digest ≡ front_of s registry ++ item_path shelf.repository (codes "referrers") digest
+    referrers_text_is digest = rw (base_text_is, at.repository_is) (simp append_assoc)

@@ -124,6 +124,14 @@ stands_200 (suc n) request answer is =
     ap (λ b. if may_follow request.method && b then moved_to request (location_of (first_of (codes "location") answer.headers)) else None) (ap is_redirect_status is)
     ∙ ap (λ b. if b then moved_to request (location_of (first_of (codes "location") answer.headers)) else None) (never_both (may_follow request.method))
 
+-- nor is an answer of status 404
+pub stands_404 : (n : ℕ) (request : Request) (answer : Answer) → answer.status ≡ 404 → Stands n request answer
+unfolding redirected
+stands_404 zero request answer is = tt
+stands_404 (suc n) request answer is =
+    ap (λ b. if may_follow request.method && b then moved_to request (location_of (first_of (codes "location") answer.headers)) else None) (ap is_redirect_status is)
+    ∙ ap (λ b. if b then moved_to request (location_of (first_of (codes "location") answer.headers)) else None) (never_both (may_follow request.method))
+
 -- a body that is not too long
 pub within_reads : (limit : ℕ) (answer : Answer) → length answer.body ≤ limit → reply_of (Within limit) answer ≡ Answered answer
 within_reads limit answer le = ap (λ b. if b then TooLong else Answered answer) (le-ltb limit (length answer.body) le)

@@ -55,7 +55,7 @@ hub : (x : List ℕ) (b : Bool) → bytes_eq x (codes "docker.io") ≡ b → (le
 hub x true is = refl
 hub x false is = ap (λ b. if b then codes "index.docker.io" else x) is
 
-resolved_again : (image : Reference) → namespace_of image ≡ None → (if bytes_eq (resolved_registry image) (codes "docker.io") then codes "index.docker.io" else resolved_registry image) ≡ resolved_registry image
+pub resolved_again : (image : Reference) → namespace_of image ≡ None → (if bytes_eq (resolved_registry image) (codes "docker.io") then codes "index.docker.io" else resolved_registry image) ≡ resolved_registry image
 resolved_again image none = by_mirror image.mirror none where
   by_mirror : (m : Option (List ℕ)) → (if is_some m then Some image.registry else None) ≡ None
       → (let resolved : List ℕ = unwrap_or m (if bytes_eq image.registry (codes "docker.io") then codes "index.docker.io" else image.registry) in if bytes_eq resolved (codes "docker.io") then codes "index.docker.io" else resolved)
@@ -128,7 +128,7 @@ module _ {s : Settings} {registry : List ℕ} {shelf : Shelf} (home : Home s reg
     unfolding pull_manifest_raw manifest_document
     raw_stays types listed = Stays-next _ (Gives-stays (store_gives home image at a can moment)) (λ u. Stays-next _ (Stays-done (url_read (manifest_text s image))) (λ url. document_stays url types listed))
 
-    manifest_stays : Stays I (answer shelf) (pull_manifest ctx image a)
+    pub manifest_stays : Stays I (answer shelf) (pull_manifest ctx image a)
     unfolding pull_manifest
     manifest_stays = Stays-next _ (raw_stays manifest_types refl) (λ found. Stays-next _ (Stays-done (document_read found.0)) (λ d. Stays-done _))
 

@@ -1,10 +1,11 @@
 -- Which images a shelf has (OCI image specification, "Image Manifest", "Image Index").
-use Rattle.std.specs.Prelude.{◌≡◌, ◌<◌, ◌≤◌, ℕ, List, [], length, map as each, unwrap_or, Some, Ok, Contains}
+use Rattle.std.specs.Prelude.{◌≡◌, ◌<◌, ◌≤◌, ℕ, List, [], length, map as each, unwrap_or, Option, Some, None, Ok, Contains}
 use Rattle.std.specs.List.{All}
 use Rattle.std.specs.FinMap as map
 use Rattle.oci_digests.specs.Names.{Names}
 use Rattle.oci_manifests.specs.declared.document.OciManifest.{OciManifest}
 use Rattle.oci_manifests.specs.declared.document.OciManifest.TheVariants.{Image, ImageIndex}
+use Rattle.oci_manifests.specs.declared.index.OciImageIndex.{OciImageIndex}
 use Rattle.oci_manifests.specs.declared.manifest.OciImageManifest.{OciImageManifest}
 use Rattle.oci_manifests.specs.declared.descriptor.OciDescriptor.{OciDescriptor}
 use Rattle.oci_manifests.specs.declared.blob.ImageLayer.{ImageLayer}
@@ -13,6 +14,7 @@ use Rattle.oci_link.specs.declared.shelf.ShelfDocument.{ShelfDocument}
 use Rattle.engine_requests.specs.declared.settings.Settings.{Settings}
 use Rattle.engine_requests.specs.Documents.{document_read}
 use Rattle.engine_requests.specs.Index.{entry_found}
+use Rattle.engine_requests.specs.Referrers.{index_read, referrers_tag}
 use Rattle.engine_pull.specs.Images.{layer_of}
 
 -- no document, blob or list of referrers is longer than a body may be
@@ -74,3 +76,20 @@ layer_on shelf x = layer_of x (unwrap_or (map.get shelf.blobs x.digest) [])
 -- the layers that a pull of these descriptors gives
 abbrev pub layers_on : Shelf → List OciDescriptor → List ImageLayer
 layers_on shelf xs = each (layer_on shelf) xs
+
+-- the document under the tag that stands for a list of referrers is this index
+pub record TagLists (shelf : Shelf) (digest : List ℕ) (index : OciImageIndex) : Type 0 where
+  pub list : List ℕ
+  pub tagged : map.get shelf.tags (referrers_tag digest) ≡ Some list
+  pub bytes : List ℕ
+  pub there : HasDocument shelf list bytes
+  pub reads : document_read bytes ≡ Ok (ImageIndex index)
+
+-- the list is this index, or where there is none, that under its tag
+abbrev pub ListsBy : Shelf → List ℕ → OciImageIndex → Option (List ℕ) → Type 0
+ListsBy shelf digest index (Some body) = index_read body ≡ Ok index
+ListsBy shelf digest index None = TagLists shelf digest index
+
+-- the referrers of this digest
+abbrev pub Lists : Shelf → List ℕ → OciImageIndex → Type 0
+Lists shelf digest index = ListsBy shelf digest index (map.get shelf.referrers digest)

@@ -10,7 +10,7 @@ use Rattle.cosign_client.proofs.Confinement.{pull_confined}
 use Rattle.cosign_client.proofs.DigestStep.{unread_refused, pull_decided}
 use Rattle.cosign_client.proofs.Faults.{pull_no_memory, pull_faults}
 use Rattle.cosign_client.proofs.Refusals.{pull_fault, pull_no_sink}
-use Rattle.cosign_client.proofs.ShelfPulls.{completed, valid_tagged}
+use Rattle.cosign_client.proofs.ShelfPulls.{completed, completed_wide, valid_tagged}
 use Rattle.cosign_client.proofs.client.Client.verified_pull.Goals as goal
 
 pub returns-clause-run : goal.returns-clause-run
@@ -51,6 +51,9 @@ returns-clause-fault g c = pull_fault (meaning c.args.policy.now (λ b. (goal.Ve
 
 pub returns-clause-no_sink : goal.returns-clause-no_sink
 returns-clause-no_sink g c = pull_no_sink (meaning c.args.policy.now (λ b. (goal.VerificationConstraint-dyn g (b.vtable, b.value)).accepts b.value) (trusts (g.V.SignatureVerifier.valid c.args.verifier.now) (g.O.Offline.vouched c.args.judge.now) c.args.self.now)) _ _ (registry_auth c.args.auth.now) c.args.accepted_media_types.now c.pull_verified.result (returns-clause-run g c)
+
+pub returns-clause-completes_wide : goal.returns-clause-completes_wide
+returns-clause-completes_wide g c = λ shelf from settled wide. completed_wide (meaning c.args.policy.now (λ b. (goal.VerificationConstraint-dyn g (b.vtable, b.value)).accepts b.value) (trusts (g.V.SignatureVerifier.valid c.args.verifier.now) (g.O.Offline.vouched c.args.judge.now) c.args.self.now)) (client_state c.args.self.now).settings (reference_in c.args.image.now) (registry_auth c.args.auth.now) c.args.accepted_media_types.now shelf wide.has c.args.moment wide.signed c.pull_verified.result from settled (returns-clause-run g c)
 
 pub returns-clause-completes_tagged : goal.returns-clause-completes_tagged
 returns-clause-completes_tagged g c = λ shelf from settled tagged. completed (meaning c.args.policy.now (λ b. (goal.VerificationConstraint-dyn g (b.vtable, b.value)).accepts b.value) (trusts (g.V.SignatureVerifier.valid c.args.verifier.now) (g.O.Offline.vouched c.args.judge.now) c.args.self.now)) (client_state c.args.self.now).settings (reference_in c.args.image.now) (registry_auth c.args.auth.now) c.args.accepted_media_types.now shelf tagged c.args.moment c.pull_verified.result from settled (returns-clause-run g c)
