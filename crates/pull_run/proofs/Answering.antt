@@ -17,7 +17,7 @@ use Rattle.sig_registry.specs.Clients.{Kept}
 use Rattle.cosign_chain.specs.declared.image.VerifiedImage.{VerifiedImage}
 use Rattle.cosign_client.specs.Refusal.{is_memory}
 use Rattle.cosign_client.specs.declared.refusal.PullRefusal.{PullRefusal}
-use Rattle.cosign_client.proofs.ShelfPulls.{run_completed}
+use Rattle.cosign_client.proofs.ShelfPulls.{run_wide}
 use Rattle.pull_case.specs.Policy.{meaning_of}
 use Rattle.pull_case.specs.Registry.{answering_by}
 use Rattle.pull_case.specs.declared.case.Case.{Case}
@@ -83,7 +83,7 @@ one_answered case h talk image kept faults is (between, count, run, (kept_is, co
     let calm_here : calm (answering h.shelf).fails 0 c faults ≡ true = subst (λ (d : List Exchange). calm (answering h.shelf).fails 0 d faults ≡ true) (append-nil c) (subst (λ g. calm (answering_by g).fails 0 (c ++ []) faults ≡ true) h.held calm_is) in
     let none : count ≡ 0 = run_count (answering h.shelf).fails (never_fails h.shelf) (row_of case h.image talk.moment) fresh between 0 0 count c talk.result (subst (λ n. calm (answering h.shelf).fails 0 c n ≡ true) (sym count_is) calm_here) run_here in
     answered_is talk.result
-    (run_completed (meaning_of case) (settings_of case) h.image case.auth case.accepted h.shelf h.tagged talk.moment fresh between 0 0 count c talk.result
+    (run_wide (meaning_of case) (settings_of case) h.image case.auth case.accepted h.shelf h.wide.has talk.moment h.wide.signed fresh between 0 0 count c talk.result
     (fresh_settled (resolved_registry h.image) (repository_of h.image) case.auth 60) answered_here (omega (arith, none)) (omega arith) run_here)
     whole
 

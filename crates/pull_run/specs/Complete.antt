@@ -6,7 +6,7 @@ use Rattle.pull_edge.specs.Source.{Spring}
 use Rattle.oci_link.specs.declared.shelf.Shelf.{Shelf}
 use Rattle.oci_names.specs.References.{reference_of}
 use Rattle.oci_names.specs.declared.reference.Reference.{Reference}
-use Rattle.cosign_client.specs.Shelves.{TaggedShelf}
+use Rattle.cosign_client.specs.Shelves.{WideShelf}
 use Rattle.pull_case.specs.Case.{case_in}
 use Rattle.pull_case.specs.Policy.{meaning_of}
 use Rattle.pull_case.specs.declared.case.Case.{Case}
@@ -16,7 +16,8 @@ use Rattle.pull_run.specs.Pulls.{settings_of}
 use Rattle.pull_run.specs.Word.{word_of}
 use Rattle.pull_run.specs.declared.word.Word.TheVariants.{Pull}
 
--- it has one moment, and its registry is a shelf that has the image, for which a layer under its signature tag stands
+-- it has one moment, and its registry is a shelf that has the image, for which a layer under its signature tag or of one of
+-- its referrers stands
 pub record HasImage (case : Case) : Type 0 where
   pub moment : ℕ
   pub one : case.moments ≡ moment ∷ []
@@ -24,7 +25,7 @@ pub record HasImage (case : Case) : Type 0 where
   pub held : case.registry ≡ registries.Shelf shelf
   pub image : Reference
   pub reads : reference_of case.reference ≡ Ok image
-  pub tagged : TaggedShelf (meaning_of case) (settings_of case) image case.auth case.accepted shelf
+  pub wide : WideShelf (meaning_of case) (settings_of case) image case.auth case.accepted shelf
 
 -- with 0, unless memory was wanting, or the source or the sink failed
 abbrev pub EndsDone : ℕ → Spring → Spring → Tray → Tray → Type 0
