@@ -6,6 +6,7 @@ pub mod Extending
 pub mod Following
 pub mod Keeping
 pub mod Laws
+pub mod Lifting
 pub mod Parts
 pub mod Pouring
 pub mod Reaching

@@ -1,6 +1,7 @@
 pub mod Drive
 pub mod Ends
 pub mod Follow
+pub mod Lift
 pub mod Poured
 pub mod Proto
 pub mod Runs
