@@ -1,0 +1,106 @@
+-- What is so of a protocol is so of it over more that is kept.
+use Rattle.std.proofs.Common.{◌≡◌, inl, inr, ℕ, suc, Bool, true, false, List, [], ◌∷◌, ◌++◌, Result, Ok, Err, refl, ap}
+use Rattle.std.specs.Prelude.{MatchBool}
+use Rattle.oci_transport.specs.Link.{Link, Answering}
+use Rattle.oci_transport.specs.declared.message.Request.{Request}
+use Rattle.oci_transport.specs.declared.message.Exchange.{Exchange}
+use Rattle.oci_protocol.specs.Proto.{SinkFailed, Proto, Done, Ask, Recall, Keep}
+use Rattle.oci_protocol.specs.Runs.{Runs, Stops, Performs, Breaks, Outcome, Meets}
+use Rattle.oci_protocol.specs.Drive.{reply_to, Driven, driven, Drives, Spilt}
+use Rattle.oci_protocol.specs.Ends.{Ends}
+use Rattle.oci_protocol.specs.Lift.{lifted}
+use Rattle.oci_protocol.specs.Safe.{Safe}
+use Rattle.oci_protocol.specs.Shows.{Shows, ShowsKept}
+
+-- ---- runs
+
+-- a run is a run over more that is kept, which stays as it is
+pub Runs-lifted : {K C A : Type 0} (p : Proto K A) (x : C) (k l : K) (m n : ℕ) (c : List Exchange) (a : A) → Runs p k m c n l a → Runs (lifted p) (k, x) m c n (l, x) a
+unfolding Runs lifted
+Runs-lifted (Done y) x k l m n [] a r = (r.0, ap (λ k. (k, x)) r.1, r.2)
+Runs-lifted (Done y) x k l m n (e ∷ c) a r = absurd r
+Runs-lifted (Ask request reading next) x k l m n [] a r = absurd r
+Runs-lifted (Ask request reading next) x k l m n (e ∷ c) a r = (r.0, r.1, r.2, Runs-lifted (next r.1) x k l r.0 n c a r.3)
+Runs-lifted (Recall next) x k l m n c a r = Runs-lifted (next k) x k l m n c a r
+Runs-lifted (Keep kept rest) x k l m n c a r = Runs-lifted rest x kept l m n c a r
+
+-- and a run over more is a run
+pub Runs-unlifted : {K C A : Type 0} (p : Proto K A) (k l : K × C) (m n : ℕ) (c : List Exchange) (a : A) → Runs (lifted p) k m c n l a → Runs p k.0 m c n l.0 a × (k.1 ≡ l.1)
+unfolding Runs lifted
+Runs-unlifted (Done y) k l m n [] a r = ((r.0, ap (λ k. k.0) r.1, r.2), ap (λ k. k.1) r.1)
+Runs-unlifted (Done y) k l m n (e ∷ c) a r = absurd r
+Runs-unlifted (Ask request reading next) k l m n [] a r = absurd r
+Runs-unlifted (Ask request reading next) k l m n (e ∷ c) a r = let rest = Runs-unlifted (next r.1) k l r.0 n c a r.3 in ((r.0, r.1, r.2, rest.0), rest.1)
+Runs-unlifted (Recall next) k l m n c a r = Runs-unlifted (next k.0) k l m n c a r
+Runs-unlifted (Keep kept rest) k l m n c a r = Runs-unlifted rest (kept, k.1) l m n c a r
+
+Stops-lifted : {K C A : Type 0} (p : Proto K A) (x : C) (k l : K) (m : ℕ) (c : List Exchange) → Stops p k m c l → Stops (lifted p) (k, x) m c (l, x)
+unfolding Stops lifted
+Stops-lifted (Done y) x k l m [] s = ap (λ k. (k, x)) s
+Stops-lifted (Done y) x k l m (e ∷ c) s = absurd s
+Stops-lifted (Ask request reading next) x k l m [] s = ap (λ k. (k, x)) s
+Stops-lifted (Ask request reading next) x k l m (e ∷ c) (inl s) = inl (s.0, s.1, s.2, ap (λ k. (k, x)) s.3)
+Stops-lifted (Ask request reading next) x k l m (e ∷ c) (inr s) = inr (s.0, s.1, s.2, Stops-lifted (next s.1) x k l s.0 c s.3)
+Stops-lifted (Recall next) x k l m c s = Stops-lifted (next k) x k l m c s
+Stops-lifted (Keep kept rest) x k l m c (inl s) = inl (s.0, ap (λ k. (k, x)) s.1)
+Stops-lifted (Keep kept rest) x k l m c (inr s) = inr (Stops-lifted rest x kept l m c s)
+
+performs : {K C A : Type 0} (p : Proto K A) (x : C) {old new : Link} {k l : K} {a : A} → Performs p old new k l a → Performs (lifted p) old new (k, x) (l, x) a
+performs p x {old} {new} {k} {l} {a} h = record { conversation = h.conversation; told = h.told; runs = Runs-lifted p x k l old.faults new.faults h.conversation a h.runs }
+
+breaks : {K C A : Type 0} (p : Proto K A) (x : C) {old new : Link} {k l : K} → Breaks p old new k l → Breaks (lifted p) old new (k, x) (l, x)
+breaks p x {old} {new} {k} {l} h = record { conversation = h.conversation; told = h.told; stops = Stops-lifted p x k l old.faults h.conversation h.stops; count = h.count }
+
+-- so a call that knows less is one that keeps more as it is
+pub Meets-lifted : {K C A E : Type 0} {of_memory : E → Bool} {p : Proto K (Result A E)} (x : C) {old new : Link} {k l : K} {r : Result A E} → Meets of_memory p old new k l r → Meets of_memory (lifted p) old new (k, x) (l, x) r
+Meets-lifted {K} {C} {A} {E} {of_memory} {p} x {old} {new} {k} {l} {r} met = record { outcome = by_result r met.outcome } where
+  by_memory : (b : Bool) (e : E) → MatchBool b (Breaks p old new k l) (Performs p old new k l (Err e)) → MatchBool b (Breaks (lifted p) old new (k, x) (l, x)) (Performs (lifted p) old new (k, x) (l, x) (Err e))
+  by_memory true e h = breaks p x h
+  by_memory false e h = performs p x h
+
+  by_result : (r : Result A E) → Outcome of_memory p old new k l r → Outcome of_memory (lifted p) old new (k, x) (l, x) r
+  by_result (Ok a) h = performs p x h
+  by_result (Err e) h = by_memory (of_memory e) e h
+
+-- ---- what all runs show
+
+pub Shows-lifted : {K C A : Type 0} (Q : ℕ → List Exchange → ℕ → A → Type 0) (p : Proto K A) → Shows Q p → Shows {K = K × C} Q (lifted p)
+Shows-lifted Q p h = record { shows = λ k l m n c a r. h.shows k.0 l.0 m n c a (Runs-unlifted p k l m n c a r).0 }
+
+-- also of what is kept; the rest of it stays
+pub ShowsKept-lifted : {K C A : Type 0} (Q : K → ℕ → List Exchange → ℕ → K → A → Type 0) (p : Proto K A) → ShowsKept Q p → ShowsKept {K = K × C} (λ k m c n l a. Q k.0 m c n l.0 a × (k.1 ≡ l.1)) (lifted p)
+ShowsKept-lifted Q p h = record { shows = λ k l m n c a r. let parts = Runs-unlifted p k l m n c a r in (h.shows k.0 l.0 m n c a parts.0, parts.1) }
+
+-- what may be asked, kept and answered
+pub Safe-lifted : {K C A : Type 0} (P : K → List Exchange → Request → Type 0) (I : K → List Exchange → Type 0) (Q : K → List Exchange → A → Type 0) (p : Proto K A) (k : K) (x : C) (seen : List Exchange) → Safe P I Q k seen p → Safe (λ (k : K × C). P k.0) (λ (k : K × C). I k.0) (λ (k : K × C). Q k.0) (k, x) seen (lifted p)
+unfolding Safe lifted
+Safe-lifted P I Q (Done a) k x seen h = h
+Safe-lifted P I Q (Ask request reading next) k x seen h = (h.0, λ e before after reply r. Safe-lifted P I Q (next reply) k x (seen ++ e ∷ []) (h.1 e before after reply r))
+Safe-lifted P I Q (Recall next) k x seen h = Safe-lifted P I Q (next k) k x seen h
+Safe-lifted P I Q (Keep kept rest) k x seen h = (h.0, Safe-lifted P I Q rest kept x seen h.1)
+
+pub Ends-lifted : {K C A : Type 0} (Q : A → Type 0) (p : Proto K A) → Ends Q p → Ends Q (lifted {C = C} p)
+unfolding Ends lifted
+Ends-lifted Q (Done a) h = h
+Ends-lifted Q (Ask request reading next) h = λ reply. Ends-lifted Q (next reply) (h reply)
+Ends-lifted Q (Recall next) h = λ k. Ends-lifted Q (next k.0) (h k.0)
+Ends-lifted Q (Keep kept rest) h = λ k. Ends-lifted Q rest h
+
+pub Spilt-lifted : {K C A : Type 0} (x : A) (p : Proto K A) → Spilt x p → Spilt x (lifted {C = C} p)
+unfolding Spilt lifted
+Spilt-lifted x (Done a) h = h
+Spilt-lifted x (Ask request reading next) h = (Ends-lifted (λ a. a ≡ x) (next SinkFailed) h.0, λ reply. Spilt-lifted x (next reply) (h.1 reply))
+Spilt-lifted x (Recall next) h = λ k. Spilt-lifted x (next k.0) (h k.0)
+Spilt-lifted x (Keep kept rest) h = λ k. Spilt-lifted x rest h
+
+-- ---- what it comes to over a table
+
+pub driven-lifted : {K C A : Type 0} (t : Answering) (p : Proto K A) (x : C) (place after : ℕ) (k l : K) (a : A) → driven t p place k ≡ record { place = after; kept = l; answer = a } → driven t (lifted p) place (k, x) ≡ record { place = after; kept = (l, x); answer = a }
+unfolding driven lifted
+driven-lifted {K} {C} {A} t (Done y) x place after k l a h = ap (λ (end : Driven K A). record { place = end.place; kept = (end.kept, x); answer = end.answer }) h
+driven-lifted t (Ask request reading next) x place after k l a h = driven-lifted t (next (reply_to reading (t.answer place request))) x (suc place) after k l a h
+driven-lifted t (Recall next) x place after k l a h = driven-lifted t (next k) x place after k l a h
+driven-lifted t (Keep kept rest) x place after k l a h = driven-lifted t rest x place after kept l a h
+
+pub Drives-lifted : {K C A E : Type 0} {t : Answering} {p : Proto K (Result A E)} (x : C) {place after : ℕ} {k l : K} {a : A} → Drives t p place after k l a → Drives t (lifted p) place after (k, x) (l, x) a
+Drives-lifted {t = t} {p = p} x {place = place} {after = after} {k = k} {l = l} {a = a} h = record { drives = driven-lifted t p x place after k l (Ok a) h.drives }
