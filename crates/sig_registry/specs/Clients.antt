@@ -1,19 +1,25 @@
 -- What a client of a registry is, whatever keeps it.
-use Rattle.std.specs.Prelude.{◌≡◌, Bool, Result}
+use Rattle.std.specs.Prelude.{◌≡◌, Bool, Option, Some, None, Result}
 use Rattle.oci_transport.specs.Link.{Link}
 use Rattle.oci_auth.specs.declared.memory.Memory.{Memory}
 use Rattle.oci_protocol.specs.Proto.{Proto}
 use Rattle.oci_protocol.specs.Runs.{Meets}
 use Rattle.engine_requests.specs.declared.settings.Settings.{Settings}
 use Rattle.oci_engine.specs.declared.client.Client.{Client as Engine}
+use Rattle.sig_answers.specs.declared.answers.Answers.{Answers}
 use Rattle.sig_registry.specs.declared.error.SigstoreError.{SigstoreError}
+use Rattle.sig_registry.specs.declared.caching.OciCachingClient.{OciCachingClient}
 use Rattle.sig_registry.specs.declared.plain.OciClient.{OciClient}
 use Rattle.sig_registry.specs.declared.registry_client.RegistryClient.{RegistryClient}
-use Rattle.sig_registry.specs.declared.registry_client.RegistryClient.TheVariants.{Plain}
+use Rattle.sig_registry.specs.declared.registry_client.RegistryClient.TheVariants as given
 
--- what a client keeps between its calls
+-- what a client keeps between its calls: credentials and tokens, and answers, where it keeps those
 abbrev pub Kept : Type 0
-Kept = Memory
+Kept = Memory × Option Answers
+
+-- a call that knows of no kept answers
+abbrev pub Plain : Type 0 → Type 0
+Plain A = Proto Memory (Result A SigstoreError)
 
 abbrev pub Row : Type 0 → Type 0
 Row A = Proto Kept (Result A SigstoreError)
@@ -22,14 +28,19 @@ pub record Client : Type 0 where
   pub settings : Settings
   pub kept : Kept
 
-abbrev pub engine_state : Engine → Client
-engine_state c = record { settings = c.settings; kept = c.memory }
+-- a client of the registry's, with these answers kept
+abbrev pub engine_state : Engine → Option Answers → Client
+engine_state c answers = record { settings = c.settings; kept = (c.memory, answers) }
 
 abbrev pub plain_state : OciClient → Client
-plain_state c = engine_state c.client
+plain_state c = engine_state c.client None
+
+abbrev pub caching_state : OciCachingClient → Client
+caching_state c = engine_state c.client (Some c.answers)
 
 abbrev pub state_of : RegistryClient → Client
-state_of (Plain c) = plain_state c
+state_of (given.Plain c) = plain_state c
+state_of (given.Caching c) = caching_state c
 
 -- a client with these settings still has them, and its call is this protocol
 pub record Made {A E : Type 0} (of_memory : E → Bool) (s : Settings) (p : Proto Kept (Result A E))

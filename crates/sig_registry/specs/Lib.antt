@@ -1,3 +1,4 @@
+pub mod Caching
 pub mod Calls
 pub mod Clients
 pub mod Config

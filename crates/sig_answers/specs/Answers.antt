@@ -1,0 +1,82 @@
+-- The answers that a caching client keeps, and which of them it still gives.
+use Rattle.std.specs.Prelude.{ℕ, Bool, true, false, ◌&&◌, not, ◌-◌, nat_le, nat_lt, bytes_eq, if◌then◌else◌}
+use Rattle.std.specs.Prelude.{List, [], ◌∷◌, ◌++◌, find, filter, Option, Some, None, option_and_then}
+use Rattle.oci_manifests.specs.declared.document.OciManifest.{OciManifest}
+use Rattle.oci_manifests.specs.declared.index.OciImageIndex.{OciImageIndex}
+use Rattle.engine_pull.specs.declared.image.ImageData.{ImageData}
+use Rattle.sig_answers.specs.declared.answer.Answer.{Answer}
+use Rattle.sig_answers.specs.declared.answer.Answer.TheVariants.{Digest, Manifest, Image, Referrers}
+use Rattle.sig_answers.specs.declared.answers.Answers.{Answers}
+use Rattle.sig_answers.specs.declared.answers.Bounds.{Bounds}
+use Rattle.sig_answers.specs.declared.answers.Entry.{Entry}
+use Rattle.sig_answers.specs.declared.answer.Kind.{Kind}
+use Rattle.sig_answers.specs.declared.answer.Kind.TheVariants as kinds
+use Rattle.sig_answers.specs.Weights.{weight}
+
+-- which call gives such an answer
+abbrev pub kind_of : Answer → Kind
+kind_of (Digest digest) = kinds.Digests
+kind_of (Manifest document digest) = kinds.Manifests
+kind_of (Image image) = kinds.Images
+kind_of (Referrers index) = kinds.Referrers
+
+abbrev pub same_kind : Kind → Kind → Bool
+same_kind kinds.Digests kinds.Digests = true
+same_kind kinds.Manifests kinds.Manifests = true
+same_kind kinds.Images kinds.Images = true
+same_kind kinds.Referrers kinds.Referrers = true
+same_kind _ _ = false
+
+-- whether it was given to this call with this key
+abbrev pub is_of : Kind → List ℕ → Entry → Bool
+is_of kind key e = same_kind (kind_of e.answer) kind && bytes_eq e.key key
+
+-- kept no later than now, and less than 60 seconds before
+abbrev pub is_fresh : ℕ → ℕ → Bool
+is_fresh now since = nat_le since now && nat_lt (now - since) 60
+
+abbrev pub given_at : ℕ → Entry → Option Answer
+given_at now e = if is_fresh now e.moment then Some e.answer else None
+
+-- what is still given for this key
+abbrev pub fresh : Kind → List ℕ → ℕ → Answers → Option Answer
+fresh kind key now k = option_and_then (given_at now) (find (is_of kind key) k.entries)
+
+-- ---- bounds
+
+-- the entries are as few and as light as the bounds say; without bounds they always are
+abbrev pub fits : Option Bounds → List Entry → Bool
+fits None es = true
+fits (Some b) es = nat_le (List.length es) b.answers && nat_le (weight es) b.bytes
+
+-- those that were kept longest ago go, until the others fit
+abbrev pub within : Option Bounds → List Entry → List Entry
+within bounds [] = []
+within bounds (e ∷ es) = if fits bounds (e ∷ es) then e ∷ es else within bounds es
+
+-- the answer takes the place of what was kept for its key; the latest stands last
+abbrev pub keep : Entry → Answers → Answers
+keep e k = record k {
+  entries = within k.bounds (filter (λ other. not (is_of (kind_of e.answer) e.key other)) k.entries ++ e ∷ []);
+}
+
+-- ---- by the call that gave them
+
+abbrev pub entry : List ℕ → ℕ → Answer → Entry
+entry key now answer = record { key = key; moment = now; answer = answer }
+
+abbrev pub as_digest : Answer → Option (List ℕ)
+as_digest (Digest digest) = Some digest
+as_digest _ = None
+
+abbrev pub as_manifest : Answer → Option (OciManifest × List ℕ)
+as_manifest (Manifest document digest) = Some (document, digest)
+as_manifest _ = None
+
+abbrev pub as_image : Answer → Option ImageData
+as_image (Image image) = Some image
+as_image _ = None
+
+abbrev pub as_referrers : Answer → Option OciImageIndex
+as_referrers (Referrers index) = Some index
+as_referrers _ = None

@@ -1,0 +1,1 @@
+-- How many bytes kept answers hold.
