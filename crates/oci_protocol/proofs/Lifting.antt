@@ -1,5 +1,5 @@
 -- What is so of a protocol is so of it over more that is kept.
-use Rattle.std.proofs.Common.{◌≡◌, inl, inr, ℕ, suc, Bool, true, false, List, [], ◌∷◌, ◌++◌, Result, Ok, Err, refl, ap}
+use Rattle.std.proofs.Common.{◌≡◌, inl, inr, ℕ, suc, Bool, true, false, List, [], ◌∷◌, ◌++◌, Result, Ok, Err, ap}
 use Rattle.std.specs.Prelude.{MatchBool}
 use Rattle.oci_transport.specs.Link.{Link, Answering}
 use Rattle.oci_transport.specs.declared.message.Request.{Request}
@@ -79,19 +79,19 @@ Safe-lifted P I Q (Ask request reading next) k x seen h = (h.0, λ e before afte
 Safe-lifted P I Q (Recall next) k x seen h = Safe-lifted P I Q (next k) k x seen h
 Safe-lifted P I Q (Keep kept rest) k x seen h = (h.0, Safe-lifted P I Q rest kept x seen h.1)
 
-pub Ends-lifted : {K C A : Type 0} (Q : A → Type 0) (p : Proto K A) → Ends Q p → Ends Q (lifted {C = C} p)
+pub Ends-lifted : {K A : Type 0} (C : Type 0) (Q : A → Type 0) (p : Proto K A) → Ends Q p → Ends Q (lifted {C = C} p)
 unfolding Ends lifted
-Ends-lifted Q (Done a) h = h
-Ends-lifted Q (Ask request reading next) h = λ reply. Ends-lifted Q (next reply) (h reply)
-Ends-lifted Q (Recall next) h = λ k. Ends-lifted Q (next k.0) (h k.0)
-Ends-lifted Q (Keep kept rest) h = λ k. Ends-lifted Q rest h
+Ends-lifted C Q (Done a) h = h
+Ends-lifted C Q (Ask request reading next) h = λ reply. Ends-lifted C Q (next reply) (h reply)
+Ends-lifted C Q (Recall next) h = λ k. Ends-lifted C Q (next k.0) (h k.0)
+Ends-lifted C Q (Keep kept rest) h = λ k. Ends-lifted C Q rest h
 
-pub Spilt-lifted : {K C A : Type 0} (x : A) (p : Proto K A) → Spilt x p → Spilt x (lifted {C = C} p)
+pub Spilt-lifted : {K A : Type 0} (C : Type 0) (x : A) (p : Proto K A) → Spilt x p → Spilt x (lifted {C = C} p)
 unfolding Spilt lifted
-Spilt-lifted x (Done a) h = h
-Spilt-lifted x (Ask request reading next) h = (Ends-lifted (λ a. a ≡ x) (next SinkFailed) h.0, λ reply. Spilt-lifted x (next reply) (h.1 reply))
-Spilt-lifted x (Recall next) h = λ k. Spilt-lifted x (next k.0) (h k.0)
-Spilt-lifted x (Keep kept rest) h = λ k. Spilt-lifted x rest h
+Spilt-lifted C x (Done a) h = h
+Spilt-lifted C x (Ask request reading next) h = (Ends-lifted C (λ a. a ≡ x) (next SinkFailed) h.0, λ reply. Spilt-lifted C x (next reply) (h.1 reply))
+Spilt-lifted C x (Recall next) h = λ k. Spilt-lifted C x (next k.0) (h k.0)
+Spilt-lifted C x (Keep kept rest) h = λ k. Spilt-lifted C x rest h
 
 -- ---- what it comes to over a table
 
