@@ -18,6 +18,7 @@ use Rattle.sig_answers.specs.declared.answers.Answers.{Answers}
 use Rattle.sig_registry.specs.declared.error.SigstoreError.{SigstoreError}
 use Rattle.sig_registry.specs.Caching.{Cache, known, keeping, known_or, recalled, cached}
 use Rattle.sig_registry.specs.Clients.{Kept, Plain, Row}
+use Rattle.cosign_client.proofs.Counts.{Counts}
 
 module _ {A : Type 0} (cache : Cache A) (key : List ℕ) (now : ℕ) where
   -- an answer is kept, and given
@@ -108,16 +109,29 @@ module _ {A : Type 0} (cache : Cache A) (key : List ℕ) (now : ℕ) where
     by_known (Some a) is run = let parts = done_parts (Ok a) k l m n c r run in inl (record { answer = a; known_is = is; silent = parts.0; count = parts.1; same = parts.2; result = parts.3 })
     by_known None is run = inr (made_run p k l m n c r is run)
 
-  -- a refusal is that of the plain call, and leaves the answers that are kept as they are
-  pub cached_refusal : (b : Bool) (p : Plain A) (k l : Kept) (m n : ℕ) (c : List Exchange) (e : SigstoreError) → Runs (cached b cache key now p) k m c n l (Err e) → Runs p k.0 m c n l.0 (Err e) × (l.1 ≡ k.1)
+  -- a refusal is that of the plain call, whose answer was not known
+  pub cached_refusal : (b : Bool) (p : Plain A) (k l : Kept) (m n : ℕ) (c : List Exchange) (e : SigstoreError) → Runs (cached b cache key now p) k m c n l (Err e) → IsMade b p k m c n l (Err e)
   cached_refusal b p k l m n c e run = by_run (cached_run b p k l m n c (Err e) run) where
-    stays : (b : Bool) → kept_after b k.1 (Err e) ≡ k.1
-    stays true = refl
-    stays false = refl
-
-    by_run : IsKnown k m c n l (Err e) ⊎ IsMade b p k m c n l (Err e) → Runs p k.0 m c n l.0 (Err e) × (l.1 ≡ k.1)
+    by_run : IsKnown k m c n l (Err e) ⊎ IsMade b p k m c n l (Err e) → IsMade b p k m c n l (Err e)
     by_run (inl h) = absurd (cc h.result)
-    by_run (inr h) = (h.runs, h.kept ∙ stays b)
+    by_run (inr h) = h
+
+  -- it leaves the answers that are kept as they are
+  pub refusal_stays : (b : Bool) (answers : Option Answers) (e : SigstoreError) → kept_after b answers (Err e) ≡ answers
+  refusal_stays true answers e = refl
+  refusal_stays false answers e = refl
+
+  -- ---- the counts of faults
+
+  known_counts : (Q : ℕ → ℕ → Result A SigstoreError → Type 0) (k l : Kept) (m n : ℕ) (c : List Exchange) (r : Result A SigstoreError) → ((m : ℕ) (a : A) → Q m m (Ok a)) → IsKnown k m c n l r → Q m n r
+  known_counts Q k l m n c r each h = subst (Q m n) h.result (subst (λ o. Q m o (Ok h.answer)) h.count (each m h.answer))
+
+  -- what is so of each answer that needs no request, and of the plain call, is so of the call
+  pub cached_counts : (Q : ℕ → ℕ → Result A SigstoreError → Type 0) (b : Bool) (p : Plain A) → ((m : ℕ) (a : A) → Q m m (Ok a)) → Counts Q p → Counts Q (cached b cache key now p)
+  cached_counts Q b p each h = record { counts = λ k l m n c r run. by_run k l m n c r (cached_run b p k l m n c r run) } where
+    by_run : (k l : Kept) (m n : ℕ) (c : List Exchange) (r : Result A SigstoreError) → IsKnown k m c n l r ⊎ IsMade b p k m c n l r → Q m n r
+    by_run k l m n c r (inl g) = known_counts Q k l m n c r each g
+    by_run k l m n c r (inr g) = h.counts k.0 l.0 m n c r g.runs
 
   -- ---- where credentials go
 
