@@ -1,0 +1,33 @@
+-- Credentials, as the registry's client takes them and as data.
+use Rattle.std.specs.Prelude.{ℕ, List, [], ◌∷◌, ◌++◌, codes, Option, Some, option_map}
+use Rattle.std.specs.Fmt.{debug_str}
+use Rattle.serde_json.specs.Data.{Data, string}
+use Rattle.json_values.specs.Writing.{listed}
+use Rattle.json_writing.specs.Fields.{fields}
+use Rattle.oci_auth.specs.declared.auth.RegistryAuth.{RegistryAuth}
+use Rattle.oci_auth.specs.declared.auth.RegistryAuth.TheVariants as registry
+use Rattle.sig_settings.specs.declared.auth.Auth.{Auth}
+use Rattle.sig_settings.specs.declared.auth.Auth.TheVariants as given
+
+abbrev pub registry_auth : Auth → RegistryAuth
+registry_auth given.Anonymous = registry.Anonymous
+registry_auth (given.Basic user password) = registry.Basic user password
+registry_auth (given.Bearer token) = registry.Bearer token
+
+abbrev pub auth_from : RegistryAuth → Auth
+auth_from registry.Anonymous = given.Anonymous
+auth_from (registry.Basic user password) = given.Basic user password
+auth_from (registry.Bearer token) = given.Bearer token
+
+-- credentials as data
+abbrev pub auth_value : Auth → Data
+auth_value given.Anonymous = string (codes "Anonymous")
+auth_value (given.Basic user password) = fields ((codes "Basic", Some (listed string (user ∷ password ∷ []))) ∷ [])
+auth_value (given.Bearer token) = fields ((codes "Bearer", Some (string token)) ∷ [])
+
+-- what is shown of them: neither the password nor the token
+abbrev pub redacted : Auth → Option (List ℕ)
+redacted given.Anonymous = Some (codes "Anonymous")
+redacted (given.Basic user password) =
+    option_map (λ name. codes "Basic(" ++ name ++ codes ", \"<redacted>\")") (debug_str user)
+redacted (given.Bearer token) = Some (codes "Bearer(\"<redacted>\")")
