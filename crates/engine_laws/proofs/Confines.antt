@@ -1,6 +1,6 @@
 -- A part of a call shows credentials and tokens to the image's registry and to the realm that it names, and to nobody
 -- else, from wherever it begins and whatever else the client keeps.
-use Rattle.std.proofs.Common.{◌≡◌, ◌⊎◌, inl, inr, ℕ, List, [], ◌∷◌, ◌++◌, Option, Some, None, Result, Ok, Err, codes, sym, ap, subst, ◌∙◌}
+use Rattle.std.proofs.Common.{◌≡◌, ◌⊎◌, inl, inr, ℕ, List, [], ◌∷◌, ◌++◌, Option, Some, Result, Ok, Err, codes, sym, ap, subst, ◌∙◌}
 use Rattle.std.specs.Prelude.{Bool}
 use Rattle.std.specs.FinMap as map
 use Rattle.url.specs.Parts.{Parts, serialize}
