@@ -31,9 +31,10 @@ opening_stays limit gave [] s t old new g = ap opening_of (sym g.0)
 opening_stays limit gave (piece ∷ pieces) s t old new (between, link, next, stays, more) = opening_stays limit (gave ++ piece) pieces between t link new more ∙ stays
 
 pub pieces_are_whole : PiecesAreWhole
-pieces_are_whole limit gave pieces s t u old new end g next same =
-    (λ rest is.
-        let front = is_front limit gave pieces s t old new g rest is in
-        let nothing = next.0.front front.0 front.2 in
-        sym (front.1 ∙ ap (λ xs. concat pieces ++ xs) (nothing.3 refl) ∙ append-nil (concat pieces)),
-    ap (λ (o : Opening). compared o.digests (gave ++ concat pieces)) (sym (same ∙ opening_stays limit gave pieces s t old new g)) ∙ next.1)
+pieces_are_whole limit gave pieces s t u old new end g next same = (
+  λ rest is.
+      let front = is_front limit gave pieces s t old new g rest is in
+      let nothing = next.0.front front.0 front.2 in
+      sym (front.1 ∙ ap (λ xs. concat pieces ++ xs) (nothing.3 refl) ∙ append-nil (concat pieces)),
+  ap (λ (o : Opening). compared o.digests (gave ++ concat pieces)) (sym (same ∙ opening_stays limit gave pieces s t old new g)) ∙ next.1,
+)
