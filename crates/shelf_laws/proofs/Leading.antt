@@ -1,26 +1,26 @@
 -- Redirects of a shelf lead to what it has under the path that was asked for.
-use Rattle.std.specs.Prelude.{codes, not, nat_lt, nat_le, nat_eq, bytes_eq, sum_by, slice_get, unwrap_or, IsTrue, is_none, if◌then◌else◌}
+use Rattle.std.specs.Prelude.{codes, nat_lt, sum_by, slice_get, unwrap_or, IsTrue, is_none, if◌then◌else◌}
 use Rattle.std.specs.List.{list_all}
 use Rattle.std.specs.Option.{option_map_or}
-use Rattle.std.specs.Ordering.{eq_by_cmp, is_eq, nat_cmp}
+use Rattle.std.specs.Ordering.{eq_by_cmp, is_eq}
 use Rattle.std.specs.declared.cmp.Ordering.{Ordering}
 use Rattle.std.specs.declared.cmp.Ordering.TheVariants.{Less, Equal, Greater}
 use Rattle.std.specs.FinMap as map
-use Rattle.std.specs.FinMap.{FinMap, find, get-entries, get-empty, get-insert, len-entries, len-empty, nat_cmp-IsAntisymmetric, slice_cmp-IsAntisymmetric}
+use Rattle.std.specs.FinMap.{find, get-entries, get-empty, get-insert, len-entries, len-empty, nat_cmp-IsAntisymmetric, slice_cmp-IsAntisymmetric}
 use Rattle.std.specs.Cmp.Lexicographic.{nat_list_cmp_total}
-use Rattle.std.proofs.Common.{◌≡◌, ℕ, zero, suc, Bool, true, false, cond, ◌&&◌, ◌||◌, ◌==◌, List, [], ◌∷◌, ◌++◌, length, All, Option, Some, None, Ok, refl, sym, ap, ◌∙◌, subst, arith}
+use Rattle.std.proofs.Common.{◌≡◌, ℕ, zero, suc, Bool, true, false, cond, ◌&&◌, List, [], ◌∷◌, ◌++◌, length, All, Option, Some, None, refl, sym, ap, ◌∙◌, subst, arith}
 use Rattle.std.proofs.lemmas.Bool.{true≢false}
 use Rattle.std.proofs.lemmas.Bool.Decides.{nat_tests}
 use Rattle.std.proofs.lemmas.List.{nil_from_length}
-use Rattle.std.proofs.lemmas.List.Elements.{All-weaker, All-nil, All-cons, All-head, All-tail}
+use Rattle.std.proofs.lemmas.List.Elements.{All-weaker}
 use Rattle.std.proofs.lemmas.Slice.Eq.{bytes_eq-Decides}
 use Rattle.percent_encoding.proofs.PercentLemmas.{IsByte}
 use Rattle.json_values.specs.Places.{by_bytes}
 use Rattle.url.specs.Parts.{Parts, serialize}
-use Rattle.url.specs.Parser.{Parsed, parse_url}
+use Rattle.url.specs.Parser.{parse_url}
 use Rattle.url.proofs.InputLemmas.{list_all_from_All}
 use Rattle.url.proofs.Theorems.{parse_url-serialize_special}
-use Rattle.oci_transport.specs.Headers.{Fields, first_of, values_of, added, held, is_value_byte, is_header_value, is_text_byte, is_text, header_text}
+use Rattle.oci_transport.specs.Headers.{first_of, values_of, added, held, is_value_byte, is_header_value, is_text_byte, is_text}
 use Rattle.oci_transport.specs.Redirects.{text_of, may_follow, is_redirect_status, kept_headers, moved, moved_text, moved_from, moved_to, joined_text, location_of, redirected}
 use Rattle.oci_transport.specs.Urls.{request_url, same_origin}
 use Rattle.oci_transport.specs.declared.message.Request.{Request}
@@ -38,7 +38,7 @@ use Rattle.oci_link.specs.Table.{answer, at_path, redirect_to, unless_redirected
 use Rattle.oci_link.specs.declared.shelf.Shelf.{Shelf}
 use Rattle.shelf_laws.specs.Comes.{IsHeld, Comes}
 use Rattle.shelf_laws.proofs.Coming.{Stands, Comes-follow}
-use Rattle.shelf_laws.proofs.ReadUrls.{Visible, IsRead, request_read, url_read_is}
+use Rattle.shelf_laws.proofs.ReadUrls.{Visible, request_read}
 
 -- ---- each redirect
 

@@ -14,11 +14,10 @@ use Rattle.oci_manifests.specs.declared.document.OciManifest.TheVariants.{ImageI
 use Rattle.oci_manifests.specs.declared.index.OciImageIndex.{OciImageIndex}
 use Rattle.oci_transport.specs.Redirects.{may_follow, is_redirect_status}
 use Rattle.oci_transport.specs.declared.message.Answer.{Answer}
-use Rattle.oci_transport.specs.declared.message.Request.{Request}
 use Rattle.oci_transport.specs.declared.message.Method.TheVariants.{Get}
 use Rattle.oci_protocol.specs.Proto.{Done, ◌>>=◌}
 use Rattle.oci_link.specs.PlainPaths.{Segment}
-use Rattle.oci_link.specs.Table.{answer, found, not_found, bytes_answer, referrers_answer, digest_named}
+use Rattle.oci_link.specs.Table.{answer, found, bytes_answer, referrers_answer, digest_named}
 use Rattle.oci_link.specs.declared.shelf.Shelf.{Shelf}
 use Rattle.engine_requests.specs.declared.answers.Got.{Got}
 use Rattle.engine_requests.specs.declared.error.OciDistributionError.{OciDistributionError}

@@ -1,11 +1,11 @@
 -- A host that is read in a URL of http or https is one that a URL may have.
-use Rattle.std.specs.Prelude.{replicate, codes, IsTrue}
+use Rattle.std.specs.Prelude.{replicate, codes}
 use Rattle.std.specs.List.{list_any}
 use Rattle.std.specs.Int.{w32, to_be_bytes}
 use Rattle.std.specs.Net.Addr.{segments_of}
 use Rattle.std.specs.Net.Grammar.{IsDotted, IsGroup, IsGroupsAfter, IsColonHex}
 use Rattle.std.specs.Net.Reader.{whole_value, read_ipv6}
-use Rattle.std.proofs.Common.{◌≡◌, ◌⊎◌, inl, inr, ℕ, zero, suc, ◌<◌, ◌≤◌, ◌+◌, ◌-◌, ◌*◌, ◌^◌, Bool, true, false, cond, ◌==◌, List, [], ◌∷◌, ◌++◌, length, get_or, Option, Some, None, Ok, Err, refl, sym, ap, ◌∙◌, subst, arith, lit≤}
+use Rattle.std.proofs.Common.{◌≡◌, inl, inr, ℕ, zero, suc, ◌<◌, ◌≤◌, ◌+◌, ◌-◌, ◌*◌, ◌^◌, Bool, true, false, cond, ◌==◌, List, [], ◌∷◌, ◌++◌, length, get_or, Option, Some, None, Ok, Err, refl, sym, ap, ◌∙◌, subst, arith, lit≤}
 use Rattle.std.proofs.lemmas.Int.Digits.{digits_value-lt}
 use Rattle.std.proofs.lemmas.List.{length-append, length-replicate}
 use Rattle.std.proofs.Math.Nat.{pow-le-pow_right}
@@ -19,7 +19,6 @@ use Rattle.url.specs.Input.{is_empty}
 use Rattle.url.specs.Ipv4.{ends_in_a_number, parse_ipv4}
 use Rattle.url.specs.Parser.{Parsed, and_then}
 use Rattle.url.proofs.HostLemmas.{none_from_list_any, ascii_domain-lower}
-use Rattle.url.proofs.PiecesLemmas.{option_cases}
 
 -- ---- steps that were not refused
 

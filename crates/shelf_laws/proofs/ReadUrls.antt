@@ -1,12 +1,12 @@
 -- What is read as a URL of http or https is a valid URL, and its text is visible.
-use Rattle.std.specs.Prelude.{IfSome, is_some, unwrap_or, option_map, decimal, codes, bytes_eq, string_bytes}
+use Rattle.std.specs.Prelude.{IfSome, is_some, unwrap_or, option_map, decimal, codes, bytes_eq}
 use Rattle.std.specs.Prelude.{◌^◌, nat_lt, nat_eq}
 use Rattle.std.specs.Char.{is_ascii_digit}
 use Rattle.std.specs.Option.{option_eq}
 use Rattle.std.specs.Str.Parse.{digits_value}
-use Rattle.std.specs.List.{concat, list_all, prefix_len, suffix_len}
+use Rattle.std.specs.List.{list_all, prefix_len, suffix_len}
 use Rattle.std.specs.Int.{IsInRange}
-use Rattle.std.proofs.Common.{◌≡◌, ◌⊎◌, inl, inr, ℕ, zero, suc, ◌<◌, ◌≤◌, ◌+◌, ◌-◌, Bool, true, false, cond, not, ◌&&◌, ◌||◌, ◌==◌, leb, List, [], ◌∷◌, ◌++◌, take, drop, length, get_or, filter, All, Option, Some, None, Ok, Err, refl, sym, ap, ◌∙◌, subst, arith, lit<, ⊎_elim}
+use Rattle.std.proofs.Common.{◌≡◌, ◌⊎◌, inl, inr, ℕ, ◌<◌, ◌+◌, ◌-◌, Bool, true, false, cond, not, ◌&&◌, ◌||◌, ◌==◌, leb, List, [], ◌∷◌, ◌++◌, take, drop, length, get_or, All, Option, Some, None, Ok, Err, refl, sym, ap, ◌∙◌, subst, arith, lit<, ⊎_elim}
 use Rattle.std.proofs.lemmas.Bool.{cond_both, and_parts, eq-eqb, ltb-true, true≢false}
 use Rattle.std.proofs.lemmas.Bool.Decides.{nat_tests}
 use Rattle.std.proofs.lemmas.Fmt.{digits_decimal}
@@ -15,8 +15,7 @@ use Rattle.std.proofs.lemmas.Slice.Eq.{bytes_eq-Decides}
 use Rattle.std.proofs.lemmas.Str.Parse.{numerals_by_value, tells_by_index}
 use Rattle.percent_encoding.specs.declared.ascii_set.TheConstants.{CONTROLS}
 use Rattle.percent_encoding.specs.Percent.{IsKept, percent_encode}
-use Rattle.percent_encoding.proofs.PercentLemmas.{IsByte, IsEscapeByte, All-percent_encode}
-use Rattle.url.specs.declared.error.ParseError.{ParseError}
+use Rattle.percent_encoding.proofs.PercentLemmas.{IsByte, All-percent_encode}
 use Rattle.url.specs.declared.host.Host.{Host}
 use Rattle.url.specs.declared.host.Host.TheVariants.{Domain, Ipv4, Ipv6}
 use Rattle.url.specs.declared.scheme.SchemeType.{SchemeType}
@@ -24,10 +23,10 @@ use Rattle.url.specs.declared.scheme.SchemeType.TheVariants.{File, SpecialNotFil
 use Rattle.url.specs.declared.sets.TheConstants.{USERINFO, PATH, SPECIAL_QUERY, QUERY, FRAGMENT, FORBIDDEN_HOST, FORBIDDEN_DOMAIN}
 use Rattle.url.specs.Head.{scheme_only, with_authority}
 use Rattle.url.specs.Host.{host_text, is_empty_host, parse_host, parse_file_host, IsHostOf}
-use Rattle.url.specs.Input.{is_empty, when, is_c0_control_or_space, is_tab_or_new_line, trim_start, trim_c0_control_and_space, strip_tabs_and_new_lines, lowercase, split_once, rsplit_once}
-use Rattle.url.specs.Parser.{Parsed, and_then, split_port, without_default_port, parse_port, lacks_host, parse_authority, with_path, leading_slashes, skip_slashes, after_double_slash, parse_non_special, after_file_double_slash, file_with_host, file_start, parse_file, parse_not_file, parse_body, with_tail, before_tail, parse_all, parse_parts, split_scheme, base_for_scheme, parse_by_scheme, parse_url}
+use Rattle.url.specs.Input.{is_empty, when, is_c0_control_or_space, is_tab_or_new_line, trim_c0_control_and_space, strip_tabs_and_new_lines, lowercase, split_once, rsplit_once}
+use Rattle.url.specs.Parser.{Parsed, and_then, split_port, without_default_port, parse_port, lacks_host, parse_authority, with_path, leading_slashes, skip_slashes, after_double_slash, parse_non_special, after_file_double_slash, file_with_host, parse_file, parse_not_file, parse_body, with_tail, before_tail, parse_parts, split_scheme, parse_by_scheme, parse_url}
 use Rattle.url.specs.Parts.{Parts, kind_of, has_authority, has_credentials, host_or_empty, needs_guard, query_set, pieces, serialize, IsPortOf, IsValidHead, IsHierarchicalPath, IsValid}
-use Rattle.url.specs.Path.{segment_len, dot_count, is_windows_drive_letter, shorten_path, without_last_segment, segment_text, escape_end, push_segment, parse_segments, parse_path, parse_path_start, IsSegmentList}
+use Rattle.url.specs.Path.{segment_len, dot_count, is_windows_drive_letter, shorten_path, without_last_segment, escape_end, push_segment, parse_segments, parse_path, parse_path_start, IsSegmentList}
 use Rattle.url.specs.Scheme.{IsScheme, scheme_type, default_port, is_special, is_file, is_slash, is_scheme_byte, scheme_len}
 use Rattle.url.proofs.HostLemmas.{All-host_text}
 use Rattle.url.proofs.InputLemmas.{Passes, rsplit_once_front}
@@ -38,7 +37,7 @@ use Rattle.url.proofs.PiecesLemmas.{option_cases}
 use Rattle.url.proofs.SchemeLemmas.{scheme_bytes}
 use Rattle.url.proofs.SetLemmas.{passes_from_kept}
 use Rattle.url.proofs.SetterLemmas.{valid_with_authority}
-use Rattle.url.proofs.TextLemmas.{EachAll, All-concat, All_one, All_kept, All_part}
+use Rattle.url.proofs.TextLemmas.{All-concat, All_one, All_part}
 use Rattle.url.proofs.ValidLemmas.{IsValid-with_tail}
 use Rattle.oci_transport.specs.Urls.{is_web, readable, request_url}
 use Rattle.shelf_laws.proofs.ReadHosts.{ok_then, by_test, same_ok, host_valid}

@@ -1,15 +1,13 @@
 -- The requests that can be made, and how an answer of status 200 comes.
 use Rattle.std.specs.Prelude.{codes, nat_lt, sum_by, unwrap_or, IsTrue, if◌then◌else◌}
 use Rattle.std.specs.FinMap as map
-use Rattle.std.specs.FinMap.{entries-insert, len-entries, len-empty, get-empty, get-insert, put}
+use Rattle.std.specs.FinMap.{entries-insert, get-empty, get-insert, put}
 use Rattle.std.specs.Cmp.Lexicographic.{nat_list_cmp_total}
-use Rattle.std.proofs.Common.{◌≡◌, ◌≤◌, ℕ, zero, suc, Bool, true, false, ◌&&◌, List, [], ◌∷◌, ◌++◌, length, Option, Some, None, Result, Ok, Err, refl, sym, ap, ◌∙◌, subst}
+use Rattle.std.proofs.Common.{◌≡◌, ◌≤◌, ℕ, true, ◌&&◌, List, [], ◌∷◌, ◌++◌, length, Option, Some, None, Result, Ok, Err, refl, sym, ap, ◌∙◌, subst}
 use Rattle.std.proofs.lemmas.Bool.{le-ltb}
-use Rattle.std.proofs.lemmas.List.{nil_from_length}
 use Rattle.url.specs.Parts.{Parts, serialize}
 use Rattle.json_values.specs.Places.{by_bytes}
-use Rattle.oci_transport.specs.Headers.{Fields, values_of, first_of, added, held, is_header_value}
-use Rattle.oci_transport.specs.Redirects.{may_follow, is_redirect_status, redirected, moved_to, location_of}
+use Rattle.oci_transport.specs.Headers.{Fields, values_of, added, held, is_header_value}
 use Rattle.oci_transport.specs.Urls.{request_url}
 use Rattle.oci_transport.specs.declared.message.Request.{Request}
 use Rattle.oci_transport.specs.declared.message.Answer.{Answer}
@@ -27,7 +25,6 @@ use Rattle.engine_requests.specs.Addresses.{url_or, url_read}
 use Rattle.engine_requests.specs.Requests.{with_header, with_token, request_of}
 use Rattle.shelf_laws.specs.Comes.{Yields}
 use Rattle.shelf_laws.specs.Home.{front_of, Home}
-use Rattle.shelf_laws.proofs.Coming.{Stands}
 use Rattle.shelf_laws.proofs.Leading.{no_entries, none_held}
 use Rattle.shelf_laws.proofs.Places.{reads_at}
 

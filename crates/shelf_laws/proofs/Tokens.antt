@@ -1,16 +1,16 @@
 -- The token of a request to a shelf: what is kept, or what the credentials are by themselves.
-use Rattle.std.specs.Prelude.{codes, nat_le, slice_get, unwrap_or, option_and_then}
+use Rattle.std.specs.Prelude.{codes, nat_le, option_and_then}
 use Rattle.std.specs.Option.{option_map_or}
 use Rattle.std.specs.FinMap as map
 use Rattle.std.specs.FinMap.{get-empty, get-insert}
 use Rattle.std.specs.Cmp.{eq_by_cmp_equiv}
 use Rattle.std.specs.Cmp.Lexicographic.{nat_list_cmp_total}
-use Rattle.std.proofs.Common.{◌≡◌, inl, inr, ℕ, Bool, true, false, cond, List, [], ◌++◌, is_some, Option, Some, None, Ok, refl, sym, ap, ◌∙◌, subst}
+use Rattle.std.proofs.Common.{◌≡◌, inl, inr, ℕ, Bool, true, false, cond, List, ◌++◌, is_some, Option, Some, None, Ok, refl, sym, ap, ◌∙◌, subst}
 use Rattle.url.specs.Parts.{Parts, serialize}
 use Rattle.json_values.specs.Places.{by_bytes}
 use Rattle.oci_names.specs.declared.reference.Reference.{Reference}
 use Rattle.oci_names.specs.References.{repository_of, resolved_registry}
-use Rattle.oci_transport.specs.Headers.{Fields, first_of, is_header_value}
+use Rattle.oci_transport.specs.Headers.{first_of, is_header_value}
 use Rattle.oci_transport.specs.Urls.{request_url}
 use Rattle.oci_transport.specs.declared.message.Request.{Request}
 use Rattle.oci_transport.specs.declared.message.AnswerHead.{AnswerHead}
