@@ -172,7 +172,7 @@ module _ {V : Type 0} {H : V → Type 0} (meaning : Meaning V H) (s : Settings) 
   spelling = spelled image valid.asked.reads_back_is
 
   home : Home s registry shelf
-  home = record { written = valid.asked.written; domain = resolved_domain image spelling; path = subst Path valid.asked.repository_is spelling.path; agent = valid.asked.agent; direct = valid.asked.direct }
+  home = record { written = valid.asked.written; domain = resolved_domain image spelling; path = subst Path valid.asked.repository_is spelling.path; agent = valid.asked.agent; lead = valid.asked.lead }
 
   at_image : IsAt registry shelf image
   at_image = record { registry_is = refl; repository_is = valid.asked.repository_is; no_mirror = ap (λ (m : Option (List ℕ)). if is_some m then Some (registry_of image) else None) spelling.no_mirror }
