@@ -2,6 +2,7 @@
 #![tactic(auto)]
 
 mod auth;
+mod laws;
 mod manifest_settings;
 mod pull_settings;
 mod referrers_settings;
@@ -9,6 +10,7 @@ mod text;
 mod written;
 
 pub use auth::Auth;
+pub use laws::keys_tell_settings;
 pub use manifest_settings::PullManifestSettings;
 pub use pull_settings::PullSettings;
 pub use referrers_settings::PullReferrersSettings;

@@ -6,7 +6,7 @@ ghost use Rattle.sig_settings.specs.Keys.{manifest_key};
 ghost use Rattle.sig_settings.specs.Settings.{manifest_value};
 
 use crate::auth::Auth;
-use crate::text::digits_of;
+use crate::text::{digits_of, text_of};
 use crate::written::Written;
 use json_values::{Blob, Copied, Text, ToValue, copy_all, row};
 use json_writing::object;
@@ -47,11 +47,11 @@ impl PullManifestSettings {
     }
 
     /// The canonical text (RFC 8785) of the settings.
-    pub fn key_text(&self, _alloc: Global) -> Result<Blob, AllocError>
+    pub fn key_text(&self, alloc: Global) -> Result<Blob, AllocError>
         ensures key { IfOk result (λ text. text ≡ manifest_key self.now.image self.now.auth) }
         ensures canonical { IfOk result (λ text. Canonical (manifest_value self.now) text) }
     {
-        Err(AllocError)
+        text_of(alloc, self)
     }
 
     /// The 64 lower-case digits of the SHA-256 of the key text.

@@ -6,7 +6,7 @@ ghost use Rattle.sig_settings.specs.Keys.{pull_key};
 ghost use Rattle.sig_settings.specs.Settings.{pull_value};
 
 use crate::auth::Auth;
-use crate::text::digits_of;
+use crate::text::{digits_of, text_of};
 use crate::written::Written;
 use json_values::{Blob, Copied, List, Text, ToValue, copy_all, row};
 use json_writing::object;
@@ -68,12 +68,12 @@ impl PullSettings {
     }
 
     /// The canonical text (RFC 8785) of the settings.
-    pub fn key_text(&self, _alloc: Global) -> Result<Blob, AllocError>
+    pub fn key_text(&self, alloc: Global) -> Result<Blob, AllocError>
         ensures key { IfOk result (λ text. text
             ≡ pull_key self.now.image self.now.auth self.now.accepted_media_types) }
         ensures canonical { IfOk result (λ text. Canonical (pull_value self.now) text) }
     {
-        Err(AllocError)
+        text_of(alloc, self)
     }
 
     /// The 64 lower-case digits of the SHA-256 of the key text.
