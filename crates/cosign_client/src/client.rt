@@ -9,7 +9,7 @@ ghost use Rattle.cosign_chain.specs.Chain.{Chain};
 ghost use Rattle.cosign_chain.specs.Links.{Links};
 ghost use Rattle.cosign_layers.specs.Standing.{meaning};
 ghost use Rattle.sig_registry.specs.Confinement.{Stays};
-ghost use Rattle.sig_registry.specs.Conversions.{registry_auth};
+ghost use Rattle.sig_settings.specs.Auths.{registry_auth};
 ghost use Rattle.sig_registry.specs.Direct.{reference_in};
 ghost use Rattle.sig_registry.specs.Errors.{is_memory as of_memory};
 ghost use Rattle.sig_registry.specs.Errors.{FaultCounted as SearchFaultCounted, NoSinkFault as NoSinkInSearch};

@@ -28,7 +28,7 @@ use Rattle.cosign_client.specs.Sound.{Sound}
 use Rattle.cosign_client.specs.Verified.{Whole, constrained, is_unconstrained, readable, part_of, stands_by, standing_by, verified_image, after_search, verified}
 use Rattle.cosign_client.specs.declared.refusal.PullRefusal.{PullRefusal}
 use Rattle.cosign_client.proofs.Images.{Seen}
-use Rattle.cosign_client.proofs.Chains.{verified_shows}
+use Rattle.cosign_client.proofs.Chains.{verified_seen}
 use Rattle.engine_requests.specs.Contexts.{Context}
 use Rattle.std.specs.Prelude.{find}
 use Rattle.pull_case.specs.Policy.{constraint_by, constraints_by, policy_of, meaning_of, trust_of}
@@ -92,13 +92,13 @@ row_same {V} {H} policy own case image is =
     ∙ ap (λ (f : SignatureLayer → Bool). by_parts (within (settings_of case) moment) image case.auth case.accepted (is_unconstrained (policy_of case)) f (trust_of case)) (fun_ext (λ layer. stands_same V ⊥ H (λ v. ⊥) own (λ box layer. false) case.keys case.constraints (valid_in (record { rows = case.signatures })) layer))
     ∙ sym (is_by_parts (meaning_of case) (within (settings_of case) moment) image case.auth case.accepted))
 
-sound_result : (case : Case) (image : Reference) (moment : ℕ) (k l : Kept) (m n : ℕ) (c : List Exchange) (r : Result VerifiedImage PullRefusal) → SeenKept (λ k. Sound k (within (settings_of case) moment) (meaning_of case) image case.auth case.accepted) k m c n l r → SoundResult case image k moment c r
-sound_result case image moment k l m n c (Ok v) h = h
-sound_result case image moment k l m n c (Err e) h = tt
+sound_result : (case : Case) (image : Reference) (k : Kept) (moment m n : ℕ) (c : List Exchange) (r : Result VerifiedImage PullRefusal) → Seen (Sound k (within (settings_of case) moment) (meaning_of case) image case.auth case.accepted) m c n r → SoundResult case image k moment c r
+sound_result case image k moment m n c (Ok v) h = h
+sound_result case image k moment m n c (Err e) h = tt
 
 each_sound : (case : Case) (image : Reference) (k l : Kept) (m n : ℕ) (talks : List Talk) → InTurn (row_of case image) k m talks l n → EachSound case image talks
 each_sound case image k l m n [] h = tt
-each_sound case image k l m n (talk ∷ talks) h = (sound_result case image talk.moment talk.before h.1 m h.2 talk.conversation talk.result ((verified_shows (within (settings_of case) talk.moment) (meaning_of case) image case.auth case.accepted).shows talk.before h.1 m h.2 talk.conversation talk.result h.3), each_sound case image h.1 l h.2 n talks h.4)
+each_sound case image k l m n (talk ∷ talks) h = (sound_result case image talk.before talk.moment m h.2 talk.conversation talk.result ((verified_seen talk.before (within (settings_of case) talk.moment) (meaning_of case) image case.auth case.accepted).seen h.1 m h.2 talk.conversation talk.result h.3), each_sound case image h.1 l h.2 n talks h.4)
 
 -- what was played of a case is its report
 pub reports_case : {V : Type 0} {H : V → Type 0} (policy : PullPolicy V H) (own : DynBox V Global H → SignatureLayer → Bool) (case : Case) (image : Reference) (l : Kept) (made : Report)
