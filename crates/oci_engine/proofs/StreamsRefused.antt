@@ -90,15 +90,15 @@ partial_early s image layer range h = early_on (opened s image layer (Some range
 
 -- ---- results: what the code answers is what the row answers
 
-same_refusal : {A B : Type 0} (e x : OciDistributionError) → IsRefusedAs {A = A} e (Err x) → IsRefusedAs {A = B} e (Err x)
-same_refusal {A} {B} e x h = by_kind (is_memory x) h where
+same_refusal : (A B : Type 0) (e x : OciDistributionError) → IsRefusedAs {A = A} e (Err x) → IsRefusedAs {A = B} e (Err x)
+same_refusal A B e x h = by_kind (is_memory x) h where
   by_kind : (b : Bool) → MatchBool b (Unit {0}) (◌≡◌ {A = Result A OciDistributionError} (Err x) (Err e)) → MatchBool b (Unit {0}) (◌≡◌ {A = Result B OciDistributionError} (Err x) (Err e))
   by_kind true h = tt
   by_kind false h = let same : x ≡ e = cc h in ap (λ (x : OciDistributionError). Err x) same
 
 stream_only : (e : OciDistributionError) (r : Result SizedStream OciDistributionError) → IsRefusedAs e (opening_in r) → IsRefusedAs e r
 stream_only e (Ok stream) h = absurd (cc h)
-stream_only e (Err x) h = same_refusal e x h
+stream_only e (Err x) h = same_refusal _ _ e x h
 
 stream_early : (r : Result SizedStream OciDistributionError) → IsEarly (opening_in r) → IsEarly r
 stream_early (Ok stream) h = absurd h
@@ -106,7 +106,7 @@ stream_early (Err x) h = h
 
 response_only : (e : OciDistributionError) (r : Result BlobResponse OciDistributionError) → IsRefusedAs e (response_in r) → IsRefusedAs e r
 response_only e (Ok response) h = absurd (cc h)
-response_only e (Err x) h = same_refusal e x h
+response_only e (Err x) h = same_refusal _ _ e x h
 
 response_early : (r : Result BlobResponse OciDistributionError) → IsEarly (response_in r) → IsEarly r
 response_early (Ok response) h = absurd h
