@@ -12,6 +12,7 @@ use Rattle.oci_manifests.specs.declared.document.OciManifest.{OciManifest}
 use Rattle.oci_manifests.specs.declared.index.OciImageIndex.{OciImageIndex}
 use Rattle.oci_protocol.specs.Lift.{lifted}
 use Rattle.oci_protocol.specs.Runs.{Meets, Told}
+use Rattle.oci_protocol.proofs.Extending.{Extends-none}
 use Rattle.oci_protocol.proofs.Lifting.{Meets-lifted}
 use Rattle.engine_requests.specs.declared.settings.Settings.{Settings}
 use Rattle.engine_requests.specs.declared.error.OciDistributionError.TheVariants as engine
@@ -79,15 +80,18 @@ Memory r = IsErrAnd r (λ e. e ≡ refusal.WantOfMemory)
 memory_says : {A : Type 0} (r said : Result A SigstoreError) → Memory r → Says r said
 memory_says {A} r said is = let at = err_from_is_err_and r is in let whole : r ≡ Err refusal.WantOfMemory = at.1 ∙ ap Err at.2 in subst (λ (x : Result A SigstoreError). Says x said) (sym whole) tt
 
-module _ {A : Type 0} (cache : Cache A) (law : IsCache cache) (call : Call) (now : ℕ) (row : Settings → Plain A) (kind_is : kind_called call ≡ cache.kind) (is_call : (s : Settings) → call_made (within s now) call ≡ answering cache (row s)) where
-  -- what a call shows, but for where its faults and its credentials come from and go
-  pub record Facts (c d : Client) (old new : Link) (r : Result A SigstoreError) : Type 0 where
-    pub run : (s : Settings) → Made is_memory s (cached (reads_back (image_called call)) cache (key_called call) now (row s)) c d old new r
-    pub refused : RefusalKeeps c d r
-    pub recalled : Recalled cache call now c d old new r
-    pub logged : (s : Settings) → Logged s cache call now c d old new r
+-- what a call shows, but for where its faults come from and where credentials go
+pub record Facts {A : Type 0} (cache : Cache A) (call : Call) (now : ℕ) (row : Settings → Plain A) (c d : Client) (old new : Link) (r : Result A SigstoreError) : Type 0 where
+  pub run : (s : Settings) → Made is_memory s (cached (reads_back (image_called call)) cache (key_called call) now (row s)) c d old new r
+  pub refused : RefusalKeeps c d r
+  pub recalled : Recalled cache call now c d old new r
+  pub logged : (s : Settings) → Logged s cache call now c d old new r
 
-  facts : {c d : Client} {old new : Link} {r : Result A SigstoreError} → ((s : Settings) → Made is_memory s (cached (reads_back (image_called call)) cache (key_called call) now (row s)) c d old new r) → RefusalKeeps c d r → Recalled cache call now c d old new r → Facts c d old new r
+module _ {A : Type 0} (cache : Cache A) (law : IsCache cache) (call : Call) (now : ℕ) (row : Settings → Plain A) (kind_is : kind_called call ≡ cache.kind) (is_call : (s : Settings) → call_made (within s now) call ≡ answering cache (row s)) where
+  abbrev Of : Client → Client → Link → Link → Result A SigstoreError → Type 0
+  Of c d old new r = Facts cache call now row c d old new r
+
+  facts : {c d : Client} {old new : Link} {r : Result A SigstoreError} → ((s : Settings) → Made is_memory s (cached (reads_back (image_called call)) cache (key_called call) now (row s)) c d old new r) → RefusalKeeps c d r → Recalled cache call now c d old new r → Of c d old new r
   facts run refused recalled = record { run = run; refused = refused; recalled = recalled; logged = λ s. logged_call cache law call now row kind_is is_call s (reads_back (image_called call)) (run s) refused }
 
   -- where no answer is known, none is given again
@@ -95,7 +99,7 @@ module _ {A : Type 0} (cache : Cache A) (law : IsCache cache) (call : Call) (now
   unknown none = record { recalled = λ answer reads is. absurd (cc (none, is)) }
 
   -- memory was wanting before anything was done
-  pub absent : {c : Client} {link : Link} {r : Result A SigstoreError} → Memory r → Facts c c link link r
+  pub absent : {c : Client} {link : Link} {r : Result A SigstoreError} → Memory r → Of c c link link r
   absent {c} {link} {r} err = facts (λ s. record { made = λ at. (at, kept.absent err) }) (λ _. refl) (record { recalled = λ answer reads is. (memory_says r (Ok answer) err, refl, refl) })
 
   module _ {x : Option Answers} {key : List ℕ} (reads : key_if (reads_back (image_called call)) (key_called call) ≡ Some key) where
@@ -106,7 +110,7 @@ module _ {A : Type 0} (cache : Cache A) (law : IsCache cache) (call : Call) (now
     read_back = (key_there (reads_back (image_called call)) reads).0
 
     -- a fresh answer is given again
-    pub recalls : {e : Engine} {link : Link} (a : A) → known cache key now x ≡ Some a → Facts (engine_state e x) (engine_state e x) link link (Ok a)
+    pub recalls : {e : Engine} {link : Link} (a : A) → known cache key now x ≡ Some a → Of (engine_state e x) (engine_state e x) link link (Ok a)
     recalls {e} {link} a is = facts
         (λ s. record { made = λ at. (at, kept.reads cache (key_called call) now (row s) (reads_back (image_called call)) read_back (kept.recall cache (key_called call) now (row s) a (at_key is))) })
         (λ h. absurd (cc h))
@@ -115,36 +119,36 @@ module _ {A : Type 0} (cache : Cache A) (law : IsCache cache) (call : Call) (now
       at_answer {answer} found = let same : Some a ≡ Some answer = sym (at_key is) ∙ found in cc same
 
     -- the plain call was refused, or cut off
-    pub refuses : {e f : Engine} {old new : Link} {y : SigstoreError} {r : Result A SigstoreError} → known cache key now x ≡ None → ((s : Settings) → PlainlyMade s (row s) e f old new (Err y)) → IsErrAnd r (λ z. z ≡ y) → Facts (engine_state e x) (engine_state f x) old new r
+    pub refuses : {e f : Engine} {old new : Link} {y : SigstoreError} {r : Result A SigstoreError} → known cache key now x ≡ None → ((s : Settings) → PlainlyMade s (row s) e f old new (Err y)) → IsErrAnd r (λ z. z ≡ y) → Of (engine_state e x) (engine_state f x) old new r
     refuses {e} {f} {old} {new} {y} {r} is plain err = let at = err_from_is_err_and r err in let whole : r ≡ Err y = at.1 ∙ ap Err at.2 in
-        subst (λ (z : Result A SigstoreError). Facts (engine_state e x) (engine_state f x) old new z) (sym whole) (facts
+        subst (λ (z : Result A SigstoreError). Of (engine_state e x) (engine_state f x) old new z) (sym whole) (facts
         (λ s. record { made = λ same. let made = (plain s).made same in (made.0, kept.reads cache (key_called call) now (row s) (reads_back (image_called call)) read_back (kept.not_given cache (key_called call) now (row s) (at_key is) made.1)) })
         (λ _. refl)
         (unknown (at_key is)))
 
     -- memory was wanting to keep the plain call's answer
-    pub cuts : {e f : Engine} {old new : Link} {a : A} {r : Result A SigstoreError} → known cache key now x ≡ None → ((s : Settings) → PlainlyMade s (row s) e f old new (Ok a)) → Memory r → Facts (engine_state e x) (engine_state f x) old new r
+    pub cuts : {e f : Engine} {old new : Link} {a : A} {r : Result A SigstoreError} → known cache key now x ≡ None → ((s : Settings) → PlainlyMade s (row s) e f old new (Ok a)) → Memory r → Of (engine_state e x) (engine_state f x) old new r
     cuts {a = a} is plain err = facts
         (λ s. record { made = λ same. let made = (plain s).made same in (made.0, kept.reads cache (key_called call) now (row s) (reads_back (image_called call)) read_back (kept.cut_after cache (key_called call) now (row s) a (at_key is) made.1 err)) })
         (λ _. refl)
         (unknown (at_key is))
 
     -- the plain call answered, and its answer is kept under the key
-    pub keeps : {e f : Engine} {old new : Link} {a : A} → known cache key now x ≡ None → ((s : Settings) → PlainlyMade s (row s) e f old new (Ok a)) → Facts (engine_state e x) (engine_state f (option_map (keep (entry key now (cache.kept_as a))) x)) old new (Ok a)
-    keeps {e} {f} {old} {new} {a} is plain = subst (λ k. Facts (engine_state e x) (engine_state f (option_map (keep (entry k now (cache.kept_as a))) x)) old new (Ok a)) (sym (key_there (reads_back (image_called call)) reads).1) (facts
+    pub keeps : {e f : Engine} {old new : Link} {a : A} → known cache key now x ≡ None → ((s : Settings) → PlainlyMade s (row s) e f old new (Ok a)) → Of (engine_state e x) (engine_state f (option_map (keep (entry key now (cache.kept_as a))) x)) old new (Ok a)
+    keeps {e} {f} {old} {new} {a} is plain = subst (λ k. Of (engine_state e x) (engine_state f (option_map (keep (entry k now (cache.kept_as a))) x)) old new (Ok a)) (sym (key_there (reads_back (image_called call)) reads).1) (facts
         (λ s. record { made = λ same. let made = (plain s).made same in (made.0, kept.reads cache (key_called call) now (row s) (reads_back (image_called call)) read_back (kept.given cache (key_called call) now (row s) a (at_key is) made.1)) })
         (λ h. absurd (cc h))
         (unknown (at_key is)))
 
   -- the reference does not read back
-  pub uncached : {x : Option Answers} {e f : Engine} {old new : Link} {r : Result A SigstoreError} → key_if (reads_back (image_called call)) (key_called call) ≡ None → ((s : Settings) → PlainlyMade s (row s) e f old new r) → Facts (engine_state e x) (engine_state f x) old new r
+  pub uncached : {x : Option Answers} {e f : Engine} {old new : Link} {r : Result A SigstoreError} → key_if (reads_back (image_called call)) (key_called call) ≡ None → ((s : Settings) → PlainlyMade s (row s) e f old new r) → Of (engine_state e x) (engine_state f x) old new r
   uncached missing plain = let unread = key_missing (reads_back (image_called call)) missing in facts
       (λ s. record { made = λ same. let made = (plain s).made same in (made.0, kept.unread cache (key_called call) now (row s) (reads_back (image_called call)) unread made.1) })
       (λ _. refl)
       (record { recalled = λ answer reads is. absurd (cc (unread, reads)) })
 
   -- no answers are kept
-  pub plainly : {e f : Engine} {old new : Link} {r : Result A SigstoreError} → ((s : Settings) → PlainlyMade s (row s) e f old new r) → Facts (engine_state e None) (engine_state f None) old new r
+  pub plainly : {e f : Engine} {old new : Link} {r : Result A SigstoreError} → ((s : Settings) → PlainlyMade s (row s) e f old new r) → Of (engine_state e None) (engine_state f None) old new r
   plainly {r = r} plain = facts
       (λ s. record { made = λ same. let made = (plain s).made same in (made.0, kept.plainly cache (key_called call) now (row s) (reads_back (image_called call)) r made.1) })
       (λ _. refl)
@@ -178,7 +182,7 @@ nothing_within : (k : Memories) (s : Context) (image : Reference) (handed : Opti
 nothing_within k s image handed t = record { confined = tt; kept = λ key moment token h. inl h; stored = λ registry a h. inl h }
 
 pub stays_same : {c : Client} {moment : ℕ} {image : Reference} {handed : Option RegistryAuth} {link : Link} → Stays c c moment image handed link link
-stays_same {c} {moment} {image} {handed} {link} = record { conversation = []; told = extends_none link; holds = nothing_within c.kept.0 (within c.settings moment) image handed c.settings }
+stays_same {c} {moment} {image} {handed} {link} = record { conversation = []; told = Extends-none link; holds = nothing_within c.kept.0 (within c.settings moment) image handed c.settings }
 
 pub tag_same : {c : Client} {moment : ℕ} {image : Reference} {handed : Option RegistryAuth} {link : Link} → StaysWithTag c c moment image handed link link
-tag_same {c} {moment} {image} {handed} {link} = record { conversation = []; told = extends_none link; holds = inl (nothing_within c.kept.0 (within c.settings moment) image handed c.settings) }
+tag_same {c} {moment} {image} {handed} {link} = record { conversation = []; told = Extends-none link; holds = inl (nothing_within c.kept.0 (within c.settings moment) image handed c.settings) }

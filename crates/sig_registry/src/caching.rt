@@ -36,8 +36,10 @@ impl OciCachingClient {
         ensures state { caching_state result ≡ engine_state client (Some (none_kept None)) }
         ensures backed { (s : Settings) → IsBacked s (caching_state result).kept.1 [] }
     {
-        let answers = Answers::new(alloc, None);
-        OciCachingClient { client, answers }
+        OciCachingClient {
+            client,
+            answers: Answers::new(alloc, None),
+        }
     }
 
     /// A client that keeps at most so many answers, and so many bytes of them: beyond that those go that were kept
@@ -48,8 +50,10 @@ impl OciCachingClient {
         ensures backed { (s : Settings) → IsBacked s (caching_state result).kept.1 [] }
     {
         let bounds = Bounds { answers, bytes };
-        let answers = Answers::new(alloc, Some(bounds));
-        OciCachingClient { client, answers }
+        OciCachingClient {
+            client,
+            answers: Answers::new(alloc, Some(bounds)),
+        }
     }
 }
 
@@ -66,7 +70,8 @@ impl ClientCapabilities for OciCachingClient {
         image: &Reference,
         auth: &RegistryAuth,
     ) -> Result<Text, SigstoreError> {
-        let Some(key) = manifest_key(alloc, image, auth)? else {
+        let found = manifest_key(alloc, image, auth)?;
+        let Some(key) = found else {
             return digest_made(&mut self.client, alloc, transport, moment, image, auth);
         };
         let known = known_digest(alloc, &self.answers, &key, moment)?;
@@ -88,7 +93,8 @@ impl ClientCapabilities for OciCachingClient {
         accepted_media_types: &[Text],
     ) -> Result<ImageData, SigstoreError> {
         let types = accepted_media_types;
-        let Some(key) = image_key(alloc, image, auth, types)? else {
+        let found = image_key(alloc, image, auth, types)?;
+        let Some(key) = found else {
             return image_made(&mut self.client, alloc, transport, moment, image, auth, types);
         };
         let known = known_image(alloc, &self.answers, &key, moment)?;
@@ -108,7 +114,8 @@ impl ClientCapabilities for OciCachingClient {
         image: &Reference,
         auth: &RegistryAuth,
     ) -> Result<(OciManifest, Text), SigstoreError> {
-        let Some(key) = manifest_key(alloc, image, auth)? else {
+        let found = manifest_key(alloc, image, auth)?;
+        let Some(key) = found else {
             return manifest_made(&mut self.client, alloc, transport, moment, image, auth);
         };
         let known = known_manifest(alloc, &self.answers, &key, moment)?;
@@ -129,7 +136,8 @@ impl ClientCapabilities for OciCachingClient {
         auth: &RegistryAuth,
         artifact_type: Option<&str>,
     ) -> Result<OciImageIndex, SigstoreError> {
-        let Some(key) = list_key(alloc, image, auth, artifact_type)? else {
+        let found = list_key(alloc, image, auth, artifact_type)?;
+        let Some(key) = found else {
             return referrers_made(&mut self.client, alloc, transport, moment, image, auth, artifact_type);
         };
         let known = known_referrers(alloc, &self.answers, &key, moment)?;
