@@ -16,7 +16,7 @@ use Rattle.oci_protocol.proofs.Extending.{Extends-none}
 use Rattle.oci_protocol.proofs.Lifting.{Meets-lifted}
 use Rattle.engine_requests.specs.declared.settings.Settings.{Settings}
 use Rattle.engine_requests.specs.declared.error.OciDistributionError.{OciDistributionError}
-use Rattle.engine_requests.specs.Contexts.{Context, within}
+use Rattle.engine_requests.specs.Contexts.{within}
 use Rattle.engine_pull.specs.declared.image.ImageData.{ImageData}
 use Rattle.engine_laws.specs.Confined.{Within}
 use Rattle.engine_laws.specs.Held.{pulling}
@@ -166,17 +166,20 @@ memory_holds_none f P (Ok a) is held = absurd is
 memory_holds_none f P (Err e) is held = absurd (cc (ap registry_refusal is, held))
 
 -- a refusal that is handed on holds what it held
-pub same_held : {B : Type 0} (A : Type 0) (f : OciDistributionError) (P : Type 0) (e : SigstoreError) (r : Result B SigstoreError) → IsErrAnd r (λ x. x ≡ e) → (IsRefusedBy {A = A} f (Err e) → P) → IsRefusedBy f r → P
+abbrev refused_by : (A : Type 0) → SigstoreError → Result A SigstoreError
+refused_by A e = Err e
+
+pub same_held : {B : Type 0} (A : Type 0) (f : OciDistributionError) (P : Type 0) (e : SigstoreError) (r : Result B SigstoreError) → IsErrAnd r (λ x. x ≡ e) → (IsRefusedBy f (refused_by A e) → P) → IsRefusedBy f r → P
 same_held A f P e (Ok b) is h held = absurd is
 same_held A f P e (Err x) is h held = h (ap registry_refusal (sym is) ∙ held)
 
 -- ---- where nothing was asked
 
-nothing_within : (k : Memories) (s : Context) (image : Reference) (handed : Option RegistryAuth) (t : Settings) → Within (pulling k s image handed) t k []
-nothing_within k s image handed t = record { confined = tt; kept = λ key moment token h. inl h; stored = λ registry a h. inl h }
+nothing_within : (k : Memories) (moment : ℕ) (image : Reference) (handed : Option RegistryAuth) (t : Settings) → Within (pulling k (within t moment) image handed) t k []
+nothing_within k moment image handed t = record { confined = tt; kept = λ key moment token h. inl h; stored = λ registry a h. inl h }
 
-pub stays_same : (k : Memories) (s : Context) (image : Reference) (handed : Option RegistryAuth) (t : Settings) (link : Link) → Told (Within (pulling k s image handed) t k) link link
-stays_same k s image handed t link = record { conversation = []; told = Extends-none link; holds = nothing_within k s image handed t }
+pub stays_same : (k : Memories) (moment : ℕ) (image : Reference) (handed : Option RegistryAuth) (t : Settings) (link : Link) → Told (Within (pulling k (within t moment) image handed) t k) link link
+stays_same k moment image handed t link = record { conversation = []; told = Extends-none link; holds = nothing_within k moment image handed t }
 
-pub tag_same : (k : Memories) (s : Context) (image : Reference) (handed : Option RegistryAuth) (t : Settings) (link : Link) → Told (WithinReferrers (pulling k s image handed) t k) link link
-tag_same k s image handed t link = record { conversation = []; told = Extends-none link; holds = inl (nothing_within k s image handed t) }
+pub tag_same : (k : Memories) (moment : ℕ) (image : Reference) (handed : Option RegistryAuth) (t : Settings) (link : Link) → Told (WithinReferrers (pulling k (within t moment) image handed) t k) link link
+tag_same k moment image handed t link = record { conversation = []; told = Extends-none link; holds = inl (nothing_within k moment image handed t) }
