@@ -64,13 +64,13 @@ referrers_kept = record { kind_is = λ a. refl; reads = reads } where
 
 -- ---- whether the reference reads back
 
-key_there : (b : Bool) {key kept : List ℕ} → key_if b key ≡ Some kept → (b ≡ true) × (kept ≡ key)
-key_there true is = (refl, let same : key_if true _ ≡ Some _ = is in cc same)
-key_there false is = absurd (cc is)
+key_there : (b : Bool) (key kept : List ℕ) → key_if b key ≡ Some kept → (b ≡ true) × (kept ≡ key)
+key_there true key kept is = (refl, cc is)
+key_there false key kept is = absurd (cc is)
 
-key_missing : (b : Bool) {key : List ℕ} → key_if b key ≡ None → b ≡ false
-key_missing true is = absurd (cc is)
-key_missing false is = refl
+key_missing : (b : Bool) (key : List ℕ) → key_if b key ≡ None → b ≡ false
+key_missing true key is = absurd (cc is)
+key_missing false key is = refl
 
 -- ---- exits
 
@@ -102,47 +102,47 @@ module _ {A : Type 0} (cache : Cache A) (law : IsCache cache) (call : Call) (now
   pub absent : {c : Client} {link : Link} {r : Result A SigstoreError} → Memory r → Of c c link link r
   absent {c} {link} {r} err = facts (λ s. record { made = λ at. (at, kept.absent err) }) (λ _. refl) (record { recalled = λ answer reads is. (memory_says r (Ok answer) err, refl, refl) })
 
-  module _ {x : Option Answers} {key : List ℕ} (reads : key_if (reads_back (image_called call)) (key_called call) ≡ Some key) where
-    at_key : {a : Option A} → known cache key now x ≡ a → known cache (key_called call) now x ≡ a
-    at_key {a} is = subst (λ k. known cache k now x ≡ a) (key_there (reads_back (image_called call)) reads).1 is
+  module _ {key : List ℕ} (reads : key_if (reads_back (image_called call)) (key_called call) ≡ Some key) where
+    at_key : (x : Option Answers) {a : Option A} → known cache key now x ≡ a → known cache (key_called call) now x ≡ a
+    at_key x {a} is = subst (λ k. known cache k now x ≡ a) (key_there (reads_back (image_called call)) (key_called call) key reads).1 is
 
     read_back : reads_back (image_called call) ≡ true
-    read_back = (key_there (reads_back (image_called call)) reads).0
+    read_back = (key_there (reads_back (image_called call)) (key_called call) key reads).0
 
     -- a fresh answer is given again
-    pub recalls : {e : Engine} {link : Link} (a : A) → known cache key now x ≡ Some a → Of (engine_state e x) (engine_state e x) link link (Ok a)
-    recalls {e} {link} a is = facts
-        (λ s. record { made = λ at. (at, kept.reads cache (key_called call) now (row s) (reads_back (image_called call)) read_back (kept.recall cache (key_called call) now (row s) a (at_key is))) })
+    pub recalls : {x : Option Answers} {e : Engine} {link : Link} (a : A) → known cache key now x ≡ Some a → Of (engine_state e x) (engine_state e x) link link (Ok a)
+    recalls {x} {e} {link} a is = facts
+        (λ s. record { made = λ at. (at, kept.reads cache (key_called call) now (row s) (reads_back (image_called call)) read_back (kept.recall cache (key_called call) now (row s) a (at_key x is))) })
         (λ h. absurd (cc h))
-        (record { recalled = λ answer reads found. (sym (at_answer found), refl, refl) }) where
-      at_answer : {answer : A} → known cache (key_called call) now x ≡ Some answer → Ok a ≡ Ok answer
-      at_answer {answer} found = let same : Some a ≡ Some answer = sym (at_key is) ∙ found in cc same
+        (record { recalled = λ answer reads found. (at_answer answer found, refl, refl) }) where
+      at_answer : (answer : A) → known cache (key_called call) now x ≡ Some answer → Says (Ok a) (Ok answer)
+      at_answer answer found = let same : Some a ≡ Some answer = sym (at_key x is) ∙ found in cc same
 
     -- the plain call was refused, or cut off
-    pub refuses : {e f : Engine} {old new : Link} {y : SigstoreError} {r : Result A SigstoreError} → known cache key now x ≡ None → ((s : Settings) → PlainlyMade s (row s) e f old new (Err y)) → IsErrAnd r (λ z. z ≡ y) → Of (engine_state e x) (engine_state f x) old new r
-    refuses {e} {f} {old} {new} {y} {r} is plain err = let at = err_from_is_err_and r err in let whole : r ≡ Err y = at.1 ∙ ap Err at.2 in
+    pub refuses : {x : Option Answers} {e f : Engine} {old new : Link} {y : SigstoreError} {r : Result A SigstoreError} → known cache key now x ≡ None → ((s : Settings) → PlainlyMade s (row s) e f old new (Err y)) → IsErrAnd r (λ z. z ≡ y) → Of (engine_state e x) (engine_state f x) old new r
+    refuses {x} {e} {f} {old} {new} {y} {r} is plain err = let at = err_from_is_err_and r err in let whole : r ≡ Err y = at.1 ∙ ap Err at.2 in
         subst (λ (z : Result A SigstoreError). Of (engine_state e x) (engine_state f x) old new z) (sym whole) (facts
-        (λ s. record { made = λ same. let made = (plain s).made same in (made.0, kept.reads cache (key_called call) now (row s) (reads_back (image_called call)) read_back (kept.not_given cache (key_called call) now (row s) (at_key is) made.1)) })
+        (λ s. record { made = λ same. let made = (plain s).made same in (made.0, kept.reads cache (key_called call) now (row s) (reads_back (image_called call)) read_back (kept.not_given cache (key_called call) now (row s) (at_key x is) made.1)) })
         (λ _. refl)
-        (unknown (at_key is)))
+        (unknown (at_key x is)))
 
     -- memory was wanting to keep the plain call's answer
-    pub cuts : {e f : Engine} {old new : Link} {a : A} {r : Result A SigstoreError} → known cache key now x ≡ None → ((s : Settings) → PlainlyMade s (row s) e f old new (Ok a)) → Memory r → Of (engine_state e x) (engine_state f x) old new r
-    cuts {a = a} is plain err = facts
-        (λ s. record { made = λ same. let made = (plain s).made same in (made.0, kept.reads cache (key_called call) now (row s) (reads_back (image_called call)) read_back (kept.cut_after cache (key_called call) now (row s) a (at_key is) made.1 err)) })
+    pub cuts : {x : Option Answers} {e f : Engine} {old new : Link} {a : A} {r : Result A SigstoreError} → known cache key now x ≡ None → ((s : Settings) → PlainlyMade s (row s) e f old new (Ok a)) → Memory r → Of (engine_state e x) (engine_state f x) old new r
+    cuts {x} {a = a} is plain err = facts
+        (λ s. record { made = λ same. let made = (plain s).made same in (made.0, kept.reads cache (key_called call) now (row s) (reads_back (image_called call)) read_back (kept.cut_after cache (key_called call) now (row s) a (at_key x is) made.1 err)) })
         (λ _. refl)
-        (unknown (at_key is))
+        (unknown (at_key x is))
 
     -- the plain call answered, and its answer is kept under the key
-    pub keeps : {e f : Engine} {old new : Link} {a : A} → known cache key now x ≡ None → ((s : Settings) → PlainlyMade s (row s) e f old new (Ok a)) → Of (engine_state e x) (engine_state f (option_map (keep (entry key now (cache.kept_as a))) x)) old new (Ok a)
-    keeps {e} {f} {old} {new} {a} is plain = subst (λ k. Of (engine_state e x) (engine_state f (option_map (keep (entry k now (cache.kept_as a))) x)) old new (Ok a)) (sym (key_there (reads_back (image_called call)) reads).1) (facts
-        (λ s. record { made = λ same. let made = (plain s).made same in (made.0, kept.reads cache (key_called call) now (row s) (reads_back (image_called call)) read_back (kept.given cache (key_called call) now (row s) a (at_key is) made.1)) })
+    pub keeps : {x : Option Answers} {e f : Engine} {old new : Link} {a : A} → known cache key now x ≡ None → ((s : Settings) → PlainlyMade s (row s) e f old new (Ok a)) → Of (engine_state e x) (engine_state f (option_map (keep (entry key now (cache.kept_as a))) x)) old new (Ok a)
+    keeps {x} {e} {f} {old} {new} {a} is plain = subst (λ k. Of (engine_state e x) (engine_state f (option_map (keep (entry k now (cache.kept_as a))) x)) old new (Ok a)) (sym (key_there (reads_back (image_called call)) (key_called call) key reads).1) (facts
+        (λ s. record { made = λ same. let made = (plain s).made same in (made.0, kept.reads cache (key_called call) now (row s) (reads_back (image_called call)) read_back (kept.given cache (key_called call) now (row s) a (at_key x is) made.1)) })
         (λ h. absurd (cc h))
-        (unknown (at_key is)))
+        (unknown (at_key x is)))
 
   -- the reference does not read back
   pub uncached : {x : Option Answers} {e f : Engine} {old new : Link} {r : Result A SigstoreError} → key_if (reads_back (image_called call)) (key_called call) ≡ None → ((s : Settings) → PlainlyMade s (row s) e f old new r) → Of (engine_state e x) (engine_state f x) old new r
-  uncached missing plain = let unread = key_missing (reads_back (image_called call)) missing in facts
+  uncached missing plain = let unread = key_missing (reads_back (image_called call)) (key_called call) missing in facts
       (λ s. record { made = λ same. let made = (plain s).made same in (made.0, kept.unread cache (key_called call) now (row s) (reads_back (image_called call)) unread made.1) })
       (λ _. refl)
       (record { recalled = λ answer reads is. absurd (cc (unread, reads)) })
@@ -160,29 +160,29 @@ never_kept {x = x} plain = record { made = λ same. let made = plain.made same i
 
 -- ---- faults
 
-pub memory_fault : {A : Type 0} {old new : Link} (r : Result A SigstoreError) → Memory r → FaultCounted old new r
-memory_fault (Ok a) is h = absurd is
-memory_fault {A} {old} {new} (Err e) is h = absurd (cc (ap registry_refusal is, h))
+pub memory_fault : {A : Type 0} (old new : Link) (r : Result A SigstoreError) → Memory r → FaultCounted old new r
+memory_fault old new (Ok a) is h = absurd is
+memory_fault old new (Err e) is h = absurd (cc (ap registry_refusal is, h))
 
 pub memory_no_sink : {A : Type 0} (r : Result A SigstoreError) → Memory r → NoSinkFault r
 memory_no_sink (Ok a) is h = absurd is
 memory_no_sink (Err e) is h = absurd (cc (ap registry_refusal is, h))
 
-pub same_fault : {A B : Type 0} {old new : Link} {e : SigstoreError} (r : Result B SigstoreError) → IsErrAnd r (λ x. x ≡ e) → FaultCounted {A = A} old new (Err e) → FaultCounted old new r
-same_fault (Ok b) is h = absurd is
-same_fault (Err x) is h = λ held. h (ap registry_refusal (sym is) ∙ held)
+pub same_fault : {B : Type 0} (A : Type 0) (old new : Link) (e : SigstoreError) (r : Result B SigstoreError) → IsErrAnd r (λ x. x ≡ e) → FaultCounted {A = A} old new (Err e) → FaultCounted old new r
+same_fault A old new e (Ok b) is h = absurd is
+same_fault A old new e (Err x) is h = λ held. h (ap registry_refusal (sym is) ∙ held)
 
-pub same_no_sink : {A B : Type 0} {e : SigstoreError} (r : Result B SigstoreError) → IsErrAnd r (λ x. x ≡ e) → NoSinkFault {A = A} (Err e) → NoSinkFault r
-same_no_sink (Ok b) is h = absurd is
-same_no_sink (Err x) is h = λ held. h (ap registry_refusal (sym is) ∙ held)
+pub same_no_sink : {B : Type 0} (A : Type 0) (e : SigstoreError) (r : Result B SigstoreError) → IsErrAnd r (λ x. x ≡ e) → NoSinkFault {A = A} (Err e) → NoSinkFault r
+same_no_sink A e (Ok b) is h = absurd is
+same_no_sink A e (Err x) is h = λ held. h (ap registry_refusal (sym is) ∙ held)
 
 -- ---- where nothing was asked
 
 nothing_within : (k : Memories) (s : Context) (image : Reference) (handed : Option RegistryAuth) (t : Settings) → Within (pulling k s image handed) t k []
 nothing_within k s image handed t = record { confined = tt; kept = λ key moment token h. inl h; stored = λ registry a h. inl h }
 
-pub stays_same : {c : Client} {moment : ℕ} {image : Reference} {handed : Option RegistryAuth} {link : Link} → Stays c c moment image handed link link
-stays_same {c} {moment} {image} {handed} {link} = record { conversation = []; told = Extends-none link; holds = nothing_within c.kept.0 (within c.settings moment) image handed c.settings }
+pub stays_same : (c : Client) (moment : ℕ) (image : Reference) (handed : Option RegistryAuth) (link : Link) → Stays c c moment image handed link link
+stays_same c moment image handed link = record { conversation = []; told = Extends-none link; holds = nothing_within c.kept.0 (within c.settings moment) image handed c.settings }
 
-pub tag_same : {c : Client} {moment : ℕ} {image : Reference} {handed : Option RegistryAuth} {link : Link} → StaysWithTag c c moment image handed link link
-tag_same {c} {moment} {image} {handed} {link} = record { conversation = []; told = Extends-none link; holds = inl (nothing_within c.kept.0 (within c.settings moment) image handed c.settings) }
+pub tag_same : (c : Client) (moment : ℕ) (image : Reference) (handed : Option RegistryAuth) (link : Link) → StaysWithTag c c moment image handed link link
+tag_same c moment image handed link = record { conversation = []; told = Extends-none link; holds = inl (nothing_within c.kept.0 (within c.settings moment) image handed c.settings) }

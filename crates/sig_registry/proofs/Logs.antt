@@ -60,10 +60,10 @@ Backs s kind key e log = (kind_of e.answer ≡ kind) × (e.key ≡ key) × AnyOf
 
 found_backed : (s : Settings) (kind : Kind) (key : List ℕ) (es : List Entry) (e : Entry) (log : List Place) → find (is_of kind key) es ≡ Some e → EachBacked s es log → Backs s kind key e log
 found_backed s kind key [] e log is h = absurd (cc is)
-found_backed s kind key (x ∷ es) e log is h = by_test (is_of kind key x) refl is where
-  by_test : (b : Bool) → is_of kind key x ≡ b → cond b (Some x) (find (is_of kind key) es) ≡ Some e → Backs s kind key e log
-  by_test true of is = let same : x ≡ e = cc is in let at = of_entry kind key x of in subst (λ y. Backs s kind key y log) same (at.0, at.1, h.0)
-  by_test false of is = found_backed s kind key es e log is h.1
+found_backed s kind key (x ∷ es) e log is h = by_test (is_of kind key x) refl is (λ later. found_backed s kind key es e log later h.1) where
+  by_test : (b : Bool) → is_of kind key x ≡ b → cond b (Some x) (find (is_of kind key) es) ≡ Some e → (find (is_of kind key) es ≡ Some e → Backs s kind key e log) → Backs s kind key e log
+  by_test true of is later = let same : x ≡ e = cc is in let at = of_entry kind key x of in subst (λ y. Backs s kind key y log) same (at.0, at.1, h.0)
+  by_test false of is later = later is
 
 -- an origin that is fresh is a source
 sources : (s : Settings) (k kind : Kind) (t key : List ℕ) (now moment : ℕ) (a answer : Answer) (log : List Place) → k ≡ kind → t ≡ key → a ≡ answer → moment ≤ now → now - moment < 60 → AnyOf (IsOrigin s k t moment a) log → AnyOf (IsSource s kind key now answer) log
@@ -199,7 +199,7 @@ module _ {A : Type 0} (cache : Cache A) (law : IsCache cache) (call : Call) (now
 
   origin : (k l : Kept) (m n : ℕ) (c : List Exchange) (a : A) (r : Result A SigstoreError) → r ≡ Ok a → Runs (row s) k.0 m c n l.0 r → IsOrigin s (kind_called call) (key_called call) now (cache.kept_as a) (place k l m c n r)
   unfolding IsStep
-  origin k l m n c a r is run = record { kind_is = refl; key_is = refl; moment_is = refl; answer_is = ap (answered cache) is; step = rw is_call s (run_answering cache (row s) k.0 l.0 m n c r run) }
+  origin k l m n c a r is run = record { kind_is = refl; key_is = refl; moment_is = refl; answer_is = ap (answered cache) is; step = rw (is_call s) (run_answering cache (row s) k.0 l.0 m n c r run) }
 
   -- a call made in full is its own source
   ok_lawful : (k l : Kept) (m n : ℕ) (c : List Exchange) (a : A) (r : Result A SigstoreError) (log : List Place) → r ≡ Ok a → Runs (row s) k.0 m c n l.0 r → IsRun s log → IsBacked s l.1 (place k l m c n r ∷ log) → IsLawful s l.1 (place k l m c n r) log
@@ -224,7 +224,7 @@ module _ {A : Type 0} (cache : Cache A) (law : IsCache cache) (call : Call) (now
 
   -- one whose answer is kept
   recalled_lawful : (k l : Kept) (m n : ℕ) (c : List Exchange) (r : Result A SigstoreError) (log : List Place) → Runs (recalled cache (key_called call) now (row s)) k m c n l r → IsRun s log → IsBacked s k.1 log → IsLawful s l.1 (place k l m c n r) log
-  unfolding recalled Runs
+  unfolding recalled Runs keeps
   recalled_lawful k l m n c r log run lawful backed = by_known (known cache (key_called call) now k.1) refl run where
     as_called : (P : Kind → Type 0) → P cache.kind → P (kind_called call)
     as_called P h = subst P (sym kind_is) h
