@@ -1,4 +1,6 @@
+pub mod Beginnings
 pub mod BundleParts
+pub mod Cached
 pub mod Causes
 pub mod Chains
 pub mod Confinement

@@ -3,6 +3,7 @@ pub mod BlobCauses
 pub mod CallCauses
 pub mod CallConfined
 pub mod CallResults
+pub mod Confines
 pub mod Confining
 pub mod DigestAnswers
 pub mod DigestCauses

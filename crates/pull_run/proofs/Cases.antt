@@ -28,7 +28,7 @@ use Rattle.cosign_client.specs.Sound.{Sound}
 use Rattle.cosign_client.specs.Verified.{Whole, constrained, is_unconstrained, readable, part_of, stands_by, standing_by, verified_image, after_search, verified}
 use Rattle.cosign_client.specs.declared.refusal.PullRefusal.{PullRefusal}
 use Rattle.cosign_client.proofs.Images.{Seen}
-use Rattle.cosign_client.proofs.Chains.{verified_shows}
+use Rattle.cosign_client.proofs.Chains.{verified_seen}
 use Rattle.engine_requests.specs.Contexts.{Context}
 use Rattle.std.specs.Prelude.{find}
 use Rattle.pull_case.specs.Policy.{constraint_by, constraints_by, policy_of, meaning_of, trust_of}
@@ -37,7 +37,7 @@ use Rattle.pull_run.specs.declared.report.Report.{Report}
 use Rattle.pull_run.specs.Pulls.{Talk, InTurn, settings_of, fresh, row_of, SoundResult, EachSound, ReportsCase}
 use Rattle.pull_run.specs.Rounds.{row_by, row_for, Played}
 use Rattle.pull_run.specs.declared.pulls.Terms.{Terms}
-use Rattle.sig_registry.specs.Conversions.{registry_auth}
+use Rattle.sig_settings.specs.Auths.{registry_auth}
 use Rattle.sig_registry.specs.Direct.{reference_in}
 use Rattle.json_values.specs.Places.{by_bytes}
 use Rattle.std.specs.FinMap.{FinMap}
@@ -92,13 +92,13 @@ row_same {V} {H} policy own case image is =
     ∙ ap (λ (f : SignatureLayer → Bool). by_parts (within (settings_of case) moment) image case.auth case.accepted (is_unconstrained (policy_of case)) f (trust_of case)) (fun_ext (λ layer. stands_same V ⊥ H (λ v. ⊥) own (λ box layer. false) case.keys case.constraints (valid_in (record { rows = case.signatures })) layer))
     ∙ sym (is_by_parts (meaning_of case) (within (settings_of case) moment) image case.auth case.accepted))
 
-sound_result : (case : Case) (image : Reference) (m n : ℕ) (c : List Exchange) (r : Result VerifiedImage PullRefusal) → Seen (Sound (settings_of case) (meaning_of case) image case.accepted) m c n r → SoundResult case image c r
-sound_result case image m n c (Ok v) h = h
-sound_result case image m n c (Err e) h = tt
+sound_result : (case : Case) (image : Reference) (kept : Kept) (moment m n : ℕ) (c : List Exchange) (r : Result VerifiedImage PullRefusal) → Seen (Sound kept (within (settings_of case) moment) (meaning_of case) image case.auth case.accepted) m c n r → SoundResult case image kept moment c r
+sound_result case image kept moment m n c (Ok v) h = h
+sound_result case image kept moment m n c (Err e) h = tt
 
-each_sound : (case : Case) (image : Reference) (k l : Kept) (m n : ℕ) (talks : List Talk) → InTurn (row_of case image) k m talks l n → EachSound case image talks
+each_sound : (case : Case) (image : Reference) (k l : Kept) (m n : ℕ) (talks : List Talk) (h : InTurn (row_of case image) k m talks l n) → EachSound case image k m talks l n h
 each_sound case image k l m n [] h = tt
-each_sound case image k l m n (talk ∷ talks) h = (sound_result case image m h.1 talk.conversation talk.result ((verified_shows (within (settings_of case) talk.moment) (meaning_of case) image case.auth case.accepted).shows k h.0 m h.1 talk.conversation talk.result h.2), each_sound case image h.0 l h.1 n talks h.3)
+each_sound case image k l m n (talk ∷ talks) h = (sound_result case image k talk.moment m h.1 talk.conversation talk.result ((verified_seen k (within (settings_of case) talk.moment) (meaning_of case) image case.auth case.accepted).seen h.0 m h.1 talk.conversation talk.result h.2), each_sound case image h.0 l h.1 n talks h.3)
 
 -- what was played of a case is its report
 pub reports_case : {V : Type 0} {H : V → Type 0} (policy : PullPolicy V H) (own : DynBox V Global H → SignatureLayer → Bool) (case : Case) (image : Reference) (l : Kept) (made : Report)

@@ -90,24 +90,28 @@ settings_by protocol limit platform = record {
 abbrev pub settings_of : Case → Settings
 settings_of case = settings_by case.protocol case.limit case.platform
 
--- a client that keeps nothing yet
+-- a client that keeps nothing yet, and no answers at all
 abbrev pub fresh : Kept
-fresh = nothing_kept 60
+fresh = (nothing_kept 60, None)
 
 -- the pull of a case's image at a moment
 abbrev pub row_of : Case → Reference → ℕ → Whole VerifiedImage
 row_of case image moment =
     verified (meaning_of case) (within (settings_of case) moment) image case.auth case.accepted
 
--- each image that was answered has a chain that holds, and comes of its conversation
-abbrev pub SoundResult : Case → Reference → List Exchange → Result VerifiedImage PullRefusal → Type 0
-SoundResult case image c (Ok v) = Sound (settings_of case) (meaning_of case) image case.accepted c v
-SoundResult case image c (Err refusal) = Unit {0}
+-- an image that was answered has a chain that holds, and comes of its conversation and of what was kept before it
+abbrev pub SoundResult : Case → Reference → Kept → ℕ → List Exchange → Result VerifiedImage PullRefusal → Type 0
+SoundResult case image kept moment c (Ok v) =
+    Sound kept (within (settings_of case) moment) (meaning_of case) image case.auth case.accepted c v
+SoundResult case image kept moment c (Err refusal) = Unit {0}
 
-abbrev pub EachSound : Case → Reference → List Talk → Type 0
-EachSound case image [] = Unit {0}
-EachSound case image (talk ∷ talks) =
-    SoundResult case image talk.conversation talk.result × EachSound case image talks
+-- so does each, by what the client as the earlier moments left it kept
+abbrev pub EachSound : (case : Case) → (image : Reference) → (k : Kept) → (m : ℕ) → (talks : List Talk) → (l : Kept)
+    → (n : ℕ) → InTurn (row_of case image) k m talks l n → Type 0
+EachSound case image k m [] l n turn = Unit {0}
+EachSound case image k m (talk ∷ talks) l n turn =
+    SoundResult case image k talk.moment talk.conversation talk.result
+    × EachSound case image turn.0 turn.1 talks l n turn.3
 
 -- The pulls of a case by a client that was fresh before the first. Each exchange was answered by the recorded answer
 -- at its place, or by the table of the shelf. A transport's fault stands only where one is recorded: over a shelf
@@ -121,7 +125,7 @@ pub record Pulled (case : Case) (talks : List Talk) : Type 0 where
   pub in_turn : InTurn (row_of case image) fresh 0 talks kept faults
   pub answered : AnsweredBy (answering_by case.registry) 0 (joined talks)
   pub calm_is : IsTrue (calm (answering_by case.registry).fails 0 (joined talks) faults)
-  pub sound : EachSound case image talks
+  pub sound : EachSound case image fresh 0 talks kept faults in_turn
   pub whole : EachWhole talks
 
 -- what was made of a case is the report of its pulls

@@ -20,7 +20,7 @@ use oci_platforms::PlatformResolver;
 use oci_transport::Exchange;
 use pull_case::{Case, Registry, Replay, case_policy, read_case};
 use pull_report::write_report;
-use sig_registry::{Auth, OciClient, OciReference, SigstoreError};
+use sig_registry::{Auth, OciClient, OciReference, RegistryClient, SigstoreError};
 use std::alloc::{AllocError, Global};
 
 // Whether memory was wanting.
@@ -140,7 +140,7 @@ fn fresh_client(
     config.max_body_bytes = limit.unwrap_or(config.max_body_bytes);
     config.platform_resolver = platform;
     Ok(Client {
-        registry_client: OciClient::new(oci_engine::Client::new(alloc, config)),
+        registry_client: RegistryClient::Plain(OciClient::new(oci_engine::Client::new(alloc, config))),
         rekor_pub_keys,
     })
 }

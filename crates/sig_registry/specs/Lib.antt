@@ -3,6 +3,6 @@ pub mod Calls
 pub mod Clients
 pub mod Config
 pub mod Confinement
-pub mod Conversions
 pub mod Direct
 pub mod Errors
+pub mod Log

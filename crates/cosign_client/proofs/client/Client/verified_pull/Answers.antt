@@ -1,6 +1,6 @@
 use Rattle.std.proofs.Common.{refl}
 use Rattle.engine_requests.specs.Contexts.{within}
-use Rattle.sig_registry.specs.Conversions.{registry_auth}
+use Rattle.sig_settings.specs.Auths.{registry_auth}
 use Rattle.sig_registry.specs.Direct.{reference_in}
 use Rattle.cosign_layers.specs.Standing.{Meaning, meaning}
 use Rattle.cosign_client.specs.State.{client_state, trusts}
@@ -29,16 +29,16 @@ pub returns-clause-digest : goal.returns-clause-digest
 returns-clause-digest g c = λ some reads. pull_decided (meaning c.args.policy.now (λ b. (goal.VerificationConstraint-dyn g (b.vtable, b.value)).accepts b.value) (trusts (g.V.SignatureVerifier.valid c.args.verifier.now) (g.O.Offline.vouched c.args.judge.now) c.args.self.now)) (within (client_state c.args.self.now).settings c.args.moment) (reference_in c.args.image.now) (registry_auth c.args.auth.now) c.args.accepted_media_types.now c.pull_verified.result some reads (returns-clause-run g c)
 
 pub returns-clause-chain : goal.returns-clause-chain
-returns-clause-chain g c = chain_of _ _ _ (registry_auth c.args.auth.now) _ c.pull_verified.result (returns-clause-run g c)
+returns-clause-chain g c = chain_of _ _ _ _ (registry_auth c.args.auth.now) _ c.pull_verified.result (returns-clause-run g c)
 
 pub returns-clause-causes : goal.returns-clause-causes
 returns-clause-causes g c = pull_cause _ _ _ (registry_auth c.args.auth.now) c.args.accepted_media_types.now c.pull_verified.result (returns-clause-run g c)
 
 pub returns-clause-backed : goal.returns-clause-backed
-returns-clause-backed g c = backed_of _ (meaning c.args.policy.now (λ b. (goal.VerificationConstraint-dyn g (b.vtable, b.value)).accepts b.value) (trusts (g.V.SignatureVerifier.valid c.args.verifier.now) (g.O.Offline.vouched c.args.judge.now) c.args.self.now)) _ (registry_auth c.args.auth.now) c.args.accepted_media_types.now c.pull_verified.result (returns-clause-run g c)
+returns-clause-backed g c = backed_of _ _ (meaning c.args.policy.now (λ b. (goal.VerificationConstraint-dyn g (b.vtable, b.value)).accepts b.value) (trusts (g.V.SignatureVerifier.valid c.args.verifier.now) (g.O.Offline.vouched c.args.judge.now) c.args.self.now)) _ (registry_auth c.args.auth.now) c.args.accepted_media_types.now c.pull_verified.result (returns-clause-run g c)
 
 pub returns-clause-links : goal.returns-clause-links
-returns-clause-links g c = links_of _ (meaning c.args.policy.now (λ b. (goal.VerificationConstraint-dyn g (b.vtable, b.value)).accepts b.value) (trusts (g.V.SignatureVerifier.valid c.args.verifier.now) (g.O.Offline.vouched c.args.judge.now) c.args.self.now)) _ (registry_auth c.args.auth.now) c.args.accepted_media_types.now c.pull_verified.result (returns-clause-run g c)
+returns-clause-links g c = links_of _ _ (meaning c.args.policy.now (λ b. (goal.VerificationConstraint-dyn g (b.vtable, b.value)).accepts b.value) (trusts (g.V.SignatureVerifier.valid c.args.verifier.now) (g.O.Offline.vouched c.args.judge.now) c.args.self.now)) _ (registry_auth c.args.auth.now) c.args.accepted_media_types.now c.pull_verified.result (returns-clause-run g c)
 
 pub returns-clause-no_memory : goal.returns-clause-no_memory
 returns-clause-no_memory g c = pull_no_memory (meaning c.args.policy.now (λ b. (goal.VerificationConstraint-dyn g (b.vtable, b.value)).accepts b.value) (trusts (g.V.SignatureVerifier.valid c.args.verifier.now) (g.O.Offline.vouched c.args.judge.now) c.args.self.now)) _ _ (registry_auth c.args.auth.now) c.args.accepted_media_types.now c.pull_verified.result (returns-clause-run g c)

@@ -1,0 +1,8 @@
+//! The answers that a caching client keeps.
+#![tactic(auto)]
+
+mod answer;
+mod answers;
+
+pub use answer::{Answer, Kind};
+pub use answers::{Answers, Bounds, Entry};
