@@ -4,7 +4,6 @@ use Rattle.std.specs.FinMap as map
 use Rattle.oci_names.specs.declared.reference.Reference.{Reference}
 use Rattle.oci_names.specs.References.{repository_of, digest_of, tag_of, resolved_registry, reads_back}
 use Rattle.oci_auth.specs.declared.auth.RegistryAuth.{RegistryAuth}
-use Rattle.oci_auth.specs.declared.memory.Memory.{Memory}
 use Rattle.oci_digests.specs.Names.{name_of, digest_text}
 use Rattle.oci_digests.specs.declared.digester.Algorithm.TheVariants.{Sha256}
 use Rattle.oci_manifests.specs.declared.descriptor.OciDescriptor.{OciDescriptor}
@@ -21,7 +20,7 @@ use Rattle.oci_link.specs.Table.{digest_named}
 use Rattle.oci_link.specs.declared.shelf.Shelf.{Shelf}
 use Rattle.engine_requests.specs.Addresses.{manifest_name}
 use Rattle.engine_requests.specs.declared.settings.Settings.{Settings}
-use Rattle.shelf_laws.specs.Home.{IsWrittenPlainly, CanBeShown, Settled}
+use Rattle.shelf_laws.specs.Home.{IsWrittenPlainly, CanBeShown}
 use Rattle.shelf_laws.specs.Shelves.{IsShort, HasManifest, HasBlobs, ImageOn, Lists, layers_on}
 use Rattle.cosign_layers.specs.Standing.{Meaning, StandsFor}
 use Rattle.cosign_layers.specs.Trust.{Trust}
@@ -139,10 +138,6 @@ pub record AnswersFrom (shelf : Shelf) (link : Link) : Type 0 where
   pub before : List Exchange
   pub told : link.told ≡ Some before
   pub faults : link.faults < 2 ^ 64 - 1
-
--- a client that keeps no other credentials for the image's registry than these, and no other token than theirs
-abbrev pub IsSettled : Reference → RegistryAuth → Memory → Type 0
-IsSettled image a kept = Settled (resolved_registry image) (repository_of image) a kept
 
 -- an answer, or want of memory
 abbrev pub OkOrMemory : {A : Type 0} → Result A PullRefusal → Type 0

@@ -173,7 +173,7 @@ authority_valid scheme bytes head web e =
     let password = unwrap_or (split_once 58 (unwrap_or at.0 [])).1 [] in
     let made = with_authority scheme username password host port in
     let good : IsValidHead made = valid_with_authority scheme username password host port (web_valid scheme web) (subst (λ t. IsHostOf t host) (sym kind) valid) (port_valid scheme (unwrap_or host_port.1 []) port port_is)
-        (λ bare. absurd (filled_host host valid (or_false (is_empty_host host) (subst (λ t. (is_empty_host host || is_file t) ≡ true) kind bare)))) in
+    (λ bare. absurd (filled_host host valid (or_false (is_empty_host host) (subst (λ t. (is_empty_host host || is_file t) ≡ true) kind bare)))) in
     subst (λ (u : Parts). IsValidHead u × (u.scheme ≡ scheme)) (same_ok made head m) (good, refl)
 
 -- ---- the parts up to the path
@@ -320,10 +320,25 @@ text_visible url head path query fragment =
     let user = passes_from_kept USERINFO is_visible refl in
     All-concat Visible (pieces url) (
       All-weaker (Passes is_scheme_byte) Visible scheme_visible url.scheme (scheme_bytes url.scheme head.scheme),
-      (marks_visible (has_authority url), (All-weaker (IsKept USERINFO) Visible user url.username head.username, (All_one Visible (not (is_empty url.password)) 58 refl, (All-weaker (IsKept USERINFO) Visible user url.password head.password, (All_one Visible (has_credentials url) 64 refl, (
-        own_host_visible url head,
-        (All_one Visible (is_some url.port) 58 refl, (port_visible url.scheme url.port head.port, (guard_visible (needs_guard url), (path, (All_one Visible (is_some url.query) 63 refl, (All_part Visible (query_set (kind_of url)) url.query (query_visible (kind_of url)) query, (All_one Visible (is_some url.fragment) 35 refl, (All_part Visible FRAGMENT url.fragment (passes_from_kept FRAGMENT is_visible refl) fragment, tt)))))))),
-      )))))),
+      (
+        marks_visible (has_authority url),
+        (
+          All-weaker (IsKept USERINFO) Visible user url.username head.username,
+          (
+            All_one Visible (not (is_empty url.password)) 58 refl,
+            (
+              All-weaker (IsKept USERINFO) Visible user url.password head.password,
+              (
+                All_one Visible (has_credentials url) 64 refl,
+                (
+                  own_host_visible url head,
+                  (All_one Visible (is_some url.port) 58 refl, (port_visible url.scheme url.port head.port, (guard_visible (needs_guard url), (path, (All_one Visible (is_some url.query) 63 refl, (All_part Visible (query_set (kind_of url)) url.query (query_visible (kind_of url)) query, (All_one Visible (is_some url.fragment) 35 refl, (All_part Visible FRAGMENT url.fragment (passes_from_kept FRAGMENT is_visible refl) fragment, tt)))))))),
+                ),
+              ),
+            ),
+          ),
+        ),
+      ),
     )
 
 -- ---- what was read
