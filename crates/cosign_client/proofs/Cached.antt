@@ -2,8 +2,7 @@
 use Rattle.std.proofs.Common.{◌≡◌, ◌⊎◌, inl, inr, ℕ, Bool, true, false, List, [], ◌∷◌, ◌++◌, Option, Some, None, Result, Ok, Err, refl, sym, ap, subst, ◌∙◌, append-nil}
 use Rattle.std.specs.Prelude.{option_map}
 use Rattle.oci_transport.specs.declared.message.Exchange.{Exchange}
-use Rattle.oci_auth.specs.declared.memory.Memory.{Memory}
-use Rattle.oci_protocol.specs.Proto.{Proto, Done, Recall, Keep, bind, unless_refused, ◌>>=◌, ◌>>◌}
+use Rattle.oci_protocol.specs.Proto.{Done, bind, unless_refused, ◌>>=◌, ◌>>◌}
 use Rattle.oci_protocol.specs.Lift.{lifted}
 use Rattle.oci_protocol.specs.Ends.{Ends}
 use Rattle.oci_protocol.specs.Runs.{Runs}

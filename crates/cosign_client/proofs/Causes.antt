@@ -1,5 +1,5 @@
 -- Why a search or a pull was refused.
-use Rattle.std.proofs.Common.{◌≡◌, ℕ, Bool, true, false, inl, inr, List, [], ◌∷◌, ◌++◌, Option, Some, None, Result, Ok, Err, IfErr, refl, sym, ap, ◌∙◌, subst, append-nil}
+use Rattle.std.proofs.Common.{◌≡◌, ℕ, Bool, true, false, inl, inr, List, [], ◌∷◌, ◌++◌, Option, Some, None, Result, Ok, Err, IfErr, refl, sym, subst, append-nil}
 use Rattle.std.specs.Prelude.{if◌then◌else◌, find, MatchBool}
 use Rattle.oci_names.specs.declared.reference.Reference.{Reference}
 use Rattle.oci_names.specs.References.{whole_text, reads_back}
@@ -42,14 +42,14 @@ use Rattle.cosign_layers.specs.Standing.{Meaning}
 use Rattle.cosign_layers.specs.Trust.{Trust}
 use Rattle.cosign_layers.specs.declared.layer.SignatureLayer.{SignatureLayer}
 use Rattle.cosign_chain.specs.declared.image.VerifiedImage.{VerifiedImage}
-use Rattle.cosign_client.specs.Causes.{SearchCause, Found, NoneStands, PullCause}
+use Rattle.cosign_client.specs.Causes.{SearchCause, Found, PullCause}
 use Rattle.cosign_client.specs.Image.{document_in, entry_in, with_image, layers_row, blobs_row, entry_call, entry_row, manifest_row, image_row}
 use Rattle.cosign_client.specs.Part.{skipping, appended}
 use Rattle.cosign_client.specs.Points.{Point, point, Ran}
 use Rattle.cosign_client.specs.References.{tag_reference, digest_reference, or_not_valid, reading_back}
 use Rattle.cosign_client.specs.Refusal.{is_memory, refused_as}
 use Rattle.cosign_client.specs.Search.{bundle_type, tag_layers, or_skipped, tag_by, tag_source, behind, referrer_part, referrer_by, referrer_row, referrers_row, listed_row, referrers_source, trusted_layers, searched}
-use Rattle.cosign_client.specs.Verified.{Whole, constrained, is_unconstrained, readable, readable_by, as_whole, part_of, stands_by, standing_by, standing, verified_image, after_search, verified}
+use Rattle.cosign_client.specs.Verified.{constrained, is_unconstrained, readable, readable_by, as_whole, part_of, stands_by, standing_by, standing, verified_image, after_search, verified}
 use Rattle.cosign_client.specs.declared.found.Part.{Part}
 use Rattle.cosign_client.specs.declared.found.SkipCause.{SkipCause}
 use Rattle.cosign_client.specs.declared.found.SkipCause.TheVariants.{Refused}

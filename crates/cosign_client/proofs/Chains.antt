@@ -1,5 +1,5 @@
 -- What each whole run of the search and of the pull shows: a chain, that comes of the conversation.
-use Rattle.std.proofs.Common.{◌≡◌, ◌<◌, inl, inr, ℕ, Bool, true, false, cond, List, [], ◌∷◌, ◌++◌, Option, Some, None, Result, Ok, Err, IfOk, length, refl, sym, ap, ◌∙◌, subst, arith, append_assoc, append-nil}
+use Rattle.std.proofs.Common.{◌≡◌, ◌<◌, ◌⊎◌, inl, inr, ℕ, Bool, true, false, cond, List, [], ◌∷◌, ◌++◌, Option, Some, None, Result, Ok, Err, IfOk, length, refl, sym, ap, ◌∙◌, subst, arith, append_assoc, append-nil}
 use Rattle.std.specs.Prelude.{if◌then◌else◌, find, unwrap_or}
 use Rattle.std.specs.FinMap as map_of
 use Rattle.oci_names.specs.declared.reference.Reference.{Reference}
@@ -14,7 +14,7 @@ use Rattle.oci_manifests.specs.declared.index_entry.ImageIndexEntry.{ImageIndexE
 use Rattle.oci_transport.specs.declared.message.Exchange.{Exchange}
 use Rattle.oci_transport.specs.declared.message.Method.{Method}
 use Rattle.oci_transport.specs.Link.{Link}
-use Rattle.oci_protocol.specs.Proto.{Proto, Done, ◌>>=◌, ◌>>◌}
+use Rattle.oci_protocol.specs.Proto.{Done}
 use Rattle.oci_protocol.specs.Shows.{Shows}
 use Rattle.oci_protocol.specs.Ends.{Ends, OnAnswer}
 use Rattle.oci_protocol.specs.Runs.{Meets, Told}
@@ -54,8 +54,8 @@ use Rattle.cosign_client.specs.Part.{skipping, appended, layer_part, named_layer
 use Rattle.cosign_client.specs.References.{tag_reference, digest_reference, reading_back}
 use Rattle.cosign_client.specs.Refusal.{is_memory as of_refusal}
 use Rattle.cosign_client.specs.Search.{payload_type, document_part, tag_layers, or_skipped, tag_by, tag_source, bundle_type, behind, referrer_part, referrer_by, referrer_row, referrers_row, listed_row, referrers_source, trusted_layers, searched}
-use Rattle.cosign_client.specs.Sound.{EachBody, Fresh, AnsweredOrFresh, Backed, Sound}
-use Rattle.cosign_client.specs.Verified.{Whole, constrained, is_unconstrained, readable, as_whole, part_of, stands_by, standing_by, standing, manifest_digests, verified_image, after_search, verified}
+use Rattle.cosign_client.specs.Sound.{Fresh, AnsweredOrFresh, Backed, Sound}
+use Rattle.cosign_client.specs.Verified.{constrained, is_unconstrained, readable, as_whole, part_of, stands_by, standing_by, standing, manifest_digests, verified_image, after_search, verified}
 use Rattle.cosign_client.specs.declared.found.Part.{Part}
 use Rattle.cosign_client.specs.declared.found.SkipCause.{SkipCause}
 use Rattle.cosign_client.specs.declared.found.SkipCause.TheVariants.{Refused}

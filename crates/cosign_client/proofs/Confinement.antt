@@ -2,7 +2,7 @@
 -- each of their parts.
 use Rattle.std.proofs.Common.{◌≡◌, ℕ, Bool, true, false, List, [], ◌∷◌, ◌++◌, Option, Some, None, Result, Ok, Err, codes, refl, sym, ap}
 use Rattle.std.specs.Prelude.{if◌then◌else◌, bytes_eq, unwrap_or}
-use Rattle.oci_protocol.specs.Proto.{Proto, Done, ◌>>=◌}
+use Rattle.oci_protocol.specs.Proto.{Proto, Done}
 use Rattle.oci_protocol.specs.Runs.{Meets, Told}
 use Rattle.engine_laws.specs.Confined.{Within}
 use Rattle.engine_laws.specs.Held.{Entry, pulling}
@@ -14,7 +14,7 @@ use Rattle.sig_registry.specs.Calls.{in_words, digest_made, manifest_made, image
 use Rattle.cosign_client.proofs.Cached.{cached_confines}
 use Rattle.oci_transport.specs.Link.{Link}
 use Rattle.oci_names.specs.declared.reference.Reference.{Reference}
-use Rattle.oci_names.specs.References.{repository_of, resolved_registry, mirror_of, whole_text, reads_back}
+use Rattle.oci_names.specs.References.{resolved_registry, mirror_of, whole_text, reads_back}
 use Rattle.oci_auth.specs.declared.auth.RegistryAuth.{RegistryAuth}
 use Rattle.oci_auth.specs.declared.memory.Memory.{Memory}
 use Rattle.oci_auth.specs.declared.token_type.RegistryOperation.TheVariants.{Pull}
@@ -49,9 +49,9 @@ use Rattle.cosign_client.specs.Image.{document_in, entry_in, with_image, layers_
 use Rattle.cosign_client.specs.Refusal.{is_memory as of_refusal}
 use Rattle.cosign_client.specs.declared.refusal.PullRefusal.{PullRefusal}
 use Rattle.cosign_client.specs.References.{tag_reference, digest_reference, reading_back}
-use Rattle.cosign_client.specs.Search.{payload_type, bundle_type, tag_layers, or_skipped, tag_by, tag_source, behind, referrer_part, referrer_by, referrer_row, referrers_row, listed_row, referrers_source, trusted_layers, searched}
+use Rattle.cosign_client.specs.Search.{payload_type, bundle_type, tag_layers, or_skipped, tag_by, tag_source, referrer_by, referrer_row, referrers_row, listed_row, referrers_source, searched}
 use Rattle.cosign_client.specs.Triangulated.{triangulated}
-use Rattle.cosign_client.specs.Verified.{Whole, constrained, is_unconstrained, readable, as_whole, part_of, standing, verified_image, after_search, verified}
+use Rattle.cosign_client.specs.Verified.{constrained, is_unconstrained, readable, as_whole, part_of, standing, after_search, verified}
 use Rattle.cosign_client.specs.declared.found.Part.{Part}
 use Rattle.cosign_client.specs.declared.found.TrustedLayers.{TrustedLayers}
 

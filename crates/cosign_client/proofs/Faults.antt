@@ -67,7 +67,7 @@ use Rattle.cosign_layers.specs.declared.rejection.LayerRejection.TheVariants.{Wa
 use Rattle.cosign_layers.proofs.Layers.{never_memory}
 use Rattle.cosign_chain.specs.declared.image.VerifiedImage.{VerifiedImage}
 use Rattle.cosign_client.specs.Image.{image_row}
-use Rattle.cosign_client.specs.Part.{skipping, appended, layer_part, named_layer, read_layer, descriptor_part, descriptors_part, read_bundle, bundle_part, bundles_part}
+use Rattle.cosign_client.specs.Part.{skipping, appended, layer_part, named_layer, read_layer, descriptors_part, read_bundle, bundles_part}
 use Rattle.cosign_client.specs.References.{tag_reference, digest_reference, reading_back}
 use Rattle.cosign_client.specs.Refusal.{is_memory as of_refusal, refused_as}
 use Rattle.cosign_client.specs.Search.{payload_type, document_part, tag_layers, or_skipped, tag_by, tag_source, bundle_type, behind, referrer_part, referrer_by, referrer_row, referrers_row, listed_row, referrers_source, trusted_layers, searched}

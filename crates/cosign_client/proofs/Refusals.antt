@@ -12,7 +12,6 @@ use Rattle.oci_digests.specs.Checks.{checked, checked_by, and_then}
 use Rattle.oci_digests.specs.Names.{digest_text}
 use Rattle.oci_digests.specs.Parts.{parts_of, algorithm_of, named_by}
 use Rattle.oci_digests.specs.declared.digester.Algorithm.{Algorithm}
-use Rattle.oci_digests.specs.declared.error.DigestError.{DigestError}
 use Rattle.oci_digests.specs.declared.error.DigestError.TheVariants as digest_refusal
 use Rattle.oci_manifests.specs.Types.{is_manifest_type}
 use Rattle.oci_manifests.specs.Document.{document_of}
@@ -24,7 +23,7 @@ use Rattle.oci_manifests.specs.declared.blob.ImageLayer.{ImageLayer}
 use Rattle.oci_manifests.specs.declared.manifest.OciImageManifest.{OciImageManifest}
 use Rattle.oci_transport.specs.Link.{Link}
 use Rattle.oci_transport.specs.declared.message.Exchange.{Exchange}
-use Rattle.oci_protocol.specs.Proto.{Proto, Done, bind, unless_refused, ◌>>=◌, ◌>>◌}
+use Rattle.oci_protocol.specs.Proto.{Done, unless_refused, ◌>>=◌}
 use Rattle.oci_protocol.specs.Runs.{Runs, Meets}
 use Rattle.oci_protocol.specs.Shows.{Shows, ByAnswer}
 use Rattle.oci_protocol.proofs.Laws.{Runs-count}
@@ -46,7 +45,7 @@ use Rattle.engine_steps.specs.Blobs.{IntoMemory}
 use Rattle.engine_steps.specs.Rows.{Row as Engine}
 use Rattle.engine_pull.specs.Pulls.{fetch_manifest_digest, pull_manifest_raw, held_blob}
 use Rattle.engine_pull.specs.declared.image.ImageData.{ImageData}
-use Rattle.engine_pull.specs.Images.{is_accepted, all_accepted, layers_accepted, layer_of, config_of}
+use Rattle.engine_pull.specs.Images.{is_accepted, all_accepted, layers_accepted, layer_of}
 use Rattle.oci_engine.specs.Causes.{AnswerCause, BlobUrl, ManifestUrl, OwnDigest}
 use Rattle.engine_laws.proofs.BlobCauses.{blob_causes}
 use Rattle.engine_laws.proofs.DocumentCauses.{Accepted, OwnCause, raw_causes}
@@ -69,7 +68,7 @@ use Rattle.cosign_client.specs.Part.{skipping, appended}
 use Rattle.cosign_client.specs.References.{tag_reference, digest_reference, or_not_valid, reading_back}
 use Rattle.cosign_client.specs.Refusal.{is_memory as of_refusal, refused_as, client_refusal, FaultCounted, NoSinkFault}
 use Rattle.cosign_client.specs.Search.{payload_type, document_part, tag_layers, or_skipped, tag_by, tag_source, bundle_type, behind, referrer_part, referrer_by, referrer_row, referrers_row, listed_row, referrers_source, trusted_layers, searched}
-use Rattle.cosign_client.specs.Skips.{in_engine, in_refusal, is_engine_fault, is_refused_fault}
+use Rattle.cosign_client.specs.Skips.{in_engine, is_engine_fault}
 use Rattle.cosign_client.specs.Verified.{Whole, constrained, is_unconstrained, readable, readable_by, as_whole, part_of, stands_by, standing_by, standing, verified_image, after_search, verified}
 use Rattle.cosign_client.specs.declared.found.Part.{Part}
 use Rattle.cosign_client.specs.declared.found.SkipCause.{SkipCause}
@@ -78,12 +77,10 @@ use Rattle.cosign_client.specs.declared.found.Skipped.{Skipped}
 use Rattle.cosign_client.specs.declared.found.Skipped.TheVariants.{Source, Referrer}
 use Rattle.cosign_client.specs.declared.found.SourceKind.TheVariants.{Tag, Referrers}
 use Rattle.cosign_client.specs.declared.found.TrustedLayers.{TrustedLayers}
-use Rattle.cosign_client.specs.declared.pull.Pulled.{Pulled}
 use Rattle.cosign_client.specs.declared.refusal.PullRefusal.{PullRefusal}
 use Rattle.cosign_client.specs.declared.refusal.PullRefusal.TheVariants as refusal
-use Rattle.cosign_client.specs.declared.verified.Standing.{Standing}
 use Rattle.cosign_client.proofs.Counts.{Counts, Counts-lifted, Counts-done, Counts-more, Counts-bind, Meets-counts}
-use Rattle.cosign_client.proofs.Faults.{Sincere, EngineCounts, fault_of, SincereWords, CallCounts, worded_counts, words_count, kept_counts, manifest_call_counts, image_call_counts, referrers_call_counts, call_later as later, call_next as next}
+use Rattle.cosign_client.proofs.Faults.{EngineCounts, fault_of, SincereWords, CallCounts, worded_counts, words_count, kept_counts, manifest_call_counts, image_call_counts, referrers_call_counts, call_later as later, call_next as next}
 
 -- ---- calls of the engine
 

@@ -25,6 +25,7 @@ pub mod ReferrersAnswers
 pub mod ReferrersCauses
 pub mod ReferrersConfined
 pub mod ReferrersPlain
+pub mod ReferrersRefusals
 pub mod ReferrersSound
 pub mod RunParts
 pub mod SafeKeeps

@@ -92,20 +92,20 @@ row_same {V} {H} policy own case image is =
     ∙ ap (λ (f : SignatureLayer → Bool). by_parts (within (settings_of case) moment) image case.auth case.accepted (is_unconstrained (policy_of case)) f (trust_of case)) (fun_ext (λ layer. stands_same V ⊥ H (λ v. ⊥) own (λ box layer. false) case.keys case.constraints (valid_in (record { rows = case.signatures })) layer))
     ∙ sym (is_by_parts (meaning_of case) (within (settings_of case) moment) image case.auth case.accepted))
 
-sound_result : (case : Case) (image : Reference) (kept : Kept) (moment m n : ℕ) (c : List Exchange) (r : Result VerifiedImage PullRefusal) → Seen (Sound kept (within (settings_of case) moment) (meaning_of case) image case.auth case.accepted) m c n r → SoundResult case image kept moment c r
-sound_result case image kept moment m n c (Ok v) h = h
-sound_result case image kept moment m n c (Err e) h = tt
+sound_result : (case : Case) (image : Reference) (k : Kept) (moment m n : ℕ) (c : List Exchange) (r : Result VerifiedImage PullRefusal) → Seen (Sound k (within (settings_of case) moment) (meaning_of case) image case.auth case.accepted) m c n r → SoundResult case image k moment c r
+sound_result case image k moment m n c (Ok v) h = h
+sound_result case image k moment m n c (Err e) h = tt
 
-each_sound : (case : Case) (image : Reference) (k l : Kept) (m n : ℕ) (talks : List Talk) (h : InTurn (row_of case image) k m talks l n) → EachSound case image k m talks l n h
+each_sound : (case : Case) (image : Reference) (k l : Kept) (m n : ℕ) (talks : List Talk) → InTurn (row_of case image) k m talks l n → EachSound case image talks
 each_sound case image k l m n [] h = tt
-each_sound case image k l m n (talk ∷ talks) h = (sound_result case image k talk.moment m h.1 talk.conversation talk.result ((verified_seen k (within (settings_of case) talk.moment) (meaning_of case) image case.auth case.accepted).seen h.0 m h.1 talk.conversation talk.result h.2), each_sound case image h.0 l h.1 n talks h.3)
+each_sound case image k l m n (talk ∷ talks) h = (sound_result case image talk.before talk.moment m h.2 talk.conversation talk.result ((verified_seen talk.before (within (settings_of case) talk.moment) (meaning_of case) image case.auth case.accepted).seen h.1 m h.2 talk.conversation talk.result h.3), each_sound case image h.1 l h.2 n talks h.4)
 
 -- what was played of a case is its report
 pub reports_case : {V : Type 0} {H : V → Type 0} (policy : PullPolicy V H) (own : DynBox V Global H → SignatureLayer → Bool) (case : Case) (image : Reference) (l : Kept) (made : Report)
     → reference_of case.reference ≡ Ok image → policy.keys ≡ case.keys → policy.constraints ≡ constraints_by case.constraints
-    → Played (row_by (meaning policy own (trust_of case)) (settings_of case) image case.auth case.accepted) case.registry case.moments fresh l made → ReportsCase case made
+    → Played (row_by (meaning policy own (trust_of case)) (settings_of case) image case.auth case.accepted) case.registry case.moments (fresh case.caching) l made → ReportsCase case made
 reports_case policy own case image l made reads keys constraints played =
-    let turn = subst (λ row. InTurn row fresh 0 played.talks l played.faults) (row_same policy own case image (policy_is policy case keys constraints)) played.in_turn in
+    let turn = subst (λ row. InTurn row (fresh case.caching) 0 played.talks l played.faults) (row_same policy own case image (policy_is policy case keys constraints)) played.in_turn in
     record {
       talks = played.talks;
       pulled = record {
@@ -117,7 +117,7 @@ reports_case policy own case image l made reads keys constraints played =
         in_turn = turn;
         answered = played.answered;
         calm_is = played.calm_is;
-        sound = each_sound case image fresh l 0 played.faults played.talks turn;
+        sound = each_sound case image (fresh case.caching) l 0 played.faults played.talks turn;
         whole = played.whole;
       };
       written = played.written;
@@ -126,7 +126,7 @@ reports_case policy own case image l made reads keys constraints played =
 
 -- the same, of a client that was made fresh
 pub reports_fresh : {V : Type 0} {H : V → Type 0} (own : Owns V H) (case : Case) (terms : Terms V H) (client : Client) (log_keys : FinMap by_bytes (List ℕ)) (moments : List ℕ) (l : Kept) (made : Report)
-    → client ≡ record { settings = settings_of case; kept = fresh } → log_keys ≡ case.log_keys → moments ≡ case.moments
+    → client ≡ record { settings = settings_of case; kept = fresh case.caching } → log_keys ≡ case.log_keys → moments ≡ case.moments
     → registry_auth terms.auth ≡ case.auth → terms.accepted ≡ case.accepted
     → terms.verifier ≡ record { rows = case.signatures } → terms.judge ≡ case.vouched
     → reference_of case.reference ≡ Ok (reference_in terms.image) → terms.policy.keys ≡ case.keys → terms.policy.constraints ≡ constraints_by case.constraints

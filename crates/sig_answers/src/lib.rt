@@ -3,6 +3,8 @@
 
 mod answer;
 mod answers;
+mod entries;
+mod weights;
 
 pub use answer::{Answer, Kind};
 pub use answers::{Answers, Bounds, Entry};

@@ -15,11 +15,12 @@ use Rattle.oci_protocol.specs.Runs.{Meets, Told}
 use Rattle.oci_protocol.proofs.Extending.{Extends-none}
 use Rattle.oci_protocol.proofs.Lifting.{Meets-lifted}
 use Rattle.engine_requests.specs.declared.settings.Settings.{Settings}
-use Rattle.engine_requests.specs.declared.error.OciDistributionError.TheVariants as engine
-use Rattle.engine_requests.specs.Contexts.{Context, within}
+use Rattle.engine_requests.specs.declared.error.OciDistributionError.{OciDistributionError}
+use Rattle.engine_requests.specs.Contexts.{within}
 use Rattle.engine_pull.specs.declared.image.ImageData.{ImageData}
 use Rattle.engine_laws.specs.Confined.{Within}
 use Rattle.engine_laws.specs.Held.{pulling}
+use Rattle.engine_laws.specs.Referrers.{WithinReferrers}
 use Rattle.oci_engine.specs.declared.client.Client.{Client as Engine}
 use Rattle.sig_answers.specs.Answers.{keep, entry, kind_of, as_digest, as_manifest, as_image, as_referrers}
 use Rattle.sig_answers.specs.declared.answer.Answer.{Answer}
@@ -27,9 +28,8 @@ use Rattle.sig_answers.specs.declared.answer.Answer.TheVariants.{Digest, Manifes
 use Rattle.sig_answers.specs.declared.answers.Answers.{Answers}
 use Rattle.sig_registry.specs.declared.error.SigstoreError.{SigstoreError}
 use Rattle.sig_registry.specs.declared.error.SigstoreError.TheVariants as refusal
-use Rattle.sig_registry.specs.Errors.{is_memory, Says, registry_refusal, IsRefusedBy, FaultCounted, NoSinkFault}
+use Rattle.sig_registry.specs.Errors.{is_memory, Says, registry_refusal, IsRefusedBy}
 use Rattle.sig_registry.specs.Clients.{Kept, Plain, Client, engine_state, Made, PlainlyMade, RefusalKeeps}
-use Rattle.sig_registry.specs.Confinement.{Stays, StaysWithTag}
 use Rattle.sig_registry.specs.Caching.{Cache, known, cached, key_if}
 use Rattle.sig_registry.specs.Calls.{digests, manifests, images, referrers}
 use Rattle.sig_registry.specs.Log.{Call, image_called, kind_called, key_called, answering, call_made, Recalled, Logged}
@@ -127,18 +127,18 @@ module _ {A : Type 0} (cache : Cache A) (law : IsCache cache) (call : Call) (now
         (unknown (at_key x is)))
 
     -- memory was wanting to keep the plain call's answer
-    pub cuts : {x : Option Answers} {e f : Engine} {old new : Link} {a : A} {r : Result A SigstoreError} → known cache key now x ≡ None → ((s : Settings) → PlainlyMade s (row s) e f old new (Ok a)) → Memory r → Of (engine_state e x) (engine_state f x) old new r
-    cuts {x} {a = a} is plain err = facts
-        (λ s. record { made = λ same. let made = (plain s).made same in (made.0, kept.reads cache (key_called call) now (row s) (reads_back (image_called call)) read_back (kept.cut_after cache (key_called call) now (row s) a (at_key x is) made.1 err)) })
+    pub cuts : {x y : Answers} {e f : Engine} {old new : Link} {a : A} {r : Result A SigstoreError} → known cache key now (Some x) ≡ None → ((s : Settings) → PlainlyMade s (row s) e f old new (Ok a)) → Memory r → y ≡ x → Of (engine_state e (Some x)) (engine_state f (Some y)) old new r
+    cuts {x} {y} {e} {f} {old} {new} {a} {r} is plain err same = subst (λ z. Of (engine_state e (Some x)) (engine_state f (Some z)) old new r) (sym same) (facts
+        (λ s. record { made = λ at. let made = (plain s).made at in (made.0, kept.reads cache (key_called call) now (row s) (reads_back (image_called call)) read_back (kept.cut_after cache (key_called call) now (row s) a (at_key (Some x) is) made.1 err)) })
         (λ _. refl)
-        (unknown (at_key x is))
+        (unknown (at_key (Some x) is)))
 
     -- the plain call answered, and its answer is kept under the key
-    pub keeps : {x : Option Answers} {e f : Engine} {old new : Link} {a : A} → known cache key now x ≡ None → ((s : Settings) → PlainlyMade s (row s) e f old new (Ok a)) → Of (engine_state e x) (engine_state f (option_map (keep (entry key now (cache.kept_as a))) x)) old new (Ok a)
-    keeps {x} {e} {f} {old} {new} {a} is plain = subst (λ k. Of (engine_state e x) (engine_state f (option_map (keep (entry k now (cache.kept_as a))) x)) old new (Ok a)) (sym (key_there (reads_back (image_called call)) (key_called call) key reads).1) (facts
-        (λ s. record { made = λ same. let made = (plain s).made same in (made.0, kept.reads cache (key_called call) now (row s) (reads_back (image_called call)) read_back (kept.given cache (key_called call) now (row s) a (at_key x is) made.1)) })
+    pub keeps : {x y : Answers} {e f : Engine} {old new : Link} {a : A} → known cache key now (Some x) ≡ None → ((s : Settings) → PlainlyMade s (row s) e f old new (Ok a)) → y ≡ keep (entry key now (cache.kept_as a)) x → Of (engine_state e (Some x)) (engine_state f (Some y)) old new (Ok a)
+    keeps {x} {y} {e} {f} {old} {new} {a} is plain same = subst (λ z. Of (engine_state e (Some x)) (engine_state f (Some z)) old new (Ok a)) (ap (λ k. keep (entry k now (cache.kept_as a)) x) (sym (key_there (reads_back (image_called call)) (key_called call) key reads).1) ∙ sym same) (facts
+        (λ s. record { made = λ at. let made = (plain s).made at in (made.0, kept.reads cache (key_called call) now (row s) (reads_back (image_called call)) read_back (kept.given cache (key_called call) now (row s) a (at_key (Some x) is) made.1)) })
         (λ h. absurd (cc h))
-        (unknown (at_key x is)))
+        (unknown (at_key (Some x) is)))
 
   -- the reference does not read back
   pub uncached : {x : Option Answers} {e f : Engine} {old new : Link} {r : Result A SigstoreError} → key_if (reads_back (image_called call)) (key_called call) ≡ None → ((s : Settings) → PlainlyMade s (row s) e f old new r) → Of (engine_state e x) (engine_state f x) old new r
@@ -160,29 +160,26 @@ never_kept {x = x} plain = record { made = λ same. let made = plain.made same i
 
 -- ---- faults
 
-pub memory_fault : {A : Type 0} (old new : Link) (r : Result A SigstoreError) → Memory r → FaultCounted old new r
-memory_fault old new (Ok a) is h = absurd is
-memory_fault old new (Err e) is h = absurd (cc (ap registry_refusal is, h))
+-- want of memory holds no refusal of the registry's client
+pub memory_holds_none : {A : Type 0} (f : OciDistributionError) (P : Type 0) (r : Result A SigstoreError) → Memory r → IsRefusedBy f r → P
+memory_holds_none f P (Ok a) is held = absurd is
+memory_holds_none f P (Err e) is held = absurd (cc (ap registry_refusal is, held))
 
-pub memory_no_sink : {A : Type 0} (r : Result A SigstoreError) → Memory r → NoSinkFault r
-memory_no_sink (Ok a) is h = absurd is
-memory_no_sink (Err e) is h = absurd (cc (ap registry_refusal is, h))
+-- a refusal that is handed on holds what it held
+abbrev refused_by : (A : Type 0) → SigstoreError → Result A SigstoreError
+refused_by A e = Err e
 
-pub same_fault : {B : Type 0} (A : Type 0) (old new : Link) (e : SigstoreError) (r : Result B SigstoreError) → IsErrAnd r (λ x. x ≡ e) → FaultCounted {A = A} old new (Err e) → FaultCounted old new r
-same_fault A old new e (Ok b) is h = absurd is
-same_fault A old new e (Err x) is h = λ held. h (ap registry_refusal (sym is) ∙ held)
-
-pub same_no_sink : {B : Type 0} (A : Type 0) (e : SigstoreError) (r : Result B SigstoreError) → IsErrAnd r (λ x. x ≡ e) → NoSinkFault {A = A} (Err e) → NoSinkFault r
-same_no_sink A e (Ok b) is h = absurd is
-same_no_sink A e (Err x) is h = λ held. h (ap registry_refusal (sym is) ∙ held)
+pub same_held : {B : Type 0} (A : Type 0) (f : OciDistributionError) (P : Type 0) (e : SigstoreError) (r : Result B SigstoreError) → IsErrAnd r (λ x. x ≡ e) → (IsRefusedBy f (refused_by A e) → P) → IsRefusedBy f r → P
+same_held A f P e (Ok b) is h held = absurd is
+same_held A f P e (Err x) is h held = h (ap registry_refusal (sym is) ∙ held)
 
 -- ---- where nothing was asked
 
-nothing_within : (k : Memories) (s : Context) (image : Reference) (handed : Option RegistryAuth) (t : Settings) → Within (pulling k s image handed) t k []
-nothing_within k s image handed t = record { confined = tt; kept = λ key moment token h. inl h; stored = λ registry a h. inl h }
+nothing_within : (k : Memories) (moment : ℕ) (image : Reference) (handed : Option RegistryAuth) (t : Settings) → Within (pulling k (within t moment) image handed) t k []
+nothing_within k moment image handed t = record { confined = tt; kept = λ key moment token h. inl h; stored = λ registry a h. inl h }
 
-pub stays_same : (c : Client) (moment : ℕ) (image : Reference) (handed : Option RegistryAuth) (link : Link) → Stays c c moment image handed link link
-stays_same c moment image handed link = record { conversation = []; told = Extends-none link; holds = nothing_within c.kept.0 (within c.settings moment) image handed c.settings }
+pub stays_same : (k : Memories) (moment : ℕ) (image : Reference) (handed : Option RegistryAuth) (t : Settings) (link : Link) → Told (Within (pulling k (within t moment) image handed) t k) link link
+stays_same k moment image handed t link = record { conversation = []; told = Extends-none link; holds = nothing_within k moment image handed t }
 
-pub tag_same : (c : Client) (moment : ℕ) (image : Reference) (handed : Option RegistryAuth) (link : Link) → StaysWithTag c c moment image handed link link
-tag_same c moment image handed link = record { conversation = []; told = Extends-none link; holds = inl (nothing_within c.kept.0 (within c.settings moment) image handed c.settings) }
+pub tag_same : (k : Memories) (moment : ℕ) (image : Reference) (handed : Option RegistryAuth) (t : Settings) (link : Link) → Told (WithinReferrers (pulling k (within t moment) image handed) t k) link link
+tag_same k moment image handed t link = record { conversation = []; told = Extends-none link; holds = inl (nothing_within k moment image handed t) }

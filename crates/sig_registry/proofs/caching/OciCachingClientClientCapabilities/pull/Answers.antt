@@ -2,7 +2,7 @@ use Rattle.std.proofs.Common.{◌∙◌, refl, sym}
 use Rattle.engine_requests.specs.Contexts.{within}
 use Rattle.sig_registry.specs.Calls.{images, image_made, image_call}
 use Rattle.sig_registry.specs.Log.{ImageCall}
-use Rattle.sig_registry.proofs.Facts.{images_kept, absent, uncached, recalls, refuses, cuts, keeps, memory_fault, memory_no_sink, same_fault, same_no_sink, stays_same}
+use Rattle.sig_registry.proofs.Facts.{images_kept, absent, uncached, recalls, refuses, cuts, keeps, memory_holds_none, same_held, stays_same}
 use Rattle.sig_registry.proofs.caching.OciCachingClientClientCapabilities.pull.Goals as goal
 
 pub returns-in_err-found : goal.returns-in_err-found
@@ -11,9 +11,9 @@ returns-in_err-found g c =
     let f = absent images images_kept (ImageCall c.args.image.now c.args.auth.now c.args.accepted_media_types.now) c.args.moment (λ s. image_made (within s c.args.moment) c.args.image.now c.args.auth.now c.args.accepted_media_types.now) refl (λ s. refl) c.from_residual.ensures.1 in
     record {
       run = f.run;
-      fault = memory_fault _ _ _ c.from_residual.ensures.1;
-      no_sink = memory_no_sink _ c.from_residual.ensures.1;
-      confined = stays_same _ _ _ _ _;
+      fault = memory_holds_none _ _ _ c.from_residual.ensures.1;
+      no_sink = memory_holds_none _ _ _ c.from_residual.ensures.1;
+      confined = stays_same _ _ _ _ _ _;
       refused = f.refused;
       recalled = f.recalled;
       logged = f.logged;
@@ -39,9 +39,9 @@ returns-in_err-known g c =
     let f = absent images images_kept (ImageCall c.args.image.now c.args.auth.now c.args.accepted_media_types.now) c.args.moment (λ s. image_made (within s c.args.moment) c.args.image.now c.args.auth.now c.args.accepted_media_types.now) refl (λ s. refl) c.from_residual-in_err-known.ensures.1 in
     record {
       run = f.run;
-      fault = memory_fault _ _ _ c.from_residual-in_err-known.ensures.1;
-      no_sink = memory_no_sink _ c.from_residual-in_err-known.ensures.1;
-      confined = stays_same _ _ _ _ _;
+      fault = memory_holds_none _ _ _ c.from_residual-in_err-known.ensures.1;
+      no_sink = memory_holds_none _ _ _ c.from_residual-in_err-known.ensures.1;
+      confined = stays_same _ _ _ _ _ _;
       refused = f.refused;
       recalled = f.recalled;
       logged = f.logged;
@@ -55,7 +55,7 @@ returns-in-Some-known g c =
       run = f.run;
       fault = λ h. absurd h;
       no_sink = λ h. absurd h;
-      confined = stays_same _ _ _ _ _;
+      confined = stays_same _ _ _ _ _ _;
       refused = f.refused;
       recalled = f.recalled;
       logged = f.logged;
@@ -64,11 +64,11 @@ returns-in-Some-known g c =
 pub returns-in_err-data : goal.returns-in_err-data
 unfolding image_call
 returns-in_err-data g c =
-    let f = refuses images images_kept (ImageCall c.args.image.now c.args.auth.now c.args.accepted_media_types.now) c.args.moment (λ s. image_made (within s c.args.moment) c.args.image.now c.args.auth.now c.args.accepted_media_types.now) refl (λ s. refl) (sym c.in_ok-found.ensures ∙ c.in-Some.is) (sym c.in_ok-known.ensures ∙ c.in-None.is) c.in_err-data.ensures.run c.from_residual-in_err-data.ensures.1 in
+    let f = refuses images images_kept (ImageCall c.args.image.now c.args.auth.now c.args.accepted_media_types.now) c.args.moment (λ s. image_made (within s c.args.moment) c.args.image.now c.args.auth.now c.args.accepted_media_types.now) refl (λ s. refl) (sym c.in_ok-found.ensures ∙ c.in-Some.is) (sym c.in_ok-known.ensures ∙ c.in_default-known.is) c.in_err-data.ensures.run c.from_residual-in_err-data.ensures.1 in
     record {
       run = f.run;
-      fault = same_fault _ _ _ _ _ c.from_residual-in_err-data.ensures.1 c.in_err-data.ensures.fault;
-      no_sink = same_no_sink _ _ _ c.from_residual-in_err-data.ensures.1 c.in_err-data.ensures.no_sink;
+      fault = same_held _ _ _ _ _ c.from_residual-in_err-data.ensures.1 c.in_err-data.ensures.fault;
+      no_sink = same_held _ _ _ _ _ c.from_residual-in_err-data.ensures.1 c.in_err-data.ensures.no_sink;
       confined = c.in_err-data.ensures.confined;
       refused = f.refused;
       recalled = f.recalled;
@@ -78,11 +78,11 @@ returns-in_err-data g c =
 pub returns-in_err-keep_image : goal.returns-in_err-keep_image
 unfolding image_call
 returns-in_err-keep_image g c =
-    let f = cuts images images_kept (ImageCall c.args.image.now c.args.auth.now c.args.accepted_media_types.now) c.args.moment (λ s. image_made (within s c.args.moment) c.args.image.now c.args.auth.now c.args.accepted_media_types.now) refl (λ s. refl) (sym c.in_ok-found.ensures ∙ c.in-Some.is) (sym c.in_ok-known.ensures ∙ c.in-None.is) c.in_ok-data.ensures.run c.from_residual-in_err-keep_image.ensures.1 in
+    let f = cuts images images_kept (ImageCall c.args.image.now c.args.auth.now c.args.accepted_media_types.now) c.args.moment (λ s. image_made (within s c.args.moment) c.args.image.now c.args.auth.now c.args.accepted_media_types.now) refl (λ s. refl) (sym c.in_ok-found.ensures ∙ c.in-Some.is) (sym c.in_ok-known.ensures ∙ c.in_default-known.is) c.in_ok-data.ensures.run c.from_residual-in_err-keep_image.ensures.1 c.in_err-keep_image.ensures.err in
     record {
       run = f.run;
-      fault = memory_fault _ _ _ c.from_residual-in_err-keep_image.ensures.1;
-      no_sink = memory_no_sink _ c.from_residual-in_err-keep_image.ensures.1;
+      fault = memory_holds_none _ _ _ c.from_residual-in_err-keep_image.ensures.1;
+      no_sink = memory_holds_none _ _ _ c.from_residual-in_err-keep_image.ensures.1;
       confined = c.in_ok-data.ensures.confined;
       refused = f.refused;
       recalled = f.recalled;
@@ -92,7 +92,7 @@ returns-in_err-keep_image g c =
 pub returns : goal.returns
 unfolding image_call
 returns g c =
-    let f = keeps images images_kept (ImageCall c.args.image.now c.args.auth.now c.args.accepted_media_types.now) c.args.moment (λ s. image_made (within s c.args.moment) c.args.image.now c.args.auth.now c.args.accepted_media_types.now) refl (λ s. refl) (sym c.in_ok-found.ensures ∙ c.in-Some.is) (sym c.in_ok-known.ensures ∙ c.in-None.is) c.in_ok-data.ensures.run in
+    let f = keeps images images_kept (ImageCall c.args.image.now c.args.auth.now c.args.accepted_media_types.now) c.args.moment (λ s. image_made (within s c.args.moment) c.args.image.now c.args.auth.now c.args.accepted_media_types.now) refl (λ s. refl) (sym c.in_ok-found.ensures ∙ c.in-Some.is) (sym c.in_ok-known.ensures ∙ c.in_default-known.is) c.in_ok-data.ensures.run c.in_ok-keep_image.ensures.ok in
     record {
       run = f.run;
       fault = λ h. absurd h;
