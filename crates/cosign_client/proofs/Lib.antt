@@ -17,4 +17,6 @@ pub mod Leads
 pub mod Reading
 pub mod ReferrerRows
 pub mod Refusals
+pub mod ShelfCalls
 pub mod ShelfPulls
+pub mod ShelfStays

@@ -6,7 +6,7 @@ use Rattle.std.proofs.lemmas.List.Elements.{All-nil, All-head, All-tail, All-pus
 use Rattle.std.proofs.lemmas.Slice.Eq.{bytes_eq-Decides}
 use Rattle.oci_names.proofs.ReadsBack.{reads_back-means}
 use Rattle.oci_names.specs.References.{reads_back, whole_text, reference_of}
-use Rattle.oci_names.specs.declared.error.ParseError.{ParseError}
+use Rattle.oci_names.specs.declared.parse_error.ParseError.{ParseError}
 use Rattle.oci_names.specs.declared.reference.Reference.{Reference}
 use Rattle.oci_auth.specs.declared.auth.RegistryAuth.{RegistryAuth}
 use Rattle.oci_auth.specs.declared.memory.Memory.{Memory}
@@ -63,7 +63,7 @@ bounded_all : (P : Entry → Type 0) (bounds : Option Bounds) (es : List Entry) 
 bounded_all P bounds [] all = all
 bounded_all P bounds (e ∷ es) all = cond_both _ (e ∷ es) (in_bounds bounds es) (All P) (λ fits. all) (λ more. bounded_all P bounds es (All-tail P e es all))
 
-module _ {s : Settings} {registry : List ℕ} {a : RegistryAuth} {shelf : Shelf} where
+module _ (s : Settings) (registry : List ℕ) (a : RegistryAuth) (shelf : Shelf) where
   abbrev J : Memory → Type 0
   J k = Settled registry shelf.repository a k
 

@@ -13,6 +13,8 @@ use Rattle.oci_manifests.specs.declared.index_entry.ImageIndexEntry.{ImageIndexE
 use Rattle.oci_manifests.specs.declared.manifest.OciImageManifest.{OciImageManifest}
 use Rattle.oci_manifests.specs.declared.descriptor.OciDescriptor.{OciDescriptor}
 use Rattle.oci_manifests.specs.declared.blob.ImageLayer.{ImageLayer}
+use Rattle.oci_transport.specs.declared.message.Request.{Request}
+use Rattle.oci_transport.specs.declared.message.Answer.{Answer}
 use Rattle.oci_protocol.specs.Proto.{Proto, Done}
 use Rattle.oci_link.specs.Table.{answer}
 use Rattle.oci_link.specs.declared.shelf.Shelf.{Shelf}
@@ -51,7 +53,7 @@ use Rattle.cosign_client.specs.declared.found.Skipped.TheVariants.{Source, Refer
 use Rattle.cosign_client.specs.declared.found.TrustedLayers.{TrustedLayers}
 use Rattle.cosign_client.proofs.ShelfCalls.{digest_settled, manifest_settled, image_settled, referrers_settled}
 
-pub words_stay : {J : Memory → Type 0} {shelf : Shelf} {A : Type 0} {p : Engine A} (called : Called) (r : Reference) → Stays J (answer shelf) p → Stays J (answer shelf) (in_words called r p)
+pub words_stay : {J : Memory → Type 0} {table : Request → Answer} {A : Type 0} {p : Engine A} (called : Called) (r : Reference) → Stays J table p → Stays J table (in_words called r p)
 unfolding in_words
 words_stay called r h = Stays-bind (λ x. Done (worded called (whole_text r) x)) h (λ x. Stays-done _)
 
@@ -126,8 +128,8 @@ module _ {V : Type 0} {H : V → Type 0} (meaning : Meaning V H) (s : Settings) 
     pub tag_stays : Settles (tag_layers meaning.trust d ctx (tag_reference image d) a)
     unfolding tag_layers
     tag_stays =
-        Stays-next _ (manifest_settled (tag_reference image d) (tag_at asked d) moment tag_document) (λ document.
-        Stays-next _ (image_settled (tag_reference image d) (tag_at asked d) (payload_type ∷ []) moment (pulled (tag_reference image d) (tag_at asked d) (payload_type ∷ []))) (λ found. Stays-done _))
+        Stays-next _ (manifest_settled s registry a shelf (tag_reference image d) (tag_at asked d) moment tag_document) (λ document.
+        Stays-next _ (image_settled s registry a shelf (tag_reference image d) (tag_at asked d) (payload_type ∷ []) moment (pulled (tag_reference image d) (tag_at asked d) (payload_type ∷ []))) (λ found. Stays-done _))
 
     tag_by_stays : (b : Bool) → Settles (tag_by meaning.trust d ctx (tag_reference image d) a b)
     tag_by_stays false = Stays-done _
@@ -142,10 +144,10 @@ module _ {V : Type 0} {H : V → Type 0} (meaning : Meaning V H) (s : Settings) 
     listing = Stays-next _ (words_stay FetchManifest source (Gives-stays (given_gives home source (digest_at asked d) a can moment))) (λ u. words_stay PullManifest source (referrers_stay home a can moment source (digest_at asked d) None))
 
     pub listing_stays : Settles (referrers_call ctx source a None)
-    listing_stays = referrers_settled source (digest_at asked d) None moment listing
+    listing_stays = referrers_settled s registry a shelf source (digest_at asked d) None moment listing
 
     pub referrer_stays : (x : List ℕ) → Settles (image_call ctx (digest_reference source x) a (bundle_type ∷ []))
-    referrer_stays x = image_settled (digest_reference source x) (referrer_at asked d x) (bundle_type ∷ []) moment (pulled (digest_reference source x) (referrer_at asked d x) (bundle_type ∷ []))
+    referrer_stays x = image_settled s registry a shelf (digest_reference source x) (referrer_at asked d x) (bundle_type ∷ []) moment (pulled (digest_reference source x) (referrer_at asked d x) (bundle_type ∷ []))
 
     referrer_by_stays : (x : List ℕ) (part : Part) (b : Bool) → Settles (referrer_by meaning.trust d ctx (digest_reference source x) a x part b)
     referrer_by_stays x part false = Stays-done _
@@ -167,7 +169,7 @@ module _ {V : Type 0} {H : V → Type 0} (meaning : Meaning V H) (s : Settings) 
   searched_stays : Settles (searched meaning.trust ctx image a)
   unfolding searched
   searched_stays =
-      Stays-next _ (digest_settled image (image_at asked) moment digest_step) (λ d.
+      Stays-next _ (digest_settled s registry a shelf image (image_at asked) moment digest_step) (λ d.
       Stays-next _ (Stays-done (reading_back (digest_reference image d))) (λ u.
       Stays-next _ (tag_source_stays d) (λ tag.
       Stays-next _ (referrers_source_stays d tag) (λ found. Stays-done _))))

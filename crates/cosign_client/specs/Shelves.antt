@@ -120,18 +120,6 @@ pub record ValidShelf {V : Type 0} {H : V → Type 0} (meaning : Meaning V H) (s
   pub no_certificate : signed.standing.layer.certificate_signature ≡ None
   pub short : IsShort s shelf
 
--- The shelf is asked for the image and has it, by a digest of any algorithm, whose tag makes a reference that reads
--- back, and a layer under the tag stands. Nothing is too long.
-pub record TaggedShelf {V : Type 0} {H : V → Type 0} (meaning : Meaning V H) (s : Settings) (image : Reference)
-    (a : RegistryAuth) (accepted : List (List ℕ)) (shelf : Shelf) : Type 0 where
-  pub asked : IsAsked s image a shelf
-  pub digest : List ℕ
-  pub named : digest_on shelf image ≡ Some digest
-  pub image_on : ImageOn s shelf digest accepted
-  pub tag_reads : reads_back (tag_reference image digest) ≡ true
-  pub signed : SignedByTag meaning digest shelf
-  pub short : IsShort s shelf
-
 -- the transport answers from the shelf and tells what was asked; so does a `ShelfTransport`
 pub record AnswersFrom (shelf : Shelf) (link : Link) : Type 0 where
   pub answers : link.answers ≡ Some (answering shelf)
