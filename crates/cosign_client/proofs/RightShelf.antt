@@ -1,5 +1,5 @@
 -- A valid shelf exists: one that is built of the bytes of an image of one layer and of a signature of it.
-use Rattle.std.specs.Prelude.{find, unwrap_or, Contains, IsTrue, IfSome}
+use Rattle.std.specs.Prelude.{unwrap_or, Contains, IsTrue, IfSome}
 use Rattle.std.specs.Cmp.{eq_by_cmp_equiv}
 use Rattle.std.specs.Cmp.Lexicographic.{nat_list_cmp_total}
 use Rattle.std.specs.FinMap as map
@@ -8,7 +8,7 @@ use Rattle.std.specs.List.{All, list_all}
 use Rattle.std.specs.Ordering.{eq_by_cmp, is_eq}
 use Rattle.std.specs.declared.cmp.Ordering.{Ordering}
 use Rattle.std.specs.declared.cmp.Ordering.TheVariants.{Less, Equal, Greater}
-use Rattle.std.proofs.Common.{◌≡◌, ◌<◌, ◌≤◌, ℕ, zero, Bool, true, false, cond, List, [], ◌∷◌, length, Option, Some, None, Result, Ok, Err, refl, sym, ap, ◌∙◌, subst, arith}
+use Rattle.std.proofs.Common.{◌≡◌, ◌<◌, ◌≤◌, ℕ, Bool, true, false, cond, List, [], ◌∷◌, length, Some, None, Ok, refl, sym, ap, ◌∙◌, subst, arith}
 use Rattle.std.proofs.lemmas.List.{nil_from_length}
 use Rattle.std.proofs.lemmas.List.Elements.{All-nil, All-cons}
 use Rattle.json_values.specs.Places.{by_bytes}
@@ -16,7 +16,7 @@ use Rattle.oci_names.specs.Words.{Tag}
 use Rattle.oci_names.specs.References.{repository_of, digest_of, tag_of, resolved_registry, reads_back}
 use Rattle.oci_names.specs.declared.reference.Reference.{Reference}
 use Rattle.oci_auth.specs.declared.auth.RegistryAuth.{RegistryAuth}
-use Rattle.oci_digests.specs.Names.{Names, names, digest_text, hash_of}
+use Rattle.oci_digests.specs.Names.{names, digest_text, hash_of}
 use Rattle.oci_digests.specs.declared.digester.Algorithm.TheVariants.{Sha256}
 use Rattle.oci_digests.proofs.Equal.{named}
 use Rattle.hex.specs.Hex.{encode_lower}
@@ -38,13 +38,11 @@ use Rattle.shelf_laws.specs.Shelves.{IsShort, HasDocument, HasBlob, HasLayer, Ha
 use Rattle.shelf_laws.proofs.Pointing.{tag_named}
 use Rattle.shelf_laws.proofs.References.{spelled}
 use Rattle.cosign_layers.specs.Standing.{Meaning, StandsFor}
-use Rattle.cosign_layers.specs.Trust.{Trust}
 use Rattle.cosign_layers.specs.declared.layer.SignatureLayer.{SignatureLayer}
-use Rattle.cosign_layers.specs.declared.rejection.LayerRejection.{LayerRejection}
 use Rattle.cosign_client.specs.Part.{named_layer, read_layer}
 use Rattle.cosign_client.specs.References.{signature_tag}
 use Rattle.cosign_client.specs.Search.{payload_type}
-use Rattle.cosign_client.specs.Shelves.{IsAsked, ReadsStanding, SignedByTag, ValidShelf}
+use Rattle.cosign_client.specs.Shelves.{IsAsked, SignedByTag, ValidShelf}
 
 abbrev Texts : Type 0 → Type 0
 Texts V = FinMap by_bytes V
