@@ -1,5 +1,5 @@
 -- Calls whose answers may be kept, over a shelf: what was kept before is what the shelf gives, and so is what is kept then.
-use Rattle.std.specs.Prelude.{nat_le, nat_lt, bytes_eq, not, find, filter, option_map, option_and_then, if◌then◌else◌}
+use Rattle.std.specs.Prelude.{bytes_eq, not, find, filter, option_map, option_and_then, if◌then◌else◌}
 use Rattle.std.proofs.Common.{◌≡◌, ℕ, Bool, true, false, cond, ◌&&◌, List, [], ◌∷◌, ◌++◌, All, Option, Some, None, Result, Ok, Err, refl, sym, ap, subst, ◌∙◌}
 use Rattle.std.proofs.lemmas.Bool.{cond_both}
 use Rattle.std.proofs.lemmas.List.Elements.{All-nil, All-head, All-tail, All-push, All-filter}
@@ -14,7 +14,7 @@ use Rattle.oci_auth.specs.declared.memory.Memory.{Memory}
 use Rattle.oci_manifests.specs.declared.document.OciManifest.{OciManifest}
 use Rattle.oci_manifests.specs.declared.index.OciImageIndex.{OciImageIndex}
 use Rattle.oci_protocol.specs.Lift.{lifted}
-use Rattle.oci_protocol.specs.Proto.{Proto, Done, Recall, Keep, bind, unless_refused, ◌>>=◌, ◌>>◌}
+use Rattle.oci_protocol.specs.Proto.{Done, bind, unless_refused, ◌>>◌}
 use Rattle.oci_link.specs.Table.{answer}
 use Rattle.oci_link.specs.declared.shelf.Shelf.{Shelf}
 use Rattle.engine_pull.specs.declared.image.ImageData.{ImageData}
@@ -27,7 +27,7 @@ use Rattle.shelf_laws.proofs.Tokens.{fresh_settled}
 use Rattle.shelf_laws.proofs.Lifted.{Comes-lifted, Comes-itself, ComesTo-is, Gives-lifted, Stays-lifted}
 use Rattle.sig_settings.specs.Keys.{manifest_key, pull_key, referrers_key}
 use Rattle.sig_settings.proofs.Tells.{manifest_keys_tell, pull_keys_tell, referrers_keys_tell}
-use Rattle.sig_answers.specs.Answers.{is_of, is_fresh, same_kind, kind_of, given_at, fresh, keep, entry, within as in_bounds}
+use Rattle.sig_answers.specs.Answers.{is_of, is_fresh, same_kind, kind_of, given_at, keep, entry, within as in_bounds}
 use Rattle.sig_answers.specs.declared.answer.Answer.{Answer}
 use Rattle.sig_answers.specs.declared.answer.Answer.TheVariants.{Digest, Manifest, Image, Referrers}
 use Rattle.sig_answers.specs.declared.answers.Answers.{Answers}
@@ -35,7 +35,7 @@ use Rattle.sig_answers.specs.declared.answers.Bounds.{Bounds}
 use Rattle.sig_answers.specs.declared.answers.Entry.{Entry}
 use Rattle.sig_registry.specs.Caching.{Cache, known, keeping, known_or, recalled, cached}
 use Rattle.sig_registry.specs.Calls.{digests, manifests, images, referrers, digest_made, manifest_made, image_made, referrers_made, digest_call, manifest_call, image_call, referrers_call}
-use Rattle.sig_registry.specs.Clients.{Kept, Plain, Row}
+use Rattle.sig_registry.specs.Clients.{Kept, Plain}
 use Rattle.sig_registry.specs.declared.error.SigstoreError.{SigstoreError}
 use Rattle.cosign_client.specs.Builder.{no_answers}
 use Rattle.cosign_client.specs.Settled.{IsGiven, IsOf, IsAnswer, IsRight, AreRight, IsSettled}
