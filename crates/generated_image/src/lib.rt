@@ -5,4 +5,4 @@ mod layers;
 mod shelf;
 mod texts;
 
-pub use shelf::generated_shelf;
+pub use shelf::{generated_shelf, payload_digest};

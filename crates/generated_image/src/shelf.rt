@@ -3,7 +3,8 @@ ghost use Rattle.std.specs.Prelude.{◌≡◌, ◌++◌, IfOk, OnOk, codes};
 ghost use Rattle.std.specs.FinMap as map;
 ghost use Rattle.hex.specs.Hex.{encode_lower};
 ghost use Rattle.sha2.specs.Sha256.{sha256};
-ghost use Rattle.generated_image.specs.Shelf.{tag_for, manifest_document, shelf_with, generated_shelf, HasTwoDigests};
+ghost use Rattle.generated_image.specs.Shelf.{tag_for, manifest_document, shelf_with, payload_of};
+ghost use Rattle.generated_image.specs.Shelf.{generated_shelf, HasTwoDigests};
 ghost use Rattle.generated_image.specs.Texts.{sha256_text, config_content};
 
 use crate::layers::{Layers, first_layers};
@@ -125,4 +126,16 @@ pub fn generated_shelf(alloc: Global, layers: u32) -> Result<Shelf, AllocError>
     let payload = payload_text(alloc, digest.as_str())?;
     let signatures = signatures_text(alloc, payload.as_str())?;
     shelf_with(alloc, &image, &payload, &signatures, blobs)
+}
+
+/// The digest of the payload that the signature of the image with so many layers signs.
+#[tactic(auto, unfolding(crate::specs::Texts::image_text))]
+pub fn payload_digest(alloc: Global, layers: u32) -> Result<Text, AllocError>
+    ensures { IfOk result (λ digest. digest ≡ sha256_text (payload_of layers)) }
+{
+    let Layers { descriptors, .. } = first_layers(alloc, layers)?;
+    let image = plain_manifest(alloc, descriptors.as_slice())?;
+    let digest = sha256_digest(alloc, image.as_str().as_bytes())?;
+    let payload = payload_text(alloc, digest.as_str())?;
+    sha256_digest(alloc, payload.as_str().as_bytes())
 }
