@@ -76,9 +76,6 @@ counted_more es start e w x s h low is before own sum =
 capped_over : (w s bytes : ℕ) → s ≡ counted w → bytes < s → bytes < w
 capped_over w s bytes is over = omega arith
 
-capped_under : (w s bytes : ℕ) → s ≡ counted w → bytes < 2 ^ 64 → s ≤ bytes → w ≤ bytes
-capped_under w s bytes is small under = omega arith
-
 -- too many
 pub over_count : (b : Bounds) (es : List Entry) (n count : ℕ) → count ≡ length es - n → b.answers < count → fits (Some b) (drop n es) ≡ false
 over_count b es n count is over = and_left _ _ (lt-leb (length (drop n es)) b.answers (subst (λ c. b.answers < c) (is ∙ sym (length-drop n es)) over))
@@ -86,17 +83,6 @@ over_count b es n count is over = and_left _ _ (lt-leb (length (drop n es)) b.an
 -- too much
 pub over_weight : (b : Bounds) (es : List Entry) (n s : ℕ) → s ≡ counted (weight (drop n es)) → b.bytes < s → fits (Some b) (drop n es) ≡ false
 over_weight b es n s is over = and_right _ _ (lt-leb (weight (drop n es)) b.bytes (capped_over (weight (drop n es)) s b.bytes is over))
-
-pub still_fits : (b : Bounds) (es : List Entry) (n count s : ℕ) → count ≡ length es - n → s ≡ counted (weight (drop n es)) → b.bytes < 2 ^ 64 → count ≤ b.answers → s ≤ b.bytes → fits (Some b) (drop n es) ≡ true
-still_fits b es n count s is also small few light =
-    and_from _ _ (le-leb (length (drop n es)) b.answers (subst (λ c. c ≤ b.answers) (is ∙ sym (length-drop n es)) few))
-    (le-leb (weight (drop n es)) b.bytes (capped_under (weight (drop n es)) s b.bytes also small light))
-
--- the items from start on come first, and the others are cut off
-pub rotated_rest : (es : List Entry) (start : ℕ) → start ≤ length es → take (length es - start) (drop start es ++ take start es) ≡ drop start es
-rotated_rest es start low =
-    let enough : length es - start ≤ length (drop start es) = subst (λ n. length es - start ≤ n) (sym (length-drop start es)) (omega arith) in
-    take-append-le (length es - start) (drop start es) (take start es) enough ∙ take_rest es start
 
 -- the loop came to the first entry
 pub all_fit : (b : Bounds) (start : ℕ) (es : List Entry) → start ≡ 0 → fits (Some b) (drop start es) ≡ true → within (Some b) es ≡ es

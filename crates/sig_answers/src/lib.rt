@@ -4,7 +4,9 @@
 mod answer;
 mod answers;
 mod entries;
+mod laws;
 mod weights;
 
 pub use answer::{Answer, Kind};
 pub use answers::{Answers, Bounds, Entry};
+pub use laws::kept_within_bounds;

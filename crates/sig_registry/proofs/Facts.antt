@@ -92,7 +92,7 @@ module _ {A : Type 0} (cache : Cache A) (law : IsCache cache) (call : Call) (now
   Of c d old new r = Facts cache call now row c d old new r
 
   facts : {c d : Client} {old new : Link} {r : Result A SigstoreError} → ((s : Settings) → Made is_memory s (cached (reads_back (image_called call)) cache (key_called call) now (row s)) c d old new r) → RefusalKeeps c d r → Recalled cache call now c d old new r → Of c d old new r
-  facts run refused recalled = record { run = run; refused = refused; recalled = recalled; logged = λ s. logged_call cache law call now row kind_is is_call s (reads_back (image_called call)) (run s) refused }
+  facts run refused recalled = record { run = run; refused = refused; recalled = recalled; logged = λ s. logged_call cache law call now row kind_is is_call s (run s) refused }
 
   -- where no answer is known, none is given again
   unknown : {c d : Client} {old new : Link} {r : Result A SigstoreError} → known cache (key_called call) now c.kept.1 ≡ None → Recalled cache call now c d old new r
@@ -166,12 +166,9 @@ memory_holds_none f P (Ok a) is held = absurd is
 memory_holds_none f P (Err e) is held = absurd (cc (ap registry_refusal is, held))
 
 -- a refusal that is handed on holds what it held
-abbrev refused_by : (A : Type 0) → SigstoreError → Result A SigstoreError
-refused_by A e = Err e
-
-pub same_held : {B : Type 0} (A : Type 0) (f : OciDistributionError) (P : Type 0) (e : SigstoreError) (r : Result B SigstoreError) → IsErrAnd r (λ x. x ≡ e) → (IsRefusedBy f (refused_by A e) → P) → IsRefusedBy f r → P
-same_held A f P e (Ok b) is h held = absurd is
-same_held A f P e (Err x) is h held = h (ap registry_refusal (sym is) ∙ held)
+pub same_held : {B : Type 0} (f : OciDistributionError) (P : Type 0) (e : SigstoreError) (r : Result B SigstoreError) → IsErrAnd r (λ x. x ≡ e) → (registry_refusal e ≡ Some f → P) → IsRefusedBy f r → P
+same_held f P e (Ok b) is h held = absurd is
+same_held f P e (Err x) is h held = h (ap registry_refusal (sym is) ∙ held)
 
 -- ---- where nothing was asked
 

@@ -6,6 +6,9 @@ use Rattle.std.proofs.lemmas.Bool.{leb-true, ltb-true}
 use Rattle.std.proofs.lemmas.Slice.Eq.{bytes_eq-Decides}
 use Rattle.oci_transport.specs.declared.message.Exchange.{Exchange}
 use Rattle.oci_transport.specs.Link.{Link, Extends}
+use Rattle.oci_names.specs.declared.reference.Reference.{Reference}
+use Rattle.oci_names.specs.References.{reads_back, reference_of, whole_text}
+use Rattle.oci_names.proofs.ReadsBack.{reads_back-means}
 use Rattle.oci_auth.specs.declared.memory.Memory.{Memory}
 use Rattle.oci_protocol.specs.Proto.{Proto, Done, bind, unless_refused, ◌>>=◌, ◌>>◌}
 use Rattle.oci_protocol.specs.Lift.{lifted}
@@ -15,6 +18,7 @@ use Rattle.oci_protocol.proofs.Lifting.{Runs-unlifted}
 use Rattle.oci_protocol.proofs.Parts.{Parts, Runs-parts}
 use Rattle.engine_requests.specs.declared.settings.Settings.{Settings}
 use Rattle.engine_requests.specs.Contexts.{Context, within}
+use Rattle.sig_settings.proofs.Tells.{manifest_keys_tell, pull_keys_tell, referrers_keys_tell}
 use Rattle.sig_answers.specs.Answers.{kind_of, same_kind, is_of, is_fresh, given_at, fresh, fits, within as within_bounds, keep, entry}
 use Rattle.sig_answers.specs.declared.answer.Answer.{Answer}
 use Rattle.sig_answers.specs.declared.answer.Kind.{Kind}
@@ -26,7 +30,7 @@ use Rattle.sig_registry.specs.declared.error.SigstoreError.{SigstoreError}
 use Rattle.sig_registry.specs.Errors.{is_memory}
 use Rattle.sig_registry.specs.Clients.{Kept, Plain, Row, Client, Made, RefusalKeeps}
 use Rattle.sig_registry.specs.Caching.{Cache, known, keeping, known_or, recalled, cached}
-use Rattle.sig_registry.specs.Log.{Call, kind_called, key_called, answered, answering, call_made, Place, IsStep, AnyOf, IsOrigin, IsSource, HasSource, IsRun, EachBacked, IsBacked, place_of, IsLawful, Logged}
+use Rattle.sig_registry.specs.Log.{Call, DigestCall, ManifestCall, ImageCall, ReferrersCall, image_called, kind_called, key_called, answered, answering, call_made, Place, IsStep, AnyOf, IsOrigin, IsSource, HasSource, IsRun, EachBacked, IsBacked, place_of, IsLawful, Logged}
 
 -- ---- kept answers
 
@@ -56,7 +60,7 @@ fresh_ages now since h = let both = both_true (nat_le since now) (nat_lt (now - 
 
 -- an entry of this kind and key, with what backs it
 abbrev Backs : Settings → Kind → List ℕ → Entry → List Place → Type 0
-Backs s kind key e log = (kind_of e.answer ≡ kind) × (e.key ≡ key) × AnyOf (IsOrigin s (kind_of e.answer) e.key e.moment e.answer) log
+Backs s kind key e log = (kind_of e.answer ≡ kind) × (e.key ≡ key) × AnyOf (IsOrigin s e) log
 
 found_backed : (s : Settings) (kind : Kind) (key : List ℕ) (es : List Entry) (e : Entry) (log : List Place) → find (is_of kind key) es ≡ Some e → EachBacked s es log → Backs s kind key e log
 found_backed s kind key [] e log is h = absurd (cc is)
@@ -65,15 +69,30 @@ found_backed s kind key (x ∷ es) e log is h = by_test (is_of kind key x) refl 
   by_test true of is later = let same : x ≡ e = cc is in let at = of_entry kind key x of in subst (λ y. Backs s kind key y log) same (at.0, at.1, h.0)
   by_test false of is later = later is
 
--- an origin that is fresh is a source
-sources : (s : Settings) (k kind : Kind) (t key : List ℕ) (now moment : ℕ) (a answer : Answer) (log : List Place) → k ≡ kind → t ≡ key → a ≡ answer → moment ≤ now → now - moment < 60 → AnyOf (IsOrigin s k t moment a) log → AnyOf (IsSource s kind key now answer) log
-sources s k kind t key now moment a answer [] same_kind same_key same early recent h = absurd h
-sources s k kind t key now moment a answer (p ∷ log) same_kind same_key same early recent (inl h) = inl (record {
-  origin = record { kind_is = h.kind_is ∙ same_kind; key_is = h.key_is ∙ same_key; moment_is = refl; answer_is = h.answer_is ∙ ap Ok same; step = h.step };
+-- ---- calls that are told apart by their keys
+
+same_image : (a b : Reference) → reads_back a ≡ true → reads_back b ≡ true → whole_text a ≡ whole_text b → a ≡ b
+same_image a b first second same = let both : Ok a ≡ Ok b = sym (reads_back-means a first) ∙ ap reference_of same ∙ reads_back-means b second in cc both
+
+-- calls of one kind and key are one call, where their references read back
+pub same_call : (p q : Call) → kind_called p ≡ kind_called q → key_called p ≡ key_called q → reads_back (image_called p) ≡ true → reads_back (image_called q) ≡ true → p ≡ q
+same_call (DigestCall a x) (DigestCall b y) kind key first second = let told = (manifest_keys_tell a b x y).0 key in let image = same_image a b first second told.0 in let auth = told.1 in cc (image, auth)
+same_call (ManifestCall a x) (ManifestCall b y) kind key first second = let told = (manifest_keys_tell a b x y).0 key in let image = same_image a b first second told.0 in let auth = told.1 in cc (image, auth)
+same_call (ImageCall a x t) (ImageCall b y u) kind key first second = let told = (pull_keys_tell a b x y t u).0 key in let image = same_image a b first second told.0 in let auth = told.1 in let types = told.2 in cc (image, auth, types)
+same_call (ReferrersCall a x t) (ReferrersCall b y u) kind key first second = let told = (referrers_keys_tell a b x y t u).0 key in let image = same_image a b first second told.0 in let auth = told.1 in let type = told.2 in cc (image, auth, type)
+same_call _ _ kind key first second = absurd (cc kind)
+
+-- an origin that is fresh is a source of the same call
+sources : (s : Settings) (call : Call) (now : ℕ) (e : Entry) (answer : Answer) (log : List Place) → reads_back (image_called call) ≡ true → kind_of e.answer ≡ kind_called call → e.key ≡ key_called call → e.answer ≡ answer → e.moment ≤ now → now - e.moment < 60 → AnyOf (IsOrigin s e) log → AnyOf (IsSource s call now answer) log
+sources s call now e answer [] reads kind key same early recent h = absurd h
+sources s call now e answer (p ∷ log) reads kind key same early recent (inl h) = inl (record {
+  call_is = same_call p.call call (h.kind_is ∙ kind) (h.key_is ∙ key) h.reads_back_is reads;
+  answer_is = h.answer_is ∙ ap Ok same;
+  step = h.step;
   early = rw h.moment_is early;
   recent = rw h.moment_is recent;
 })
-sources s k kind t key now moment a answer (p ∷ log) same_kind same_key same early recent (inr h) = inr (sources s k kind t key now moment a answer log same_kind same_key same early recent h)
+sources s call now e answer (p ∷ log) reads kind key same early recent (inr h) = inr (sources s call now e answer log reads kind key same early recent h)
 
 -- how a call's answers are kept, and read again
 pub record IsCache {A : Type 0} (cache : Cache A) : Type 0 where
@@ -96,7 +115,7 @@ each_filtered s test (e ∷ es) log h = by_test (test e) (each_filtered s test e
   by_test true rest = (h.0, rest)
   by_test false rest = rest
 
-each_joined : (s : Settings) (es : List Entry) (e : Entry) (log : List Place) → EachBacked s es log → AnyOf (IsOrigin s (kind_of e.answer) e.key e.moment e.answer) log → EachBacked s (es ++ e ∷ []) log
+each_joined : (s : Settings) (es : List Entry) (e : Entry) (log : List Place) → EachBacked s es log → AnyOf (IsOrigin s e) log → EachBacked s (es ++ e ∷ []) log
 each_joined s [] e log h one = (one, tt)
 each_joined s (x ∷ es) e log h one = (h.0, each_joined s es e log h.1 one)
 
@@ -107,27 +126,26 @@ each_within s bounds (e ∷ es) log h = by_test (fits bounds (e ∷ es)) (each_w
   by_test true rest = h
   by_test false rest = rest
 
-module _ {A : Type 0} (s : Settings) (cache : Cache A) (law : IsCache cache) (key : List ℕ) (now : ℕ) where
+module _ {A : Type 0} (s : Settings) (cache : Cache A) (law : IsCache cache) (call : Call) (now : ℕ) (kind_is : kind_called call ≡ cache.kind) (reads : reads_back (image_called call) ≡ true) where
   -- what is known has a source
-  known_source : (k : Option Answers) (log : List Place) (a : A) → known cache key now k ≡ Some a → IsBacked s k log → AnyOf (IsSource s cache.kind key now (cache.kept_as a)) log
+  known_source : (k : Option Answers) (log : List Place) (a : A) → known cache (key_called call) now k ≡ Some a → IsBacked s k log → AnyOf (IsSource s call now (cache.kept_as a)) log
   known_source None log a is h = absurd (cc is)
-  known_source (Some answers) log a is h = by_find (find (is_of cache.kind key) answers.entries) refl is where
-    by_age : (e : Entry) (b : Bool) → is_fresh now e.moment ≡ b → Backs s cache.kind key e log → option_and_then cache.read (if b then Some e.answer else None) ≡ Some a → AnyOf (IsSource s cache.kind key now (cache.kept_as a)) log
-    by_age e true age at is = let ages = fresh_ages now e.moment age in sources s (kind_of e.answer) cache.kind e.key key now e.moment e.answer (cache.kept_as a) log at.0 at.1 (law.reads e.answer a is) ages.0 ages.1 at.2
+  known_source (Some answers) log a is h = by_find (find (is_of cache.kind (key_called call)) answers.entries) refl is where
+    by_age : (e : Entry) (b : Bool) → is_fresh now e.moment ≡ b → Backs s cache.kind (key_called call) e log → option_and_then cache.read (if b then Some e.answer else None) ≡ Some a → AnyOf (IsSource s call now (cache.kept_as a)) log
+    by_age e true age at is = let ages = fresh_ages now e.moment age in sources s call now e (cache.kept_as a) log reads (at.0 ∙ sym kind_is) at.1 (law.reads e.answer a is) ages.0 ages.1 at.2
     by_age e false age at is = absurd (cc is)
 
-    by_find : (o : Option Entry) → find (is_of cache.kind key) answers.entries ≡ o → option_and_then cache.read (option_and_then (given_at now) o) ≡ Some a → AnyOf (IsSource s cache.kind key now (cache.kept_as a)) log
+    by_find : (o : Option Entry) → find (is_of cache.kind (key_called call)) answers.entries ≡ o → option_and_then cache.read (option_and_then (given_at now) o) ≡ Some a → AnyOf (IsSource s call now (cache.kept_as a)) log
     by_find None at is = absurd (cc is)
-    by_find (Some e) at is = by_age e (is_fresh now e.moment) refl (found_backed s cache.kind key answers.entries e log at h) is
+    by_find (Some e) at is = by_age e (is_fresh now e.moment) refl (found_backed s cache.kind (key_called call) answers.entries e log at h) is
 
   -- what is kept of an answer is backed by its call
-  kept_backed : (k : Option Answers) (log : List Place) (a : A) (p : Place) → IsOrigin s cache.kind key now (cache.kept_as a) p → IsBacked s k log → IsBacked s (option_map (keep (entry key now (cache.kept_as a))) k) (p ∷ log)
+  kept_backed : (k : Option Answers) (log : List Place) (a : A) (p : Place) → IsOrigin s (entry (key_called call) now (cache.kept_as a)) p → IsBacked s k log → IsBacked s (option_map (keep (entry (key_called call) now (cache.kept_as a))) k) (p ∷ log)
   kept_backed None log a p origin h = tt
   kept_backed (Some answers) log a p origin h =
-      let e : Entry = entry key now (cache.kept_as a) in
+      let e : Entry = entry (key_called call) now (cache.kept_as a) in
       let others : List Entry = filter (λ other. not (is_of (kind_of e.answer) e.key other)) answers.entries in
-      let own : AnyOf (IsOrigin s (kind_of e.answer) e.key e.moment e.answer) (p ∷ log) = inl (subst (λ kind. IsOrigin s kind key now (cache.kept_as a) p) (sym (law.kind_is a)) origin) in
-      each_within s answers.bounds (others ++ e ∷ []) (p ∷ log) (each_joined s others e (p ∷ log) (each_filtered s (λ other. not (is_of (kind_of e.answer) e.key other)) answers.entries (p ∷ log) (each_more s answers.entries p log h)) own)
+      each_within s answers.bounds (others ++ e ∷ []) (p ∷ log) (each_joined s others e (p ∷ log) (each_filtered s (λ other. not (is_of (kind_of e.answer) e.key other)) answers.entries (p ∷ log) (each_more s answers.entries p log h)) (inl origin))
 
 -- ---- runs
 
@@ -197,14 +215,14 @@ module _ {A : Type 0} (cache : Cache A) (law : IsCache cache) (call : Call) (now
   abbrev place : Kept → Kept → ℕ → List Exchange → ℕ → Result A SigstoreError → Place
   place k l m c n r = record { call = call; moment = now; entry = k.0; exit = l.0; before = m; conversation = c; after = n; answer = answered cache r }
 
-  origin : (k l : Kept) (m n : ℕ) (c : List Exchange) (a : A) (r : Result A SigstoreError) → r ≡ Ok a → Runs (row s) k.0 m c n l.0 r → IsOrigin s (kind_called call) (key_called call) now (cache.kept_as a) (place k l m c n r)
+  made_in_full : (k l : Kept) (m n : ℕ) (c : List Exchange) (r : Result A SigstoreError) → Runs (row s) k.0 m c n l.0 r → IsStep s (place k l m c n r)
   unfolding IsStep
-  origin k l m n c a r is run = record { kind_is = refl; key_is = refl; moment_is = refl; answer_is = ap (answered cache) is; step = rw (is_call s) (run_answering cache (row s) k.0 l.0 m n c r run) }
+  made_in_full k l m n c r run = rw (is_call s) (run_answering cache (row s) k.0 l.0 m n c r run)
 
   -- a call made in full is its own source
   ok_lawful : (k l : Kept) (m n : ℕ) (c : List Exchange) (a : A) (r : Result A SigstoreError) (log : List Place) → r ≡ Ok a → Runs (row s) k.0 m c n l.0 r → IsRun s log → IsBacked s l.1 (place k l m c n r ∷ log) → IsLawful s l.1 (place k l m c n r) log
   ok_lawful k l m n c a r log is run lawful backed = record {
-    run = (λ answer got. let same : cache.kept_as a ≡ answer = cc (ap (answered cache) is, got) in inl (record { origin = subst (λ x. IsOrigin s (kind_called call) (key_called call) now x (place k l m c n r)) same (origin k l m n c a r is run); early = omega arith; recent = omega arith }), lawful);
+    run = (λ answer got. inl (record { call_is = refl; answer_is = got; step = made_in_full k l m n c r run; early = omega arith; recent = omega arith }), lawful);
     backed = backed;
   }
 
@@ -223,49 +241,43 @@ module _ {A : Type 0} (cache : Cache A) (law : IsCache cache) (call : Call) (now
     by_result (Err e) is h = err_lawful k l m n c e r log is (sym h.1) lawful backed
 
   -- one whose answer is kept
-  recalled_lawful : (k l : Kept) (m n : ℕ) (c : List Exchange) (r : Result A SigstoreError) (log : List Place) → Runs (recalled cache (key_called call) now (row s)) k m c n l r → IsRun s log → IsBacked s k.1 log → IsLawful s l.1 (place k l m c n r) log
+  recalled_lawful : reads_back (image_called call) ≡ true → (k l : Kept) (m n : ℕ) (c : List Exchange) (r : Result A SigstoreError) (log : List Place) → Runs (recalled cache (key_called call) now (row s)) k m c n l r → IsRun s log → IsBacked s k.1 log → IsLawful s l.1 (place k l m c n r) log
   unfolding recalled Runs keeps
-  recalled_lawful k l m n c r log run lawful backed = by_known (known cache (key_called call) now k.1) refl run where
-    as_called : (P : Kind → Type 0) → P cache.kind → P (kind_called call)
-    as_called P h = subst P (sym kind_is) h
-
+  recalled_lawful reads k l m n c r log run lawful backed = by_known (known cache (key_called call) now k.1) refl run where
     answered_before : (a : A) → known cache (key_called call) now k.1 ≡ Some a → (c ≡ []) × (m ≡ n) × (k ≡ l) × (Ok a ≡ r) → IsLawful s l.1 (place k l m c n r) log
     answered_before a is at = record {
       run = (λ answer got. let same : cache.kept_as a ≡ answer = cc (ap (answered cache) at.3, got) in
-          inr (subst (λ x. AnyOf (IsSource s (kind_called call) (key_called call) now x) log) same (as_called (λ kind. AnyOf (IsSource s kind (key_called call) now (cache.kept_as a)) log) (known_source s cache law (key_called call) now k.1 log a is backed))), lawful);
+          inr (subst (λ x. AnyOf (IsSource s call now x) log) same (known_source s cache law call now kind_is reads k.1 log a is backed)), lawful);
       backed = subst (λ (x : Option Answers). IsBacked s x (place k l m c n r ∷ log)) (ap (λ (k : Kept). k.1) at.2) (backed_more s k.1 (place k l m c n r) log backed);
     }
 
     by_result : (x : Result A SigstoreError) → r ≡ x → Afresh (keeps cache (key_called call) now (row s)) (row s) k m c n l r → IsLawful s l.1 (place k l m c n r) log
     by_result (Ok a) is h =
-        let own = subst (λ kind. IsOrigin s kind (key_called call) now (cache.kept_as a) (place k l m c n r)) kind_is (origin k l m n c a r is h.runs) in
-        ok_lawful k l m n c a r log is h.runs lawful (subst (λ (x : Option Answers). IsBacked s x (place k l m c n r ∷ log)) (sym (h.kept a is)) (kept_backed s cache law (key_called call) now k.1 log a (place k l m c n r) own backed))
+        let own : IsOrigin s (entry (key_called call) now (cache.kept_as a)) (place k l m c n r) = record { kind_is = kind_is ∙ sym (law.kind_is a); key_is = refl; reads_back_is = reads; moment_is = refl; answer_is = ap (answered cache) is; step = made_in_full k l m n c r h.runs } in
+        ok_lawful k l m n c a r log is h.runs lawful (subst (λ (x : Option Answers). IsBacked s x (place k l m c n r ∷ log)) (sym (h.kept a is)) (kept_backed s cache law call now kind_is reads k.1 log a (place k l m c n r) own backed))
     by_result (Err e) is h = err_lawful k l m n c e r log is (h.refused e is) lawful backed
 
     by_known : (a : Option A) → known cache (key_called call) now k.1 ≡ a → Runs (known_or cache (key_called call) now (row s) a) k m c n l r → IsLawful s l.1 (place k l m c n r) log
     by_known (Some a) is run = answered_before a is (done_run (Ok a) k m c n l r run)
     by_known None is run = by_result r refl (afresh cache (key_called call) now (row s) k l m n c r run)
 
-  cached_lawful : (b : Bool) (k l : Kept) (m n : ℕ) (c : List Exchange) (r : Result A SigstoreError) (log : List Place) → Runs (cached b cache (key_called call) now (row s)) k m c n l r → IsRun s log → IsBacked s k.1 log → IsLawful s l.1 (place k l m c n r) log
-  cached_lawful true k l m n c r log run = recalled_lawful k l m n c r log run
-  cached_lawful false k l m n c r log run = lifted_lawful k l m n c r log run
+  cached_lawful : (b : Bool) → reads_back (image_called call) ≡ b → (k l : Kept) (m n : ℕ) (c : List Exchange) (r : Result A SigstoreError) (log : List Place) → Runs (cached b cache (key_called call) now (row s)) k m c n l r → IsRun s log → IsBacked s k.1 log → IsLawful s l.1 (place k l m c n r) log
+  cached_lawful true reads k l m n c r log run = recalled_lawful reads k l m n c r log run
+  cached_lawful false reads k l m n c r log run = lifted_lawful k l m n c r log run
 
   -- what a client did with a call, whatever came of it
-  pub logged : (b : Bool) {c d : Client} {old new : Link} {r : Result A SigstoreError} → Made is_memory s (cached b cache (key_called call) now (row s)) c d old new r → RefusalKeeps c d r → Logged s cache call now c d old new r
-  logged b {c} {d} {old} {new} {r} made refused = record { logged = λ at log run backed. by_result r refl refused ((made.made at).1).outcome log run backed } where
-    p : Row A
-    p = cached b cache (key_called call) now (row s)
-
+  pub logged : {c d : Client} {old new : Link} {r : Result A SigstoreError} → Made is_memory s (cached (reads_back (image_called call)) cache (key_called call) now (row s)) c d old new r → RefusalKeeps c d r → Logged s cache call now c d old new r
+  logged {c} {d} {old} {new} {r} made refused = record { logged = λ at log run backed. by_result r refl refused ((made.made at).1).outcome log run backed } where
     End : List Place → Type 0
     End log = (conversation : List Exchange) × Extends old new conversation × IsLawful s d.kept.1 (place_of call now c d old conversation new (answered cache r)) log
 
-    performed : Performs (cached b cache (key_called call) now (row s)) old new c.kept d.kept r → (log : List Place) → IsRun s log → IsBacked s c.kept.1 log → End log
-    performed h log run backed = (h.conversation, h.told, cached_lawful b c.kept d.kept old.faults new.faults h.conversation r log h.runs run backed)
+    performed : Performs (cached (reads_back (image_called call)) cache (key_called call) now (row s)) old new c.kept d.kept r → (log : List Place) → IsRun s log → IsBacked s c.kept.1 log → End log
+    performed h log run backed = (h.conversation, h.told, cached_lawful (reads_back (image_called call)) refl c.kept d.kept old.faults new.faults h.conversation r log h.runs run backed)
 
-    by_memory : (x : Bool) (e : SigstoreError) → r ≡ Err e → d.kept.1 ≡ c.kept.1 → MatchBool x (Breaks (cached b cache (key_called call) now (row s)) old new c.kept d.kept) (Performs (cached b cache (key_called call) now (row s)) old new c.kept d.kept (Err e)) → (log : List Place) → IsRun s log → IsBacked s c.kept.1 log → End log
+    by_memory : (x : Bool) (e : SigstoreError) → r ≡ Err e → d.kept.1 ≡ c.kept.1 → MatchBool x (Breaks (cached (reads_back (image_called call)) cache (key_called call) now (row s)) old new c.kept d.kept) (Performs (cached (reads_back (image_called call)) cache (key_called call) now (row s)) old new c.kept d.kept (Err e)) → (log : List Place) → IsRun s log → IsBacked s c.kept.1 log → End log
     by_memory false e is same h log run backed = performed (rw is h) log run backed
     by_memory true e is same h log run backed = (h.conversation, h.told, err_lawful c.kept d.kept old.faults new.faults h.conversation e r log is same run backed)
 
-    by_result : (x : Result A SigstoreError) → r ≡ x → RefusalKeeps c d x → Outcome is_memory (cached b cache (key_called call) now (row s)) old new c.kept d.kept x → (log : List Place) → IsRun s log → IsBacked s c.kept.1 log → End log
+    by_result : (x : Result A SigstoreError) → r ≡ x → RefusalKeeps c d x → Outcome is_memory (cached (reads_back (image_called call)) cache (key_called call) now (row s)) old new c.kept d.kept x → (log : List Place) → IsRun s log → IsBacked s c.kept.1 log → End log
     by_result (Ok a) is refused h log run backed = performed (rw is h) log run backed
     by_result (Err e) is refused h log run backed = by_memory (is_memory e) e is (refused refl) h log run backed

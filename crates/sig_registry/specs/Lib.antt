@@ -1,5 +1,6 @@
 pub mod Caching
 pub mod Calls
+pub mod Certificates
 pub mod Clients
 pub mod Config
 pub mod Confinement

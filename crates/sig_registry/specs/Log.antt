@@ -95,37 +95,36 @@ abbrev pub AnyOf : (Place → Type 0) → List Place → Type 0
 AnyOf P [] = ⊥
 AnyOf P (p ∷ log) = P p ⊎ AnyOf P log
 
--- a call of this kind and key was made in full at this moment, and this was its answer
-pub record IsOrigin (s : Settings) (kind : Kind) (key : List ℕ) (moment : ℕ) (answer : Answer) (p : Place)
-    : Type 0 where
-  pub kind_is : kind_called p.call ≡ kind
-  pub key_is : key_called p.call ≡ key
-  pub moment_is : p.moment ≡ moment
+-- the same call was made in full, no later than now and less than 60 seconds before, and this was its answer
+pub record IsSource (s : Settings) (call : Call) (now : ℕ) (answer : Answer) (p : Place) : Type 0 where
+  pub call_is : p.call ≡ call
   pub answer_is : p.answer ≡ Ok answer
   pub step : IsStep s p
-
--- so it was no later than now, and less than 60 seconds before
-pub record IsSource (s : Settings) (kind : Kind) (key : List ℕ) (now : ℕ) (answer : Answer) (p : Place)
-    : Type 0 where
-  pub origin : IsOrigin s kind key p.moment answer p
   pub early : p.moment ≤ now
   pub recent : now - p.moment < 60
 
 -- the answer of this call came of one that was made in full: this one, or one before it
 abbrev pub HasSource : Settings → Place → List Place → Type 0
-HasSource s p log = (answer : Answer) → p.answer ≡ Ok answer
-    → AnyOf (IsSource s (kind_called p.call) (key_called p.call) p.moment answer) (p ∷ log)
+HasSource s p log = (answer : Answer) → p.answer ≡ Ok answer → AnyOf (IsSource s p.call p.moment answer) (p ∷ log)
 
 -- So did each answer of the log, whose latest call stands first.
 abbrev pub IsRun : Settings → List Place → Type 0
 IsRun s [] = Unit {0}
 IsRun s (p ∷ log) = HasSource s p log × IsRun s log
 
--- each of these kept answers is that of a call made in full at the moment that it is kept with
+-- what is kept is the answer of this call, which was made in full at the moment that it is kept with
+pub record IsOrigin (s : Settings) (e : Entry) (p : Place) : Type 0 where
+  pub kind_is : kind_called p.call ≡ kind_of e.answer
+  pub key_is : key_called p.call ≡ e.key
+  pub reads_back_is : reads_back (image_called p.call) ≡ true
+  pub moment_is : p.moment ≡ e.moment
+  pub answer_is : p.answer ≡ Ok e.answer
+  pub step : IsStep s p
+
+-- each of these is the answer of such a call
 abbrev pub EachBacked : Settings → List Entry → List Place → Type 0
 EachBacked s [] log = Unit {0}
-EachBacked s (e ∷ es) log =
-    AnyOf (IsOrigin s (kind_of e.answer) e.key e.moment e.answer) log × EachBacked s es log
+EachBacked s (e ∷ es) log = AnyOf (IsOrigin s e) log × EachBacked s es log
 
 abbrev pub IsBacked : Settings → Option Answers → List Place → Type 0
 IsBacked s None log = Unit {0}

@@ -10,6 +10,21 @@ use oci_names::Reference;
 use sig_settings::{PullManifestSettings, PullReferrersSettings, PullSettings};
 use std::alloc::{AllocError, Global};
 
+// The key, where the reference reads back.
+fn if_it_reads_back(
+    alloc: Global,
+    image: &Reference,
+    key: Blob,
+) -> Result<Option<Blob>, AllocError>
+    ensures { IfOk result (λ found. found ≡ key_if (reads_back image.now) key) }
+{
+    let reads = image.reads_back(alloc)?;
+    if !reads {
+        return Ok(None);
+    }
+    Ok(Some(key))
+}
+
 /// The key of a call for a digest or a manifest; none where the reference does not read back.
 pub(crate) fn manifest_key(
     alloc: Global,
@@ -18,13 +33,9 @@ pub(crate) fn manifest_key(
 ) -> Result<Option<Blob>, AllocError>
     ensures { IfOk result (λ key. key ≡ key_if (reads_back image.now) (manifest_key image.now auth.now)) }
 {
-    let reads = image.reads_back(alloc)?;
-    if !reads {
-        return Ok(None);
-    }
     let settings = PullManifestSettings::new(alloc, image, auth)?;
     let key = settings.key_text(alloc)?;
-    Ok(Some(key))
+    if_it_reads_back(alloc, image, key)
 }
 
 /// The key of a call for an image; none where the reference does not read back.
@@ -37,13 +48,9 @@ pub(crate) fn image_key(
     ensures { IfOk result (λ key. key
         ≡ key_if (reads_back image.now) (pull_key image.now auth.now accepted_media_types.now)) }
 {
-    let reads = image.reads_back(alloc)?;
-    if !reads {
-        return Ok(None);
-    }
     let settings = PullSettings::new(alloc, image, auth, accepted_media_types)?;
     let key = settings.key_text(alloc)?;
-    Ok(Some(key))
+    if_it_reads_back(alloc, image, key)
 }
 
 /// The key of a call for referrers; none where the reference does not read back.
@@ -56,11 +63,7 @@ pub(crate) fn list_key(
     ensures { IfOk result (λ key. key
         ≡ key_if (reads_back image.now) (referrers_key image.now auth.now (option_copied artifact_type.entry))) }
 {
-    let reads = image.reads_back(alloc)?;
-    if !reads {
-        return Ok(None);
-    }
     let settings = PullReferrersSettings::new(alloc, image, auth, artifact_type)?;
     let key = settings.key_text(alloc)?;
-    Ok(Some(key))
+    if_it_reads_back(alloc, image, key)
 }

@@ -4,6 +4,7 @@
 mod caching;
 mod calls;
 mod capabilities;
+mod certificate;
 mod config;
 mod error;
 mod keys;
@@ -15,6 +16,7 @@ mod wording;
 
 pub use caching::OciCachingClient;
 pub use capabilities::ClientCapabilities;
+pub use certificate::{Certificate, CertificateEncoding};
 pub use config::{ClientConfig, ClientProtocol};
 pub use error::SigstoreError;
 pub use plain::OciClient;

@@ -1,7 +1,7 @@
 -- The keys are the canonical texts of the settings.
 use Rattle.std.proofs.Common.{◌≡◌, ℕ, List, [], ◌∷◌, map, codes, Option, Some, None, Result, Ok, Err, refl}
 use Rattle.std.specs.Prelude.{IfOk}
-use Rattle.std.specs.List.Sorted.{IsPermutation, IsStrictlySortedBy}
+use Rattle.std.specs.List.Sorted.{IsStrictlySortedBy}
 use Rattle.std.specs.Str.{chars}
 use Rattle.std.proofs.lemmas.List.Sorted.{IsPermutation-refl}
 use Rattle.serde_json.specs.Data.{string}
@@ -10,7 +10,7 @@ use Rattle.json_values.specs.Canon.{quoted_text}
 use Rattle.json_values.specs.Writing.{null_or}
 use Rattle.json_events.specs.Canonical.{Canonical, CanonicalItems, Entry, Rises, IsObjectText, array_text, object_text}
 use Rattle.json_events.specs.Refused.{refused}
-use Rattle.json_events.specs.Units.{by_units, units}
+use Rattle.json_events.specs.Units.{units}
 use Rattle.json_events.proofs.Unique.{unique, plain}
 use Rattle.oci_names.specs.References.{whole_text}
 use Rattle.oci_auth.specs.declared.auth.RegistryAuth.{RegistryAuth}

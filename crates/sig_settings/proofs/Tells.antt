@@ -1,7 +1,7 @@
 -- Keys tell what calls are asked with.
-use Rattle.std.proofs.Common.{◌≡◌, ◌≢◌, ℕ, List, [], ◌∷◌, map, codes, Option, Some, None, refl, sym, ap, subst, ◌∙◌, Less, Equal}
+use Rattle.std.proofs.Common.{◌≡◌, ℕ, List, [], ◌∷◌, map, codes, Option, Some, None, refl, sym, ap, subst}
 use Rattle.std.specs.Str.{chars}
-use Rattle.serde_json.specs.Data.{Data, null, string, array, object, Items, no_items, item, Members, no_members, member}
+use Rattle.serde_json.specs.Data.{Data, string, array, object, Items, item, no_members, member}
 use Rattle.serde_json.specs.View.{items_of}
 use Rattle.json_values.specs.Writing.{null_or}
 use Rattle.json_events.specs.Canonical.{Canonical, array_text, object_text}
@@ -10,15 +10,13 @@ use Rattle.json_events.specs.Units.{units}
 use Rattle.json_canon.specs.AsMaps.{as_maps, items_as_maps}
 use Rattle.json_canon.proofs.Maps.{Told, AreApart, ItemsApart, MembersApart}
 use Rattle.json_canon.proofs.ReadBack.{spells, one_value}
-use Rattle.oci_names.specs.declared.reference.Reference.{Reference}
 use Rattle.oci_names.specs.References.{whole_text}
 use Rattle.oci_auth.specs.declared.auth.RegistryAuth.{RegistryAuth}
 use Rattle.oci_auth.specs.declared.auth.RegistryAuth.TheVariants.{Anonymous, Basic, Bearer}
 use Rattle.sig_settings.specs.declared.manifest_settings.PullManifestSettings.{PullManifestSettings}
 use Rattle.sig_settings.specs.declared.pull_settings.PullSettings.{PullSettings}
 use Rattle.sig_settings.specs.declared.referrers_settings.PullReferrersSettings.{PullReferrersSettings}
-use Rattle.sig_settings.specs.Auths.{auth_from, auth_value}
-use Rattle.sig_settings.specs.Keys.{auth_text, text_or_null, manifest_key, pull_key, referrers_key}
+use Rattle.sig_settings.specs.Keys.{auth_text, text_or_null}
 use Rattle.sig_settings.specs.Settings.{ManifestKeysTell, PullKeysTell, ReferrersKeysTell, credentials_value, manifest_value, pull_value, referrers_value}
 use Rattle.sig_settings.proofs.KeyTexts.{manifest_canonical, pull_canonical, referrers_canonical}
 

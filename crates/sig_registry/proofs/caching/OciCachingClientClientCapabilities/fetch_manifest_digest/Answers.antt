@@ -67,8 +67,8 @@ returns-in_err-digest g c =
     let f = refuses digests digests_kept (DigestCall c.args.image.now c.args.auth.now) c.args.moment (λ s. digest_made (within s c.args.moment) c.args.image.now c.args.auth.now) refl (λ s. refl) (sym c.in_ok-found.ensures ∙ c.in-Some.is) (sym c.in_ok-known.ensures ∙ c.in_default-known.is) c.in_err-digest.ensures.run c.from_residual-in_err-digest.ensures.1 in
     record {
       run = f.run;
-      fault = same_held _ _ _ _ _ c.from_residual-in_err-digest.ensures.1 c.in_err-digest.ensures.fault;
-      no_sink = same_held _ _ _ _ _ c.from_residual-in_err-digest.ensures.1 c.in_err-digest.ensures.no_sink;
+      fault = same_held _ _ _ _ c.from_residual-in_err-digest.ensures.1 c.in_err-digest.ensures.fault;
+      no_sink = same_held _ _ _ _ c.from_residual-in_err-digest.ensures.1 c.in_err-digest.ensures.no_sink;
       confined = c.in_err-digest.ensures.confined;
       refused = f.refused;
       recalled = f.recalled;

@@ -67,8 +67,8 @@ returns-in_err-manifest g c =
     let f = refuses manifests manifests_kept (ManifestCall c.args.image.now c.args.auth.now) c.args.moment (λ s. manifest_made (within s c.args.moment) c.args.image.now c.args.auth.now) refl (λ s. refl) (sym c.in_ok-found.ensures ∙ c.in-Some.is) (sym c.in_ok-known.ensures ∙ c.in_default-known.is) c.in_err-manifest.ensures.run c.from_residual-in_err-manifest.ensures.1 in
     record {
       run = f.run;
-      fault = same_held _ _ _ _ _ c.from_residual-in_err-manifest.ensures.1 c.in_err-manifest.ensures.fault;
-      no_sink = same_held _ _ _ _ _ c.from_residual-in_err-manifest.ensures.1 c.in_err-manifest.ensures.no_sink;
+      fault = same_held _ _ _ _ c.from_residual-in_err-manifest.ensures.1 c.in_err-manifest.ensures.fault;
+      no_sink = same_held _ _ _ _ c.from_residual-in_err-manifest.ensures.1 c.in_err-manifest.ensures.no_sink;
       confined = c.in_err-manifest.ensures.confined;
       refused = f.refused;
       recalled = f.recalled;

@@ -68,8 +68,8 @@ returns-in_err-index g c =
     let f = refuses referrers referrers_kept (ReferrersCall c.args.image.now c.args.auth.now (option_copied c.args.artifact_type)) c.args.moment (λ s. referrers_made (within s c.args.moment) c.args.image.now c.args.auth.now (option_copied c.args.artifact_type)) refl (λ s. refl) (sym c.in_ok-found.ensures ∙ c.in-Some.is) (sym c.in_ok-known.ensures ∙ c.in_default-known.is) c.in_err-index.ensures.run c.from_residual-in_err-index.ensures.1 in
     record {
       run = f.run;
-      fault = same_held _ _ _ _ _ c.from_residual-in_err-index.ensures.1 c.in_err-index.ensures.fault;
-      no_sink = same_held _ _ _ _ _ c.from_residual-in_err-index.ensures.1 c.in_err-index.ensures.no_sink;
+      fault = same_held _ _ _ _ c.from_residual-in_err-index.ensures.1 c.in_err-index.ensures.fault;
+      no_sink = same_held _ _ _ _ c.from_residual-in_err-index.ensures.1 c.in_err-index.ensures.no_sink;
       confined = c.in_err-index.ensures.confined;
       refused = f.refused;
       recalled = f.recalled;
