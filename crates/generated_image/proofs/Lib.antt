@@ -1,5 +1,7 @@
+pub mod Growing
 pub mod Layer
 pub mod Lengths
+pub mod Made
 pub mod ManifestTexts
 pub mod Manifests
 pub mod Maps
