@@ -1,10 +1,10 @@
 -- How the generated image is pulled: by a new client that asks for it by its tag, and holds it to one key.
-use Rattle.std.specs.Prelude.{ℕ, false, List, [], ◌∷◌, Some, None, codes, length, ◌≤◌, Result}
+use Rattle.std.specs.Prelude.{ℕ, false, List, [], ◌∷◌, Some, None, codes, ◌≤◌, Result, IfErr}
 use Rattle.std.specs.FinMap as map
 use Rattle.oci_names.specs.declared.reference.Reference.{Reference}
 use Rattle.oci_auth.specs.Memory.{fresh as nothing_kept}
 use Rattle.oci_auth.specs.declared.auth.RegistryAuth.TheVariants.{Anonymous}
-use Rattle.oci_protocol.specs.Runs.{Meets}
+use Rattle.oci_protocol.specs.Runs.{Meets, Told}
 use Rattle.oci_transport.specs.Link.{Link}
 use Rattle.engine_requests.specs.Contexts.{Context, within}
 use Rattle.engine_requests.specs.declared.settings.ClientProtocol.TheVariants.{Http}
@@ -18,6 +18,8 @@ use Rattle.cosign_layers.specs.declared.constraint.Constraint.TheVariants.{Annot
 use Rattle.cosign_layers.specs.declared.policy.PullPolicy.{PullPolicy}
 use Rattle.cosign_layers.specs.declared.verifier.SignedRow.{SignedRow}
 use Rattle.cosign_chain.specs.declared.image.VerifiedImage.{VerifiedImage}
+use Rattle.cosign_client.specs.Causes.{PullCause}
+use Rattle.cosign_client.specs.Points.{point}
 use Rattle.cosign_client.specs.Refusal.{is_memory}
 use Rattle.cosign_client.specs.Verified.{Whole, verified}
 use Rattle.cosign_client.specs.declared.refusal.PullRefusal.{PullRefusal}
@@ -86,6 +88,12 @@ generated_row n = verified (generated_meaning n) generated_context generated_ref
 -- a run of it by a client that was new
 abbrev pub PullsGenerated : ℕ → Link → Link → Result VerifiedImage PullRefusal → Type 0
 PullsGenerated n old new result = (kept : Kept) × Meets is_memory (generated_row n) old new fresh kept result
+
+-- a refusal has its cause in the exchanges, from such a client to what it came to keep
+abbrev pub IsCaused : ℕ → Link → Link → Result VerifiedImage PullRefusal → Type 0
+IsCaused n old new result = (kept : Kept) × IfErr result (λ e. Told
+    (λ c. PullCause (generated_meaning n) generated_context generated_reference Anonymous generated_types
+    (point fresh old.faults) c (point kept new.faults) e) old new)
 
 abbrev pub IsCount : ℕ → Type 0
 IsCount n = (1 ≤ n) × (n ≤ 1000)
