@@ -1,13 +1,19 @@
 -- One layer more.
-use Rattle.std.proofs.Common.{◌≡◌, ◌+◌, ℕ, List, [], ◌∷◌, ◌++◌, map, refl, sym, ap, ◌∙◌}
+use Rattle.std.proofs.Common.{◌≡◌, ◌+◌, ℕ, suc, arith, List, [], ◌∷◌, ◌++◌, map, refl, sym, ap, ◌∙◌}
 use Rattle.std.specs.FinMap.{FinMap, insert, empty}
 use Rattle.json_values.specs.Places.{by_bytes}
 use Rattle.generated_image.specs.Shelf.{with_each}
 use Rattle.generated_image.specs.Texts.{sha256_text, layer_content, layer_contents, layer_type, descriptor_of}
 
-one_more : (n : ℕ) → layer_contents (n + 1) ≡ layer_contents n ++ layer_content n ∷ []
+next_is : (n : ℕ) → n + 1 ≡ suc n
+next_is n = omega arith
+
+grown : (n : ℕ) → layer_contents (suc n) ≡ layer_contents n ++ layer_content n ∷ []
 unfolding layer_contents
-one_more n = refl
+grown n = refl
+
+one_more : (n : ℕ) → layer_contents (n + 1) ≡ layer_contents n ++ layer_content n ∷ []
+one_more n = ap layer_contents (next_is n) ∙ grown n
 
 each_more : (m : FinMap by_bytes (List ℕ)) (xs : List (List ℕ)) (x : List ℕ) → with_each m (xs ++ x ∷ []) ≡ insert (with_each m xs) (sha256_text x) x
 each_more m [] x = refl

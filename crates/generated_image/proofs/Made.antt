@@ -17,3 +17,6 @@ shelf_is n r image payload signatures blobs hi hp hs hb made = rw (hi, hp, hs, h
 
 pub two_are : {E : Type 0} (n : ℕ) (r : Result Shelf E) (image signatures : List ℕ) → image ≡ image_text n → signatures ≡ signatures_text (payload_of n) → OnOk r (sha256_text image ≡ sha256_text signatures → ⊥) → OnOk r (HasTwoDigests n)
 two_are n r image signatures hi hs apart = rw (hi, hs) at apart
+
+pub digest_is : {E : Type 0} (n : ℕ) (r : Result (List ℕ) E) (payload : List ℕ) → payload ≡ payload_of n → IfOk r (λ digest. digest ≡ sha256_text payload) → IfOk r (λ digest. digest ≡ sha256_text (payload_of n))
+digest_is n r payload hp made = rw hp at made

@@ -174,7 +174,7 @@ unfolding generated_shelf
 tagged n = inserted (insert empty (tag_for (image_text n)) (sha256_text (signatures_text (payload_of n)))) (codes "v1") (sha256_text (image_text n))
 
 other_tag : (bytes : List ℕ) → tag_for bytes ≡ codes "v1" → ⊥
-other_tag bytes same = cc (ap (λ (xs : List ℕ). slice_index xs 0) same)
+other_tag bytes same = cc same
 
 pub signatures_tagged : (n : ℕ) → get (generated_shelf n).tags (tag_for (image_text n)) ≡ Some (sha256_text (signatures_text (payload_of n)))
 unfolding generated_shelf

@@ -129,7 +129,6 @@ pub fn generated_shelf(alloc: Global, layers: u32) -> Result<Shelf, AllocError>
 }
 
 /// The digest of the payload that the signature of the image with so many layers signs.
-#[tactic(auto, unfolding(crate::specs::Texts::image_text))]
 pub fn payload_digest(alloc: Global, layers: u32) -> Result<Text, AllocError>
     ensures { IfOk result (λ digest. digest ≡ sha256_text (payload_of layers)) }
 {

@@ -55,8 +55,8 @@ module _ {V : Type 0} {H : V → Type 0} (own : Owns V H) (n : ℕ) (policy : Pu
   ran {old} {new} {l} {r} met =
       (l, subst (λ row. Meets is_memory row old new fresh l r) (row_same own n) (rw (policy_is policy keys_are constraints_are, table_is n table rows_are, logs_are, client_is, image_is, accepted_are) at met))
 
-  pub gives_image : {old : Link} {r : Result VerifiedImage PullRefusal}
+  pub gives_image : {old : Link} (r : Result VerifiedImage PullRefusal)
       → ((shelf : Shelf) → AnswersFrom shelf old → IsSettled client.settings image Anonymous shelf client.kept → ValidShelf (meaning policy own (trust (valid_in table) (λ evidence. None) logs)) client.settings image Anonymous accepted shelf → OkOrMemory r)
       → IsCount n → HasTwoDigests n → AnswersFrom (generated_shelf n) old → OkOrMemory r
-  gives_image completes count two from =
+  gives_image r completes count two from =
       (rw (policy_is policy keys_are constraints_are, table_is n table rows_are, logs_are, client_is, image_is, accepted_are) at completes) (generated_shelf n) from (record { memory = fresh_settled _ _ _ _; answers = tt }) (valid own n count.0 count.1 two)

@@ -1,9 +1,9 @@
 -- The generated shelf is a valid one for its pull, which gives the image or finds that memory is wanting.
 use Rattle.std.proofs.Common.{◌≡◌, ◌≤◌, ℕ, Bool, true, false, inl, cond, ◌||◌, ◌&&◌, List, [], ◌∷◌, ◌++◌, codes, length, Option, Some, None, Result, Ok, Err, IsTrue, unwrap_or, refl, sym, ap, subst, ◌∙◌, arith}
 use Rattle.std.specs.Prelude.{find}
-use Rattle.std.specs.List.{list_any}
+use Rattle.std.specs.List.{list_any, list_all}
 use Rattle.std.specs.FinMap as map
-use Rattle.std.specs.FinMap.{get, entries, empty, get-empty}
+use Rattle.std.specs.FinMap.{get, entries, empty, len-entries, len-empty}
 use Rattle.std.proofs.lemmas.List.Elements.{All-nil, All-cons}
 use Rattle.hex.specs.Hex.{encode_lower}
 use Rattle.sha2.specs.Sha256.{sha256}
@@ -28,12 +28,13 @@ use Rattle.oci_auth.specs.declared.auth.RegistryAuth.TheVariants.{Anonymous}
 use Rattle.oci_manifests.specs.declared.blob.ImageLayer.{ImageLayer}
 use Rattle.oci_manifests.specs.declared.descriptor.OciDescriptor.{OciDescriptor}
 use Rattle.oci_transport.specs.Urls.{request_url}
-use Rattle.oci_link.specs.Leads.{redirects_lead}
+use Rattle.oci_link.specs.Leads.{leads, redirects_lead}
 use Rattle.engine_pull.specs.Images.{layer_of}
 use Rattle.shelf_laws.specs.Home.{IsWrittenPlainly, front_of}
 use Rattle.shelf_laws.specs.Shelves.{layer_on, layers_on}
 use Rattle.shelf_laws.proofs.DigestTags.{dashed_text}
-use Rattle.cosign_layers.specs.Constraint.{accepts}
+use Rattle.serde_json.specs.Data.{null}
+use Rattle.cosign_layers.specs.Constraint.{accepts, has_text_member}
 use Rattle.cosign_layers.specs.Standing.{Meaning, Owns, StandsFor, Supports, Signed, text_of}
 use Rattle.cosign_layers.specs.declared.constraint.Constraint.{Constraint}
 use Rattle.cosign_layers.specs.declared.layer.SignatureLayer.{SignatureLayer}
@@ -67,9 +68,17 @@ registry_written = refl
 written : IsWrittenPlainly generated_settings (codes "localhost:5000")
 written = record { url = registry_url; reads = registry_reads; text = registry_written }
 
-lead : (n : ℕ) → IsTrue (redirects_lead (generated_shelf n))
-unfolding redirects_lead generated_shelf entries empty
-lead n = refl
+-- an empty map has no entries
+none_of : {A : Type 0} (xs : List A) → length xs ≡ 0 → xs ≡ []
+none_of [] h = refl
+none_of (x ∷ xs) h = absurd (omega (arith, h))
+
+no_entries : (A : Type 0) → entries (empty {X = A} {R = by_bytes}) ≡ []
+no_entries A = none_of (entries (empty {X = A} {R = by_bytes})) (sym (len-entries (empty {X = A} {R = by_bytes})) ∙ len-empty by_bytes A)
+
+pub lead : (n : ℕ) → IsTrue (redirects_lead (generated_shelf n))
+unfolding redirects_lead generated_shelf
+lead n = ap (list_all (leads empty)) (no_entries (List ℕ))
 
 repository : (n : ℕ) → generated_reference.repository ≡ (generated_shelf n).repository
 unfolding generated_shelf
@@ -103,8 +112,7 @@ read_is n =
     ∙ layer_is (generated_trust n) (image_text n)
 
 no_annotations : {V : Type 0} {H : V → Type 0} (own : Owns V H) (image : List ℕ) → IsTrue (accepts own any_layer (layer_for image))
-unfolding entries empty
-no_annotations own image = refl
+no_annotations own image = ap (list_all (has_text_member null)) (no_entries (List ℕ))
 
 stands : {V : Type 0} {H : V → Type 0} (own : Owns V H) (n : ℕ) → StandsFor (meaning_with own n) (sha256_text (image_text n)) (layer_for (image_text n))
 stands {V} {H} own n =
@@ -138,6 +146,7 @@ signed own n small two = record {
 }
 
 pub valid : {V : Type 0} {H : V → Type 0} (own : Owns V H) (n : ℕ) → 1 ≤ n → n ≤ 1000 → HasTwoDigests n → ValidShelf (meaning_with own n) generated_settings generated_reference Anonymous generated_types (generated_shelf n)
+unfolding signed
 valid own n one small two = record {
   asked = asked n;
   digest = sha256_text (image_text n);
