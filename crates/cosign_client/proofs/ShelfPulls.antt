@@ -1,16 +1,17 @@
 -- A search and a pull over a shelf find what stands there.
-use Rattle.std.specs.Prelude.{codes, bytes_eq, unwrap_or, find, slice_index_or, MatchBool, if◌then◌else◌}
+use Rattle.std.specs.Prelude.{find, slice_index_or, MatchBool, if◌then◌else◌}
 use Rattle.std.specs.Option.{option_or}
 use Rattle.std.specs.List.{All}
-use Rattle.std.proofs.Common.{◌≡◌, ◌⊎◌, inl, inr, ◌<◌, ◌≤◌, ◌^◌, ◌-◌, ℕ, zero, suc, Bool, true, false, cond, List, [], ◌∷◌, ◌++◌, length, is_some, Option, Some, None, Result, Ok, Err, refl, sym, ap, ◌∙◌, subst, arith}
+use Rattle.std.proofs.Common.{◌≡◌, ◌⊎◌, inl, inr, ◌<◌, ◌≤◌, ◌^◌, ◌-◌, ℕ, zero, suc, Bool, true, false, cond, List, [], ◌∷◌, ◌++◌, length, Option, Some, None, Result, Ok, Err, refl, sym, ap, ◌∙◌, subst, arith}
 use Rattle.std.proofs.lemmas.List.Folds.{find-append}
 use Rattle.std.proofs.lemmas.List.Elements.{All-head, All-tail}
 use Rattle.oci_names.specs.Grammar.{is_digest}
 use Rattle.oci_names.specs.Parts.{digest_refusal}
-use Rattle.oci_names.specs.Words.{Tag, Path}
-use Rattle.oci_names.specs.References.{registry_of, digest_of, whole_text, resolved_registry, reads_back}
+use Rattle.oci_names.specs.Words.{Tag}
+use Rattle.oci_names.specs.References.{digest_of, whole_text, resolved_registry, reads_back}
 use Rattle.oci_names.specs.declared.reference.Reference.{Reference}
 use Rattle.oci_auth.specs.declared.auth.RegistryAuth.{RegistryAuth}
+use Rattle.oci_auth.specs.declared.memory.Memory.{Memory}
 use Rattle.oci_digests.specs.Names.{Names, digest_text}
 use Rattle.oci_digests.specs.declared.digester.Algorithm.TheVariants.{Sha256}
 use Rattle.oci_digests.proofs.Validated.{is_validated}
@@ -49,18 +50,18 @@ use Rattle.sig_registry.specs.declared.wording.Called.{Called}
 use Rattle.sig_registry.specs.declared.wording.Called.TheVariants.{FetchManifest, Pull, PullManifest}
 use Rattle.sig_registry.specs.Errors.{is_memory as of_memory, worded}
 use Rattle.sig_registry.specs.Clients.{Kept, Row}
-use Rattle.sig_registry.specs.Calls.{in_words, digest_made, manifest_made, image_made, document_made, blob_made, referrers_made, document_call, blob_call, referrers_call, image_call}
+use Rattle.sig_registry.specs.Calls.{in_words, digest_made, manifest_made, image_made, document_made, blob_made, referrers_made, document_call, blob_call, referrers_call}
 use Rattle.sig_answers.specs.declared.answers.Answers.{Answers}
-use Rattle.shelf_laws.specs.Comes.{Yields, OrMemory, Gives, Stays, Reaches}
+use Rattle.shelf_laws.specs.Comes.{Yields, OrMemory, Gives, Reaches}
 use Rattle.shelf_laws.specs.Home.{Home, IsAt, CanBeShown, Settled}
 use Rattle.shelf_laws.specs.Shelves.{HasBlob, HasLayer, LeadsTo, ImageOn, layers_on}
-use Rattle.shelf_laws.proofs.Coming.{Gives-done, Gives-next, Gives-more, Gives-caught, Gives-stays, Stays-done, Stays-bind, Stays-next, Reaches-done, Reaches-bind, Reaches-gives, Reaches-strict, Reaches-stays, Reaches-after, Reaches-next, TableOf, Runs-over, Meets-comes}
+use Rattle.shelf_laws.proofs.Coming.{Gives-done, Gives-next, Gives-more, Gives-caught, Reaches-done, Reaches-bind, Reaches-gives, Reaches-strict, Reaches-stays, Reaches-after, Reaches-next, TableOf, Runs-over, Meets-comes}
 use Rattle.shelf_laws.proofs.DigestTags.{sha256_named, tag_of_signatures}
 use Rattle.shelf_laws.proofs.Documents.{NoOther, raw_gives, digest_gives, blob_gives}
 use Rattle.shelf_laws.proofs.Images.{Points, points_itself, types_accepted, manifest_gives, pull_gives}
 use Rattle.shelf_laws.proofs.PlainNames.{tag_segment}
 use Rattle.shelf_laws.proofs.Pointing.{tag_named, image_points}
-use Rattle.shelf_laws.proofs.References.{Spelled, spelled, resolved_domain, tag_reads_back, digest_reads_back, digest_is_digest, digest_is_known}
+use Rattle.shelf_laws.proofs.References.{Spelled, spelled, tag_reads_back, digest_reads_back, digest_is_digest, digest_is_known}
 use Rattle.shelf_laws.proofs.Requests.{yields_ok}
 use Rattle.shelf_laws.proofs.Listing.{referrers_give}
 use Rattle.shelf_laws.proofs.Lifted.{Gives-lifted}
@@ -87,7 +88,7 @@ use Rattle.cosign_client.specs.declared.found.SourceKind.TheVariants.{Tag as ByT
 use Rattle.cosign_client.specs.declared.found.TrustedLayers.{TrustedLayers}
 use Rattle.cosign_client.specs.declared.refusal.PullRefusal.{PullRefusal}
 use Rattle.cosign_client.specs.declared.refusal.PullRefusal.TheVariants as refusal
-use Rattle.cosign_client.specs.Shelves.{IsAsked, SignedByTag, SignedByReferrer, ImageShelf, WideShelf, ValidShelf, TaggedShelf, AnswersFrom, OkOrMemory}
+use Rattle.cosign_client.specs.Shelves.{IsAsked, SignedByTag, SignedByReferrer, ImageShelf, WideShelf, ValidShelf, AnswersFrom, OkOrMemory}
 use Rattle.cosign_client.proofs.ShelfCalls.{digest_given, manifest_given, image_given, referrers_given}
 use Rattle.cosign_client.proofs.ShelfStays.{home_of, image_at, tag_at, digest_at, referrer_at, entry_at, tag_stays, listing_stays, referrer_stays, verified_stays}
 
@@ -246,8 +247,8 @@ module _ {V : Type 0} {H : V → Type 0} (meaning : Meaning V H) (s : Settings) 
     tag_gives : Gives I (answer shelf) Stood (tag_layers meaning.trust digest ctx (tag_reference image digest) a)
     unfolding tag_layers
     tag_gives =
-        Gives-next _ (manifest_given (tag_reference image digest) at_tag moment tag_document) (λ document known.
-        Gives-next _ (image_given (tag_reference image digest) at_tag (payload_type ∷ []) moment tag_image) (λ pulled same.
+        Gives-next _ (manifest_given s registry a shelf (tag_reference image digest) at_tag moment tag_document) (λ document known.
+        Gives-next _ (image_given s registry a shelf (tag_reference image digest) at_tag (payload_type ∷ []) moment tag_image) (λ pulled same.
         Gives-done (Ok (document_part meaning.trust digest document.0 pulled)) (subst (λ (p : OciManifest × List ℕ). Has (stands_by meaning) (document_part meaning.trust digest p.0 pulled).collected) (sym known) (subst (λ (layers : List ImageLayer). Has (stands_by meaning) (descriptors_part meaning.trust digest layers signed.manifest.layers).collected) (sym same) stood_here))))
 
     source_gives : Gives I (answer shelf) Stood (tag_source meaning.trust ctx image a digest)
@@ -338,7 +339,7 @@ module _ {V : Type 0} {H : V → Type 0} (meaning : Meaning V H) (s : Settings) 
     entry_gives : (part : Part) → Gives I (answer shelf) Stood (referrer_by meaning.trust digest ctx (digest_reference source x) a x part true)
     entry_gives part =
         Gives-caught (λ r. Done (behind part (Referrer x) (referrer_part meaning.trust digest r)))
-        (image_given (digest_reference source x) (at_referrer x) (bundle_type ∷ []) moment entry_image)
+        (image_given s registry a shelf (digest_reference source x) (at_referrer x) (bundle_type ∷ []) moment entry_image)
         (λ pulled same. Gives-done (Ok (appended part (bundles_part meaning.trust digest pulled.layers))) (has_right (stands_by meaning) part.collected (bundles_part meaning.trust digest pulled.layers).collected (subst (λ (layers : List ImageLayer). Has (stands_by meaning) (bundles_part meaning.trust digest layers).collected) (sym same) bundles_stand)))
 
     row_gives : (part : Part) → Gives I (answer shelf) Stood (referrer_row meaning.trust digest ctx source a x part)
@@ -357,7 +358,7 @@ module _ {V : Type 0} {H : V → Type 0} (meaning : Meaning V H) (s : Settings) 
     listing m = Gives-next _ (words_give FetchManifest source (given_gives home source at_digest a can m)) (λ u given. words_give PullManifest source (referrers_give home valid.short source at_digest a can m digest first valid.image_on.there.named signed.index refl signed.lists))
 
     listing_gives : Gives I (answer shelf) (λ (index : OciImageIndex). index ≡ signed.index) (referrers_call ctx source a None)
-    listing_gives = referrers_given source at_digest None moment listing
+    listing_gives = referrers_given s registry a shelf source at_digest None moment listing
 
     listed_stands : (part : Part) (r : Result OciImageIndex SigstoreError) → Yields (λ (index : OciImageIndex). index ≡ signed.index) r → Reaches I (answer shelf) (OrMemory of_memory Stood) (listed_row meaning.trust digest ctx source a part r)
     listed_stands part (Ok index) is = subst (λ (i : OciImageIndex). Reaches I (answer shelf) (OrMemory of_memory Stood) (referrers_row meaning.trust digest ctx source a i.manifests part)) (sym is) (each_stands signed.index.manifests signed.among.0 part signed.among.1 signed.among.2)
@@ -387,7 +388,7 @@ module _ {V : Type 0} {H : V → Type 0} (meaning : Meaning V H) (s : Settings) 
   search_reaches : Signed → Reaches I (answer shelf) (OrMemory of_memory Found) (searched meaning.trust ctx image a)
   unfolding searched
   search_reaches signed =
-      Reaches-after _ (digest_given image at_image moment digest_step) (λ d known.
+      Reaches-after _ (digest_given s registry a shelf image at_image moment digest_step) (λ d known.
       subst (λ (t : List ℕ). Reaches I (answer shelf) (OrMemory of_memory Found) (Done (reading_back (digest_reference image t)) >> (tag_source meaning.trust ctx image a t >>= λ tag. referrers_source meaning.trust t ctx (digest_reference image t) a tag >>= λ found. Done (Ok (trusted_layers t found))))) (sym known)
       (Reaches-after _ (Gives-done (reading_back source) (yields_ok (λ u. Unit {0}) (reading_back source) tt (ap (or_not_valid source) digest_back) tt)) (λ u read. both_reach signed)))
 
@@ -525,34 +526,13 @@ module _ {V : Type 0} {H : V → Type 0} (meaning : Meaning V H) (s : Settings) 
       (Runs-over (answer shelf) (λ l r. I l × OrMemory is_memory (λ (v : VerifiedImage). Unit {0}) r) (answering shelf) (verified meaning ctx image a accepted) place k l m n c r (shelf_table shelf)
       ((verified_reaches signed).reaches k (settled_in k settled)) answered_is le lt run).1
 
-abbrev pub image_shelf : {V : Type 0} {H : V → Type 0} {meaning : Meaning V H} {s : Settings} {image : Reference} {a : RegistryAuth} {accepted : List (List ℕ)} {shelf : Shelf} → TaggedShelf meaning s image a accepted shelf → ImageShelf s image a accepted shelf
-image_shelf t = record { asked = t.asked; digest = t.digest; named = t.named; image_on = t.image_on; short = t.short }
-
--- a shelf by the tag is wide
-pub tagged_wide : {V : Type 0} {H : V → Type 0} (meaning : Meaning V H) (s : Settings) (image : Reference) (a : RegistryAuth) (accepted : List (List ℕ)) (shelf : Shelf) → TaggedShelf meaning s image a accepted shelf → WideShelf meaning s image a accepted shelf
-tagged_wide meaning s image a accepted shelf t = record { has = image_shelf t; signed = inl (t.tag_reads, t.signed) }
-
--- a valid shelf is one by the tag
-pub valid_tagged : {V : Type 0} {H : V → Type 0} (meaning : Meaning V H) (s : Settings) (image : Reference) (a : RegistryAuth) (accepted : List (List ℕ)) (shelf : Shelf) → ValidShelf meaning s image a accepted shelf → TaggedShelf meaning s image a accepted shelf
-valid_tagged meaning s image a accepted shelf valid =
+-- a valid shelf is a wide one
+pub valid_wide : {V : Type 0} {H : V → Type 0} (meaning : Meaning V H) (s : Settings) (image : Reference) (a : RegistryAuth) (accepted : List (List ℕ)) (shelf : Shelf) → ValidShelf meaning s image a accepted shelf → WideShelf meaning s image a accepted shelf
+valid_wide meaning s image a accepted shelf valid =
     let first = valid.image_on.first in
     let digest_is = sha256_named valid.digest valid.sha256.0 first valid.sha256.1 valid.image_on.there.named in
-    record {
-      asked = valid.asked;
-      digest = valid.digest;
-      named = valid.named;
-      image_on = valid.image_on;
-      tag_reads = tag_reads_back image (spelled image valid.asked.reads_back_is) (signature_tag valid.digest) (tag_of_signatures valid.digest first digest_is);
-      signed = valid.signed;
-      short = valid.short;
-    }
-
-module _ {V : Type 0} {H : V → Type 0} (meaning : Meaning V H) (s : Settings) (image : Reference) (a : RegistryAuth) (accepted : List (List ℕ)) (shelf : Shelf) (tagged : TaggedShelf meaning s image a accepted shelf) (moment : ℕ) where
-  pub completed : {old new : Link} {k l : Kept} (r : Result VerifiedImage PullRefusal) → AnswersFrom shelf old → IsSettled s image a shelf k → Meets is_memory (verified meaning (record { settings = s; moment = moment }) image a accepted) old new k l r → OkOrMemory r
-  completed r from settled met = completed_wide meaning s image a accepted shelf (image_shelf tagged) moment (inl (tagged.tag_reads, tagged.signed)) r from settled met
-
-  pub run_completed : (k l : Kept) (place m n : ℕ) (c : List Exchange) (r : Result VerifiedImage PullRefusal) → IsSettled s image a shelf k → AnsweredBy (answering shelf) place c → n ≤ m → m < 2 ^ 64 - 1 → Runs (verified meaning (record { settings = s; moment = moment }) image a accepted) k m c n l r → OrMemory is_memory (λ (v : VerifiedImage). Unit {0}) r
-  run_completed k l place m n c r settled answered_is le lt run = run_wide meaning s image a accepted shelf (image_shelf tagged) moment (inl (tagged.tag_reads, tagged.signed)) k l place m n c r settled answered_is le lt run
+    let tag_reads = tag_reads_back image (spelled image valid.asked.reads_back_is) (signature_tag valid.digest) (tag_of_signatures valid.digest first digest_is) in
+    record { has = record { asked = valid.asked; digest = valid.digest; named = valid.named; image_on = valid.image_on; short = valid.short }; signed = inl (tag_reads, valid.signed) }
 
 -- ---- afterwards
 

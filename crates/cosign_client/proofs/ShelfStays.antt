@@ -2,7 +2,7 @@
 use Rattle.std.specs.Prelude.{codes, bytes_eq, unwrap_or, if◌then◌else◌}
 use Rattle.std.proofs.Common.{◌≡◌, ℕ, Bool, true, false, List, [], ◌∷◌, ◌++◌, is_some, Option, Some, None, Result, Ok, Err, refl, sym, ap, subst}
 use Rattle.oci_names.specs.Words.{Path}
-use Rattle.oci_names.specs.References.{registry_of, digest_of, whole_text, resolved_registry, reads_back}
+use Rattle.oci_names.specs.References.{registry_of, whole_text, resolved_registry, reads_back}
 use Rattle.oci_names.specs.declared.reference.Reference.{Reference}
 use Rattle.oci_auth.specs.declared.auth.RegistryAuth.{RegistryAuth}
 use Rattle.oci_auth.specs.declared.memory.Memory.{Memory}
@@ -13,6 +13,8 @@ use Rattle.oci_manifests.specs.declared.index_entry.ImageIndexEntry.{ImageIndexE
 use Rattle.oci_manifests.specs.declared.manifest.OciImageManifest.{OciImageManifest}
 use Rattle.oci_manifests.specs.declared.descriptor.OciDescriptor.{OciDescriptor}
 use Rattle.oci_manifests.specs.declared.blob.ImageLayer.{ImageLayer}
+use Rattle.oci_transport.specs.declared.message.Request.{Request}
+use Rattle.oci_transport.specs.declared.message.Answer.{Answer}
 use Rattle.oci_protocol.specs.Proto.{Proto, Done}
 use Rattle.oci_link.specs.Table.{answer}
 use Rattle.oci_link.specs.declared.shelf.Shelf.{Shelf}
@@ -38,20 +40,19 @@ use Rattle.shelf_laws.proofs.References.{Spelled, spelled, resolved_domain}
 use Rattle.shelf_laws.proofs.Staying.{digest_stays, raw_stays, manifest_stays, blob_stays, pull_stays, referrers_stay}
 use Rattle.shelf_laws.proofs.Tokens.{given_gives}
 use Rattle.cosign_layers.specs.Standing.{Meaning}
-use Rattle.cosign_layers.specs.Trust.{Trust}
 use Rattle.cosign_client.specs.Image.{document_in, entry_in, layers_row, blobs_row, with_image, entry_call, entry_row, manifest_row, image_row}
 use Rattle.cosign_client.specs.References.{tag_reference, digest_reference, reading_back}
 use Rattle.cosign_client.specs.Search.{payload_type, tag_layers, or_skipped, tag_by, tag_source, behind, bundle_type, referrer_part, referrer_by, referrer_row, referrers_row, listed_row, referrers_source, searched}
 use Rattle.cosign_client.specs.Settled.{AreRight}
 use Rattle.cosign_client.specs.Shelves.{IsAsked}
-use Rattle.cosign_client.specs.Verified.{Whole, constrained, is_unconstrained, readable, as_whole, part_of, standing, after_search, verified}
+use Rattle.cosign_client.specs.Verified.{constrained, is_unconstrained, readable, as_whole, part_of, standing, after_search, verified}
 use Rattle.cosign_client.specs.declared.found.Part.{Part}
-use Rattle.cosign_client.specs.declared.found.SourceKind.TheVariants.{Tag, Referrers}
-use Rattle.cosign_client.specs.declared.found.Skipped.TheVariants.{Source, Referrer}
+use Rattle.cosign_client.specs.declared.found.SourceKind.TheVariants.{Tag}
+use Rattle.cosign_client.specs.declared.found.Skipped.TheVariants.{Referrer}
 use Rattle.cosign_client.specs.declared.found.TrustedLayers.{TrustedLayers}
 use Rattle.cosign_client.proofs.ShelfCalls.{digest_settled, manifest_settled, image_settled, referrers_settled}
 
-pub words_stay : {J : Memory → Type 0} {shelf : Shelf} {A : Type 0} {p : Engine A} (called : Called) (r : Reference) → Stays J (answer shelf) p → Stays J (answer shelf) (in_words called r p)
+pub words_stay : {J : Memory → Type 0} {table : Request → Answer} {A : Type 0} {p : Engine A} (called : Called) (r : Reference) → Stays J table p → Stays J table (in_words called r p)
 unfolding in_words
 words_stay called r h = Stays-bind (λ x. Done (worded called (whole_text r) x)) h (λ x. Stays-done _)
 
@@ -126,8 +127,8 @@ module _ {V : Type 0} {H : V → Type 0} (meaning : Meaning V H) (s : Settings) 
     pub tag_stays : Settles (tag_layers meaning.trust d ctx (tag_reference image d) a)
     unfolding tag_layers
     tag_stays =
-        Stays-next _ (manifest_settled (tag_reference image d) (tag_at asked d) moment tag_document) (λ document.
-        Stays-next _ (image_settled (tag_reference image d) (tag_at asked d) (payload_type ∷ []) moment (pulled (tag_reference image d) (tag_at asked d) (payload_type ∷ []))) (λ found. Stays-done _))
+        Stays-next _ (manifest_settled s registry a shelf (tag_reference image d) (tag_at asked d) moment tag_document) (λ document.
+        Stays-next _ (image_settled s registry a shelf (tag_reference image d) (tag_at asked d) (payload_type ∷ []) moment (pulled (tag_reference image d) (tag_at asked d) (payload_type ∷ []))) (λ found. Stays-done _))
 
     tag_by_stays : (b : Bool) → Settles (tag_by meaning.trust d ctx (tag_reference image d) a b)
     tag_by_stays false = Stays-done _
@@ -142,10 +143,10 @@ module _ {V : Type 0} {H : V → Type 0} (meaning : Meaning V H) (s : Settings) 
     listing = Stays-next _ (words_stay FetchManifest source (Gives-stays (given_gives home source (digest_at asked d) a can moment))) (λ u. words_stay PullManifest source (referrers_stay home a can moment source (digest_at asked d) None))
 
     pub listing_stays : Settles (referrers_call ctx source a None)
-    listing_stays = referrers_settled source (digest_at asked d) None moment listing
+    listing_stays = referrers_settled s registry a shelf source (digest_at asked d) None moment listing
 
     pub referrer_stays : (x : List ℕ) → Settles (image_call ctx (digest_reference source x) a (bundle_type ∷ []))
-    referrer_stays x = image_settled (digest_reference source x) (referrer_at asked d x) (bundle_type ∷ []) moment (pulled (digest_reference source x) (referrer_at asked d x) (bundle_type ∷ []))
+    referrer_stays x = image_settled s registry a shelf (digest_reference source x) (referrer_at asked d x) (bundle_type ∷ []) moment (pulled (digest_reference source x) (referrer_at asked d x) (bundle_type ∷ []))
 
     referrer_by_stays : (x : List ℕ) (part : Part) (b : Bool) → Settles (referrer_by meaning.trust d ctx (digest_reference source x) a x part b)
     referrer_by_stays x part false = Stays-done _
@@ -167,7 +168,7 @@ module _ {V : Type 0} {H : V → Type 0} (meaning : Meaning V H) (s : Settings) 
   searched_stays : Settles (searched meaning.trust ctx image a)
   unfolding searched
   searched_stays =
-      Stays-next _ (digest_settled image (image_at asked) moment digest_step) (λ d.
+      Stays-next _ (digest_settled s registry a shelf image (image_at asked) moment digest_step) (λ d.
       Stays-next _ (Stays-done (reading_back (digest_reference image d))) (λ u.
       Stays-next _ (tag_source_stays d) (λ tag.
       Stays-next _ (referrers_source_stays d tag) (λ found. Stays-done _))))

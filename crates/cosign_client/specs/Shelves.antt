@@ -1,5 +1,6 @@
 -- Which registries in memory give a verified image: each one of these does.
-use Rattle.std.specs.Prelude.{◌≡◌, ◌⊎◌, true, ◌<◌, ◌-◌, ◌^◌, ℕ, List, [], ◌∷◌, ◌++◌, Contains, Option, Some, None, Result, Ok, Err, IsTrue}
+use Rattle.std.specs.Prelude.{◌≡◌, ◌⊎◌, true, ◌<◌, ◌-◌, ◌^◌, ℕ, List, [], ◌∷◌, ◌++◌, Contains}
+use Rattle.std.specs.Prelude.{Option, Some, None, Result, Ok, Err, IsTrue}
 use Rattle.std.specs.FinMap as map
 use Rattle.oci_names.specs.declared.reference.Reference.{Reference}
 use Rattle.oci_names.specs.References.{repository_of, digest_of, tag_of, resolved_registry, reads_back}
@@ -54,7 +55,8 @@ pub record ReadsStanding {V : Type 0} {H : V → Type 0} (meaning : Meaning V H)
   pub reads : read_on meaning.trust d shelf manifest descriptor ≡ Ok layer
   pub stands_for : StandsFor meaning d layer
 
--- the tag of the digest's signatures leads to a manifest of payloads, of which the shelf has all, and one of them stands
+-- the tag of the digest's signatures leads to a manifest of payloads, of which the shelf has all, and one of them
+-- stands
 pub record SignedByTag {V : Type 0} {H : V → Type 0} (meaning : Meaning V H) (d : List ℕ) (shelf : Shelf)
     : Type 0 where
   pub signatures : List ℕ
@@ -73,8 +75,8 @@ pub record IsAsked (s : Settings) (image : Reference) (a : RegistryAuth) (shelf 
   pub credentials : CanBeShown a
   pub lead : IsTrue (redirects_lead shelf)
 
--- One of the digest's referrers has a reference that reads back, and the shelf has its image of bundles; of one of them a
--- layer is read that stands.
+-- One of the digest's referrers has a reference that reads back, and the shelf has its image of bundles; of one of
+-- them a layer is read that stands.
 pub record SignedByReferrer {V : Type 0} {H : V → Type 0} (meaning : Meaning V H) (s : Settings)
     (image : Reference) (d : List ℕ) (shelf : Shelf) : Type 0 where
   pub index : OciImageIndex
@@ -118,18 +120,6 @@ pub record ValidShelf {V : Type 0} {H : V → Type 0} (meaning : Meaning V H) (s
   pub signed : SignedByTag meaning digest shelf
   pub no_entry : signed.standing.layer.bundle ≡ None
   pub no_certificate : signed.standing.layer.certificate_signature ≡ None
-  pub short : IsShort s shelf
-
--- The shelf is asked for the image and has it, by a digest of any algorithm, whose tag makes a reference that reads
--- back, and a layer under the tag stands. Nothing is too long.
-pub record TaggedShelf {V : Type 0} {H : V → Type 0} (meaning : Meaning V H) (s : Settings) (image : Reference)
-    (a : RegistryAuth) (accepted : List (List ℕ)) (shelf : Shelf) : Type 0 where
-  pub asked : IsAsked s image a shelf
-  pub digest : List ℕ
-  pub named : digest_on shelf image ≡ Some digest
-  pub image_on : ImageOn s shelf digest accepted
-  pub tag_reads : reads_back (tag_reference image digest) ≡ true
-  pub signed : SignedByTag meaning digest shelf
   pub short : IsShort s shelf
 
 -- the transport answers from the shelf and tells what was asked; so does a `ShelfTransport`

@@ -18,7 +18,8 @@ ghost use Rattle.cosign_client.specs.DigestStep.{BeginsWithDigest, IsRefusedAs, 
 ghost use Rattle.cosign_client.specs.Points.{point_of};
 ghost use Rattle.cosign_client.specs.Refusal.{is_memory, refused_as, FaultCounted, NoSinkFault};
 ghost use Rattle.cosign_client.specs.Search.{searched};
-ghost use Rattle.cosign_client.specs.Shelves.{AnswersFrom, IsSettled, OkOrMemory, TaggedShelf, ValidShelf, WideShelf};
+ghost use Rattle.cosign_client.specs.Settled.{IsSettled};
+ghost use Rattle.cosign_client.specs.Shelves.{AnswersFrom, IsAsked, OkOrMemory, ValidShelf, WideShelf};
 ghost use Rattle.cosign_client.specs.Skips.{CountsFaults, HoldsNoMemoryNorSink, OnSkipped};
 ghost use Rattle.cosign_client.specs.Sound.{Backed};
 ghost use Rattle.cosign_client.specs.Triangulated.{tag_shown, triangulated};
@@ -151,8 +152,9 @@ impl Client {
     ///
     /// The answer is a chain that checks by itself: it starts at the digest that was answered for the image, which
     /// names the manifest, whose digests name the configuration and the layers, and one signature layer stands for the
-    /// digest under the policy. A client that keeps answers may still give the digest and the signatures of at most 60
-    /// seconds ago; the image's documents and blobs are always asked for. See `PullRefusal` for when the call is refused.
+    /// digest under the policy. A client that keeps answers may still give the digest and the signatures of less than
+    /// 60 seconds ago; the image's documents and blobs are always asked for. See `PullRefusal` for when the call is
+    /// refused.
     pub fn verified_pull<'a, T: Transport, V: SignatureVerifier, O: Offline>(
         &mut self,
         alloc: Global,
@@ -212,23 +214,25 @@ impl Client {
         ensures confined { Stays (client_state self.old) (client_state self.new) moment (reference_in image.now)
             (Some (registry_auth auth.now)) (T.state transport.old) (T.state transport.new) }
         ensures completes { (shelf : Shelf) → AnswersFrom shelf (T.state transport.old)
-            → IsSettled (reference_in image.now) (registry_auth auth.now) (client_state self.old).kept
+            → IsSettled (client_state self.old).settings (reference_in image.now) (registry_auth auth.now) shelf
+            (client_state self.old).kept
             → ValidShelf (meaning policy.now (λ b. accepts (b.vtable, b.value))
             (trusts (V.valid verifier.now) (O.vouched judge.now) self.old))
             (client_state self.old).settings (reference_in image.now) (registry_auth auth.now)
             accepted_media_types.now shelf → OkOrMemory result }
-        ensures completes_tagged { (shelf : Shelf) → AnswersFrom shelf (T.state transport.old)
-            → IsSettled (reference_in image.now) (registry_auth auth.now) (client_state self.old).kept
-            → TaggedShelf (meaning policy.now (λ b. accepts (b.vtable, b.value))
-            (trusts (V.valid verifier.now) (O.vouched judge.now) self.old))
-            (client_state self.old).settings (reference_in image.now) (registry_auth auth.now)
-            accepted_media_types.now shelf → OkOrMemory result }
         ensures completes_wide { (shelf : Shelf) → AnswersFrom shelf (T.state transport.old)
-            → IsSettled (reference_in image.now) (registry_auth auth.now) (client_state self.old).kept
+            → IsSettled (client_state self.old).settings (reference_in image.now) (registry_auth auth.now) shelf
+            (client_state self.old).kept
             → WideShelf (meaning policy.now (λ b. accepts (b.vtable, b.value))
             (trusts (V.valid verifier.now) (O.vouched judge.now) self.old))
             (client_state self.old).settings (reference_in image.now) (registry_auth auth.now)
             accepted_media_types.now shelf → OkOrMemory result }
+        ensures settled { (shelf : Shelf) → AnswersFrom shelf (T.state transport.old)
+            → IsAsked (client_state self.old).settings (reference_in image.now) (registry_auth auth.now) shelf
+            → IsSettled (client_state self.old).settings (reference_in image.now) (registry_auth auth.now) shelf
+            (client_state self.old).kept
+            → UnlessMemory is_memory (λ r. IsSettled (client_state self.old).settings (reference_in image.now)
+            (registry_auth auth.now) shelf (client_state self.new).kept) result }
     {
         let terms = Terms {
             accepted: accepted_media_types,

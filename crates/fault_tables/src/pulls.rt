@@ -43,7 +43,9 @@ pub fn pull_over(
     let mut transport = FaultyShelf::new(alloc, shelf, sends, pieces);
     let mut config = ClientConfig::default();
     config.protocol = ClientProtocol::Http;
-    let mut client = ClientBuilder::new().with_oci_client_config(config).build(alloc)?;
+    let mut client = ClientBuilder::new()
+        .with_oci_client_config(config)
+        .build(alloc)?;
     let outcome = client.verified_pull(
         alloc,
         &mut transport,

@@ -22,7 +22,9 @@ use oci_platforms::PlatformResolver;
 use oci_transport::Exchange;
 use pull_case::{Case, Registry, Replay, case_policy, read_case};
 use pull_report::write_report;
-use sig_registry::{Auth, OciCachingClient, OciClient, OciReference, RegistryClient, SigstoreError};
+use sig_registry::{
+    Auth, OciCachingClient, OciClient, OciReference, RegistryClient, SigstoreError,
+};
 use std::alloc::{AllocError, Global};
 
 // Whether memory was wanting.
@@ -143,7 +145,12 @@ fn config(
 }
 
 // A client that knows these logs, keeps nothing yet, and will keep answers or not.
-fn fresh_client(alloc: Global, config: ClientConfig, caching: bool, rekor_pub_keys: LogKeys) -> Client
+fn fresh_client(
+    alloc: Global,
+    config: ClientConfig,
+    caching: bool,
+    rekor_pub_keys: LogKeys,
+) -> Client
     ensures state { client_state result ≡ fresh_state config caching }
     ensures log_keys { result.rekor_pub_keys ≡ rekor_pub_keys }
 {

@@ -115,8 +115,8 @@ module _ {A : Type 0} (cache : Cache A) (law : IsCache cache) (call : Call) (now
         (λ s. record { made = λ at. (at, kept.reads cache (key_called call) now (row s) (reads_back (image_called call)) read_back (kept.recall cache (key_called call) now (row s) a (at_key x is))) })
         (λ h. absurd (cc h))
         (record { recalled = λ answer reads found. (at_answer answer found, refl, refl) }) where
-      at_answer : (answer : A) → known cache (key_called call) now x ≡ Some answer → Says (Ok a) (Ok answer)
-      at_answer answer found = let same : Some a ≡ Some answer = sym (at_key x is) ∙ found in cc same
+          at_answer : (answer : A) → known cache (key_called call) now x ≡ Some answer → Says (Ok a) (Ok answer)
+          at_answer answer found = let same : Some a ≡ Some answer = sym (at_key x is) ∙ found in cc same
 
     -- the plain call was refused, or cut off
     pub refuses : {x : Option Answers} {e f : Engine} {old new : Link} {y : SigstoreError} {r : Result A SigstoreError} → known cache key now x ≡ None → ((s : Settings) → PlainlyMade s (row s) e f old new (Err y)) → IsErrAnd r (λ z. z ≡ y) → Of (engine_state e x) (engine_state f x) old new r

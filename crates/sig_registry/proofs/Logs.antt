@@ -246,8 +246,11 @@ module _ {A : Type 0} (cache : Cache A) (law : IsCache cache) (call : Call) (now
   recalled_lawful reads k l m n c r log run lawful backed = by_known (known cache (key_called call) now k.1) refl run where
     answered_before : (a : A) → known cache (key_called call) now k.1 ≡ Some a → (c ≡ []) × (m ≡ n) × (k ≡ l) × (Ok a ≡ r) → IsLawful s l.1 (place k l m c n r) log
     answered_before a is at = record {
-      run = (λ answer got. let same : cache.kept_as a ≡ answer = cc (ap (answered cache) at.3, got) in
-          inr (subst (λ x. AnyOf (IsSource s call now x) log) same (known_source s cache law call now kind_is reads k.1 log a is backed)), lawful);
+      run = (
+        λ answer got. let same : cache.kept_as a ≡ answer = cc (ap (answered cache) at.3, got) in
+            inr (subst (λ x. AnyOf (IsSource s call now x) log) same (known_source s cache law call now kind_is reads k.1 log a is backed)),
+        lawful,
+      );
       backed = subst (λ (x : Option Answers). IsBacked s x (place k l m c n r ∷ log)) (ap (λ (k : Kept). k.1) at.2) (backed_more s k.1 (place k l m c n r) log backed);
     }
 

@@ -55,8 +55,8 @@ image_called (ReferrersCall image a artifact_type) = image
 pub record Recalled {A : Type 0} (cache : Cache A) (call : Call) (now : ℕ) (before after : Client) (old new : Link)
     (r : Result A SigstoreError) : Type 0 where
   pub recalled : (answer : A) → reads_back (image_called call) ≡ true
-    → known cache (key_called call) now before.kept.1 ≡ Some answer
-    → Says r (Ok answer) × (new ≡ old) × (after ≡ before)
+      → known cache (key_called call) now before.kept.1 ≡ Some answer
+      → Says r (Ok answer) × (new ≡ old) × (after ≡ before)
 
 -- an answer as it is kept
 abbrev pub answered : {A : Type 0} → Cache A → Result A SigstoreError → Result Answer SigstoreError
@@ -153,5 +153,5 @@ pub record IsLawful (s : Settings) (kept : Option Answers) (p : Place) (log : Li
 pub record Logged {A : Type 0} (s : Settings) (cache : Cache A) (call : Call) (now : ℕ) (before after : Client)
     (old new : Link) (r : Result A SigstoreError) : Type 0 where
   pub logged : before.settings ≡ s → (log : List Place) → IsRun s log → IsBacked s before.kept.1 log
-    → (c : List Exchange) × Extends old new c
-    × IsLawful s after.kept.1 (place_of call now before after old c new (answered cache r)) log
+      → (c : List Exchange) × Extends old new c
+      × IsLawful s after.kept.1 (place_of call now before after old c new (answered cache r)) log

@@ -5,8 +5,10 @@ use crate::calls::{
 use crate::capabilities::ClientCapabilities;
 use crate::error::SigstoreError;
 use crate::keys::{image_key, list_key, manifest_key};
-use crate::known::{keep_digest, keep_image, keep_manifest, keep_referrers};
-use crate::known::{known_digest, known_image, known_manifest, known_referrers};
+use crate::known::{
+    keep_digest, keep_image, keep_manifest, keep_referrers, known_digest, known_image,
+    known_manifest, known_referrers,
+};
 use json_values::{Blob, Text};
 use oci_auth::RegistryAuth;
 use oci_engine::{Client, ImageData, PlatformResolver};
@@ -95,13 +97,29 @@ impl ClientCapabilities for OciCachingClient {
         let types = accepted_media_types;
         let found = image_key(alloc, image, auth, types)?;
         let Some(key) = found else {
-            return image_made(&mut self.client, alloc, transport, moment, image, auth, types);
+            return image_made(
+                &mut self.client,
+                alloc,
+                transport,
+                moment,
+                image,
+                auth,
+                types,
+            );
         };
         let known = known_image(alloc, &self.answers, &key, moment)?;
         if let Some(data) = known {
             return Ok(data);
         }
-        let data = image_made(&mut self.client, alloc, transport, moment, image, auth, types)?;
+        let data = image_made(
+            &mut self.client,
+            alloc,
+            transport,
+            moment,
+            image,
+            auth,
+            types,
+        )?;
         keep_image(alloc, &mut self.answers, key, moment, &data)?;
         Ok(data)
     }
@@ -138,13 +156,29 @@ impl ClientCapabilities for OciCachingClient {
     ) -> Result<OciImageIndex, SigstoreError> {
         let found = list_key(alloc, image, auth, artifact_type)?;
         let Some(key) = found else {
-            return referrers_made(&mut self.client, alloc, transport, moment, image, auth, artifact_type);
+            return referrers_made(
+                &mut self.client,
+                alloc,
+                transport,
+                moment,
+                image,
+                auth,
+                artifact_type,
+            );
         };
         let known = known_referrers(alloc, &self.answers, &key, moment)?;
         if let Some(index) = known {
             return Ok(index);
         }
-        let index = referrers_made(&mut self.client, alloc, transport, moment, image, auth, artifact_type)?;
+        let index = referrers_made(
+            &mut self.client,
+            alloc,
+            transport,
+            moment,
+            image,
+            auth,
+            artifact_type,
+        )?;
         keep_referrers(alloc, &mut self.answers, key, moment, &index)?;
         Ok(index)
     }

@@ -98,7 +98,14 @@ pub(crate) fn referrers_made<T: Transport>(
     ensures confined { StaysWithTag (engine_state client.old None) (engine_state client.new None) moment image.now (Some auth.now)
         (T.state transport.old) (T.state transport.new) }
 {
-    let given = client.auth(alloc, transport, moment, image, auth, RegistryOperation::Pull);
+    let given = client.auth(
+        alloc,
+        transport,
+        moment,
+        image,
+        auth,
+        RegistryOperation::Pull,
+    );
     let _token = worded(alloc, Called::FetchManifest, image, given)?;
     let outcome = client.pull_referrers(alloc, transport, moment, image, artifact_type);
     worded(alloc, Called::PullManifest, image, outcome)
@@ -121,8 +128,14 @@ pub(crate) fn document_made<T: Transport>(
     ensures confined { Stays (engine_state client.old None) (engine_state client.new None) moment image.now (Some auth.now)
         (T.state transport.old) (T.state transport.new) }
 {
-    let outcome =
-        client.pull_manifest_raw(alloc, transport, moment, image, auth, accepted_media_types);
+    let outcome = client.pull_manifest_raw(
+        alloc,
+        transport,
+        moment,
+        image,
+        auth,
+        accepted_media_types,
+    );
     worded(alloc, Called::Pull, image, outcome)
 }
 

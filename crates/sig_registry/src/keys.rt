@@ -11,11 +11,7 @@ use sig_settings::{PullManifestSettings, PullReferrersSettings, PullSettings};
 use std::alloc::{AllocError, Global};
 
 // The key, where the reference reads back.
-fn if_it_reads_back(
-    alloc: Global,
-    image: &Reference,
-    key: Blob,
-) -> Result<Option<Blob>, AllocError>
+fn if_it_reads_back(alloc: Global, image: &Reference, key: Blob) -> Result<Option<Blob>, AllocError>
     ensures { IfOk result (λ found. found ≡ key_if (reads_back image.now) key) }
 {
     let reads = image.reads_back(alloc)?;

@@ -79,7 +79,14 @@ pub(crate) fn keep_digest(
 {
     let digest = answer.copy(alloc)?;
     let answer = Answer::Digest(digest);
-    answers.keep(alloc, Entry { key, moment, answer })
+    answers.keep(
+        alloc,
+        Entry {
+            key,
+            moment,
+            answer,
+        },
+    )
 }
 
 pub(crate) fn keep_manifest(
@@ -95,7 +102,14 @@ pub(crate) fn keep_manifest(
 {
     let row![document, digest] = copy_all(alloc, row![&answer.0, &answer.1])?;
     let answer = Answer::Manifest(document, digest);
-    answers.keep(alloc, Entry { key, moment, answer })
+    answers.keep(
+        alloc,
+        Entry {
+            key,
+            moment,
+            answer,
+        },
+    )
 }
 
 pub(crate) fn keep_image(
@@ -111,7 +125,14 @@ pub(crate) fn keep_image(
 {
     let image = answer.copy(alloc)?;
     let answer = Answer::Image(image);
-    answers.keep(alloc, Entry { key, moment, answer })
+    answers.keep(
+        alloc,
+        Entry {
+            key,
+            moment,
+            answer,
+        },
+    )
 }
 
 pub(crate) fn keep_referrers(
@@ -127,5 +148,12 @@ pub(crate) fn keep_referrers(
 {
     let index = answer.copy(alloc)?;
     let answer = Answer::Referrers(index);
-    answers.keep(alloc, Entry { key, moment, answer })
+    answers.keep(
+        alloc,
+        Entry {
+            key,
+            moment,
+            answer,
+        },
+    )
 }
