@@ -1,10 +1,10 @@
 -- Frames: a line of JSON, and then as many bytes as it says.
-use Rattle.std.specs.Prelude.{◌≡◌, ℕ, ◌≤◌, ◌==◌, Bool, true, false, not, List, [], ◌∷◌, ◌++◌, length, Option, Some, None, codes}
+use Rattle.std.specs.Prelude.{◌≡◌, ℕ, ◌≤◌, ◌==◌, Bool, true, not, List, ◌∷◌, ◌++◌, length, Option, Some, None, codes}
 use Rattle.std.specs.List.{list_all}
 use Rattle.serde_json.specs.Data.{Data}
 use Rattle.serde_json.specs.Written.{compact_text}
 use Rattle.json_values.specs.JsonText.{plain_json_of}
-use Rattle.json_tables.specs.Reading.{◌>>=◌, text_of, u64_of, required, at_name, present}
+use Rattle.json_tables.specs.Reading.{text_of, u64_of, required, at_name}
 use Rattle.live_frames.specs.declared.frame.Frame.{Frame}
 
 -- the greatest length of a line, and of the bytes of a piece

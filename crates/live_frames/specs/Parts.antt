@@ -41,3 +41,16 @@ IsShort n WantOfMemory part old new = Stays old.faults new.faults
 abbrev pub ReadsBytes : ℕ → Result (List ℕ) FrameError → Spring → Spring → Type 0
 ReadsBytes n (Ok bytes) old new = Takes bytes old new × (length bytes ≡ n) × Stays old.faults new.faults
 ReadsBytes n (Err e) old new = (part : List ℕ) × Takes part old new × IsShort n e part old new
+
+-- why no further byte came
+abbrev pub IsNone : FrameError → List ℕ → Spring → Spring → Type 0
+IsNone SourceFault part old new = Rose old.faults new.faults
+IsNone Ended part old new = IsAtEnd new.left × (part ≡ []) × Stays old.faults new.faults
+IsNone TooLong part old new = ⊥
+IsNone NoFrame part old new = ⊥
+IsNone WantOfMemory part old new = Stays old.faults new.faults
+
+-- at least one byte, and at most so many, or some that are lost
+abbrev pub TakesUpTo : ℕ → Result (List ℕ) FrameError → Spring → Spring → Type 0
+TakesUpTo most (Ok bytes) old new = Takes bytes old new × (0 < length bytes) × (length bytes ≤ most) × Stays old.faults new.faults
+TakesUpTo most (Err e) old new = (part : List ℕ) × Takes part old new × IsNone e part old new
