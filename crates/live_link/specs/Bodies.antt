@@ -1,5 +1,5 @@
 -- The pieces of a body, among bytes that come in.
-use Rattle.std.specs.Prelude.{ℕ, zero, suc, ◌&&◌, nat_le, Bool, true, false, List, [], ◌∷◌, ◌++◌, length, take, drop, Option, Some, None, if◌then◌else◌}
+use Rattle.std.specs.Prelude.{ℕ, zero, suc, ◌&&◌, nat_le, List, [], ◌∷◌, ◌++◌, length, take, drop, Option, Some, None, if◌then◌else◌}
 use Rattle.json_tables.specs.Reading.{◌>>=◌}
 use Rattle.serde_json.specs.Data.{Data}
 use Rattle.live_frames.specs.Frame.{most_bytes, is_inside, head_of, size_of}
@@ -43,14 +43,14 @@ piece_by Other rest = None
 abbrev pub piece_in : List ℕ → Option (List ℕ × List ℕ)
 piece_in bytes = frame_in bytes >>= λ found. piece_by (reply_of found.0) found.1
 
-abbrev mutual
-  pub pieces_in : ℕ → List ℕ → List ℕ
-  pieces_in zero bytes = []
-  pieces_in (suc n) bytes = pieces_from n (piece_in bytes)
+abbrev pub and_those : (List ℕ → List ℕ) → Option (List ℕ × List ℕ) → List ℕ
+and_those later None = []
+and_those later (Some found) = found.0 ++ later found.1
 
-  pub pieces_from : ℕ → Option (List ℕ × List ℕ) → List ℕ
-  pieces_from n None = []
-  pieces_from n (Some found) = found.0 ++ pieces_in n found.1
+-- at most so many pieces, one after another
+abbrev pub pieces_in : ℕ → List ℕ → List ℕ
+pieces_in zero bytes = []
+pieces_in (suc n) bytes = and_those (pieces_in n) (piece_in bytes)
 
 -- the pieces that they begin with, up to a frame that is none, one after another
 unfoldable pub body_in : List ℕ → List ℕ

@@ -1,4 +1,6 @@
+pub mod Asking
 pub mod Bodies
+pub mod Heads
 pub mod Replies
 pub mod Requests
 pub mod Shown

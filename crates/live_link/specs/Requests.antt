@@ -1,5 +1,5 @@
 -- The frames that go out: a request, and the wish for the next piece of a body.
-use Rattle.std.specs.Prelude.{ℕ, List, [], ◌∷◌, map, Option, Some, codes, if◌then◌else◌}
+use Rattle.std.specs.Prelude.{ℕ, List, [], ◌∷◌, map, Some, codes, if◌then◌else◌}
 use Rattle.std.specs.List.{flat_map}
 use Rattle.std.specs.FinMap as finmap
 use Rattle.base64.specs.Engines.{standard}
@@ -20,10 +20,6 @@ method_name Post = codes "POST"
 method_name Put = codes "PUT"
 method_name Patch = codes "PATCH"
 
--- each name with each of its values, in the order of the names
-abbrev pub named_values : Fields → List (List ℕ × List ℕ)
-named_values m = flat_map (λ name. map (λ value. (name, value)) (values_of name m)) (finmap.keys m)
-
 -- a value: a text where it is visible ASCII, else its base64
 abbrev pub value_data : List ℕ → Data
 value_data value =
@@ -33,13 +29,21 @@ value_data value =
 abbrev pub header_data : List ℕ × List ℕ → Data
 header_data header = array (item (string header.0) (item (value_data header.1) no_items))
 
+-- a name with each of its values
+abbrev pub values_data : Fields → List ℕ → List Data
+values_data m name = map (λ value. header_data (name, value)) (values_of name m)
+
+-- each name with each of its values, in the order of the names
+abbrev pub headers_data : Fields → List Data
+headers_data m = flat_map (values_data m) (finmap.keys m)
+
 -- the object of a request's frame
 unfoldable pub request_data : Request → Data
 request_data request = fields (
     (codes "frame", Some (string (codes "request")))
     ∷ (codes "method", Some (string (method_name request.method)))
     ∷ (codes "url", Some (string request.url))
-    ∷ (codes "headers", Some (array (items_of (map header_data (named_values request.headers)))))
+    ∷ (codes "headers", Some (array (items_of (headers_data request.headers))))
     ∷ [])
 
 -- the frame of a request, which has no body

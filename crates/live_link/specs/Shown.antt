@@ -1,5 +1,5 @@
 -- What a transport over a source and a sink shows.
-use Rattle.std.specs.Prelude.{ℕ, List, Option, Some, None}
+use Rattle.std.specs.Prelude.{List, Option, None}
 use Rattle.pull_edge.specs.declared.source.Source as source
 use Rattle.json_values.specs.declared.sink.Sink as sink
 use Rattle.oci_transport.specs.Link.{Link}
@@ -16,7 +16,7 @@ exchanges_of {s = s} t = exchanges_by s.state t.heard.items
 abbrev pub state_of : {S K : Type 0} {s : source.Ghosts S} {k : sink.Ghosts K} → StreamTransport S K s k → Link
 state_of {s = s} {k = k} t = record {
   told = told_since s.state k.state t.began.items (exchanges_of t);
-  rest = Some (rest_in t.stage (s.state t.source).left);
+  rest = rest_in t.stage (s.state t.source).left;
   faults = t.faults;
   answers = None;
 }

@@ -4,10 +4,9 @@ use Rattle.std.specs.FinMap.{empty}
 use Rattle.std.specs.List.{flat_map}
 use Rattle.json_values.specs.Tray.{Tray}
 use Rattle.pull_edge.specs.Source.{Spring}
-use Rattle.oci_transport.specs.Link.{Link, answer_of}
+use Rattle.oci_transport.specs.Link.{answer_of}
 use Rattle.oci_transport.specs.declared.message.Method.TheVariants.{Get}
 use Rattle.oci_transport.specs.declared.message.Request.{Request}
-use Rattle.oci_transport.specs.declared.message.AnswerHead.{AnswerHead}
 use Rattle.oci_transport.specs.declared.message.Exchange.{Exchange}
 use Rattle.http_server.specs.declared.log.Log.{Log}
 use Rattle.live_link.specs.Bodies.{body_in}
@@ -75,12 +74,12 @@ abbrev pub told_since : {S K : Type 0} → (S → Spring) → (K → Tray) → L
 told_since spring tray [] c = None
 told_since spring tray (first ∷ later) c = told_from (tray first.1).taken (spring first.0).left c
 
--- what is left of the last answer's body
-abbrev pub rest_in : Stage → Option (List ℕ) → List ℕ
-rest_in Ended left = []
-rest_in Open left = body_left left
-rest_in Cut left = []
-rest_in (Broken why) left = []
+-- what is left of the last answer's body, where the source tells that
+abbrev pub rest_in : Stage → Option (List ℕ) → Option (List ℕ)
+rest_in Ended left = Some []
+rest_in Open left = option_map body_in left
+rest_in Cut left = Some []
+rest_in (Broken why) left = Some []
 
 -- All that went out since and all that came in, where source and sink told their bytes: the frames of these exchanges,
 -- and behind them, where something broke the streams, what stands outside of all frames.
@@ -99,7 +98,7 @@ pub record Held (taken left : List ℕ) (tray : Tray) (spring : Spring) (breach 
 -- while a body is read, the last exchange was answered
 pub record HeldAt (taken left : List ℕ) (tray : Tray) (spring : Spring) (stage : Stage) (c : List Exchange) : Type 0 where
   pub held : Held taken left tray spring (breach_in stage) c
-  pub open : is_open stage ≡ true → ends_answered c ≡ true
+  pub answered : is_open stage ≡ true → ends_answered c ≡ true
 
 -- the same where the beginning is in a history
 abbrev pub Holds : {S K : Type 0} → (S → Spring) → (K → Tray) → List (S × K) → S → K → Stage → List Exchange → Type 0

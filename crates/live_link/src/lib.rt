@@ -1,7 +1,9 @@
 //! A transport over a source and a sink: requests go out as frames, and their answers come in as frames.
 #![tactic(auto)]
 
+mod asking;
 mod replies;
+mod requests;
 mod stage;
 mod transport;
 

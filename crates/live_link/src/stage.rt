@@ -1,5 +1,6 @@
 // What a transport knows of its streams.
-use json_values::Copied;
+use json_values::{Copied, SinkError};
+use live_frames::FrameError;
 use oci_transport::AnswerHead;
 use std::alloc::{AllocError, Global};
 
@@ -19,6 +20,33 @@ pub enum Breach {
 impl Copied for Breach {
     fn copy(&self, _alloc: Global) -> Result<Breach, AllocError> {
         Ok(*self)
+    }
+}
+
+impl From<SinkError> for Breach {
+    fn from(error: SinkError) -> Breach {
+        match error {
+            SinkError::Failed => Breach::Sink,
+            SinkError::WantOfMemory => Breach::Memory,
+        }
+    }
+}
+
+impl From<FrameError> for Breach {
+    fn from(error: FrameError) -> Breach {
+        match error {
+            FrameError::SourceFault => Breach::Source,
+            FrameError::Ended => Breach::Source,
+            FrameError::TooLong => Breach::Frame,
+            FrameError::NoFrame => Breach::Frame,
+            FrameError::WantOfMemory => Breach::Memory,
+        }
+    }
+}
+
+impl From<AllocError> for Breach {
+    fn from(_: AllocError) -> Breach {
+        Breach::Memory
     }
 }
 

@@ -1,6 +1,8 @@
 // A transport over a source and a sink.
 ghost use Rattle.live_link.specs.State.{Holds, exchanges_by};
 
+use crate::asking::{ask_piece, ask_request};
+use crate::requests::{more_object, request_object};
 use crate::stage::{Breach, Heard, Stage};
 use http_server::Log;
 use json_values::{Blob, Sink};
@@ -72,12 +74,48 @@ impl<S: Source, K: Sink> Transport for StreamTransport<S, K> {
 
     ghost state = { state_of };
 
-    fn send(&mut self, _alloc: Global, _request: &Request) -> Result<AnswerHead, LinkError> {
-        Err(LinkError::WantOfMemory)
+    fn send(&mut self, alloc: Global, request: &Request) -> Result<AnswerHead, LinkError> {
+        let object = request_object(alloc, request)?;
+        let (stage, head) = ask_request(
+            alloc,
+            &mut self.source,
+            &mut self.sink,
+            self.stage,
+            request,
+            &object,
+        );
+        self.stage = stage;
+        let heard = Heard {
+            head,
+            faults: self.faults,
+        };
+        let entry = Log::new().and(request, &heard);
+        self.heard = self.heard.and(&self.source, &entry);
+        let Heard { head, .. } = heard;
+        let Some(head) = head else {
+            self.faults = self.faults.saturating_add(1);
+            return Err(LinkError::Failed);
+        };
+        Ok(head)
     }
 
-    fn piece(&mut self, _alloc: Global) -> Result<Blob, LinkError> {
-        Err(LinkError::WantOfMemory)
+    fn piece(&mut self, alloc: Global) -> Result<Blob, LinkError> {
+        match self.stage {
+            Stage::Ended => return Ok(Blob::empty(alloc)),
+            Stage::Open => {}
+            _ => {
+                self.faults = self.faults.saturating_add(1);
+                return Err(LinkError::Failed);
+            }
+        }
+        let object = more_object(alloc)?;
+        let (stage, piece) = ask_piece(alloc, &mut self.source, &mut self.sink, &object);
+        self.stage = stage;
+        let Some(piece) = piece else {
+            self.faults = self.faults.saturating_add(1);
+            return Err(LinkError::Failed);
+        };
+        Ok(piece)
     }
 
     fn faults(&self) -> u64 {
