@@ -52,5 +52,6 @@ IsNone WantOfMemory part old new = Stays old.faults new.faults
 
 -- at least one byte, and at most so many, or some that are lost
 abbrev pub TakesUpTo : ℕ → Result (List ℕ) FrameError → Spring → Spring → Type 0
-TakesUpTo most (Ok bytes) old new = Takes bytes old new × (0 < length bytes) × (length bytes ≤ most) × Stays old.faults new.faults
+TakesUpTo most (Ok bytes) old new =
+    Takes bytes old new × (0 < length bytes) × (length bytes ≤ most) × Stays old.faults new.faults
 TakesUpTo most (Err e) old new = (part : List ℕ) × Takes part old new × IsNone e part old new

@@ -25,7 +25,8 @@ pub data IsLong (most : ℕ) (text : List ℕ) : Type 0 where
 -- a front of a frame: of its line, or of the bytes behind it
 pub data IsCut (text : List ℕ) : Type 0 where
   in_line : is_line text ≡ true → IsCut text
-  in_bytes : (line part : List ℕ) (n : ℕ) → text ≡ lined line part → size_at line ≡ Some n → length part < n → IsCut text
+  in_bytes : (line part : List ℕ) (n : ℕ)
+      → text ≡ lined line part → size_at line ≡ Some n → length part < n → IsCut text
 
 -- a line that says no object with a size
 pub data IsNoHead (text : List ℕ) : Type 0 where

@@ -58,7 +58,8 @@ piece_after (Ok Other) = (Broken Frame, None)
 piece_after (Err breach) = (Broken breach, None)
 
 -- a request was not sent, or it was and this came of it
-pub data Sends (request : Request) (stage : Stage) (r : Stage × Option AnswerHead) (s t : Spring) (k l : Tray) : Type 0 where
+pub data Sends (request : Request) (stage : Stage) (r : Stage × Option AnswerHead) (s t : Spring) (k l : Tray)
+    : Type 0 where
   not_sent : r ≡ (unsent stage, None) → t ≡ s → l ≡ k → Sends request stage r s t k l
   was_sent : (reply : Result Reply Breach) → breach_in stage ≡ None → r ≡ head_after reply
       → Asks (request_text request) reply s t k l → Sends request stage r s t k l

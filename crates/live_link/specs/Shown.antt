@@ -9,7 +9,8 @@ use Rattle.live_link.specs.declared.stage.Breach.{Breach}
 use Rattle.live_link.specs.declared.transport.StreamTransport.{StreamTransport}
 
 -- the exchanges of its history
-abbrev pub exchanges_of : {S K : Type 0} {s : source.Ghosts S} {k : sink.Ghosts K} → StreamTransport S K s k → List Exchange
+abbrev pub exchanges_of : {S K : Type 0} {s : source.Ghosts S} {k : sink.Ghosts K}
+    → StreamTransport S K s k → List Exchange
 exchanges_of {s = s} t = exchanges_by s.state t.heard.items
 
 -- It tells its exchanges where source and sink tell their bytes. What it answers by is not known.
@@ -22,5 +23,6 @@ state_of {s = s} {k = k} t = record {
 }
 
 -- why nothing is sent any more
-abbrev pub breach_of : {S K : Type 0} {s : source.Ghosts S} {k : sink.Ghosts K} → StreamTransport S K s k → Option Breach
+abbrev pub breach_of : {S K : Type 0} {s : source.Ghosts S} {k : sink.Ghosts K}
+    → StreamTransport S K s k → Option Breach
 breach_of t = breach_in t.stage

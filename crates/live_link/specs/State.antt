@@ -70,7 +70,8 @@ told_from (Some taken) None c = None
 told_from (Some taken) (Some left) c = Some (opening taken left ∷ c)
 
 -- exchanges are told where source and sink told their bytes in the beginning
-abbrev pub told_since : {S K : Type 0} → (S → Spring) → (K → Tray) → List (S × K) → List Exchange → Option (List Exchange)
+abbrev pub told_since : {S K : Type 0}
+    → (S → Spring) → (K → Tray) → List (S × K) → List Exchange → Option (List Exchange)
 told_since spring tray [] c = None
 told_since spring tray (first ∷ later) c = told_from (tray first.1).taken (spring first.0).left c
 
@@ -83,7 +84,8 @@ rest_in (Broken why) left = Some []
 
 -- All that went out since and all that came in, where source and sink told their bytes: the frames of these exchanges,
 -- and behind them, where something broke the streams, what stands outside of all frames.
-pub record Held (taken left : List ℕ) (tray : Tray) (spring : Spring) (breach : Option Breach) (c : List Exchange) : Type 0 where
+pub record Held (taken left : List ℕ) (tray : Tray) (spring : Spring) (breach : Option Breach) (c : List Exchange)
+    : Type 0 where
   pub sent : List ℕ
   pub came : List ℕ
   pub lost_out : List ℕ
@@ -96,12 +98,14 @@ pub record Held (taken left : List ℕ) (tray : Tray) (spring : Spring) (breach 
   pub in_step : breach ≡ None → (lost_out ≡ []) × (lost_in ≡ [])
 
 -- while a body is read, the last exchange was answered
-pub record HeldAt (taken left : List ℕ) (tray : Tray) (spring : Spring) (stage : Stage) (c : List Exchange) : Type 0 where
+pub record HeldAt (taken left : List ℕ) (tray : Tray) (spring : Spring) (stage : Stage) (c : List Exchange)
+    : Type 0 where
   pub held : Held taken left tray spring (breach_in stage) c
   pub answered : is_open stage ≡ true → ends_answered c ≡ true
 
 -- the same where the beginning is in a history
-abbrev pub Holds : {S K : Type 0} → (S → Spring) → (K → Tray) → List (S × K) → S → K → Stage → List Exchange → Type 0
+abbrev pub Holds : {S K : Type 0}
+    → (S → Spring) → (K → Tray) → List (S × K) → S → K → Stage → List Exchange → Type 0
 Holds spring tray [] source sink stage c = Unit {0}
 Holds spring tray (first ∷ later) source sink stage c =
     (taken left : List ℕ) → (tray first.1).taken ≡ Some taken → (spring first.0).left ≡ Some left

@@ -18,8 +18,8 @@ pub struct StreamTransport<S: Source, K: Sink> {
     sink: K,
     stage: Stage,
     faults: u64,
-    // Of these two only proofs know: the streams as they were in the beginning, and each exchange with the source as the
-    // head of its answer was read.
+    // Of these two only proofs know: the streams as they were in the beginning, and each exchange with the source as
+    // the head of its answer was read.
     began: Log<S, K>,
     heard: Log<S, Log<Request, Heard>>,
     ghost spoken: { ∥ Holds S.state K.state began.items source sink stage (exchanges_by S.state heard.items) ∥₁ },

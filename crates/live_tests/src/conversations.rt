@@ -11,7 +11,8 @@ type Memory = StreamTransport<MemorySource, MemorySink>;
 const ANSWERED: &[u8] = b"{\"frame\":\"answer\",\"status\":200,\"headers\":[[\"Etag\",\"x\"]]}\n\
 {\"frame\":\"piece\",\"bytes\":2}\nab{\"frame\":\"piece\",\"bytes\":1}\nc{\"frame\":\"end\"}\n";
 
-const SENT: &[u8] = b"{\"frame\":\"request\",\"headers\":[[\"accept\",\"*/*\"]],\"method\":\"GET\",\"url\":\"http://a/\"}\n\
+const SENT: &[u8] = b"{\"frame\":\"request\",\"headers\":[[\"accept\",\"*/*\"]],\"method\":\"GET\",\
+\"url\":\"http://a/\"}\n\
 {\"frame\":\"more\"}\n{\"frame\":\"more\"}\n{\"frame\":\"more\"}\n";
 
 fn transport(alloc: Global, host: &[u8]) -> Result<Memory, AllocError> {
@@ -82,5 +83,11 @@ fn a_host_that_breaks_off_or_answers_out_of_turn_is_not_asked_again(rt: HostRunt
     let alloc = rt.alloc();
     assert!(rt; holds(breaks(alloc, b"", Breach::Source)));
     assert!(rt; holds(breaks(alloc, b"{\"frame\":\"end\"}\n", Breach::Frame)));
-    assert!(rt; holds(breaks(alloc, b"{\"frame\":\"piece\",\"bytes\":1}\na", Breach::Frame)));
+    assert!(rt;
+        holds(breaks(
+            alloc,
+            b"{\"frame\":\"piece\",\"bytes\":1}\na",
+            Breach::Frame
+        ))
+    );
 }
