@@ -1,19 +1,20 @@
 -- Calls whose answers may be kept, over a shelf: what was kept before is what the shelf gives, and so is what is kept then.
-use Rattle.std.specs.Prelude.{nat_le, nat_lt, bytes_eq, not, find, filter, option_map, option_and_then, if◌then◌else◌}
+use Rattle.std.specs.Prelude.{bytes_eq, not, find, filter, option_map, option_and_then, if◌then◌else◌}
 use Rattle.std.proofs.Common.{◌≡◌, ℕ, Bool, true, false, cond, ◌&&◌, List, [], ◌∷◌, ◌++◌, All, Option, Some, None, Result, Ok, Err, refl, sym, ap, subst, ◌∙◌}
 use Rattle.std.proofs.lemmas.Bool.{cond_both}
 use Rattle.std.proofs.lemmas.List.Elements.{All-nil, All-head, All-tail, All-push, All-filter}
 use Rattle.std.proofs.lemmas.Slice.Eq.{bytes_eq-Decides}
 use Rattle.oci_names.proofs.ReadsBack.{reads_back-means}
-use Rattle.oci_names.specs.References.{reads_back, whole_text, reference_of}
+use Rattle.oci_names.specs.References.{reads_back, whole_text, reference_of, resolved_registry, repository_of}
 use Rattle.oci_names.specs.declared.parse_error.ParseError.{ParseError}
 use Rattle.oci_names.specs.declared.reference.Reference.{Reference}
 use Rattle.oci_auth.specs.declared.auth.RegistryAuth.{RegistryAuth}
+use Rattle.oci_auth.specs.Memory.{fresh as new}
 use Rattle.oci_auth.specs.declared.memory.Memory.{Memory}
 use Rattle.oci_manifests.specs.declared.document.OciManifest.{OciManifest}
 use Rattle.oci_manifests.specs.declared.index.OciImageIndex.{OciImageIndex}
 use Rattle.oci_protocol.specs.Lift.{lifted}
-use Rattle.oci_protocol.specs.Proto.{Proto, Done, Recall, Keep, bind, unless_refused, ◌>>=◌, ◌>>◌}
+use Rattle.oci_protocol.specs.Proto.{Done, bind, unless_refused, ◌>>◌}
 use Rattle.oci_link.specs.Table.{answer}
 use Rattle.oci_link.specs.declared.shelf.Shelf.{Shelf}
 use Rattle.engine_pull.specs.declared.image.ImageData.{ImageData}
@@ -22,10 +23,11 @@ use Rattle.engine_requests.specs.declared.settings.Settings.{Settings}
 use Rattle.shelf_laws.specs.Comes.{Comes, ComesTo, Yields, Gives, Stays}
 use Rattle.shelf_laws.specs.Home.{IsAt, Settled}
 use Rattle.shelf_laws.proofs.Coming.{Comes-more, Comes-bind}
+use Rattle.shelf_laws.proofs.Tokens.{fresh_settled}
 use Rattle.shelf_laws.proofs.Lifted.{Comes-lifted, Comes-itself, ComesTo-is, Gives-lifted, Stays-lifted}
 use Rattle.sig_settings.specs.Keys.{manifest_key, pull_key, referrers_key}
 use Rattle.sig_settings.proofs.Tells.{manifest_keys_tell, pull_keys_tell, referrers_keys_tell}
-use Rattle.sig_answers.specs.Answers.{is_of, is_fresh, same_kind, kind_of, given_at, fresh, keep, entry, within as in_bounds}
+use Rattle.sig_answers.specs.Answers.{is_of, is_fresh, same_kind, kind_of, given_at, keep, entry, within as in_bounds}
 use Rattle.sig_answers.specs.declared.answer.Answer.{Answer}
 use Rattle.sig_answers.specs.declared.answer.Answer.TheVariants.{Digest, Manifest, Image, Referrers}
 use Rattle.sig_answers.specs.declared.answers.Answers.{Answers}
@@ -33,9 +35,10 @@ use Rattle.sig_answers.specs.declared.answers.Bounds.{Bounds}
 use Rattle.sig_answers.specs.declared.answers.Entry.{Entry}
 use Rattle.sig_registry.specs.Caching.{Cache, known, keeping, known_or, recalled, cached}
 use Rattle.sig_registry.specs.Calls.{digests, manifests, images, referrers, digest_made, manifest_made, image_made, referrers_made, digest_call, manifest_call, image_call, referrers_call}
-use Rattle.sig_registry.specs.Clients.{Kept, Plain, Row}
+use Rattle.sig_registry.specs.Clients.{Kept, Plain}
 use Rattle.sig_registry.specs.declared.error.SigstoreError.{SigstoreError}
-use Rattle.cosign_client.specs.Settled.{IsGiven, IsOf, IsAnswer, IsRight, AreRight}
+use Rattle.cosign_client.specs.Builder.{no_answers}
+use Rattle.cosign_client.specs.Settled.{IsGiven, IsOf, IsAnswer, IsRight, AreRight, IsSettled}
 
 -- ---- texts of references
 
@@ -231,3 +234,8 @@ module _ (s : Settings) (registry : List ℕ) (a : RegistryAuth) (shelf : Shelf)
     pub referrers_settled : (kind : Option (List ℕ)) (now : ℕ) → Stays J (answer shelf) (referrers_made (within s now) image a kind) → Stays I (answer shelf) (referrers_call (within s now) image a kind)
     unfolding referrers_call
     referrers_settled kind now h = cached_stays (reads_back image) (referrers_caches kind) now h
+
+-- a client that keeps nothing yet is settled
+pub new_settled : (s : Settings) (image : Reference) (a : RegistryAuth) (shelf : Shelf) (default : ℕ) (caching : Bool) → IsSettled s image a shelf (new default, no_answers caching)
+new_settled s image a shelf default true = record { memory = fresh_settled (resolved_registry image) (repository_of image) a default; answers = All-nil (IsRight s (resolved_registry image) a shelf) }
+new_settled s image a shelf default false = record { memory = fresh_settled (resolved_registry image) (repository_of image) a default; answers = tt }

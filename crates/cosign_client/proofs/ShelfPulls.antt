@@ -1,14 +1,14 @@
 -- A search and a pull over a shelf find what stands there.
-use Rattle.std.specs.Prelude.{codes, bytes_eq, unwrap_or, find, slice_index_or, MatchBool, if◌then◌else◌}
+use Rattle.std.specs.Prelude.{find, slice_index_or, MatchBool, if◌then◌else◌}
 use Rattle.std.specs.Option.{option_or}
 use Rattle.std.specs.List.{All}
-use Rattle.std.proofs.Common.{◌≡◌, ◌⊎◌, inl, inr, ◌<◌, ◌≤◌, ◌^◌, ◌-◌, ℕ, zero, suc, Bool, true, false, cond, List, [], ◌∷◌, ◌++◌, length, is_some, Option, Some, None, Result, Ok, Err, refl, sym, ap, ◌∙◌, subst, arith}
+use Rattle.std.proofs.Common.{◌≡◌, ◌⊎◌, inl, inr, ◌<◌, ◌≤◌, ◌^◌, ◌-◌, ℕ, zero, suc, Bool, true, false, cond, List, [], ◌∷◌, ◌++◌, length, Option, Some, None, Result, Ok, Err, refl, sym, ap, ◌∙◌, subst, arith}
 use Rattle.std.proofs.lemmas.List.Folds.{find-append}
 use Rattle.std.proofs.lemmas.List.Elements.{All-head, All-tail}
 use Rattle.oci_names.specs.Grammar.{is_digest}
 use Rattle.oci_names.specs.Parts.{digest_refusal}
-use Rattle.oci_names.specs.Words.{Tag, Path}
-use Rattle.oci_names.specs.References.{registry_of, digest_of, whole_text, resolved_registry, reads_back}
+use Rattle.oci_names.specs.Words.{Tag}
+use Rattle.oci_names.specs.References.{digest_of, whole_text, resolved_registry, reads_back}
 use Rattle.oci_names.specs.declared.reference.Reference.{Reference}
 use Rattle.oci_auth.specs.declared.auth.RegistryAuth.{RegistryAuth}
 use Rattle.oci_auth.specs.declared.memory.Memory.{Memory}
@@ -50,18 +50,18 @@ use Rattle.sig_registry.specs.declared.wording.Called.{Called}
 use Rattle.sig_registry.specs.declared.wording.Called.TheVariants.{FetchManifest, Pull, PullManifest}
 use Rattle.sig_registry.specs.Errors.{is_memory as of_memory, worded}
 use Rattle.sig_registry.specs.Clients.{Kept, Row}
-use Rattle.sig_registry.specs.Calls.{in_words, digest_made, manifest_made, image_made, document_made, blob_made, referrers_made, document_call, blob_call, referrers_call, image_call}
+use Rattle.sig_registry.specs.Calls.{in_words, digest_made, manifest_made, image_made, document_made, blob_made, referrers_made, document_call, blob_call, referrers_call}
 use Rattle.sig_answers.specs.declared.answers.Answers.{Answers}
-use Rattle.shelf_laws.specs.Comes.{Yields, OrMemory, Gives, Stays, Reaches}
+use Rattle.shelf_laws.specs.Comes.{Yields, OrMemory, Gives, Reaches}
 use Rattle.shelf_laws.specs.Home.{Home, IsAt, CanBeShown, Settled}
 use Rattle.shelf_laws.specs.Shelves.{HasBlob, HasLayer, LeadsTo, ImageOn, layers_on}
-use Rattle.shelf_laws.proofs.Coming.{Gives-done, Gives-next, Gives-more, Gives-caught, Gives-stays, Stays-done, Stays-bind, Stays-next, Reaches-done, Reaches-bind, Reaches-gives, Reaches-strict, Reaches-stays, Reaches-after, Reaches-next, TableOf, Runs-over, Meets-comes}
+use Rattle.shelf_laws.proofs.Coming.{Gives-done, Gives-next, Gives-more, Gives-caught, Reaches-done, Reaches-bind, Reaches-gives, Reaches-strict, Reaches-stays, Reaches-after, Reaches-next, TableOf, Runs-over, Meets-comes}
 use Rattle.shelf_laws.proofs.DigestTags.{sha256_named, tag_of_signatures}
 use Rattle.shelf_laws.proofs.Documents.{NoOther, raw_gives, digest_gives, blob_gives}
 use Rattle.shelf_laws.proofs.Images.{Points, points_itself, types_accepted, manifest_gives, pull_gives}
 use Rattle.shelf_laws.proofs.PlainNames.{tag_segment}
 use Rattle.shelf_laws.proofs.Pointing.{tag_named, image_points}
-use Rattle.shelf_laws.proofs.References.{Spelled, spelled, resolved_domain, tag_reads_back, digest_reads_back, digest_is_digest, digest_is_known}
+use Rattle.shelf_laws.proofs.References.{Spelled, spelled, tag_reads_back, digest_reads_back, digest_is_digest, digest_is_known}
 use Rattle.shelf_laws.proofs.Requests.{yields_ok}
 use Rattle.shelf_laws.proofs.Listing.{referrers_give}
 use Rattle.shelf_laws.proofs.Lifted.{Gives-lifted}

@@ -2,7 +2,7 @@
 use Rattle.std.specs.Prelude.{codes, bytes_eq, unwrap_or, if◌then◌else◌}
 use Rattle.std.proofs.Common.{◌≡◌, ℕ, Bool, true, false, List, [], ◌∷◌, ◌++◌, is_some, Option, Some, None, Result, Ok, Err, refl, sym, ap, subst}
 use Rattle.oci_names.specs.Words.{Path}
-use Rattle.oci_names.specs.References.{registry_of, digest_of, whole_text, resolved_registry, reads_back}
+use Rattle.oci_names.specs.References.{registry_of, whole_text, resolved_registry, reads_back}
 use Rattle.oci_names.specs.declared.reference.Reference.{Reference}
 use Rattle.oci_auth.specs.declared.auth.RegistryAuth.{RegistryAuth}
 use Rattle.oci_auth.specs.declared.memory.Memory.{Memory}
@@ -40,16 +40,15 @@ use Rattle.shelf_laws.proofs.References.{Spelled, spelled, resolved_domain}
 use Rattle.shelf_laws.proofs.Staying.{digest_stays, raw_stays, manifest_stays, blob_stays, pull_stays, referrers_stay}
 use Rattle.shelf_laws.proofs.Tokens.{given_gives}
 use Rattle.cosign_layers.specs.Standing.{Meaning}
-use Rattle.cosign_layers.specs.Trust.{Trust}
 use Rattle.cosign_client.specs.Image.{document_in, entry_in, layers_row, blobs_row, with_image, entry_call, entry_row, manifest_row, image_row}
 use Rattle.cosign_client.specs.References.{tag_reference, digest_reference, reading_back}
 use Rattle.cosign_client.specs.Search.{payload_type, tag_layers, or_skipped, tag_by, tag_source, behind, bundle_type, referrer_part, referrer_by, referrer_row, referrers_row, listed_row, referrers_source, searched}
 use Rattle.cosign_client.specs.Settled.{AreRight}
 use Rattle.cosign_client.specs.Shelves.{IsAsked}
-use Rattle.cosign_client.specs.Verified.{Whole, constrained, is_unconstrained, readable, as_whole, part_of, standing, after_search, verified}
+use Rattle.cosign_client.specs.Verified.{constrained, is_unconstrained, readable, as_whole, part_of, standing, after_search, verified}
 use Rattle.cosign_client.specs.declared.found.Part.{Part}
-use Rattle.cosign_client.specs.declared.found.SourceKind.TheVariants.{Tag, Referrers}
-use Rattle.cosign_client.specs.declared.found.Skipped.TheVariants.{Source, Referrer}
+use Rattle.cosign_client.specs.declared.found.SourceKind.TheVariants.{Tag}
+use Rattle.cosign_client.specs.declared.found.Skipped.TheVariants.{Referrer}
 use Rattle.cosign_client.specs.declared.found.TrustedLayers.{TrustedLayers}
 use Rattle.cosign_client.proofs.ShelfCalls.{digest_settled, manifest_settled, image_settled, referrers_settled}
 

@@ -1,5 +1,6 @@
 -- Which registries in memory give a verified image: each one of these does.
-use Rattle.std.specs.Prelude.{◌≡◌, ◌⊎◌, true, ◌<◌, ◌-◌, ◌^◌, ℕ, List, [], ◌∷◌, ◌++◌, Contains, Option, Some, None, Result, Ok, Err, IsTrue}
+use Rattle.std.specs.Prelude.{◌≡◌, ◌⊎◌, true, ◌<◌, ◌-◌, ◌^◌, ℕ, List, [], ◌∷◌, ◌++◌, Contains}
+use Rattle.std.specs.Prelude.{Option, Some, None, Result, Ok, Err, IsTrue}
 use Rattle.std.specs.FinMap as map
 use Rattle.oci_names.specs.declared.reference.Reference.{Reference}
 use Rattle.oci_names.specs.References.{repository_of, digest_of, tag_of, resolved_registry, reads_back}
@@ -54,7 +55,8 @@ pub record ReadsStanding {V : Type 0} {H : V → Type 0} (meaning : Meaning V H)
   pub reads : read_on meaning.trust d shelf manifest descriptor ≡ Ok layer
   pub stands_for : StandsFor meaning d layer
 
--- the tag of the digest's signatures leads to a manifest of payloads, of which the shelf has all, and one of them stands
+-- the tag of the digest's signatures leads to a manifest of payloads, of which the shelf has all, and one of them
+-- stands
 pub record SignedByTag {V : Type 0} {H : V → Type 0} (meaning : Meaning V H) (d : List ℕ) (shelf : Shelf)
     : Type 0 where
   pub signatures : List ℕ
@@ -73,8 +75,8 @@ pub record IsAsked (s : Settings) (image : Reference) (a : RegistryAuth) (shelf 
   pub credentials : CanBeShown a
   pub lead : IsTrue (redirects_lead shelf)
 
--- One of the digest's referrers has a reference that reads back, and the shelf has its image of bundles; of one of them a
--- layer is read that stands.
+-- One of the digest's referrers has a reference that reads back, and the shelf has its image of bundles; of one of
+-- them a layer is read that stands.
 pub record SignedByReferrer {V : Type 0} {H : V → Type 0} (meaning : Meaning V H) (s : Settings)
     (image : Reference) (d : List ℕ) (shelf : Shelf) : Type 0 where
   pub index : OciImageIndex

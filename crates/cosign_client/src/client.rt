@@ -152,8 +152,9 @@ impl Client {
     ///
     /// The answer is a chain that checks by itself: it starts at the digest that was answered for the image, which
     /// names the manifest, whose digests name the configuration and the layers, and one signature layer stands for the
-    /// digest under the policy. A client that keeps answers may still give the digest and the signatures of at most 60
-    /// seconds ago; the image's documents and blobs are always asked for. See `PullRefusal` for when the call is refused.
+    /// digest under the policy. A client that keeps answers may still give the digest and the signatures of less than
+    /// 60 seconds ago; the image's documents and blobs are always asked for. See `PullRefusal` for when the call is
+    /// refused.
     pub fn verified_pull<'a, T: Transport, V: SignatureVerifier, O: Offline>(
         &mut self,
         alloc: Global,

@@ -1,0 +1,12 @@
+pub mod Growing
+pub mod Layer
+pub mod Lengths
+pub mod Made
+pub mod ManifestTexts
+pub mod Manifests
+pub mod Maps
+pub mod Payload
+pub mod Plain
+pub mod Reading
+pub mod Spelled
+pub mod Served
