@@ -8,6 +8,10 @@ use std::alloc::{AllocError, Global};
 
 type Memory = StreamTransport<MemorySource, MemorySink>;
 
+const BODY: &[u8] = b"abc";
+
+const TAG: &[u8] = b"x";
+
 const ANSWERED: &[u8] = b"{\"frame\":\"answer\",\"status\":200,\"headers\":[[\"Etag\",\"x\"]]}\n\
 {\"frame\":\"piece\",\"bytes\":2}\nab{\"frame\":\"piece\",\"bytes\":1}\nc{\"frame\":\"end\"}\n";
 
@@ -33,9 +37,16 @@ fn request(alloc: Global) -> Result<Request, AllocError> {
     })
 }
 
+fn is_tag(value: Option<&[u8]>) -> bool {
+    match value {
+        Some(value) => value == TAG,
+        None => false,
+    }
+}
+
 fn is_head(answer: Result<AnswerHead, LinkError>) -> bool {
     match answer {
-        Ok(head) => head.status == 200 && head.headers.first("etag") == Some(b"x"),
+        Ok(head) => head.status == 200 && is_tag(head.headers.first("etag")),
         Err(_) => false,
     }
 }
@@ -50,7 +61,7 @@ fn answers(alloc: Global) -> Result<bool, AllocError> {
     let head = transport.send(alloc, &request(alloc)?);
     let body = read_body(alloc, &mut transport, 3);
     let whole = match body {
-        Ok(body) => body.as_slice() == b"abc",
+        Ok(body) => body.as_slice() == BODY,
         Err(_) => false,
     };
     Ok(is_head(head) && whole && has_sent(transport, SENT))
