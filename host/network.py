@@ -1,0 +1,128 @@
+"""Connections: requests go out and bodies come in piece by piece, by rules on where a request may go."""
+import base64
+import contextlib
+import http.client
+import ipaddress
+import re
+import select
+import ssl
+import sys
+import time
+from typing import Callable
+from urllib.parse import urlsplit
+
+from host.core import PIECE, Frame
+
+HEADERS, SMALL = 1 << 18, 1 << 16
+URL = re.compile(r"(https?)://([\w.:\[\]-]+)(/[!-~]*)", re.ASCII)
+
+
+def is_loopback(place: str) -> bool:
+    """Whether a host, with a port or not, is this machine."""
+    host = urlsplit(f"//{place}").hostname or ""
+    with contextlib.suppress(ValueError):
+        return host == "localhost" or ipaddress.ip_address(host).is_loopback
+    return False
+
+
+def header_value(value: str) -> str | dict[str, str]:
+    """A header's value: a text, or bytes where it is none."""
+    text = value.isascii() and all(c >= " " or c == "\t" for c in value)
+    return value if text else {"base64": base64.b64encode(value.encode("latin-1")).decode()}
+
+
+class Network:
+    """The connections of a pull, one for each host. `statuses` is what each URL was answered with, `failure` why one was not."""
+
+    def __init__(self, registry: str, plain: bool, hosts: list[str], timeout: float, authority: str | None) -> None:
+        self.registry, self.plain, self.hosts, self.timeout = registry.lower(), plain, hosts, timeout
+        self.tls = ssl.create_default_context()
+        if authority:
+            self.tls.load_verify_locations(authority)
+        self.connections: dict[str, http.client.HTTPConnection] = {}
+        self.connection: http.client.HTTPConnection | None = None
+        self.answer: http.client.HTTPResponse | None = None
+        self.url, self.failure, self.statuses = "", "", dict[str, int]()
+        self.blob, self.size, self.began = "", 0, 0.0
+
+    def target(self, url: str) -> tuple[str, str]:
+        """Where a request goes, and what is asked there; or why it is not asked."""
+        match = URL.fullmatch(url)
+        if not match:
+            raise ValueError("it is no URL that requests go to")
+        scheme, place, target = match.groups()
+        host = urlsplit(url).hostname or ""
+        near = place.lower() == self.registry or host in self.hosts or is_loopback(self.registry) and is_loopback(place)
+        if scheme == "http" and not (self.plain and near):
+            raise ValueError("it is not asked, since it is not https (--http is for the registry alone)")
+        if self.hosts and host not in (*self.hosts, self.registry.partition(":")[0], f"index.{self.registry}"):
+            raise ValueError(f"it is not asked, since --allow-host does not name {host}")
+        return f"{scheme}://{place.lower()}", target
+
+    def connect(self, where: str) -> http.client.HTTPConnection:
+        """The connection to a host; one that was kept and has ended meanwhile is opened anew."""
+        scheme, _, place = where.partition("://")
+        if where not in self.connections:
+            self.connections[where] = (http.client.HTTPConnection(place, timeout=self.timeout) if scheme == "http" else
+                                       http.client.HTTPSConnection(place, timeout=self.timeout, context=self.tls))
+        connection = self.connections[where]
+        if connection.sock and select.select([connection.sock], [], [], 0)[0]:
+            connection.close()
+        return connection
+
+    def leave(self) -> None:
+        """Ends with the last answer: what is left of it is read where it is little, else its connection is given up."""
+        answer, self.answer = self.answer, None
+        if answer and answer.length is not None and answer.length <= SMALL:
+            answer.read()
+        elif answer and self.connection and not answer.isclosed():
+            self.connection.close()
+
+    def ask(self, frame: Frame) -> tuple[Frame, bytes]:
+        where, target = self.target(self.url)
+        with contextlib.suppress(OSError, http.client.HTTPException):
+            self.leave()
+        self.connection = self.connect(where)
+        self.connection.putrequest(frame["method"], target)
+        for name, value in frame["headers"]:
+            self.connection.putheader(name, value)
+        self.connection.endheaders()
+        self.answer = self.connection.getresponse()
+        self.statuses[self.url] = self.answer.status
+        headers = [[name, header_value(value)] for name, value in self.answer.getheaders()]
+        if sum(len(name) + len(str(value)) for name, value in headers) > HEADERS:
+            raise ValueError("the headers of the answer are too long")
+        return {"frame": "answer", "status": self.answer.status, "headers": headers}, b""
+
+    def take(self) -> tuple[Frame, bytes]:
+        data = self.answer.read(PIECE) if self.answer else b""
+        if not data and (not self.answer or self.answer.length):
+            raise ValueError("the answer broke off before its end")
+        self.show(len(data))
+        return ({"frame": "piece", "bytes": len(data)} if data else {"frame": "end"}), data
+
+    def guarded(self, work: Callable[[], tuple[Frame, bytes]]) -> tuple[Frame, bytes]:
+        """What the work gives; where it fails, the connection is given up."""
+        try:
+            return work()
+        except (OSError, http.client.HTTPException, ValueError) as error:
+            self.failure = f"{self.url}: {str(error) or type(error).__name__}"
+            self.answer = None
+            if self.connection:
+                self.connection.close()
+            return {"frame": "failed"}, b""
+
+    def send(self, frame: Frame) -> tuple[Frame, bytes]:
+        self.url, self.size, self.began = frame["url"], 0, time.monotonic()
+        return self.guarded(lambda: self.ask(frame))
+
+    def piece(self) -> tuple[Frame, bytes]:
+        return self.guarded(self.take)
+
+    def show(self, size: int) -> None:
+        """Tells on a terminal how much of a blob has come, and how fast."""
+        self.size += size
+        if "/blobs/" in self.url and sys.stderr.isatty():
+            rate = self.size / 1e6 / max(time.monotonic() - self.began, 1e-6)
+            name = self.url.rpartition("/")[2][:19]
+            print(f"\r{name} {self.size / 1e6:9.1f} MB {rate:7.1f} MB/s", end="" if size else "\n", file=sys.stderr, flush=True)
