@@ -11,8 +11,8 @@ import time
 from pathlib import Path
 from typing import Any
 
-from host.core import Core, CoreEnded, Frame, find_core
-from host.files import Layout, is_public_key, kept_credentials, verifies
+from host.core import Core, Frame, find_core
+from host.files import Layout, kept_credentials, public_key, verifies
 from host.network import Network, is_loopback
 from host.refusals import Refusals
 
@@ -20,15 +20,23 @@ OCI, DOCKER = "application/vnd.oci.image.layer.", "application/vnd.docker.image.
 LAYERS = [OCI + "v1.tar", OCI + "v1.tar+gzip", OCI + "v1.tar+zstd", DOCKER + "diff.tar", DOCKER + "diff.tar.gzip",
           OCI + "nondistributable.v1.tar", OCI + "nondistributable.v1.tar+gzip", DOCKER + "foreign.diff.tar.gzip",
           "application/vnd.wasm.content.layer.v1+wasm"]
-MACHINES = {"x86_64": "amd64", "aarch64": "arm64", "armv7l": "arm", "i686": "386"}
-HERE = f"linux/{MACHINES.get(platform.machine(), platform.machine())}"
+MACHINE = {"x86_64": "amd64", "aarch64": "arm64", "armv7l": "arm", "i686": "386"}.get(platform.machine(), platform.machine())
 TEXT = "Pulls a container image where a signature that you trust stands for it."
 STATUSES = "Ends with 0: pulled, 1: refused, 2: wrong use, 3: no reference, 4 to 6: it was not decided or not written."
 ENDS = {3: "is no reference that reads", 5: "is not pulled: the core could not write", 6: "is not pulled: memory was wanting"}
+
+
+def annotation(text: str) -> tuple[str, str]:
+    name, equals, value = text.partition("=")
+    if not equals:
+        raise argparse.ArgumentTypeError(f"{text} has no =")
+    return name, value
+
+
 OPTIONS: dict[str, dict[str, Any]] = {
-    "--key": dict(action="append", required=True, metavar="FILE", help="a public key (PEM) that may sign; repeatable"),
-    "--annotation": dict(action="append", default=[], metavar="NAME=VALUE", help="what the signature says; repeatable"),
-    "--platform": dict(default=HERE, metavar="OS/ARCH", help="which image of an index (default: %(default)s)"),
+    "--key": dict(action="append", type=public_key, required=True, metavar="FILE", help="a public key (PEM) that may sign; repeatable"),
+    "--annotation": dict(action="append", type=annotation, default=[], metavar="NAME=VALUE", help="what the signature says; repeatable"),
+    "--platform": dict(default=f"linux/{MACHINE}", metavar="OS/ARCH", help="which image of an index (default: %(default)s)"),
     "--username": dict(help="for the registry (default: the credentials that ~/.docker/config.json keeps for it)"),
     "--password-stdin": dict(action="store_true", help="reads the password from standard input"),
     "--http": dict(action="store_true", help="asks the registry over http, as one on this machine is asked"),
@@ -55,26 +63,14 @@ def parser() -> argparse.ArgumentParser:
     return top
 
 
-def check(option: argparse.Namespace) -> None:
-    """The options have a sense, or ValueError says which has none."""
-    if not shutil.which("openssl"):
-        raise ValueError("openssl is not on the path")
-    for path in option.key:
-        if not is_public_key(path):
-            raise ValueError(f"--key {path} is no public key (PEM)")
-    for text in option.annotation:
-        if "=" not in text:
-            raise ValueError(f"--annotation {text} has no =")
-    if option.password_stdin != bool(option.username):
-        raise ValueError("--username and --password-stdin go together")
-
-
 def registry_of(reference: str) -> str:
     first, slash, _ = reference.partition("/")
     return first if slash and ("." in first or ":" in first or first == "localhost") else "docker.io"
 
 
 def settings(option: argparse.Namespace) -> Frame:
+    if option.password_stdin != bool(option.username):
+        raise ValueError("--username and --password-stdin go together")
     registry = registry_of(option.reference)
     credentials = (option.username, sys.stdin.read().rstrip("\r\n")) if option.username else kept_credentials(registry)
     plain = option.http or is_loopback(registry) and not option.ca
@@ -82,8 +78,8 @@ def settings(option: argparse.Namespace) -> Frame:
         "frame": "settings", "moment": int(time.time()), "reference": option.reference, "accepted": LAYERS,
         "protocol": "http" if plain else "https", "platform": option.platform, "blobs": option.word == "pull",
         "auth": {"basic": list(credentials)} if credentials else "anonymous", "log_keys": {},
-        "keys": [base64.b64encode(Path(path).read_bytes()).decode() for path in option.key],
-        "constraints": [{"annotations": dict(text.split("=", 1) for text in option.annotation)}],
+        "keys": [base64.b64encode(key).decode() for key in option.key],
+        "constraints": [{"annotations": dict(option.annotation)}],
     }
 
 
@@ -115,7 +111,7 @@ def converse(core: Core, first: Frame, network: Network, layout: Layout | None) 
 def tell(option: argparse.Namespace, sentence: str, end: Frame) -> None:
     """The sentence, to standard error where it is a refusal; or all as one JSON object."""
     if option.json:
-        print(json.dumps(end | {"frame": None, "outcome": end["frame"], "reference": option.reference, "sentence": sentence}))
+        print(json.dumps(end | {"frame": option.word, "outcome": end["frame"], "reference": option.reference, "sentence": sentence}))
     else:
         print(sentence, file=sys.stderr if end["frame"] == "refused" else sys.stdout)
     if option.verbose and "report" in end:
@@ -123,6 +119,7 @@ def tell(option: argparse.Namespace, sentence: str, end: Frame) -> None:
 
 
 def run(core: Core, option: argparse.Namespace, first: Frame, layout: Layout | None) -> int:
+    """The status of a pull by a core that has just begun."""
     network = Network(registry_of(option.reference), first["protocol"] == "http", option.allow_host, option.timeout, option.ca)
     try:
         end = converse(core, first, network, layout)
@@ -134,7 +131,7 @@ def run(core: Core, option: argparse.Namespace, first: Frame, layout: Layout | N
         place = f"pulled to {layout.target}" if layout else "verified"
         tell(option, f"{option.reference} is {place}: {end['digest']}, signed by {end['signature']}", end)
         return 0
-    except (CoreEnded, KeyError, TypeError, ValueError):
+    except (BrokenPipeError, LookupError, TypeError, ValueError):
         status = core.end()
         print(f"{option.reference} {ENDS.get(status, f'is not pulled: the core ended with {status}')}", file=sys.stderr)
         return status if status in ENDS else 4
@@ -144,7 +141,7 @@ def run(core: Core, option: argparse.Namespace, first: Frame, layout: Layout | N
 
 
 def stop(number: int, _: object) -> None:
-    print("roksnaep: stopped" if number != signal.SIGALRM else "roksnaep: stopped at the --deadline", file=sys.stderr)
+    print(f"roksnaep: stopped{' at the --deadline' if number == signal.SIGALRM else ''}", file=sys.stderr)
     raise SystemExit(4)
 
 
@@ -156,7 +153,6 @@ def main(words: list[str]) -> int:
         signal.signal(number, stop)
     signal.alarm(option.deadline)
     try:
-        check(option)
         first = settings(option)
         if option.word == "pull":
             layout = Layout(option.out or Path(re.split("[:@]", option.reference.rpartition("/")[2])[0]))
@@ -168,4 +164,4 @@ def main(words: list[str]) -> int:
         if core:
             core.process.kill()
         if layout:
-            layout.discard()
+            shutil.rmtree(layout.folder, ignore_errors=True)

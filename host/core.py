@@ -1,4 +1,5 @@
 """The core as a process, and the frames between it and its host: a line of JSON, then as many bytes as the line says."""
+import contextlib
 import json
 import os
 import subprocess
@@ -9,18 +10,14 @@ Frame = dict[str, Any]
 LINE, PIECE = 1 << 20, 1 << 19
 
 
-class CoreEnded(Exception):
-    """The core ended, or wrote what is no frame."""
-
-
 def find_core() -> str:
     """The program that ROKSNAEP_CORE names, else the one beside the command, else the one that was built."""
     top = Path(__file__).resolve().parent.parent
-    places = (os.environ.get("ROKSNAEP_CORE"), top / "bin/roksnaep-core", top / "crates/roksnaep_core/out/roksnaep_core")
-    found = next((str(place) for place in places if place and os.access(place, os.X_OK)), None)
-    if not found:
-        raise ValueError("there is no roksnaep-core beside bin/roksnaep, and ROKSNAEP_CORE names none")
-    return found
+    places = [os.environ.get("ROKSNAEP_CORE"), top / "bin/roksnaep-core", top / "crates/roksnaep_core/out/roksnaep_core"]
+    for place in places:
+        if place and os.access(place, os.X_OK):
+            return str(place)
+    raise ValueError("there is no roksnaep-core: it is not beside the command, not built, and ROKSNAEP_CORE names none")
 
 
 class Core:
@@ -32,14 +29,8 @@ class Core:
         self.input, self.output = self.process.stdin, self.process.stdout
 
     def read(self) -> Frame:
-        line = self.output.readline(LINE + 1)
-        try:
-            frame = json.loads(line)
-        except ValueError:
-            raise CoreEnded from None
-        if not isinstance(frame, dict) or "frame" not in frame:
-            raise CoreEnded
-        return frame
+        """The next frame; ValueError where the core ended."""
+        return json.loads(self.output.readline(LINE + 1))
 
     def body(self, frame: Frame) -> Iterator[bytes]:
         """The bytes behind a frame, in pieces."""
@@ -47,24 +38,18 @@ class Core:
         while left:
             piece = self.output.read(min(left, PIECE))
             if not piece:
-                raise CoreEnded
+                raise ValueError("the core ended within a frame")
             left -= len(piece)
             yield piece
 
     def write(self, frame: Frame, body: bytes = b"") -> None:
-        try:
-            self.input.write(json.dumps(frame).encode() + b"\n")
-            self.input.write(body)
-            self.input.flush()
-        except BrokenPipeError:
-            raise CoreEnded from None
+        self.input.write(json.dumps(frame).encode() + b"\n")
+        self.input.write(body)
+        self.input.flush()
 
     def end(self) -> int:
-        """The status of a core that wrote its last frame, or ended before; one that stays is stopped."""
-        self.input.close()
+        """The status of a core that has ended, or ends since its host is gone."""
         self.output.close()
-        try:
-            return self.process.wait(timeout=5)
-        except subprocess.TimeoutExpired:
-            self.process.kill()
-            return self.process.wait()
+        with contextlib.suppress(BrokenPipeError):
+            self.input.close()
+        return self.process.wait()

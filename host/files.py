@@ -1,4 +1,5 @@
 """Files: keys and what they verify (by `openssl`), credentials, and the image layout that is written."""
+import argparse
 import base64
 import json
 import os
@@ -14,12 +15,16 @@ FORMS = ("{}", "https://{}", "https://{}/", "https://{}/v1/", "https://{}/v2/", 
 
 
 def openssl(*words: str) -> tuple[bool, bytes]:
+    if not shutil.which("openssl"):
+        raise argparse.ArgumentTypeError("openssl is not on the path")
     ran = subprocess.run(["openssl", *words], stdin=subprocess.DEVNULL, capture_output=True, check=False)
     return ran.returncode == 0, ran.stdout
 
 
-def is_public_key(path: str) -> bool:
-    return openssl("pkey", "-pubin", "-in", path, "-noout")[0]
+def public_key(path: str) -> bytes:
+    if not openssl("pkey", "-pubin", "-in", path, "-noout")[0]:
+        raise argparse.ArgumentTypeError(f"{path} is no public key (PEM)")
+    return Path(path).read_bytes()
 
 
 def verifies(key: bytes, message: bytes, signature: bytes) -> bool:
@@ -81,6 +86,3 @@ class Layout:
         self.folder.chmod(0o777 & ~mask)
         os.sync()
         self.folder.rename(self.target)
-
-    def discard(self) -> None:
-        shutil.rmtree(self.folder, ignore_errors=True)

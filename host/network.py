@@ -4,7 +4,6 @@ import contextlib
 import http.client
 import ipaddress
 import re
-import select
 import ssl
 import sys
 import time
@@ -60,15 +59,12 @@ class Network:
         return f"{scheme}://{place.lower()}", target
 
     def connect(self, where: str) -> http.client.HTTPConnection:
-        """The connection to a host; one that was kept and has ended meanwhile is opened anew."""
+        """The connection to a host, which is kept as long as answers are read to their end."""
         scheme, _, place = where.partition("://")
         if where not in self.connections:
             self.connections[where] = (http.client.HTTPConnection(place, timeout=self.timeout) if scheme == "http" else
                                        http.client.HTTPSConnection(place, timeout=self.timeout, context=self.tls))
-        connection = self.connections[where]
-        if connection.sock and select.select([connection.sock], [], [], 0)[0]:
-            connection.close()
-        return connection
+        return self.connections[where]
 
     def leave(self) -> None:
         """Ends with the last answer: what is left of it is read where it is little, else its connection is given up."""
@@ -78,16 +74,27 @@ class Network:
         elif answer and self.connection and not answer.isclosed():
             self.connection.close()
 
-    def ask(self, frame: Frame) -> tuple[Frame, bytes]:
+    def ask(self, connection: http.client.HTTPConnection, target: str, frame: Frame) -> http.client.HTTPResponse:
+        connection.putrequest(frame["method"], target)
+        for name, value in frame["headers"]:
+            connection.putheader(name, value)
+        connection.endheaders()
+        return connection.getresponse()
+
+    def answered(self, frame: Frame) -> tuple[Frame, bytes]:
         where, target = self.target(self.url)
         with contextlib.suppress(OSError, http.client.HTTPException):
             self.leave()
         self.connection = self.connect(where)
-        self.connection.putrequest(frame["method"], target)
-        for name, value in frame["headers"]:
-            self.connection.putheader(name, value)
-        self.connection.endheaders()
-        self.answer = self.connection.getresponse()
+        kept = self.connection.sock is not None
+        try:
+            self.answer = self.ask(self.connection, target, frame)
+        except ConnectionError:
+            self.connection.close()
+            if not kept:
+                raise
+            # the host had ended a connection that was kept
+            self.answer = self.ask(self.connection, target, frame)
         self.statuses[self.url] = self.answer.status
         headers = [[name, header_value(value)] for name, value in self.answer.getheaders()]
         if sum(len(name) + len(str(value)) for name, value in headers) > HEADERS:
@@ -114,7 +121,7 @@ class Network:
 
     def send(self, frame: Frame) -> tuple[Frame, bytes]:
         self.url, self.size, self.began = frame["url"], 0, time.monotonic()
-        return self.guarded(lambda: self.ask(frame))
+        return self.guarded(lambda: self.answered(frame))
 
     def piece(self) -> tuple[Frame, bytes]:
         return self.guarded(self.take)

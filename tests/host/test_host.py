@@ -383,7 +383,6 @@ class Parts(WithFolder):
         for digest in ("sha256:../../x", "x", "", "sha256:", "sha256:AB", "../x:ab", "sha256:ab\n"):
             with self.assertRaises(OSError, msg=digest):
                 layout.add("layer", "x", digest, [b""])
-        layout.discard()
         self.assertFalse((self.folder / "image").exists())
 
     def test_sentences(self):
