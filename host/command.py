@@ -108,13 +108,14 @@ def converse(core: Core, first: Frame, network: Network, layout: Layout | None) 
             pass
 
 
-def tell(option: argparse.Namespace, sentence: str, end: Frame) -> None:
+def tell(option: argparse.Namespace, outcome: str, sentence: str, end: Frame) -> None:
     """The sentence, to standard error where it is a refusal; or all as one JSON object."""
     if option.json:
-        print(json.dumps(end | {"frame": option.word, "outcome": end["frame"], "reference": option.reference, "sentence": sentence}))
+        rest = {name: value for name, value in end.items() if name != "frame"}
+        print(json.dumps({"outcome": outcome, "reference": option.reference, "sentence": sentence} | rest))
     else:
-        print(sentence, file=sys.stderr if end["frame"] == "refused" else sys.stdout)
-    if option.verbose and "report" in end:
+        print(sentence, file=sys.stderr if outcome == "refused" else sys.stdout)
+    if option.verbose and outcome == "refused":
         print(end["report"], end="", file=sys.stderr)
 
 
@@ -124,12 +125,14 @@ def run(core: Core, option: argparse.Namespace, first: Frame, layout: Layout | N
     try:
         end = converse(core, first, network, layout)
         if end["frame"] == "refused":
-            tell(option, Refusals(network.statuses, network.failure).sentence(option.reference, end["report"]), end)
+            sentence = Refusals(network.statuses, network.failure).sentence(option.reference, end["report"])
+            tell(option, "refused", sentence, end)
             return 1
+        outcome = "pulled" if layout else "verified"
         if layout:
             layout.finish(option.reference, end["digest"])
-        place = f"pulled to {layout.target}" if layout else "verified"
-        tell(option, f"{option.reference} is {place}: {end['digest']}, signed by {end['signature']}", end)
+        place = f" to {layout.target}" if layout else ""
+        tell(option, outcome, f"{option.reference} is {outcome}{place}: {end['digest']}, signed by {end['signature']}", end)
         return 0
     except (BrokenPipeError, LookupError, TypeError, ValueError):
         status = core.end()

@@ -7,7 +7,7 @@ from pathlib import Path
 from typing import Any, Iterator
 
 Frame = dict[str, Any]
-LINE, PIECE = 1 << 20, 1 << 19
+LINE, PIECE = 1 << 24, 1 << 19
 
 
 def find_core() -> str:

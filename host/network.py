@@ -14,6 +14,7 @@ from host.core import PIECE, Frame
 
 HEADERS, SMALL = 1 << 18, 1 << 16
 URL = re.compile(r"(https?)://([\w.:\[\]-]+)(/[!-~]*)", re.ASCII)
+REALM = re.compile(r'bearer .*?realm="?([^",]*)', re.IGNORECASE)
 
 
 def is_loopback(place: str) -> bool:
@@ -22,6 +23,11 @@ def is_loopback(place: str) -> bool:
     with contextlib.suppress(ValueError):
         return host == "localhost" or ipaddress.ip_address(host).is_loopback
     return False
+
+
+def place_of(url: str) -> tuple[str, str, str]:
+    parts = urlsplit(url)
+    return parts.scheme, parts.netloc.lower(), parts.path or "/"
 
 
 def header_value(value: str) -> str | dict[str, str]:
@@ -41,7 +47,7 @@ class Network:
         self.connections: dict[str, http.client.HTTPConnection] = {}
         self.connection: http.client.HTTPConnection | None = None
         self.answer: http.client.HTTPResponse | None = None
-        self.url, self.failure, self.statuses = "", "", dict[str, int]()
+        self.url, self.realm, self.failure, self.statuses = "", "", "", dict[str, int]()
         self.blob, self.size, self.began = "", 0, 0.0
 
     def target(self, url: str) -> tuple[str, str]:
@@ -57,6 +63,13 @@ class Network:
         if self.hosts and host not in (*self.hosts, self.registry.partition(":")[0], f"index.{self.registry}"):
             raise ValueError(f"it is not asked, since --allow-host does not name {host}")
         return f"{scheme}://{place.lower()}", target
+
+    def check_credentials(self, target: str, headers: list[list[str]]) -> None:
+        """Credentials go below /v2/ alone, and to the realm that the answer directly before names."""
+        shown = any(name.lower() == "authorization" for name, _ in headers)
+        below = target.startswith("/v2/") and "/.." not in target
+        if shown and not below and place_of(self.url) != place_of(self.realm):
+            raise ValueError("it is not asked, since credentials go below /v2/ and to the realm alone")
 
     def connect(self, where: str) -> http.client.HTTPConnection:
         """The connection to a host, which is kept as long as answers are read to their end."""
@@ -83,6 +96,7 @@ class Network:
 
     def answered(self, frame: Frame) -> tuple[Frame, bytes]:
         where, target = self.target(self.url)
+        self.check_credentials(target, frame["headers"])
         with contextlib.suppress(OSError, http.client.HTTPException):
             self.leave()
         self.connection = self.connect(where)
@@ -96,6 +110,8 @@ class Network:
             # the host had ended a connection that was kept
             self.answer = self.ask(self.connection, target, frame)
         self.statuses[self.url] = self.answer.status
+        realm = REALM.search(self.answer.getheader("www-authenticate", "")) if target == "/v2/" else None
+        self.realm = realm[1] if realm else ""
         headers = [[name, header_value(value)] for name, value in self.answer.getheaders()]
         if sum(len(name) + len(str(value)) for name, value in headers) > HEADERS:
             raise ValueError("the headers of the answer are too long")

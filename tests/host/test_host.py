@@ -343,6 +343,34 @@ class Parts(WithFolder):
         self.assertFalse(asked("https://index.evil.example/x", hosts=["cdn.example"]))
         self.assertTrue(asked("https://index.docker.io/v2/", "docker.io", hosts=["auth.docker.io"]))
 
+    def test_where_credentials_go(self):
+        def asked(url, realm="", headers=(("Authorization", "Bearer t"),)):
+            network = Network("r.example", False, [], 1, None)
+            network.url, network.realm = url, realm
+            try:
+                network.check_credentials(network.target(url)[1], [list(header) for header in headers])
+                return True
+            except ValueError:
+                return False
+
+        self.assertTrue(asked("https://r.example/v2/app/manifests/v1"))
+        for url in ("https://r.example/admin", "https://r.example/v2", "https://r.example/v2/../admin", "https://r.example/token"):
+            self.assertFalse(asked(url), url)
+            self.assertTrue(asked(url, headers=[("accept", "x")]), url)
+        self.assertTrue(asked("https://auth.example/token?scope=a", "https://auth.example/token"))
+        self.assertTrue(asked("https://auth.example/?scope=a", "https://Auth.example"))
+        for realm in ("https://auth.example/", "https://other.example/token", "http://auth.example/token", "https://auth.example:444/token"):
+            self.assertFalse(asked("https://auth.example/token?scope=a", realm), realm)
+
+    def test_realms(self):
+        for told, realm in (('Bearer realm="https://a.io/token",service="x"', "https://a.io/token"), ("Bearer service=x, realm=https://a.io/t", "https://a.io/t"), ("Basic realm=x", ""), ("", "")):
+            with registry(_v2_=lambda h, told=told: h.answer(401, b"", [("WWW-Authenticate", told)])) as (place, _):
+                network = Network(place, True, [], 5, None)
+                network.send({"method": "GET", "url": f"http://{place}/v2/", "headers": []})
+                self.assertEqual(network.realm, realm)
+                network.send({"method": "GET", "url": f"http://{place}/v2/app/manifests/v1", "headers": []})
+                self.assertEqual(network.realm, "")
+
     def test_signatures(self):
         message, file = b"the signed text", self.folder / "message"
         file.write_bytes(message)
