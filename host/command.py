@@ -108,15 +108,20 @@ def converse(core: Core, first: Frame, network: Network, layout: Layout | None) 
             pass
 
 
+def printable(text: str) -> str:
+    """The text as a terminal may have it: what a registry wrote moves no cursor."""
+    return "".join(c if c.isprintable() or c == "\n" else "?" for c in text)
+
+
 def tell(option: argparse.Namespace, outcome: str, sentence: str, end: Frame) -> None:
     """The sentence, to standard error where it is a refusal; or all as one JSON object."""
     if option.json:
         rest = {name: value for name, value in end.items() if name != "frame"}
         print(json.dumps({"outcome": outcome, "reference": option.reference, "sentence": sentence} | rest))
     else:
-        print(sentence, file=sys.stderr if outcome == "refused" else sys.stdout)
+        print(printable(sentence).replace("\n", "?"), file=sys.stderr if outcome == "refused" else sys.stdout)
     if option.verbose and outcome == "refused":
-        print(end["report"], end="", file=sys.stderr)
+        print(printable(end["report"]), end="", file=sys.stderr)
 
 
 def run(core: Core, option: argparse.Namespace, first: Frame, layout: Layout | None) -> int:

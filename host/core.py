@@ -13,11 +13,11 @@ LINE, PIECE = 1 << 24, 1 << 19
 def find_core() -> str:
     """The program that ROKSNAEP_CORE names, else the one beside the command, else the one that was built."""
     top = Path(__file__).resolve().parent.parent
-    places = [os.environ.get("ROKSNAEP_CORE"), top / "bin/roksnaep-core", top / "crates/roksnaep_core/out/roksnaep_core"]
-    for place in places:
-        if place and os.access(place, os.X_OK):
+    named = os.environ.get("ROKSNAEP_CORE")
+    for place in [named] if named else [top / "bin/roksnaep-core", top / "crates/roksnaep_core/out/roksnaep_core"]:
+        if os.access(place, os.X_OK):
             return str(place)
-    raise ValueError("there is no roksnaep-core: it is not beside the command, not built, and ROKSNAEP_CORE names none")
+    raise ValueError(f"there is no core: {named or 'none beside the command, none built, none named by ROKSNAEP_CORE'}")
 
 
 class Core:

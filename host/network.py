@@ -2,32 +2,23 @@
 import base64
 import contextlib
 import http.client
-import ipaddress
 import re
 import ssl
 import sys
 import time
 from typing import Callable
-from urllib.parse import urlsplit
 
 from host.core import PIECE, Frame
 
 HEADERS, SMALL = 1 << 18, 1 << 16
-URL = re.compile(r"(https?)://([\w.:\[\]-]+)(/[!-~]*)", re.ASCII)
-REALM = re.compile(r'bearer .*?realm="?([^",]*)', re.IGNORECASE)
+URL = re.compile(r"(https?)://(([a-z0-9._-]+|\[[0-9a-f:]+\])(?::\d+)?)(/[!-~]*)", re.ASCII)
+REALM = re.compile(r'bearer .*?realm="?(https?://[^/?",]+)([^?",]*)', re.IGNORECASE)
+LOOPBACK = re.compile(r"(localhost|127(\.\d{1,3}){3}|\[::1\])(:\d+)?")
 
 
 def is_loopback(place: str) -> bool:
     """Whether a host, with a port or not, is this machine."""
-    host = urlsplit(f"//{place}").hostname or ""
-    with contextlib.suppress(ValueError):
-        return host == "localhost" or ipaddress.ip_address(host).is_loopback
-    return False
-
-
-def place_of(url: str) -> tuple[str, str, str]:
-    parts = urlsplit(url)
-    return parts.scheme, parts.netloc.lower(), parts.path or "/"
+    return LOOPBACK.fullmatch(place) is not None
 
 
 def header_value(value: str) -> str | dict[str, str]:
@@ -48,27 +39,26 @@ class Network:
         self.connection: http.client.HTTPConnection | None = None
         self.answer: http.client.HTTPResponse | None = None
         self.url, self.realm, self.failure, self.statuses = "", "", "", dict[str, int]()
-        self.blob, self.size, self.began = "", 0, 0.0
+        self.size, self.began = 0, 0.0
 
     def target(self, url: str) -> tuple[str, str]:
         """Where a request goes, and what is asked there; or why it is not asked."""
         match = URL.fullmatch(url)
         if not match:
             raise ValueError("it is no URL that requests go to")
-        scheme, place, target = match.groups()
-        host = urlsplit(url).hostname or ""
-        near = place.lower() == self.registry or host in self.hosts or is_loopback(self.registry) and is_loopback(place)
+        scheme, place, host, target = match.groups()
+        near = place == self.registry or host in self.hosts or is_loopback(self.registry) and is_loopback(place)
         if scheme == "http" and not (self.plain and near):
             raise ValueError("it is not asked, since it is not https (--http is for the registry alone)")
         if self.hosts and host not in (*self.hosts, self.registry.partition(":")[0], f"index.{self.registry}"):
             raise ValueError(f"it is not asked, since --allow-host does not name {host}")
-        return f"{scheme}://{place.lower()}", target
+        return f"{scheme}://{place}", target
 
     def check_credentials(self, target: str, headers: list[list[str]]) -> None:
         """Credentials go below /v2/ alone, and to the realm that the answer directly before names."""
         shown = any(name.lower() == "authorization" for name, _ in headers)
         below = target.startswith("/v2/") and "/.." not in target
-        if shown and not below and place_of(self.url) != place_of(self.realm):
+        if shown and not below and self.url.partition("?")[0] != self.realm:
             raise ValueError("it is not asked, since credentials go below /v2/ and to the realm alone")
 
     def connect(self, where: str) -> http.client.HTTPConnection:
@@ -111,7 +101,7 @@ class Network:
             self.answer = self.ask(self.connection, target, frame)
         self.statuses[self.url] = self.answer.status
         realm = REALM.search(self.answer.getheader("www-authenticate", "")) if target == "/v2/" else None
-        self.realm = realm[1] if realm else ""
+        self.realm = realm[1].lower() + (realm[2] or "/") if realm else ""
         headers = [[name, header_value(value)] for name, value in self.answer.getheaders()]
         if sum(len(name) + len(str(value)) for name, value in headers) > HEADERS:
             raise ValueError("the headers of the answer are too long")

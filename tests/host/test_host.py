@@ -268,6 +268,13 @@ class Command(WithFolder):
             self.run_it("verify", f"{place}/app:v1", "--key", str(self.key), "--username", "u", "--password-stdin", stdin="p:q\n")
             self.assertEqual({headers.get("authorization") for _, _, headers in handler.seen}, {"Basic " + base64.b64encode(b"u:p:q").decode()})
 
+    def test_a_registry_moves_no_cursor(self):
+        report = 'refused RegistryPullError "x" IncompatibleLayerMediaTypeError "\\\\u001b[2J\\\\n\\\\u009b1A"\\n'
+        status, _, err = self.pull("localhost:1", "-v", fake="refused " + report)
+        self.assertEqual(status, 1)
+        self.assertIn("a layer is of the type ?[2J??1A, which", err)
+        self.assertTrue(all(c.isprintable() or c == "\n" for c in err), repr(err))
+
     def test_settings(self):
         status, _, err = self.run_it("verify", "r.example/a/b:c", "--key", str(self.key), "--annotation", "a=1", "--annotation", "b=x=y",
                                      "--platform", "linux/arm64", "-v", fake="settings")
@@ -330,7 +337,7 @@ class Parts(WithFolder):
         for url in ("https://r.example/v2/", "https://other.example/x?y=z", "https://r.example:444/v2/%41"):
             self.assertTrue(asked(url), url)
         for url in ("http://r.example/v2/", "http://other.example/", "ftp://r.example/", "file:///etc/passwd", "https://u:p@r.example/v2/", "https://r.example", "https:///x",
-                    "https://r.example\\@x/", "https://r.example/a b", "https://r.example/\x01", "https://r.example/\r\nx: y", "//r.example/", "https://r.example#@x/", "https://r.ex\u0430mple/"):
+                    "https://r.example\\@x/", "https://R.example/", "https://r.example:x/", "https://r.example/a b", "https://r.example/\x01", "https://r.example/\r\nx: y", "//r.example/", "https://r.example#@x/", "https://r.ex\u0430mple/"):
             self.assertFalse(asked(url), url)
         self.assertTrue(asked("http://r.example/v2/", plain=True))
         self.assertFalse(asked("http://r.example:81/v2/", plain=True))
@@ -358,12 +365,12 @@ class Parts(WithFolder):
             self.assertFalse(asked(url), url)
             self.assertTrue(asked(url, headers=[("accept", "x")]), url)
         self.assertTrue(asked("https://auth.example/token?scope=a", "https://auth.example/token"))
-        self.assertTrue(asked("https://auth.example/?scope=a", "https://Auth.example"))
+        self.assertTrue(asked("https://auth.example/?scope=a", "https://auth.example/"))
         for realm in ("https://auth.example/", "https://other.example/token", "http://auth.example/token", "https://auth.example:444/token"):
             self.assertFalse(asked("https://auth.example/token?scope=a", realm), realm)
 
     def test_realms(self):
-        for told, realm in (('Bearer realm="https://a.io/token",service="x"', "https://a.io/token"), ("Bearer service=x, realm=https://a.io/t", "https://a.io/t"), ("Basic realm=x", ""), ("", "")):
+        for told, realm in (('Bearer realm="https://a.io/token",service="x"', "https://a.io/token"), ("Bearer service=x, realm=https://A.io", "https://a.io/"), ('Bearer realm="https://a.io/t?x=y"', "https://a.io/t"), ("Basic realm=x", ""), ("", "")):
             with registry(_v2_=lambda h, told=told: h.answer(401, b"", [("WWW-Authenticate", told)])) as (place, _):
                 network = Network(place, True, [], 5, None)
                 network.send({"method": "GET", "url": f"http://{place}/v2/", "headers": []})
