@@ -65,7 +65,10 @@ class Layout:
         path = self.folder / name
         path.parent.mkdir(parents=True, exist_ok=True)
         with open(path, "wb") as file:
-            return sum(file.write(piece) for piece in pieces)
+            size = sum(file.write(piece) for piece in pieces)
+            file.flush()
+            os.fdatasync(file.fileno())
+        return size
 
     def add(self, kind: str, media_type: str, digest: str, pieces: Iterable[bytes]) -> None:
         """A document or a blob under its digest; the manifest is what the layout's index names."""
@@ -84,5 +87,4 @@ class Layout:
         self.write("index.json", [json.dumps(index).encode()])
         os.umask(mask := os.umask(0))
         self.folder.chmod(0o777 & ~mask)
-        os.sync()
         self.folder.rename(self.target)
