@@ -23,7 +23,7 @@ LAYERS = [OCI + "v1.tar", OCI + "v1.tar+gzip", OCI + "v1.tar+zstd", DOCKER + "di
 MACHINE = {"x86_64": "amd64", "aarch64": "arm64", "armv7l": "arm", "i686": "386"}.get(platform.machine(), platform.machine())
 TEXT = "Pulls a container image where a signature that you trust stands for it."
 STATUSES = "Ends with 0: pulled, 1: refused, 2: wrong use, 3: no reference, 4 to 6: it was not decided or not written."
-ENDS = {3: "is no reference that reads", 5: "is not pulled: the core could not write", 6: "is not pulled: memory was wanting"}
+ENDS = {3: "is no reference that reads, or --platform is no OS/ARCH", 5: "is not pulled: the core could not write", 6: "is not pulled: memory was wanting"}
 
 
 def annotation(text: str) -> tuple[str, str]:

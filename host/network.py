@@ -13,6 +13,7 @@ from host.core import PIECE, Frame
 HEADERS, SMALL = 1 << 18, 1 << 16
 URL = re.compile(r"(https?)://(([a-z0-9._-]+|\[[0-9a-f:]+\])(?::\d+)?)(/[!-~]*)", re.ASCII)
 REALM = re.compile(r'bearer .*?realm="?(https?://[^/?",]+)([^?",]*)', re.IGNORECASE)
+FIELD = re.compile(r"[\w!#$%&'*+.^`|~-]+:[\t -~\x80-\xff]*", re.ASCII)
 LOOPBACK = re.compile(r"(localhost|127(\.\d{1,3}){3}|\[::1\])(:\d+)?")
 
 
@@ -105,6 +106,8 @@ class Network:
         headers = [[name, header_value(value)] for name, value in self.answer.getheaders()]
         if sum(len(name) + len(str(value)) for name, value in headers) > HEADERS:
             raise ValueError("the headers of the answer are too long")
+        if not all(FIELD.fullmatch(f"{name}:{value}") for name, value in self.answer.getheaders()):
+            raise ValueError("a header of the answer does not read")
         return {"frame": "answer", "status": self.answer.status, "headers": headers}, b""
 
     def take(self) -> tuple[Frame, bytes]:

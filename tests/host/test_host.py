@@ -211,7 +211,13 @@ class Command(WithFolder):
         def long(handler):
             handler.answer(200, b"", [("x-long", "y" * 60000)] * 5)
 
-        for way, told in ((broken, "broke off"), (chunks, "IncompleteRead"), (none, "closed"), (junk, "junk"), (long, "too long")):
+        def unreadable(handler):
+            handler.answer(200, b"", [("x", "y\x01z")])
+
+        def folded(handler):
+            handler.answer(200, b"", [("x", "y\r\n z")])
+
+        for way, told in ((unreadable, "does not read"), (folded, "does not read"), (broken, "broke off"), (chunks, "IncompleteRead"), (none, "closed"), (junk, "junk"), (long, "too long")):
             with registry(_blobs_=way) as (place, _):
                 status, _, err = self.pull(place)
                 self.assertEqual((status, self.left()), (1, []), way)
