@@ -63,6 +63,7 @@ bench: program
 allocations: program
 	tests/allocations
 
-# Runs it over registries that answer badly.
-hostile: program
+# Runs both programs over what registries and hosts may do badly: 20,000 cases, and streams of frames.
+hostile: program core
 	tests/hostile
+	tests/frames
