@@ -65,5 +65,6 @@ allocations: program
 
 # Runs both programs over what registries and hosts may do badly: 20,000 cases, and streams of frames.
 hostile: program core
+	python3 tests/chains.py
 	tests/hostile
 	tests/frames

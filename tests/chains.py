@@ -1,11 +1,15 @@
 """Whether a chain holds, decided a second time: from recorded bytes alone, with nothing of the program and in other terms than its own.
 
-`holds(case, chain)` is what is wrong with a chain as the program's word `check` reads it, or none. `chains(case, lines)` are the chains that a report's
+Run by itself it decides the recorded cases below tests/rows: each image that is answered there has a chain that holds, and each recorded chain
+holds or fails as it is recorded. `holds(case, chain)` is what is wrong with a chain as the program's word `check` reads it, or none. `chains(case, lines)` are the chains that a report's
 image may have, made of the bodies that the case records.
 """
 import base64
+import glob
 import hashlib
 import json
+import os
+import sys
 
 PAYLOAD, BUNDLE = "application/vnd.dev.cosign.simplesigning.v1+json", "application/vnd.dev.sigstore.bundle.v0.3+json"
 SIGNATURE, ENTRY, CERTIFICATE = "dev.cosignproject.cosign/signature", "dev.sigstore.cosign/bundle", "dev.sigstore.cosign/certificate"
@@ -215,3 +219,49 @@ def chains(case, lines):
             kind = {PAYLOAD: "payload", BUNDLE: "bundle"}.get(descriptor.get("mediaType")) if isinstance(descriptor, dict) else None
             if kind and descriptor.get("digest") == found["signature"][0]:
                 yield chain | {"signature": {"kind": kind, "content": content, "annotations": descriptor.get("annotations") or {}}}
+
+
+def reports(out):
+    """The lines of the report of each moment."""
+    found = []
+    for line in out.splitlines():
+        if line.startswith("moment "):
+            found.append([])
+        found[-1].append(line)
+    return found
+
+
+# ---- the recorded cases
+
+
+def read(folder, name, otherwise):
+    path = os.path.join(folder, name)
+    if not os.path.exists(path):
+        return otherwise
+    with open(path, encoding="utf-8") as file:
+        return file.read()
+
+
+def main():
+    images = decided = wrong = 0
+    for folder in sorted(glob.glob(os.path.join(os.path.dirname(os.path.abspath(__file__)), "rows/*/*/"))):
+        word, status, out = read(folder, "args", "pull").strip(), int(read(folder, "status", "0")), read(folder, "stdout", "")
+        found = object_in(read(folder, "stdin", "").encode())
+        if word == "check" and status < 2:
+            decided += 1
+            fails = (holds(found["case"], found["chain"]) is not None) != (status == 1)
+        elif word == "pull" and status < 2:
+            pulled = [lines for lines in reports(out) if any(line.startswith("ok ") for line in lines)]
+            images += len(pulled)
+            fails = any(all(holds(found, chain) for chain in chains(found, lines)) for lines in pulled)
+        else:
+            continue
+        if fails:
+            wrong += 1
+            print(f"{folder}: decided otherwise")
+    print(f"{images} images, {decided} chains, {wrong} wrong")
+    return 1 if wrong else 0
+
+
+if __name__ == "__main__":
+    sys.exit(main())
