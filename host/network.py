@@ -40,7 +40,7 @@ class Network:
         self.connection: http.client.HTTPConnection | None = None
         self.answer: http.client.HTTPResponse | None = None
         self.url, self.realm, self.failure, self.statuses = "", "", "", dict[str, int]()
-        self.size, self.began = 0, 0.0
+        self.blob, self.size, self.began = "", 0, 0.0
 
     def target(self, url: str) -> tuple[str, str]:
         """Where a request goes, and what is asked there; or why it is not asked."""
@@ -130,6 +130,8 @@ class Network:
 
     def send(self, frame: Frame) -> tuple[Frame, bytes]:
         self.url, self.size, self.began = frame["url"], 0, time.monotonic()
+        if "/v2/" in self.url:  # else a redirect of a blob may lead here
+            self.blob = self.url.rpartition("/blobs/")[2][:19] if "/blobs/" in self.url else ""
         return self.guarded(lambda: self.answered(frame))
 
     def piece(self) -> tuple[Frame, bytes]:
@@ -138,7 +140,7 @@ class Network:
     def show(self, size: int) -> None:
         """Tells on a terminal how much of a blob has come, and how fast."""
         self.size += size
-        if "/blobs/" in self.url and sys.stderr.isatty():
+        if self.blob and sys.stderr.isatty():
             rate = self.size / 1e6 / max(time.monotonic() - self.began, 1e-6)
-            name = self.url.rpartition("/")[2][:19]
-            print(f"\r{name} {self.size / 1e6:9.1f} MB {rate:7.1f} MB/s", end="" if size else "\n", file=sys.stderr, flush=True)
+            line = f"\r{self.blob} {self.size / 1e6:9.1f} MB {rate:7.1f} MB/s"
+            print(line, end="" if size else "\n", file=sys.stderr, flush=True)

@@ -145,6 +145,19 @@ class Command(WithFolder):
             self.assertEqual(handler.connections, 1)
             self.assertEqual({"GET", "HEAD"}, {method for method, _, _ in handler.seen})
 
+    def test_progress_on_a_terminal(self):
+        with registry() as (store, _), registry(_blobs_=lambda h: h.answer(307, b"", [("Location", f"http://{store}{h.path}")])) as (place, _):
+            ours, theirs = os.openpty()
+            environment = os.environ | {"ROKSNAEP_CORE": str(HERE / "fake_core.py"), "DOCKER_CONFIG": str(self.folder)}
+            words = [TOP / "bin/roksnaep", "verify", f"{place}/app:v1", "--key", self.key]
+            subprocess.run(words, stderr=theirs, stdout=subprocess.DEVNULL, env=environment, check=True, timeout=60)
+            os.close(theirs)
+            told = os.read(ours, 100000).decode()
+            os.close(ours)
+            lines = [line.split("\r")[-1] for line in told.replace("\r\n", "\n").split("\n")[:-1]]
+            self.assertEqual([line[:19] for line in lines], [digest_of(content)[:19] for content in [CONFIG, *LAYERS]])
+            self.assertRegex(lines[2], r"^sha256:[0-9a-f]{12} +3\.0 MB +[0-9.]+ MB/s$")
+
     def test_verify_writes_nothing(self):
         with registry() as (place, _):
             status, out, _ = self.run_it("verify", f"{place}/app:v1", "--key", str(self.key))
