@@ -56,6 +56,7 @@ bench: program
 	python3 bench/documents.py
 	python3 bench/signatures.py
 	python3 bench/referrers.py
+	python3 bench/caching.py
 	python3 bench/bundles.py
 	python3 bench/streams.py
 

@@ -868,6 +868,41 @@ def references():
 # ---- faults
 
 
+def kept():
+    """A client that keeps answers: the digest and the signatures are given again for less than 60 seconds."""
+    answers, asked, signature = base_run()
+    again, more = answers[-6:], asked[-6:]
+    image = image_lines(signature)
+
+    def moments(title, *at):
+        """Pulls at these moments, each with whether all is asked."""
+        lines, told = [], []
+        for moment, whole in at:
+            lines += [f"moment {moment}"] + (asked if whole else more) + image
+            told += answers if whole else again
+        write(f"kept/{title}", case(told, [signature], caching=True, moments=[moment for moment, _ in at]), lines)
+
+    moments("59_seconds_later", (100, True), (159, False))
+    moments("60_seconds_later", (100, True), (160, True))
+    moments("61_seconds_later", (100, True), (161, True))
+    moments("at_the_same_moment", (100, True), (100, False))
+    moments("a_moment_back", (100, True), (99, True))
+    # What was kept later is not given to an earlier moment, and what takes its place ends sooner.
+    moments("a_moment_back_and_on", (100, True), (90, True), (149, False), (150, True))
+    # A given answer is not kept anew.
+    moments("from_the_first_answer_on", (100, True), (140, False), (159, False), (160, True))
+    moments("at_the_greatest_moment", (2**64 - 60, True), (2**64 - 1, False))
+    write("kept/nothing", case(answers * 2, [signature], caching=False, moments=[100, 101]), [f"moment {m}" if l is None else l for m in (100, 101) for l in [None] + asked + image])
+    # A refusal is not kept, and what was kept before it is: here the list of referrers fails, and then the signatures' image.
+    at = 13
+    failed = answers[: at - 2] + [TOKEN, "fail"] + answers[-6:]
+    lines = ["moment 100"] + asked[:at] + more + image
+    lines += ["moment 101"] + listing(digest(IMAGE)) + more + image
+    write("kept/a_refused_list_of_referrers", case(failed + NO_REFERRERS + again, [signature], caching=True, moments=[100, 101]), lines)
+    for title, value in [("in_words", "true"), ("as_null", None)]:
+        write(f"kept/said_{title}", compact(dict(json.loads(case([])), caching=value)), [], 3)
+
+
 def faults():
     """A fault at each request of a pull, and at each piece of an answer. One of the token step is passed over, and one of the
     referrers skips them."""
@@ -972,6 +1007,7 @@ TABLES = {
     "signatures": signatures,
     "tokens": tokens,
     "references": references,
+    "kept": kept,
     "faults": faults,
     "input": inputs,
     "canon": canonical_texts,

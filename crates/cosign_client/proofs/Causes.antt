@@ -1,5 +1,5 @@
 -- Why a search or a pull was refused.
-use Rattle.std.proofs.Common.{◌≡◌, ℕ, Bool, true, false, inl, inr, List, [], ◌∷◌, ◌++◌, Option, Some, None, Result, Ok, Err, IfErr, refl, sym, ap, ◌∙◌, subst, append-nil}
+use Rattle.std.proofs.Common.{◌≡◌, ℕ, Bool, true, false, inl, inr, List, [], ◌∷◌, ◌++◌, Option, Some, None, Result, Ok, Err, IfErr, refl, sym, subst, append-nil}
 use Rattle.std.specs.Prelude.{if◌then◌else◌, find, MatchBool}
 use Rattle.oci_names.specs.declared.reference.Reference.{Reference}
 use Rattle.oci_names.specs.References.{whole_text, reads_back}
@@ -19,6 +19,7 @@ use Rattle.oci_protocol.specs.Shows.{ShowsKept}
 use Rattle.oci_protocol.specs.Ends.{Ends}
 use Rattle.oci_protocol.specs.Runs.{Runs, Meets, Told, Performs, Breaks}
 use Rattle.oci_protocol.proofs.Ends.{Ends-any, Ends-bind, Runs-ends}
+use Rattle.oci_protocol.proofs.Lifting.{Ends-lifted}
 use Rattle.oci_protocol.proofs.Keeping.{ShowsKept-run, ShowsKept-done, ShowsKept-more, ShowsKept-both, ShowsKept-bind, ShowsKept-step}
 use Rattle.engine_requests.specs.Contexts.{Context}
 use Rattle.engine_requests.specs.Sources.{Layer, described}
@@ -34,19 +35,21 @@ use Rattle.sig_registry.specs.declared.wording.Called.{Called}
 use Rattle.sig_registry.specs.declared.wording.Called.TheVariants.{FetchManifest, Pull, PullManifest}
 use Rattle.sig_registry.specs.Errors.{is_memory as of_memory, worded, refusal as call_refusal}
 use Rattle.sig_registry.specs.Clients.{Kept, Row}
-use Rattle.sig_registry.specs.Calls.{in_words, digest_call, image_call, document_call, blob_call, referrers_call}
+use Rattle.sig_settings.specs.Keys.{manifest_key}
+use Rattle.sig_answers.specs.declared.answers.Answers.{Answers}
+use Rattle.sig_registry.specs.Calls.{in_words, digests, digest_made, document_made, blob_made, digest_call, image_call, document_call, blob_call, referrers_call}
 use Rattle.cosign_layers.specs.Standing.{Meaning}
 use Rattle.cosign_layers.specs.Trust.{Trust}
 use Rattle.cosign_layers.specs.declared.layer.SignatureLayer.{SignatureLayer}
 use Rattle.cosign_chain.specs.declared.image.VerifiedImage.{VerifiedImage}
-use Rattle.cosign_client.specs.Causes.{SearchCause, Found, NoneStands, PullCause}
+use Rattle.cosign_client.specs.Causes.{SearchCause, Found, PullCause}
 use Rattle.cosign_client.specs.Image.{document_in, entry_in, with_image, layers_row, blobs_row, entry_call, entry_row, manifest_row, image_row}
 use Rattle.cosign_client.specs.Part.{skipping, appended}
 use Rattle.cosign_client.specs.Points.{Point, point, Ran}
 use Rattle.cosign_client.specs.References.{tag_reference, digest_reference, or_not_valid, reading_back}
 use Rattle.cosign_client.specs.Refusal.{is_memory, refused_as}
 use Rattle.cosign_client.specs.Search.{bundle_type, tag_layers, or_skipped, tag_by, tag_source, behind, referrer_part, referrer_by, referrer_row, referrers_row, listed_row, referrers_source, trusted_layers, searched}
-use Rattle.cosign_client.specs.Verified.{Whole, constrained, is_unconstrained, readable, readable_by, as_whole, part_of, stands_by, standing_by, standing, verified_image, after_search, verified}
+use Rattle.cosign_client.specs.Verified.{constrained, is_unconstrained, readable, readable_by, as_whole, part_of, stands_by, standing_by, standing, verified_image, after_search, verified}
 use Rattle.cosign_client.specs.declared.found.Part.{Part}
 use Rattle.cosign_client.specs.declared.found.SkipCause.{SkipCause}
 use Rattle.cosign_client.specs.declared.found.SkipCause.TheVariants.{Refused}
@@ -58,6 +61,7 @@ use Rattle.cosign_client.specs.declared.pull.Pulled.{Pulled}
 use Rattle.cosign_client.specs.declared.refusal.PullRefusal.{PullRefusal}
 use Rattle.cosign_client.specs.declared.refusal.PullRefusal.TheVariants as refusal
 use Rattle.cosign_client.specs.declared.verified.Standing.{Standing}
+use Rattle.cosign_client.proofs.Cached.{cached_ends}
 
 -- ---- which refusals a part can answer
 
@@ -98,9 +102,13 @@ words_own : {A : Type 0} (called : Called) (image : Reference) (p : Engine A) �
 unfolding in_words Ends
 words_own called image p = Ends-bind (λ r. Unit {0}) (OnRefusal (IsOwn called)) p (λ r. Done (worded called (whole_text image) r)) (any_ends p) (λ r u. worded_own called (whole_text image) r)
 
+digest_made_own : (s : Context) (image : Reference) (a : RegistryAuth) → Ends (OnRefusal (IsOwn FetchManifest)) (digest_made s image a)
+unfolding digest_made
+digest_made_own s image a = words_own FetchManifest image (fetch_manifest_digest s image a)
+
 digest_own : (s : Context) (image : Reference) (a : RegistryAuth) → Ends (OnRefusal (IsOwn FetchManifest)) (digest_call s image a)
 unfolding digest_call
-digest_own s image a = words_own FetchManifest image (fetch_manifest_digest s image a)
+digest_own s image a = cached_ends digests (manifest_key image a) s.moment (OnRefusal (IsOwn FetchManifest)) (reads_back image) (digest_made s image a) (λ digest. tt) (digest_made_own s image a)
 
 unless : {K A B E : Type 0} (Q : E → Type 0) (f : A → Proto K (Result B E)) → ((a : A) → Ends (OnRefusal Q) (f a)) → (r : Result A E) → OnRefusal Q r → Ends (OnRefusal Q) (unless_refused f r)
 unfolding Ends
@@ -115,12 +123,12 @@ unfolding Ends
 done_own Q r h = h
 
 blob_own : (s : Context) (image : Reference) (layer : Layer) → Ends (OnRefusal (IsOwn Pull)) (blob_call s image layer)
-unfolding blob_call
-blob_own s image layer = words_own Pull image (held_blob s image layer)
+unfolding blob_call blob_made
+blob_own s image layer = Ends-lifted (Option Answers) (OnRefusal (IsOwn Pull)) (blob_made s image layer) (words_own Pull image (held_blob s image layer))
 
 document_own : (s : Context) (image : Reference) (a : RegistryAuth) (types : List ℕ) → Ends (OnRefusal (IsOwn Pull)) (document_call s image a types)
-unfolding document_call
-document_own s image a types = words_own Pull image (pull_manifest_raw s image a types)
+unfolding document_call document_made
+document_own s image a types = Ends-lifted (Option Answers) (OnRefusal (IsOwn Pull)) (document_made s image a types) (words_own Pull image (pull_manifest_raw s image a types))
 
 layers_own : (s : Context) (source : Reference) (xs : List OciDescriptor) (layers : List ImageLayer) → Ends (OnRefusal (IsOwn Pull)) (layers_row s source xs layers)
 unfolding layers_row

@@ -1,5 +1,5 @@
 -- What each whole run of the search and of the pull shows: a chain, that comes of the conversation.
-use Rattle.std.proofs.Common.{◌≡◌, ◌<◌, inl, inr, ℕ, Bool, true, false, cond, List, [], ◌∷◌, ◌++◌, Option, Some, None, Result, Ok, Err, IfOk, length, refl, sym, ap, ◌∙◌, subst, arith, append_assoc, append-nil}
+use Rattle.std.proofs.Common.{◌≡◌, ◌<◌, ◌⊎◌, inl, inr, ℕ, Bool, true, false, cond, List, [], ◌∷◌, ◌++◌, Option, Some, None, Result, Ok, Err, IfOk, length, refl, sym, ap, ◌∙◌, subst, arith, append_assoc, append-nil}
 use Rattle.std.specs.Prelude.{if◌then◌else◌, find, unwrap_or}
 use Rattle.std.specs.FinMap as map_of
 use Rattle.oci_names.specs.declared.reference.Reference.{Reference}
@@ -14,12 +14,12 @@ use Rattle.oci_manifests.specs.declared.index_entry.ImageIndexEntry.{ImageIndexE
 use Rattle.oci_transport.specs.declared.message.Exchange.{Exchange}
 use Rattle.oci_transport.specs.declared.message.Method.{Method}
 use Rattle.oci_transport.specs.Link.{Link}
-use Rattle.oci_protocol.specs.Proto.{Proto, Done, ◌>>=◌, ◌>>◌}
+use Rattle.oci_protocol.specs.Proto.{Done}
 use Rattle.oci_protocol.specs.Shows.{Shows}
 use Rattle.oci_protocol.specs.Ends.{Ends, OnAnswer}
 use Rattle.oci_protocol.specs.Runs.{Meets, Told}
 use Rattle.oci_protocol.proofs.Ends.{Ends-any, Ends-bind, Ends-next, Runs-ends}
-use Rattle.oci_protocol.proofs.Showing.{Shows-done, Shows-bind, Meets-shows-ok}
+use Rattle.oci_protocol.proofs.Showing.{Shows-done, Shows-bind}
 use Rattle.engine_requests.specs.Contexts.{Context}
 use Rattle.engine_requests.specs.declared.settings.Settings.{Settings}
 use Rattle.engine_pull.specs.declared.image.ImageData.{ImageData}
@@ -28,7 +28,9 @@ use Rattle.engine_laws.proofs.DocumentAnswers.{body_after}
 use Rattle.sig_registry.specs.declared.error.SigstoreError.{SigstoreError}
 use Rattle.sig_registry.specs.Errors.{is_memory}
 use Rattle.sig_registry.specs.Clients.{Kept, Row}
-use Rattle.sig_registry.specs.Calls.{digest_call, manifest_call, image_call, referrers_call}
+use Rattle.sig_settings.specs.Keys.{manifest_key}
+use Rattle.sig_registry.specs.Caching.{known}
+use Rattle.sig_registry.specs.Calls.{digests, digest_made, digest_call, manifest_call, image_call, referrers_call}
 use Rattle.cosign_layers.specs.Checks.{input}
 use Rattle.cosign_layers.specs.Constraint.{has_no_item}
 use Rattle.cosign_layers.specs.Layer.{LayerOf, Named}
@@ -52,8 +54,8 @@ use Rattle.cosign_client.specs.Part.{skipping, appended, layer_part, named_layer
 use Rattle.cosign_client.specs.References.{tag_reference, digest_reference, reading_back}
 use Rattle.cosign_client.specs.Refusal.{is_memory as of_refusal}
 use Rattle.cosign_client.specs.Search.{payload_type, document_part, tag_layers, or_skipped, tag_by, tag_source, bundle_type, behind, referrer_part, referrer_by, referrer_row, referrers_row, listed_row, referrers_source, trusted_layers, searched}
-use Rattle.cosign_client.specs.Sound.{EachBody, Backed, Sound}
-use Rattle.cosign_client.specs.Verified.{Whole, constrained, is_unconstrained, readable, as_whole, part_of, stands_by, standing_by, standing, manifest_digests, verified_image, after_search, verified}
+use Rattle.cosign_client.specs.Sound.{Fresh, AnsweredOrFresh, Backed, Sound}
+use Rattle.cosign_client.specs.Verified.{constrained, is_unconstrained, readable, as_whole, part_of, stands_by, standing_by, standing, manifest_digests, verified_image, after_search, verified}
 use Rattle.cosign_client.specs.declared.found.Part.{Part}
 use Rattle.cosign_client.specs.declared.found.SkipCause.{SkipCause}
 use Rattle.cosign_client.specs.declared.found.SkipCause.TheVariants.{Refused}
@@ -65,7 +67,9 @@ use Rattle.cosign_client.specs.declared.found.TrustedLayers.{TrustedLayers}
 use Rattle.cosign_client.specs.declared.pull.Pulled.{Pulled}
 use Rattle.cosign_client.specs.declared.refusal.PullRefusal.{PullRefusal}
 use Rattle.cosign_client.specs.declared.verified.Standing.{Standing}
-use Rattle.cosign_client.proofs.Images.{Seen, digest_call_shows, next_seen, step_seen, done_seen, bodies_after, IsFirst, IsEntry, Leads, Links, image_shows}
+use Rattle.cosign_client.proofs.Beginnings.{SeenFrom, next_from, step_from, part_from, told_from}
+use Rattle.cosign_client.proofs.Cached.{IsKnown, IsMade, cached_run}
+use Rattle.cosign_client.proofs.Images.{Seen, digest_made_shows, next_seen, step_seen, done_seen, bodies_after, IsFirst, IsEntry, Leads, Links, image_shows}
 
 -- ---- an answered digest stays one as more is asked
 
@@ -93,6 +97,10 @@ answered_before s image c d digest answered = record {
     | inr other ↦ inr (other.0, record { get = first_before d other.1.get; body = other.1.body })
   ];
 }
+
+given_before : (kept : Kept) (s : Context) (image : Reference) (a : RegistryAuth) (c d : List Exchange) (digest : List ℕ) → AnsweredOrFresh kept s image a c digest → AnsweredOrFresh kept s image a (c ++ d) digest
+given_before kept s image a c d digest (inl answered) = inl (answered_before s.settings image c d digest answered)
+given_before kept s image a c d digest (inr fresh) = inr fresh
 
 -- ---- the layers that were found
 
@@ -221,10 +229,27 @@ referrers_source_ends trust d s source a part h = Ends-bind (λ r. Unit {0}) (On
 
 -- ---- the search
 
--- the digest was answered, and what was found fits it
-record Found (trust : Trust) (s : Settings) (image : Reference) (c : List Exchange) (found : TrustedLayers) : Type 0 where
-  answered : Answered s image c found.digest
+-- the digest was answered, now or before, and what was found fits it
+record Found (kept : Kept) (trust : Trust) (s : Context) (image : Reference) (a : RegistryAuth) (c : List Exchange) (found : TrustedLayers) : Type 0 where
+  answered : AnsweredOrFresh kept s image a c found.digest
   fit : AllFit trust found.digest found.collected
+
+-- a client that keeps no answers gives none of them
+pub none_fresh : (kept : Kept) (s : Context) (image : Reference) (a : RegistryAuth) (digest : List ℕ) → kept.1 ≡ None → Fresh kept s image a digest → ⊥
+none_fresh kept s image a digest none fresh = never (ap (λ answers. known digests (manifest_key image a) s.moment answers) (sym none) ∙ fresh) where
+  never : (let o : Option (List ℕ) = None in o) ≡ Some digest → ⊥
+  never is = cc is
+
+digest_call_seen : (kept : Kept) (s : Context) (image : Reference) (a : RegistryAuth) → SeenFrom kept (AnsweredOrFresh kept s image a) (digest_call s image a)
+unfolding digest_call
+digest_call_seen kept s image a = record { seen = λ l m n c r run. by_run l m n c r (cached_run digests (manifest_key image a) s.moment (reads_back image) (digest_made s image a) kept l m n c r run) } where
+  by_made : (m n : ℕ) (c : List Exchange) (r : Result (List ℕ) SigstoreError) → Seen (Answered s.settings image) m c n r → Seen (AnsweredOrFresh kept s image a) m c n r
+  by_made m n c (Ok digest) h = inl h
+  by_made m n c (Err e) h = tt
+
+  by_run : (l : Kept) (m n : ℕ) (c : List Exchange) (r : Result (List ℕ) SigstoreError) → IsKnown digests (manifest_key image a) s.moment kept m c n l r ⊎ IsMade digests (manifest_key image a) s.moment (reads_back image) (digest_made s image a) kept m c n l r → Seen (AnsweredOrFresh kept s image a) m c n r
+  by_run l m n c r (inl h) = subst (λ r. Seen (AnsweredOrFresh kept s image a) m c n r) h.result (inr h.known_is)
+  by_run l m n c r (inr h) = by_made m n c r ((digest_made_shows s image a).shows kept.0 l.0 m n c r h.runs)
 
 fits_seen : (trust : Trust) (d : List ℕ) (m n : ℕ) (c : List Exchange) (r : Result Part SigstoreError) → OnAnswer (PartFits trust d) r → Seen (λ c part. PartFits trust d part) m c n r
 fits_seen trust d m n c (Ok part) h = h
@@ -233,15 +258,15 @@ fits_seen trust d m n c (Err e) h = tt
 part_shows : (trust : Trust) (d : List ℕ) (p : Row Part) → Ends (OnAnswer (PartFits trust d)) p → Shows (Seen (λ c part. PartFits trust d part)) p
 part_shows trust d p h = record { shows = λ k l m n c r run. fits_seen trust d m n c r (Runs-ends (OnAnswer (PartFits trust d)) p k l m n c r h run) }
 
-search_shows : (trust : Trust) (s : Context) (image : Reference) (a : RegistryAuth) → Shows (Seen (Found trust s.settings image)) (searched trust s image a)
+search_seen : (kept : Kept) (trust : Trust) (s : Context) (image : Reference) (a : RegistryAuth) → SeenFrom kept (Found kept trust s image a) (searched trust s image a)
 unfolding searched
-search_shows trust s image a =
-    next_seen (Answered s.settings image) (Found trust s.settings image) (digest_call s image a) _ (digest_call_shows s image a) (λ c digest answered.
-    step_seen (λ d found. Found trust s.settings image (c ++ d) found) (reading_back (digest_reference image digest)) _ (λ u is.
-    next_seen (λ d part. PartFits trust digest part) (λ d found. Found trust s.settings image (c ++ d) found) (tag_source trust s image a digest) _ (part_shows trust digest (tag_source trust s image a digest) (source_ends trust s image a digest)) (λ d tag fit.
-    next_seen (λ e part. PartFits trust digest part) (λ e found. Found trust s.settings image (c ++ (d ++ e)) found) (referrers_source trust digest s (digest_reference image digest) a tag) _
+search_seen kept trust s image a =
+    next_from kept (AnsweredOrFresh kept s image a) (Found kept trust s image a) (digest_call s image a) _ (digest_call_seen kept s image a) (λ c digest answered.
+    step_seen (λ d found. Found kept trust s image a (c ++ d) found) (reading_back (digest_reference image digest)) _ (λ u is.
+    next_seen (λ d part. PartFits trust digest part) (λ d found. Found kept trust s image a (c ++ d) found) (tag_source trust s image a digest) _ (part_shows trust digest (tag_source trust s image a digest) (source_ends trust s image a digest)) (λ d tag fit.
+    next_seen (λ e part. PartFits trust digest part) (λ e found. Found kept trust s image a (c ++ (d ++ e)) found) (referrers_source trust digest s (digest_reference image digest) a tag) _
     (part_shows trust digest (referrers_source trust digest s (digest_reference image digest) a tag) (referrers_source_ends trust digest s (digest_reference image digest) a tag fit)) (λ e part fit.
-    done_seen (λ f found. Found trust s.settings image (c ++ (d ++ (e ++ f))) found) (trusted_layers digest part) (record { answered = answered_before s.settings image c (d ++ (e ++ [])) digest answered; fit = fit })))))
+    done_seen (λ f found. Found kept trust s image a (c ++ (d ++ (e ++ f))) found) (trusted_layers digest part) (record { answered = given_before kept s image a c (d ++ (e ++ [])) digest answered; fit = fit })))))
 
 -- ---- the pull
 
@@ -269,9 +294,9 @@ part_seen : {A : Type 0} (P : List Exchange → A → Type 0) (p : Row A) → Sh
 unfolding part_of
 part_seen P p h = Shows-bind (Seen P) (Seen P) p (λ r. Done (as_whole r)) h (λ m n c r at. Shows-done (λ s d o b. Seen P m (c ++ d) o b) (as_whole r) (λ o. whole_seen P m n o c r at))
 
-module _ {V : Type 0} {H : V → Type 0} (s : Context) (meaning : Meaning V H) (image : Reference) (a : RegistryAuth) (accepted : List (List ℕ)) where
+module _ {V : Type 0} {H : V → Type 0} (kept : Kept) (s : Context) (meaning : Meaning V H) (image : Reference) (a : RegistryAuth) (accepted : List (List ℕ)) where
   abbrev IsSound : List Exchange → VerifiedImage → Type 0
-  IsSound = Sound s.settings meaning image accepted
+  IsSound = Sound kept s meaning image a accepted
 
   first_leads : (stood : Standing) (pulled : Pulled) → IsFirst pulled.first pulled.chosen → FirstIsManifest (verified_image stood pulled)
   first_leads stood pulled h = record { reads = h.reads; bytes = h.bytes; digest = ap (λ o. (manifest_digests stood.digest o).0) h.none; no_list = ap (λ o. (manifest_digests stood.digest o).1) h.none }
@@ -293,7 +318,7 @@ module _ {V : Type 0} {H : V → Type 0} (s : Context) (meaning : Meaning V H) (
   leads (Some promise) stood pulled (inl h) = inl (first_leads stood pulled h)
   leads (Some promise) stood pulled (inr h) = inr (entry_leads promise stood pulled h)
 
-  sound_of : (c d : List Exchange) (stood : Standing) (pulled : Pulled) → Answered s.settings image c stood.digest → StandsFor meaning stood.digest stood.signature → Links s.settings.platform_resolver image stood.digest accepted d pulled → IsSound (c ++ d) (verified_image stood pulled)
+  sound_of : (c d : List Exchange) (stood : Standing) (pulled : Pulled) → AnsweredOrFresh kept s image a c stood.digest → StandsFor meaning stood.digest stood.signature → Links s.settings.platform_resolver image stood.digest accepted d pulled → IsSound (c ++ d) (verified_image stood pulled)
   sound_of c d stood pulled answered signed links = record {
     chain = record {
       named = links.named;
@@ -305,7 +330,7 @@ module _ {V : Type 0} {H : V → Type 0} (s : Context) (meaning : Meaning V H) (
       signature = signed;
     };
     backed = record {
-      answered = answered_before s.settings image c d stood.digest answered;
+      answered = given_before kept s image a c d stood.digest answered;
       first = body_after c links.first_body;
       manifest = body_after c links.manifest_body;
       config = body_after c links.config_body;
@@ -315,17 +340,17 @@ module _ {V : Type 0} {H : V → Type 0} (s : Context) (meaning : Meaning V H) (
 
   -- what stands does so for the digest that was answered
   record Stood (c : List Exchange) (stood : Standing) : Type 0 where
-    answered : Answered s.settings image c stood.digest
+    answered : AnsweredOrFresh kept s image a c stood.digest
     stands : StandsFor meaning stood.digest stood.signature
 
-  stood_by : (c : List Exchange) (found : TrustedLayers) (o : Option SignatureLayer) (stood : Standing) → 0 < length meaning.policy.constraints → Found meaning.trust s.settings image c found → find (stands_by meaning) found.collected ≡ o → standing_by found o ≡ Ok stood → Stood c stood
+  stood_by : (c : List Exchange) (found : TrustedLayers) (o : Option SignatureLayer) (stood : Standing) → 0 < length meaning.policy.constraints → Found kept meaning.trust s image a c found → find (stands_by meaning) found.collected ≡ o → standing_by found o ≡ Ok stood → Stood c stood
   stood_by c found None stood some h first is = absurd (cc is)
   stood_by c found (Some signature) stood some h first is =
       let same : (let x : Standing = record { digest = found.digest; signature = signature } in x) ≡ stood = cc is in
       let f = first_fits meaning.trust (stands_by meaning) found.digest found.collected signature h.fit first in
       subst (Stood c) same (record { answered = h.answered; stands = (stands_for meaning signature found.digest (f.0).layer_of (f.0).about some).0 f.1 })
 
-  after_shows : (c : List Exchange) (found : TrustedLayers) → 0 < length meaning.policy.constraints → Found meaning.trust s.settings image c found → Shows (Seen (λ d v. IsSound (c ++ d) v)) (after_search meaning s image a accepted found)
+  after_shows : (c : List Exchange) (found : TrustedLayers) → 0 < length meaning.policy.constraints → Found kept meaning.trust s image a c found → Shows (Seen (λ d v. IsSound (c ++ d) v)) (after_search meaning s image a accepted found)
   unfolding after_search
   after_shows c found some h =
       step_seen (λ d v. IsSound (c ++ d) v) (standing meaning found) _ (λ stood is.
@@ -335,28 +360,28 @@ module _ {V : Type 0} {H : V → Type 0} (s : Context) (meaning : Meaning V H) (
       done_seen (λ e v. IsSound (c ++ (d ++ e)) v) (verified_image stood pulled) (rw append-nil (sound_of c d stood pulled stands.answered stands.stands links))))
 
   -- what a pull answers has a chain, and comes of its conversation
-  pub verified_shows : Shows (Seen IsSound) (verified meaning s image a accepted)
+  pub verified_seen : SeenFrom kept IsSound (verified meaning s image a accepted)
   unfolding verified
-  verified_shows =
-      step_seen IsSound (constrained (is_unconstrained meaning.policy)) _ (λ u is.
-      step_seen IsSound (readable image) _ (λ v back.
-      next_seen (Found meaning.trust s.settings image) IsSound (part_of (searched meaning.trust s image a)) _ (part_seen (Found meaning.trust s.settings image) (searched meaning.trust s image a) (search_shows meaning.trust s image a)) (λ c found h.
+  verified_seen =
+      step_from kept IsSound (constrained (is_unconstrained meaning.policy)) _ (λ u is.
+      step_from kept IsSound (readable image) _ (λ v back.
+      next_from kept (Found kept meaning.trust s image a) IsSound (part_of (searched meaning.trust s image a)) _ (part_from kept (Found kept meaning.trust s image a) (searched meaning.trust s image a) (search_seen kept meaning.trust s image a)) (λ c found h.
       after_shows c found (some_constraint meaning.policy.constraints (constrained_some (is_unconstrained meaning.policy) u is)) h)))
 
-  told_sound : {old new : Link} {k l : Kept} {r : Result VerifiedImage PullRefusal} → Meets of_refusal (verified meaning s image a accepted) old new k l r → IfOk r (λ v. Told (λ c. IsSound c v) old new)
-  told_sound met = Meets-shows-ok (λ m c n v. IsSound c v) verified_shows met
+  told_sound : {old new : Link} {l : Kept} (r : Result VerifiedImage PullRefusal) → Meets of_refusal (verified meaning s image a accepted) old new kept l r → IfOk r (λ v. Told (λ c. IsSound c v) old new)
+  told_sound r met = told_from IsSound r verified_seen met
 
   -- the chain of what a pull answers
-  pub chain_of : {old new : Link} {k l : Kept} (r : Result VerifiedImage PullRefusal) → Meets of_refusal (verified meaning s image a accepted) old new k l r → IfOk r (λ v. Chain meaning image accepted s.settings.platform_resolver v)
-  chain_of (Ok v) met = (told_sound met).holds.chain
+  pub chain_of : {old new : Link} {l : Kept} (r : Result VerifiedImage PullRefusal) → Meets of_refusal (verified meaning s image a accepted) old new kept l r → IfOk r (λ v. Chain meaning image accepted s.settings.platform_resolver v)
+  chain_of (Ok v) met = (told_sound (Ok v) met).holds.chain
   chain_of (Err e) met = tt
 
   -- its links
-  pub links_of : {old new : Link} {k l : Kept} (r : Result VerifiedImage PullRefusal) → Meets of_refusal (verified meaning s image a accepted) old new k l r → IfOk r (λ v. HasLinks image accepted v)
-  links_of (Ok v) met = chain_links (told_sound met).holds.chain
+  pub links_of : {old new : Link} {l : Kept} (r : Result VerifiedImage PullRefusal) → Meets of_refusal (verified meaning s image a accepted) old new kept l r → IfOk r (λ v. HasLinks image accepted v)
+  links_of (Ok v) met = chain_links (told_sound (Ok v) met).holds.chain
   links_of (Err e) met = tt
 
   -- and where it comes from
-  pub backed_of : {old new : Link} {k l : Kept} (r : Result VerifiedImage PullRefusal) → Meets of_refusal (verified meaning s image a accepted) old new k l r → IfOk r (λ v. Told (λ c. Backed s.settings image c v) old new)
-  backed_of (Ok v) met = let told = told_sound met in record { conversation = told.conversation; told = told.told; holds = told.holds.backed }
+  pub backed_of : {old new : Link} {l : Kept} (r : Result VerifiedImage PullRefusal) → Meets of_refusal (verified meaning s image a accepted) old new kept l r → IfOk r (λ v. Told (λ c. Backed kept s image a c v) old new)
+  backed_of (Ok v) met = let told = told_sound (Ok v) met in record { conversation = told.conversation; told = told.told; holds = told.holds.backed }
   backed_of (Err e) met = tt

@@ -4,9 +4,11 @@ use Rattle.std.specs.Prelude.{MatchBool}
 use Rattle.oci_transport.specs.Link.{Link, Steady, Extends}
 use Rattle.oci_transport.specs.declared.message.Exchange.{Exchange}
 use Rattle.oci_protocol.specs.Proto.{Proto, Done, bind}
+use Rattle.oci_protocol.specs.Lift.{lifted}
 use Rattle.oci_protocol.specs.Ends.{UnlessMemory}
 use Rattle.oci_protocol.specs.Runs.{Runs, Performs, Breaks, Outcome, Meets}
 use Rattle.oci_protocol.proofs.Laws.{Runs-count}
+use Rattle.oci_protocol.proofs.Lifting.{Runs-unlifted}
 use Rattle.oci_protocol.proofs.Parts.{Runs-parts}
 
 -- of each whole run this is so: of the counts before and after it, and of its answer
@@ -35,6 +37,10 @@ Counts-bind P Q p f h each = record {
       let t = Runs-parts p f k m c n l b r in
       (each m t.count t.answer (h.counts k t.between m t.count t.first t.answer t.runs_first)).counts t.between l t.count n t.second b t.runs_second refl;
 }
+
+-- beside something that stays as it is
+pub Counts-lifted : {K C A : Type 0} (Q : ℕ → ℕ → A → Type 0) (p : Proto K A) → Counts Q p → Counts {K = K × C} Q (lifted p)
+Counts-lifted Q p h = record { counts = λ k l m n c a r. h.counts k.0 l.0 m n c a (Runs-unlifted p k l m n c a r).0 }
 
 -- so it is of a call, unless memory was wanting
 pub Meets-counts : {K A E : Type 0} {of_memory : E → Bool} (Q : ℕ → ℕ → Result A E → Type 0) {p : Proto K (Result A E)} {old new : Link} {k l : K} {r : Result A E} → Counts Q p → Meets of_memory p old new k l r → UnlessMemory of_memory (λ r. Q old.faults new.faults r) r

@@ -8,6 +8,7 @@ use Rattle.json_values.specs.Counts.{Rose}
 use Rattle.oci_names.specs.declared.reference.Reference.{Reference}
 use Rattle.oci_names.specs.References.{whole_text, reads_back}
 use Rattle.oci_auth.specs.declared.auth.RegistryAuth.{RegistryAuth}
+use Rattle.oci_auth.specs.declared.memory.Memory.{Memory}
 use Rattle.oci_auth.specs.declared.token_type.RegistryOperation.{RegistryOperation}
 use Rattle.oci_auth.specs.declared.token_type.RegistryOperation.TheVariants as operation
 use Rattle.oci_digests.specs.Names.{digest_text}
@@ -21,7 +22,7 @@ use Rattle.oci_manifests.specs.declared.index_entry.ImageIndexEntry.{ImageIndexE
 use Rattle.oci_manifests.specs.declared.blob.ImageLayer.{ImageLayer}
 use Rattle.oci_transport.specs.Link.{Link}
 use Rattle.oci_transport.specs.declared.message.Exchange.{Exchange}
-use Rattle.oci_protocol.specs.Proto.{Done, bind, unless_refused, ◌>>=◌}
+use Rattle.oci_protocol.specs.Proto.{Proto, Done, bind, unless_refused, ◌>>=◌}
 use Rattle.oci_protocol.specs.Ends.{OnAnswer}
 use Rattle.oci_protocol.specs.Runs.{Runs, Meets}
 use Rattle.oci_protocol.proofs.Laws.{Runs-count}
@@ -51,8 +52,10 @@ use Rattle.sig_registry.specs.declared.error.SigstoreError.TheVariants as sigsto
 use Rattle.sig_registry.specs.declared.wording.Called.{Called}
 use Rattle.sig_registry.specs.declared.wording.Called.TheVariants.{FetchManifest, Pull, PullManifest}
 use Rattle.sig_registry.specs.Errors.{is_memory, worded, refusal as call_refusal}
-use Rattle.sig_registry.specs.Clients.{Kept, Row}
-use Rattle.sig_registry.specs.Calls.{in_words, digest_call, manifest_call, image_call, referrers_call}
+use Rattle.sig_settings.specs.Keys.{manifest_key, pull_key, referrers_key}
+use Rattle.sig_registry.specs.Caching.{Cache, cached}
+use Rattle.sig_registry.specs.Clients.{Kept, Plain, Row}
+use Rattle.sig_registry.specs.Calls.{in_words, manifests, images, referrers, manifest_made, image_made, referrers_made, digest_call, manifest_call, image_call, referrers_call}
 use Rattle.cosign_layers.specs.Checks.{input, Input, layer_read}
 use Rattle.cosign_layers.specs.Rejection.{is_memory as is_layer_memory}
 use Rattle.cosign_layers.specs.Standing.{Meaning}
@@ -64,7 +67,7 @@ use Rattle.cosign_layers.specs.declared.rejection.LayerRejection.TheVariants.{Wa
 use Rattle.cosign_layers.proofs.Layers.{never_memory}
 use Rattle.cosign_chain.specs.declared.image.VerifiedImage.{VerifiedImage}
 use Rattle.cosign_client.specs.Image.{image_row}
-use Rattle.cosign_client.specs.Part.{skipping, appended, layer_part, named_layer, read_layer, descriptor_part, descriptors_part, read_bundle, bundle_part, bundles_part}
+use Rattle.cosign_client.specs.Part.{skipping, appended, layer_part, named_layer, read_layer, descriptors_part, read_bundle, bundles_part}
 use Rattle.cosign_client.specs.References.{tag_reference, digest_reference, reading_back}
 use Rattle.cosign_client.specs.Refusal.{is_memory as of_refusal, refused_as}
 use Rattle.cosign_client.specs.Search.{payload_type, document_part, tag_layers, or_skipped, tag_by, tag_source, bundle_type, behind, referrer_part, referrer_by, referrer_row, referrers_row, listed_row, referrers_source, trusted_layers, searched}
@@ -82,6 +85,7 @@ use Rattle.cosign_client.specs.declared.pull.Pulled.{Pulled}
 use Rattle.cosign_client.specs.declared.refusal.PullRefusal.{PullRefusal}
 use Rattle.cosign_client.specs.declared.refusal.PullRefusal.TheVariants as refusal
 use Rattle.cosign_client.specs.declared.verified.Standing.{Standing}
+use Rattle.cosign_client.proofs.Cached.{cached_counts}
 use Rattle.cosign_client.proofs.Causes.{rest_of}
 use Rattle.cosign_client.proofs.Counts.{Counts, Counts-any, Counts-done, Counts-more, Counts-bind, Meets-counts, silent, Runs-meets}
 
@@ -114,13 +118,13 @@ only_fault engine_refusal.TransportFault is = refl
 only_fault _ is = absurd (cc is)
 
 -- a refusal that is a fault, over a run
-pub fault_of : {A : Type 0} (p : Engine A) (k l : Kept) (m n : ℕ) (c : List Exchange) (e : OciDistributionError) → Runs p k m c n l (Err e)
+pub fault_of : {A : Type 0} (p : Engine A) (k l : Memory) (m n : ℕ) (c : List Exchange) (e : OciDistributionError) → Runs p k m c n l (Err e)
     → ((old new : Link) → Meets engine_is_memory p old new k l (Err engine_refusal.TransportFault) → Rose old.faults new.faults) → is_engine_fault e ≡ true → Rose m n
 fault_of {A} p k l m n c e run rose is = rose (silent m) (silent n) (Runs-meets engine_is_memory p k l m n c engine_refusal.TransportFault refl (subst (λ x. Runs p k m c n l (let r : Result A OciDistributionError = Err x in r)) (only_fault e is) run))
 
 manifest_counts : (s : Context) (image : Reference) (a : RegistryAuth) → Counts EngineCounts (pull_manifest s image a)
 manifest_counts s image a = record { counts = λ k l m n c r run. by_result k l m n c r run } where
-  by_result : (k l : Kept) (m n : ℕ) (c : List Exchange) (r : Result (OciManifest × List ℕ) OciDistributionError) → Runs (pull_manifest s image a) k m c n l r → EngineCounts m n r
+  by_result : (k l : Memory) (m n : ℕ) (c : List Exchange) (r : Result (OciManifest × List ℕ) OciDistributionError) → Runs (pull_manifest s image a) k m c n l r → EngineCounts m n r
   by_result k l m n c (Ok found) run = Runs-count (pull_manifest s image a) k l m n c (Ok found) run
   by_result k l m n c (Err e) run = record {
     falls = Runs-count (pull_manifest s image a) k l m n c (Err e) run;
@@ -130,7 +134,7 @@ manifest_counts s image a = record { counts = λ k l m n c r run. by_result k l 
 
 image_counts : (s : Context) (image : Reference) (a : RegistryAuth) (accepted : List (List ℕ)) → Counts EngineCounts (pull s image a accepted)
 image_counts s image a accepted = record { counts = λ k l m n c r run. by_result k l m n c r run } where
-  by_result : (k l : Kept) (m n : ℕ) (c : List Exchange) (r : Result ImageData OciDistributionError) → Runs (pull s image a accepted) k m c n l r → EngineCounts m n r
+  by_result : (k l : Memory) (m n : ℕ) (c : List Exchange) (r : Result ImageData OciDistributionError) → Runs (pull s image a accepted) k m c n l r → EngineCounts m n r
   by_result k l m n c (Ok found) run = Runs-count (pull s image a accepted) k l m n c (Ok found) run
   by_result k l m n c (Err e) run = record {
     falls = Runs-count (pull s image a accepted) k l m n c (Err e) run;
@@ -171,13 +175,25 @@ unfolding in_words
 words_count called image p h = Counts-bind EngineCounts CallCounts p (λ r. Done (worded called (whole_text image) r)) h
     (λ m n r at. Counts-done (λ start o b. start ≡ n → CallCounts m o b) (worded called (whole_text image) r) (λ o same. rw same (worded_counts called (whole_text image) m n r at)))
 
+-- a call that may be given from what is kept
+pub kept_counts : {A : Type 0} (cache : Cache A) (key : List ℕ) (now : ℕ) (b : Bool) (p : Plain A) → Counts CallCounts p → Counts CallCounts (cached b cache key now p)
+kept_counts cache key now b p h = cached_counts cache key now CallCounts b p (λ m a. omega arith) h
+
+manifest_made_counts : (s : Context) (image : Reference) (a : RegistryAuth) → Counts CallCounts (manifest_made s image a)
+unfolding manifest_made
+manifest_made_counts s image a = words_count PullManifest image (pull_manifest s image a) (manifest_counts s image a)
+
 pub manifest_call_counts : (s : Context) (image : Reference) (a : RegistryAuth) → Counts CallCounts (manifest_call s image a)
 unfolding manifest_call
-manifest_call_counts s image a = words_count PullManifest image (pull_manifest s image a) (manifest_counts s image a)
+manifest_call_counts s image a = kept_counts manifests (manifest_key image a) s.moment (reads_back image) (manifest_made s image a) (manifest_made_counts s image a)
+
+image_made_counts : (s : Context) (image : Reference) (a : RegistryAuth) (accepted : List (List ℕ)) → Counts CallCounts (image_made s image a accepted)
+unfolding image_made
+image_made_counts s image a accepted = words_count Pull image (pull s image a accepted) (image_counts s image a accepted)
 
 pub image_call_counts : (s : Context) (image : Reference) (a : RegistryAuth) (accepted : List (List ℕ)) → Counts CallCounts (image_call s image a accepted)
 unfolding image_call
-image_call_counts s image a accepted = words_count Pull image (pull s image a accepted) (image_counts s image a accepted)
+image_call_counts s image a accepted = kept_counts images (pull_key image a accepted) s.moment (reads_back image) (image_made s image a accepted) (image_made_counts s image a accepted)
 
 pub wider : (m n o : ℕ) (e : SigstoreError) → m ≤ n → SincereWords n o e → SincereWords m o e
 wider m n o e le h = record { falls = omega (arith, le, h.falls); no_memory = h.no_memory; fault = λ is. let rose : Rose n o = h.fault is in omega (arith, le, rose) }
@@ -187,8 +203,8 @@ pub call_later : {A : Type 0} (m n o : ℕ) (r : Result A SigstoreError) → m �
 call_later m n o (Ok a) le h = omega (arith, le, h)
 call_later m n o (Err e) le h = wider m n o e le h
 
-pub call_next : {A B : Type 0} (p : Row A) (f : A → Row B) → Counts CallCounts p → ((a : A) → Counts CallCounts (f a)) → Counts CallCounts (p >>= f)
-call_next {A} {B} p f h each = Counts-bind CallCounts CallCounts p (unless_refused f) h leads where
+pub call_next : {K A B : Type 0} (p : Proto K (Result A SigstoreError)) (f : A → Proto K (Result B SigstoreError)) → Counts CallCounts p → ((a : A) → Counts CallCounts (f a)) → Counts CallCounts (p >>= f)
+call_next {K} {A} {B} p f h each = Counts-bind CallCounts CallCounts p (unless_refused f) h leads where
   leads : (m n : ℕ) (r : Result A SigstoreError) → CallCounts m n r → Counts (λ t q b. t ≡ n → CallCounts m q b) (unless_refused f r)
   leads m n (Ok a) at = Counts-more CallCounts (λ t q b. t ≡ n → CallCounts m q b) (f a) (each a) (λ t q b h same. call_later m t q b (rw same at) h)
   leads m n (Err e) at = Counts-done (λ t q b. t ≡ n → CallCounts m q b) (Err e) (λ q same. rw same at)
@@ -203,7 +219,7 @@ token_memory s image a c n _ h other = refl
 
 token_counts : (s : Context) (image : Reference) (a : RegistryAuth) (op : RegistryOperation) → Counts EngineCounts (token_given s image a op)
 token_counts s image a op = record { counts = λ k l m n c r run. by_result k l m n c r run } where
-  by_result : (k l : Kept) (m n : ℕ) (c : List Exchange) (r : Result (Option (List ℕ)) OciDistributionError) → Runs (token_given s image a op) k m c n l r → EngineCounts m n r
+  by_result : (k l : Memory) (m n : ℕ) (c : List Exchange) (r : Result (Option (List ℕ)) OciDistributionError) → Runs (token_given s image a op) k m c n l r → EngineCounts m n r
   by_result k l m n c (Ok found) run = Runs-count (token_given s image a op) k l m n c (Ok found) run
   by_result k l m n c (Err e) run = record {
     falls = Runs-count (token_given s image a op) k l m n c (Err e) run;
@@ -221,7 +237,7 @@ listing_memory x s c n _ h other = refl
 
 listing_counts : (s : Context) (image : Reference) (kind : Option (List ℕ)) → Counts EngineCounts (pull_referrers s image kind)
 listing_counts s image kind = record { counts = λ k l m n c r run. by_result k l m n c r run } where
-  by_result : (k l : Kept) (m n : ℕ) (c : List Exchange) (r : Result OciImageIndex OciDistributionError) → Runs (pull_referrers s image kind) k m c n l r → EngineCounts m n r
+  by_result : (k l : Memory) (m n : ℕ) (c : List Exchange) (r : Result OciImageIndex OciDistributionError) → Runs (pull_referrers s image kind) k m c n l r → EngineCounts m n r
   by_result k l m n c (Ok index) run = Runs-count (pull_referrers s image kind) k l m n c (Ok index) run
   by_result k l m n c (Err e) run = let cause = (referrers_causes s image kind).shows k l m n c (Err e) run in record {
     falls = Runs-count (pull_referrers s image kind) k l m n c (Err e) run;
@@ -229,9 +245,13 @@ listing_counts s image kind = record { counts = λ k l m n c r run. by_result k 
     fault = fault_of (pull_referrers s image kind) k l m n c e run (λ old new met. referrers_fault s image kind met refl);
   }
 
+referrers_made_counts : (s : Context) (image : Reference) (a : RegistryAuth) (kind : Option (List ℕ)) → Counts CallCounts (referrers_made s image a kind)
+unfolding referrers_made
+referrers_made_counts s image a kind = call_next (in_words FetchManifest image (token_given s image a operation.Pull)) _ (words_count FetchManifest image (token_given s image a operation.Pull) (token_counts s image a operation.Pull)) (λ u. words_count PullManifest image (pull_referrers s image kind) (listing_counts s image kind))
+
 pub referrers_call_counts : (s : Context) (image : Reference) (a : RegistryAuth) (kind : Option (List ℕ)) → Counts CallCounts (referrers_call s image a kind)
 unfolding referrers_call
-referrers_call_counts s image a kind = call_next (in_words FetchManifest image (token_given s image a operation.Pull)) _ (words_count FetchManifest image (token_given s image a operation.Pull) (token_counts s image a operation.Pull)) (λ u. words_count PullManifest image (pull_referrers s image kind) (listing_counts s image kind))
+referrers_call_counts s image a kind = kept_counts referrers (referrers_key image a kind) s.moment (reads_back image) (referrers_made s image a kind) (referrers_made_counts s image a kind)
 
 -- ---- what is skipped
 

@@ -23,12 +23,13 @@ use Rattle.oci_manifests.specs.declared.blob.ImageLayer.{ImageLayer}
 use Rattle.oci_transport.specs.declared.message.Exchange.{Exchange}
 use Rattle.oci_protocol.specs.Proto.{Proto, Done, ◌>>=◌}
 use Rattle.oci_protocol.specs.Shows.{Shows, WhereOk}
+use Rattle.oci_protocol.proofs.Lifting.{Shows-lifted}
 use Rattle.oci_protocol.proofs.Showing.{Shows-done, Shows-more, Shows-bind, Shows-next, Shows-step}
 use Rattle.engine_requests.specs.Contexts.{Context}
 use Rattle.engine_requests.specs.Sources.{Layer, described}
 use Rattle.engine_requests.specs.declared.error.OciDistributionError.{OciDistributionError}
 use Rattle.engine_requests.specs.declared.error.OciDistributionError.TheVariants as engine_refusal
-use Rattle.engine_requests.specs.Errors.{is_memory as engine_is_memory, ◌>>=◌ as ◌before◌}
+use Rattle.engine_requests.specs.Errors.{is_memory as engine_is_memory}
 use Rattle.engine_requests.specs.Answers.{or_digest_error}
 use Rattle.engine_requests.specs.Requests.{manifest_types}
 use Rattle.engine_requests.specs.Documents.{document_read}
@@ -49,7 +50,7 @@ use Rattle.sig_registry.specs.declared.wording.Called.{Called}
 use Rattle.sig_registry.specs.declared.wording.Called.TheVariants.{FetchManifest, Pull}
 use Rattle.sig_registry.specs.Errors.{worded, refusal}
 use Rattle.sig_registry.specs.Clients.{Kept, Row}
-use Rattle.sig_registry.specs.Calls.{in_words, digest_call, document_call, blob_call}
+use Rattle.sig_registry.specs.Calls.{in_words, digest_made, document_made, blob_made, document_call, blob_call}
 use Rattle.cosign_client.specs.declared.pull.Pulled.{Pulled}
 use Rattle.cosign_client.specs.declared.pull.PulledManifest.{PulledManifest}
 use Rattle.cosign_client.proofs.Entries.{found_picked}
@@ -77,25 +78,25 @@ unfolding in_words
 words_show P called image p h = Shows-bind (Seen P) (Seen P) p (λ r. Done (worded called (whole_text image) r)) h
     (λ m n c r at. Shows-done (λ s d o b. Seen P m (c ++ d) o b) (worded called (whole_text image) r) (λ o. worded_seen P called (whole_text image) m n o c r at))
 
-pub digest_call_shows : (s : Context) (image : Reference) (a : RegistryAuth) → Shows (Seen (Answered s.settings image)) (digest_call s image a)
-unfolding digest_call
-digest_call_shows s image a = words_show (Answered s.settings image) FetchManifest image (fetch_manifest_digest s image a) (digest_shows s image a)
+pub digest_made_shows : (s : Context) (image : Reference) (a : RegistryAuth) → Shows (Seen (Answered s.settings image)) (digest_made s image a)
+unfolding digest_made
+digest_made_shows s image a = words_show (Answered s.settings image) FetchManifest image (fetch_manifest_digest s image a) (digest_shows s image a)
 
 -- a document of this image
 abbrev IsDocument : Reference → List Exchange → List ℕ × List ℕ → Type 0
 IsDocument image c found = Document image c found.0 found.1
 
 document_call_shows : (s : Context) (image : Reference) (a : RegistryAuth) (types : List ℕ) → Shows (Seen (IsDocument image)) (document_call s image a types)
-unfolding document_call
-document_call_shows s image a types = words_show (IsDocument image) Pull image (pull_manifest_raw s image a types) (raw_shows s image a types)
+unfolding document_call document_made
+document_call_shows s image a types = Shows-lifted (Seen (IsDocument image)) (document_made s image a types) (words_show (IsDocument image) Pull image (pull_manifest_raw s image a types) (raw_shows s image a types))
 
 -- the bytes of the last answer, which the digest names
 abbrev IsBlob : List ℕ → List Exchange → List ℕ → Type 0
 IsBlob digest c bytes = Body c bytes × Names digest bytes × LastBody c bytes
 
 blob_call_shows : (s : Context) (image : Reference) (layer : Layer) → Shows (Seen (IsBlob layer.digest)) (blob_call s image layer)
-unfolding blob_call
-blob_call_shows s image layer = words_show (IsBlob layer.digest) Pull image (held_blob s image layer) (blob_shows IntoMemory s image layer)
+unfolding blob_call blob_made
+blob_call_shows s image layer = Shows-lifted (Seen (IsBlob layer.digest)) (blob_made s image layer) (words_show (IsBlob layer.digest) Pull image (held_blob s image layer) (blob_shows IntoMemory s image layer))
 
 -- a step, and what it leads to, after what was seen before
 pub next_seen : {A B E : Type 0} (P : List Exchange → A → Type 0) (Q : List Exchange → B → Type 0) (p : Proto Kept (Result A E)) (f : A → Proto Kept (Result B E)) → Shows (Seen P) p → ((c : List Exchange) (a : A) → P c a → Shows (Seen (λ d b. Q (c ++ d) b)) (f a)) → Shows (Seen Q) (p >>= f)

@@ -1,4 +1,6 @@
+pub mod Beginnings
 pub mod BundleParts
+pub mod Cached
 pub mod Causes
 pub mod Chains
 pub mod Confinement
@@ -15,4 +17,7 @@ pub mod Leads
 pub mod Reading
 pub mod ReferrerRows
 pub mod Refusals
+pub mod RightShelf
+pub mod ShelfCalls
 pub mod ShelfPulls
+pub mod ShelfStays

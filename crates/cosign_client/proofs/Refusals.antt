@@ -7,11 +7,11 @@ use Rattle.json_values.specs.JsonText.{json_of}
 use Rattle.oci_names.specs.declared.reference.Reference.{Reference}
 use Rattle.oci_names.specs.References.{digest_of, whole_text, reads_back}
 use Rattle.oci_auth.specs.declared.auth.RegistryAuth.{RegistryAuth}
+use Rattle.oci_auth.specs.declared.memory.Memory.{Memory}
 use Rattle.oci_digests.specs.Checks.{checked, checked_by, and_then}
 use Rattle.oci_digests.specs.Names.{digest_text}
 use Rattle.oci_digests.specs.Parts.{parts_of, algorithm_of, named_by}
 use Rattle.oci_digests.specs.declared.digester.Algorithm.{Algorithm}
-use Rattle.oci_digests.specs.declared.error.DigestError.{DigestError}
 use Rattle.oci_digests.specs.declared.error.DigestError.TheVariants as digest_refusal
 use Rattle.oci_manifests.specs.Types.{is_manifest_type}
 use Rattle.oci_manifests.specs.Document.{document_of}
@@ -23,7 +23,7 @@ use Rattle.oci_manifests.specs.declared.blob.ImageLayer.{ImageLayer}
 use Rattle.oci_manifests.specs.declared.manifest.OciImageManifest.{OciImageManifest}
 use Rattle.oci_transport.specs.Link.{Link}
 use Rattle.oci_transport.specs.declared.message.Exchange.{Exchange}
-use Rattle.oci_protocol.specs.Proto.{Proto, Done, bind, unless_refused, ◌>>=◌, ◌>>◌}
+use Rattle.oci_protocol.specs.Proto.{Done, unless_refused, ◌>>=◌}
 use Rattle.oci_protocol.specs.Runs.{Runs, Meets}
 use Rattle.oci_protocol.specs.Shows.{Shows, ByAnswer}
 use Rattle.oci_protocol.proofs.Laws.{Runs-count}
@@ -45,7 +45,7 @@ use Rattle.engine_steps.specs.Blobs.{IntoMemory}
 use Rattle.engine_steps.specs.Rows.{Row as Engine}
 use Rattle.engine_pull.specs.Pulls.{fetch_manifest_digest, pull_manifest_raw, held_blob}
 use Rattle.engine_pull.specs.declared.image.ImageData.{ImageData}
-use Rattle.engine_pull.specs.Images.{is_accepted, all_accepted, layers_accepted, layer_of, config_of}
+use Rattle.engine_pull.specs.Images.{is_accepted, all_accepted, layers_accepted, layer_of}
 use Rattle.oci_engine.specs.Causes.{AnswerCause, BlobUrl, ManifestUrl, OwnDigest}
 use Rattle.engine_laws.proofs.BlobCauses.{blob_causes}
 use Rattle.engine_laws.proofs.DocumentCauses.{Accepted, OwnCause, raw_causes}
@@ -57,7 +57,8 @@ use Rattle.sig_registry.specs.declared.error.SigstoreError.TheVariants as sigsto
 use Rattle.sig_registry.specs.declared.wording.Called.TheVariants.{FetchManifest, Pull}
 use Rattle.sig_registry.specs.Errors.{is_memory, worded, registry_refusal, FaultCounted as SearchFaultCounted, NoSinkFault as NoSinkInSearch}
 use Rattle.sig_registry.specs.Clients.{Kept, Row}
-use Rattle.sig_registry.specs.Calls.{digest_call, manifest_call, image_call, document_call, blob_call, referrers_call}
+use Rattle.sig_settings.specs.Keys.{manifest_key}
+use Rattle.sig_registry.specs.Calls.{digests, digest_made, document_made, blob_made, digest_call, manifest_call, image_call, document_call, blob_call, referrers_call}
 use Rattle.cosign_layers.specs.Standing.{Meaning}
 use Rattle.cosign_layers.specs.Trust.{Trust}
 use Rattle.cosign_layers.specs.declared.layer.SignatureLayer.{SignatureLayer}
@@ -67,7 +68,7 @@ use Rattle.cosign_client.specs.Part.{skipping, appended}
 use Rattle.cosign_client.specs.References.{tag_reference, digest_reference, or_not_valid, reading_back}
 use Rattle.cosign_client.specs.Refusal.{is_memory as of_refusal, refused_as, client_refusal, FaultCounted, NoSinkFault}
 use Rattle.cosign_client.specs.Search.{payload_type, document_part, tag_layers, or_skipped, tag_by, tag_source, bundle_type, behind, referrer_part, referrer_by, referrer_row, referrers_row, listed_row, referrers_source, trusted_layers, searched}
-use Rattle.cosign_client.specs.Skips.{in_engine, in_refusal, is_engine_fault, is_refused_fault}
+use Rattle.cosign_client.specs.Skips.{in_engine, is_engine_fault}
 use Rattle.cosign_client.specs.Verified.{Whole, constrained, is_unconstrained, readable, readable_by, as_whole, part_of, stands_by, standing_by, standing, verified_image, after_search, verified}
 use Rattle.cosign_client.specs.declared.found.Part.{Part}
 use Rattle.cosign_client.specs.declared.found.SkipCause.{SkipCause}
@@ -76,12 +77,10 @@ use Rattle.cosign_client.specs.declared.found.Skipped.{Skipped}
 use Rattle.cosign_client.specs.declared.found.Skipped.TheVariants.{Source, Referrer}
 use Rattle.cosign_client.specs.declared.found.SourceKind.TheVariants.{Tag, Referrers}
 use Rattle.cosign_client.specs.declared.found.TrustedLayers.{TrustedLayers}
-use Rattle.cosign_client.specs.declared.pull.Pulled.{Pulled}
 use Rattle.cosign_client.specs.declared.refusal.PullRefusal.{PullRefusal}
 use Rattle.cosign_client.specs.declared.refusal.PullRefusal.TheVariants as refusal
-use Rattle.cosign_client.specs.declared.verified.Standing.{Standing}
-use Rattle.cosign_client.proofs.Counts.{Counts, Counts-done, Counts-more, Counts-bind, Meets-counts}
-use Rattle.cosign_client.proofs.Faults.{Sincere, EngineCounts, fault_of, SincereWords, CallCounts, worded_counts, words_count, manifest_call_counts, image_call_counts, referrers_call_counts, call_later as later, call_next as next}
+use Rattle.cosign_client.proofs.Counts.{Counts, Counts-lifted, Counts-done, Counts-more, Counts-bind, Meets-counts}
+use Rattle.cosign_client.proofs.Faults.{EngineCounts, fault_of, SincereWords, CallCounts, worded_counts, words_count, kept_counts, manifest_call_counts, image_call_counts, referrers_call_counts, call_later as later, call_next as next}
 
 -- ---- calls of the engine
 
@@ -100,10 +99,10 @@ blob_memory T s digest c n _ h other = refl
 -- a call whose refusals have their causes
 engine_counts : {A : Type 0} (P : ℕ → List Exchange → ℕ → A → Type 0) (Why : ℕ → List Exchange → ℕ → OciDistributionError → Type 0) (p : Engine A) → Shows (ByAnswer P Why) p
     → ((m n : ℕ) (c : List Exchange) (e : OciDistributionError) → Why m c n e → engine_is_memory e ≡ false → in_engine e ≡ false)
-    → ((old new : Link) (k l : Kept) → Meets engine_is_memory p old new k l (Err engine_refusal.TransportFault) → Rose old.faults new.faults)
+    → ((old new : Link) (k l : Memory) → Meets engine_is_memory p old new k l (Err engine_refusal.TransportFault) → Rose old.faults new.faults)
     → Counts EngineCounts p
 engine_counts {A} P Why p causes memory fault = record { counts = λ k l m n c r run. by_result k l m n c r run } where
-  by_result : (k l : Kept) (m n : ℕ) (c : List Exchange) (r : Result A OciDistributionError) → Runs p k m c n l r → EngineCounts m n r
+  by_result : (k l : Memory) (m n : ℕ) (c : List Exchange) (r : Result A OciDistributionError) → Runs p k m c n l r → EngineCounts m n r
   by_result k l m n c (Ok a) run = Runs-count p k l m n c (Ok a) run
   by_result k l m n c (Err e) run = record {
     falls = Runs-count p k l m n c (Err e) run;
@@ -111,26 +110,30 @@ engine_counts {A} P Why p causes memory fault = record { counts = λ k l m n c r
     fault = fault_of p k l m n c e run (λ old new met. fault old new k l met);
   }
 
-digest_call_counts : (s : Context) (image : Reference) (a : RegistryAuth) → Counts CallCounts (digest_call s image a)
-unfolding digest_call
-digest_call_counts s image a = words_count FetchManifest image (fetch_manifest_digest s image a)
+digest_made_counts : (s : Context) (image : Reference) (a : RegistryAuth) → Counts CallCounts (digest_made s image a)
+unfolding digest_made
+digest_made_counts s image a = words_count FetchManifest image (fetch_manifest_digest s image a)
     (engine_counts (λ m c n digest. Unit {0}) (OwnCause s.settings image manifest_types) (fetch_manifest_digest s image a) (digest_causes s image a)
     (λ m n c e h other. answer_memory (ManifestUrl s.settings image) (OwnDigest image) s.settings manifest_types c n e h other)
     (λ old new k l met. digest_fault s image a met refl))
 
+digest_call_counts : (s : Context) (image : Reference) (a : RegistryAuth) → Counts CallCounts (digest_call s image a)
+unfolding digest_call
+digest_call_counts s image a = kept_counts digests (manifest_key image a) s.moment (reads_back image) (digest_made s image a) (digest_made_counts s image a)
+
 document_call_counts : (s : Context) (image : Reference) (a : RegistryAuth) (types : List ℕ) → Counts CallCounts (document_call s image a types)
-unfolding document_call
-document_call_counts s image a types = words_count Pull image (pull_manifest_raw s image a types)
+unfolding document_call document_made
+document_call_counts s image a types = Counts-lifted CallCounts (document_made s image a types) (words_count Pull image (pull_manifest_raw s image a types)
     (engine_counts (λ m c n found. Accepted c found.0) (OwnCause s.settings image types) (pull_manifest_raw s image a types) (raw_causes s image a types)
     (λ m n c e h other. answer_memory (ManifestUrl s.settings image) (OwnDigest image) s.settings types c n e h other)
-    (λ old new k l met. raw_fault s image a types met refl))
+    (λ old new k l met. raw_fault s image a types met refl)))
 
 blob_call_counts : (s : Context) (image : Reference) (layer : Layer) → Counts CallCounts (blob_call s image layer)
-unfolding blob_call
-blob_call_counts s image layer = words_count Pull image (held_blob s image layer)
+unfolding blob_call blob_made
+blob_call_counts s image layer = Counts-lifted CallCounts (blob_made s image layer) (words_count Pull image (held_blob s image layer)
     (engine_counts (λ m c n bytes. Unit {0}) (λ m c n e. LooseBlob (BlobUrl s.settings image layer) IntoMemory s.settings layer.digest c n e) (held_blob s image layer) (blob_causes IntoMemory s image layer)
     (λ m n c e h other. blob_memory (BlobUrl s.settings image layer) s.settings layer.digest c n e h other)
-    (λ old new k l met. blob_fault IntoMemory s image layer met refl))
+    (λ old new k l met. blob_fault IntoMemory s image layer met refl)))
 
 -- ---- steps of the engine with no request
 

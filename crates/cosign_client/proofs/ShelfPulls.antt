@@ -1,16 +1,17 @@
 -- A search and a pull over a shelf find what stands there.
-use Rattle.std.specs.Prelude.{codes, bytes_eq, unwrap_or, find, slice_index_or, MatchBool, if◌then◌else◌}
+use Rattle.std.specs.Prelude.{find, slice_index_or, MatchBool, if◌then◌else◌}
 use Rattle.std.specs.Option.{option_or}
 use Rattle.std.specs.List.{All}
-use Rattle.std.proofs.Common.{◌≡◌, ◌⊎◌, inl, inr, ◌<◌, ◌≤◌, ◌^◌, ◌-◌, ℕ, zero, suc, Bool, true, false, cond, List, [], ◌∷◌, ◌++◌, length, is_some, Option, Some, None, Result, Ok, Err, refl, sym, ap, ◌∙◌, subst, arith}
+use Rattle.std.proofs.Common.{◌≡◌, ◌⊎◌, inl, inr, ◌<◌, ◌≤◌, ◌^◌, ◌-◌, ℕ, zero, suc, Bool, true, false, cond, List, [], ◌∷◌, ◌++◌, length, Option, Some, None, Result, Ok, Err, refl, sym, ap, ◌∙◌, subst, arith}
 use Rattle.std.proofs.lemmas.List.Folds.{find-append}
 use Rattle.std.proofs.lemmas.List.Elements.{All-head, All-tail}
 use Rattle.oci_names.specs.Grammar.{is_digest}
 use Rattle.oci_names.specs.Parts.{digest_refusal}
-use Rattle.oci_names.specs.Words.{Tag, Path}
-use Rattle.oci_names.specs.References.{registry_of, digest_of, whole_text, resolved_registry, reads_back}
+use Rattle.oci_names.specs.Words.{Tag}
+use Rattle.oci_names.specs.References.{digest_of, whole_text, resolved_registry, reads_back}
 use Rattle.oci_names.specs.declared.reference.Reference.{Reference}
 use Rattle.oci_auth.specs.declared.auth.RegistryAuth.{RegistryAuth}
+use Rattle.oci_auth.specs.declared.memory.Memory.{Memory}
 use Rattle.oci_digests.specs.Names.{Names, digest_text}
 use Rattle.oci_digests.specs.declared.digester.Algorithm.TheVariants.{Sha256}
 use Rattle.oci_digests.proofs.Validated.{is_validated}
@@ -32,7 +33,7 @@ use Rattle.oci_link.specs.State.{answering}
 use Rattle.oci_link.specs.Table.{answer}
 use Rattle.oci_link.specs.declared.shelf.Shelf.{Shelf}
 use Rattle.engine_requests.specs.Answers.{or_digest_error}
-use Rattle.engine_requests.specs.Contexts.{Context}
+use Rattle.engine_requests.specs.Contexts.{Context, within}
 use Rattle.engine_requests.specs.Documents.{document_read}
 use Rattle.engine_requests.specs.Errors.{◌>>=◌ as ◌before◌, ◌>>◌ as ◌and◌}
 use Rattle.engine_requests.specs.Index.{entry_found, entry_manifest, entry_reference}
@@ -41,6 +42,7 @@ use Rattle.engine_requests.specs.Sources.{Layer, described}
 use Rattle.engine_requests.specs.declared.error.OciDistributionError.{OciDistributionError}
 use Rattle.engine_requests.specs.declared.settings.Settings.{Settings}
 use Rattle.engine_steps.specs.Rows.{Row as Engine}
+use Rattle.engine_pull.specs.declared.image.ImageData.{ImageData}
 use Rattle.engine_pull.specs.Images.{layers_accepted, layer_of, config_of}
 use Rattle.sig_registry.specs.declared.error.SigstoreError.{SigstoreError}
 use Rattle.sig_registry.specs.declared.error.SigstoreError.TheVariants as sigstore
@@ -48,20 +50,21 @@ use Rattle.sig_registry.specs.declared.wording.Called.{Called}
 use Rattle.sig_registry.specs.declared.wording.Called.TheVariants.{FetchManifest, Pull, PullManifest}
 use Rattle.sig_registry.specs.Errors.{is_memory as of_memory, worded}
 use Rattle.sig_registry.specs.Clients.{Kept, Row}
-use Rattle.sig_registry.specs.Calls.{in_words, digest_call, manifest_call, image_call, document_call, blob_call, referrers_call}
-use Rattle.shelf_laws.specs.Comes.{Yields, OrMemory, Gives, Stays, Reaches}
+use Rattle.sig_registry.specs.Calls.{in_words, digest_made, manifest_made, image_made, document_made, blob_made, referrers_made, document_call, blob_call, referrers_call}
+use Rattle.sig_answers.specs.declared.answers.Answers.{Answers}
+use Rattle.shelf_laws.specs.Comes.{Yields, OrMemory, Gives, Reaches}
 use Rattle.shelf_laws.specs.Home.{Home, IsAt, CanBeShown, Settled}
 use Rattle.shelf_laws.specs.Shelves.{HasBlob, HasLayer, LeadsTo, ImageOn, layers_on}
-use Rattle.shelf_laws.proofs.Coming.{Gives-done, Gives-next, Gives-more, Gives-caught, Gives-stays, Stays-done, Stays-bind, Stays-next, Reaches-done, Reaches-bind, Reaches-gives, Reaches-strict, Reaches-stays, Reaches-after, Reaches-next, TableOf, Runs-over, Meets-comes}
+use Rattle.shelf_laws.proofs.Coming.{Gives-done, Gives-next, Gives-more, Gives-caught, Reaches-done, Reaches-bind, Reaches-gives, Reaches-strict, Reaches-stays, Reaches-after, Reaches-next, TableOf, Runs-over, Meets-comes}
 use Rattle.shelf_laws.proofs.DigestTags.{sha256_named, tag_of_signatures}
 use Rattle.shelf_laws.proofs.Documents.{NoOther, raw_gives, digest_gives, blob_gives}
 use Rattle.shelf_laws.proofs.Images.{Points, points_itself, types_accepted, manifest_gives, pull_gives}
 use Rattle.shelf_laws.proofs.PlainNames.{tag_segment}
 use Rattle.shelf_laws.proofs.Pointing.{tag_named, image_points}
-use Rattle.shelf_laws.proofs.References.{Spelled, spelled, resolved_domain, tag_reads_back, digest_reads_back, digest_is_digest, digest_is_known}
+use Rattle.shelf_laws.proofs.References.{Spelled, spelled, tag_reads_back, digest_reads_back, digest_is_digest, digest_is_known}
 use Rattle.shelf_laws.proofs.Requests.{yields_ok}
 use Rattle.shelf_laws.proofs.Listing.{referrers_give}
-use Rattle.shelf_laws.proofs.Staying.{manifest_stays, pull_stays, referrers_stay}
+use Rattle.shelf_laws.proofs.Lifted.{Gives-lifted}
 use Rattle.shelf_laws.proofs.Tokens.{given_gives}
 use Rattle.cosign_layers.specs.Constraint.{has_no_item}
 use Rattle.cosign_layers.specs.Standing.{Meaning, StandsFor}
@@ -74,6 +77,7 @@ use Rattle.cosign_client.specs.Part.{skipping, appended, layer_part, named_layer
 use Rattle.cosign_client.specs.References.{signature_tag, tag_reference, digest_reference, or_not_valid, reading_back}
 use Rattle.cosign_client.specs.Refusal.{is_memory, refused_as}
 use Rattle.cosign_client.specs.Search.{payload_type, document_part, tag_layers, or_skipped, tag_by, tag_source, behind, bundle_type, referrer_part, referrer_by, referrer_row, referrers_row, listed_row, referrers_source, trusted_layers, searched}
+use Rattle.cosign_client.specs.Settled.{AreRight, IsSettled}
 use Rattle.cosign_client.specs.Verified.{Whole, constrained, is_unconstrained, readable_by, readable, as_whole, part_of, stands_by, standing_by, standing, verified_image, after_search, verified}
 use Rattle.cosign_client.specs.declared.found.Part.{Part}
 use Rattle.cosign_client.specs.declared.found.SkipCause.{SkipCause}
@@ -84,7 +88,9 @@ use Rattle.cosign_client.specs.declared.found.SourceKind.TheVariants.{Tag as ByT
 use Rattle.cosign_client.specs.declared.found.TrustedLayers.{TrustedLayers}
 use Rattle.cosign_client.specs.declared.refusal.PullRefusal.{PullRefusal}
 use Rattle.cosign_client.specs.declared.refusal.PullRefusal.TheVariants as refusal
-use Rattle.cosign_client.specs.Shelves.{SignedByTag, SignedByReferrer, ImageShelf, WideShelf, ValidShelf, TaggedShelf, AnswersFrom, IsSettled, OkOrMemory}
+use Rattle.cosign_client.specs.Shelves.{IsAsked, SignedByTag, SignedByReferrer, ImageShelf, WideShelf, ValidShelf, AnswersFrom, OkOrMemory}
+use Rattle.cosign_client.proofs.ShelfCalls.{digest_given, manifest_given, image_given, referrers_given}
+use Rattle.cosign_client.proofs.ShelfStays.{home_of, image_at, tag_at, digest_at, referrer_at, entry_at, tag_stays, listing_stays, referrer_stays, verified_stays}
 
 -- ---- some layer stands
 
@@ -129,11 +135,11 @@ bundle_stood p trust d x layer reads passes (y ∷ xs) (suc k) lt is =
 
 -- ---- calls in words
 
-module _ {I : Kept → Type 0} {table : Request → Answer} where
-  words_give : {A : Type 0} {P : A → Type 0} {p : Engine A} (called : Called) (image : Reference) → Gives I table P p → Gives I table P (in_words called image p)
-  unfolding in_words
-  words_give called image h = Gives-caught (λ r. Done (worded called (whole_text image) r)) h (λ a is. Gives-done (Ok a) is)
+words_give : {J : Memory → Type 0} {table : Request → Answer} {A : Type 0} {P : A → Type 0} {p : Engine A} (called : Called) (image : Reference) → Gives J table P p → Gives J table P (in_words called image p)
+unfolding in_words
+words_give called image h = Gives-caught (λ r. Done (worded called (whole_text image) r)) h (λ a is. Gives-done (Ok a) is)
 
+module _ {I : Kept → Type 0} {table : Request → Answer} where
   -- a step with no request, which is not refused
   said : {A : Type 0} (called : Called) (text : List ℕ) (r : Result A OciDistributionError) (a : A) → r ≡ Ok a → Gives I table (λ (x : A). x ≡ a) (let p : Row A = Done (worded called text r) in p)
   said called text r a is = Gives-done (worded called text r) (yields_ok (λ x. x ≡ a) (worded called text r) a (ap (λ (x : Result _ OciDistributionError). worded called text x) is) refl)
@@ -145,6 +151,10 @@ named_ok None bytes digest named other = refl
 named_ok (Some own) bytes digest named other =
     ap (λ r. or_digest_error r and Ok tt) (is_validated bytes None (Some own) own (record { header_names = tt; reference_names = subst (λ (t : List ℕ). Names t bytes) (sym other) named; answer = refl }))
 
+shelf_table : (shelf : Shelf) → TableOf (answer shelf) (answering shelf)
+unfolding answering
+shelf_table shelf = record { answer = λ place request. refl; never = λ place. refl }
+
 some_constraint : {C : Type 0} (cs : List C) → 0 < length cs → has_no_item cs ≡ false
 some_constraint [] h = absurd (omega (arith, h))
 some_constraint (c ∷ cs) h = refl
@@ -153,8 +163,14 @@ module _ {V : Type 0} {H : V → Type 0} (meaning : Meaning V H) (s : Settings) 
   abbrev registry : List ℕ
   registry = resolved_registry image
 
+  abbrev J : Memory → Type 0
+  J k = Settled registry shelf.repository a k
+
+  abbrev R : Option Answers → Type 0
+  R answers = AreRight s registry a shelf answers
+
   abbrev I : Kept → Type 0
-  I k = Settled registry shelf.repository a k
+  I k = J k.0 × R k.1
 
   abbrev ctx : Context
   ctx = record { settings = s; moment = moment }
@@ -172,19 +188,16 @@ module _ {V : Type 0} {H : V → Type 0} (meaning : Meaning V H) (s : Settings) 
   spelling = spelled image valid.asked.reads_back_is
 
   home : Home s registry shelf
-  home = record { written = valid.asked.written; domain = resolved_domain image spelling; path = subst Path valid.asked.repository_is spelling.path; agent = valid.asked.agent; direct = valid.asked.direct }
+  home = home_of valid.asked
 
   at_image : IsAt registry shelf image
-  at_image = record { registry_is = refl; repository_is = valid.asked.repository_is; no_mirror = ap (λ (m : Option (List ℕ)). if is_some m then Some (registry_of image) else None) spelling.no_mirror }
-
-  own_registry : unwrap_or None (if bytes_eq (registry_of image) (codes "docker.io") then codes "index.docker.io" else registry_of image) ≡ registry
-  own_registry = ap (λ (m : Option (List ℕ)). unwrap_or m (if bytes_eq (registry_of image) (codes "docker.io") then codes "index.docker.io" else registry_of image)) (sym spelling.no_mirror)
+  at_image = image_at valid.asked
 
   at_tag : IsAt registry shelf (tag_reference image digest)
-  at_tag = record { registry_is = own_registry; repository_is = valid.asked.repository_is; no_mirror = refl }
+  at_tag = tag_at valid.asked digest
 
   at_digest : IsAt registry shelf (digest_reference image digest)
-  at_digest = record { registry_is = own_registry; repository_is = valid.asked.repository_is; no_mirror = refl }
+  at_digest = digest_at valid.asked digest
 
   points_image : Points shelf image digest
   points_image = image_points shelf image digest first spelling valid.image_on.there valid.named
@@ -204,10 +217,6 @@ module _ {V : Type 0} {H : V → Type 0} (meaning : Meaning V H) (s : Settings) 
   stands_is : (layer : SignatureLayer) → StandsFor meaning digest layer → stands_by meaning layer ≡ true
   stands_is layer h = supports_stand meaning.trust.valid meaning.policy meaning.own layer h.supports
 
-  words_stay : {A : Type 0} {p : Engine A} (called : Called) (r : Reference) → Stays I (answer shelf) p → Stays I (answer shelf) (in_words called r p)
-  unfolding in_words
-  words_stay called r h = Stays-bind (λ x. Done (worded called (whole_text r) x)) h (λ x. Stays-done _)
-
   -- ---- the signature tag
 
   module _ (tag_reads : reads_back (tag_reference image digest) ≡ true) (signed : SignedByTag meaning digest shelf) where
@@ -224,11 +233,22 @@ module _ {V : Type 0} {H : V → Type 0} (meaning : Meaning V H) (s : Settings) 
     stood_here : Has (stands_by meaning) (descriptors_part meaning.trust digest (layers_on shelf signed.manifest.layers) signed.manifest.layers).collected
     stood_here = stood (stands_by meaning) meaning.trust digest (layers_on shelf signed.manifest.layers) signed.standing.descriptor signed.standing.layer signed.standing.reads (stands_is signed.standing.layer signed.standing.stands_for) signed.manifest.layers signed.standing.listed.0 signed.standing.listed.1 signed.standing.listed.2
 
+    abbrev IsSigned : OciManifest × List ℕ → Type 0
+    IsSigned found = found ≡ (Image signed.manifest, signed.signatures)
+
+    tag_document : (m : ℕ) → Gives J (answer shelf) IsSigned (manifest_made (within s m) (tag_reference image digest) a)
+    unfolding manifest_made
+    tag_document m = words_give PullManifest (tag_reference image digest) (manifest_gives home valid.short a can m (tag_reference image digest) signed.signatures signed.there.0 (Image signed.manifest) at_tag points_tag signed.there.1 signed.there.2)
+
+    tag_image : (m : ℕ) → Gives J (answer shelf) (λ (pulled : ImageData). pulled.layers ≡ layers_on shelf signed.manifest.layers) (image_made (within s m) (tag_reference image digest) a (payload_type ∷ []))
+    unfolding image_made
+    tag_image m = words_give Pull (tag_reference image digest) (pull_gives home valid.short a can m (tag_reference image digest) signed.signatures (payload_type ∷ []) signatures_on at_tag points_tag)
+
     tag_gives : Gives I (answer shelf) Stood (tag_layers meaning.trust digest ctx (tag_reference image digest) a)
-    unfolding tag_layers manifest_call image_call
+    unfolding tag_layers
     tag_gives =
-        Gives-next _ (words_give PullManifest (tag_reference image digest) (manifest_gives home valid.short a can moment (tag_reference image digest) signed.signatures signed.there.0 (Image signed.manifest) at_tag points_tag signed.there.1 signed.there.2)) (λ document known.
-        Gives-next _ (words_give Pull (tag_reference image digest) (pull_gives home valid.short a can moment (tag_reference image digest) signed.signatures (payload_type ∷ []) signatures_on at_tag points_tag)) (λ pulled same.
+        Gives-next _ (manifest_given s registry a shelf (tag_reference image digest) at_tag moment tag_document) (λ document known.
+        Gives-next _ (image_given s registry a shelf (tag_reference image digest) at_tag (payload_type ∷ []) moment tag_image) (λ pulled same.
         Gives-done (Ok (document_part meaning.trust digest document.0 pulled)) (subst (λ (p : OciManifest × List ℕ). Has (stands_by meaning) (document_part meaning.trust digest p.0 pulled).collected) (sym known) (subst (λ (layers : List ImageLayer). Has (stands_by meaning) (descriptors_part meaning.trust digest layers signed.manifest.layers).collected) (sym same) stood_here))))
 
     source_gives : Gives I (answer shelf) Stood (tag_source meaning.trust ctx image a digest)
@@ -247,13 +267,9 @@ module _ {V : Type 0} {H : V → Type 0} (meaning : Meaning V H) (s : Settings) 
   skipped_any (Ok part) = tt
   skipped_any (Err e) = skipped_by (of_memory e) (Source ByTag (Refused e)) e refl
 
-  tag_stays : Stays I (answer shelf) (tag_layers meaning.trust digest ctx (tag_reference image digest) a)
-  unfolding tag_layers manifest_call image_call
-  tag_stays = Stays-next _ (words_stay PullManifest (tag_reference image digest) (manifest_stays home a can moment (tag_reference image digest) at_tag)) (λ document. Stays-next _ (words_stay Pull (tag_reference image digest) (pull_stays home a can moment (tag_reference image digest) at_tag (payload_type ∷ []))) (λ pulled. Stays-done _))
-
   by_reading : (b : Bool) → Reaches I (answer shelf) (OrMemory of_memory AnyPart) (tag_by meaning.trust digest ctx (tag_reference image digest) a b)
   by_reading false = Reaches-done (Ok (skipping (Source ByTag (NotAReference (whole_text (tag_reference image digest)))))) tt
-  by_reading true = Reaches-bind _ (Reaches-stays tag_stays) (λ r u. Reaches-done (or_skipped ByTag r) (skipped_any r))
+  by_reading true = Reaches-bind _ (Reaches-stays (tag_stays meaning s image a accepted shelf valid.asked moment digest)) (λ r u. Reaches-done (or_skipped ByTag r) (skipped_any r))
 
   source_reaches : Reaches I (answer shelf) (OrMemory of_memory AnyPart) (tag_source meaning.trust ctx image a digest)
   unfolding tag_source
@@ -262,15 +278,7 @@ module _ {V : Type 0} {H : V → Type 0} (meaning : Meaning V H) (s : Settings) 
   -- ---- the referrers, whatever they are
 
   at_referrer : (x : List ℕ) → IsAt registry shelf (digest_reference source x)
-  at_referrer x = record { registry_is = own_registry; repository_is = valid.asked.repository_is; no_mirror = refl }
-
-  listing_stays : Stays I (answer shelf) (referrers_call ctx source a None)
-  unfolding referrers_call
-  listing_stays = Stays-next _ (words_stay FetchManifest source (Gives-stays (given_gives home source at_digest a can moment))) (λ u. words_stay PullManifest source (referrers_stay home a can moment source at_digest None))
-
-  referrer_stays : (x : List ℕ) → Stays I (answer shelf) (image_call ctx (digest_reference source x) a (bundle_type ∷ []))
-  unfolding image_call
-  referrer_stays x = words_stay Pull (digest_reference source x) (pull_stays home a can moment (digest_reference source x) (at_referrer x) (bundle_type ∷ []))
+  at_referrer x = referrer_at valid.asked digest x
 
   -- what is so of a part and of all that stand behind it
   record Grows (P : Part → Type 0) : Type 0 where
@@ -293,7 +301,7 @@ module _ {V : Type 0} {H : V → Type 0} (meaning : Meaning V H) (s : Settings) 
 
     referrer_reaches : (x : List ℕ) (part : Part) (b : Bool) → P part → Reaches I (answer shelf) (OrMemory of_memory P) (referrer_by meaning.trust digest ctx (digest_reference source x) a x part b)
     referrer_reaches x part false h = Reaches-done (Ok (appended part (skipping (Referrer x (NotAReference (whole_text (digest_reference source x))))))) (growing.grows part (skipping (Referrer x (NotAReference (whole_text (digest_reference source x))))) h)
-    referrer_reaches x part true h = Reaches-bind _ (Reaches-stays (referrer_stays x)) (λ r u. Reaches-done _ (behind_is part (Referrer x) (referrer_part meaning.trust digest r) h))
+    referrer_reaches x part true h = Reaches-bind _ (Reaches-stays (referrer_stays meaning s image a accepted shelf valid.asked moment digest x)) (λ r u. Reaches-done _ (behind_is part (Referrer x) (referrer_part meaning.trust digest r) h))
 
     each_reaches : (xs : List ImageIndexEntry) (part : Part) → P part → Reaches I (answer shelf) (OrMemory of_memory P) (referrers_row meaning.trust digest ctx source a xs part)
     unfolding referrers_row referrer_row
@@ -306,7 +314,7 @@ module _ {V : Type 0} {H : V → Type 0} (meaning : Meaning V H) (s : Settings) 
 
   referrers_reach : (part : Part) → Stood part → Reaches I (answer shelf) (OrMemory of_memory Stood) (referrers_source meaning.trust digest ctx source a part)
   unfolding referrers_source
-  referrers_reach part h = Reaches-bind _ (Reaches-stays listing_stays) (λ r u. listed_reaches Stood stood_grows part r h)
+  referrers_reach part h = Reaches-bind _ (Reaches-stays (listing_stays meaning s image a accepted shelf valid.asked moment digest)) (λ r u. listed_reaches Stood stood_grows part r h)
 
   any_row : (y : ImageIndexEntry) (part : Part) → Reaches I (answer shelf) (OrMemory of_memory AnyPart) (referrer_row meaning.trust digest ctx source a y.digest part)
   unfolding referrer_row
@@ -324,11 +332,14 @@ module _ {V : Type 0} {H : V → Type 0} (meaning : Meaning V H) (s : Settings) 
     bundles_stand : Has (stands_by meaning) (bundles_part meaning.trust digest (layers_on shelf signed.bundles.manifest.layers)).collected
     bundles_stand = bundle_stood (stands_by meaning) meaning.trust digest signed.bundle signed.layer signed.reads (stands_is signed.layer signed.stands_for) (layers_on shelf signed.bundles.manifest.layers) signed.listed.0 signed.listed.1 signed.listed.2
 
+    entry_image : (m : ℕ) → Gives J (answer shelf) (λ (pulled : ImageData). pulled.layers ≡ layers_on shelf signed.bundles.manifest.layers) (image_made (within s m) (digest_reference source x) a (bundle_type ∷ []))
+    unfolding image_made
+    entry_image m = words_give Pull (digest_reference source x) (pull_gives home valid.short a can m (digest_reference source x) x (bundle_type ∷ []) signed.bundles (at_referrer x) points_entry)
+
     entry_gives : (part : Part) → Gives I (answer shelf) Stood (referrer_by meaning.trust digest ctx (digest_reference source x) a x part true)
-    unfolding image_call
     entry_gives part =
         Gives-caught (λ r. Done (behind part (Referrer x) (referrer_part meaning.trust digest r)))
-        (words_give Pull (digest_reference source x) (pull_gives home valid.short a can moment (digest_reference source x) x (bundle_type ∷ []) signed.bundles (at_referrer x) points_entry))
+        (image_given s registry a shelf (digest_reference source x) (at_referrer x) (bundle_type ∷ []) moment entry_image)
         (λ pulled same. Gives-done (Ok (appended part (bundles_part meaning.trust digest pulled.layers))) (has_right (stands_by meaning) part.collected (bundles_part meaning.trust digest pulled.layers).collected (subst (λ (layers : List ImageLayer). Has (stands_by meaning) (bundles_part meaning.trust digest layers).collected) (sym same) bundles_stand)))
 
     row_gives : (part : Part) → Gives I (answer shelf) Stood (referrer_row meaning.trust digest ctx source a x part)
@@ -342,9 +353,12 @@ module _ {V : Type 0} {H : V → Type 0} (meaning : Meaning V H) (s : Settings) 
     each_stands (y ∷ xs) zero part lt is = Reaches-after _ (subst (λ (z : ImageIndexEntry). Gives I (answer shelf) Stood (referrer_row meaning.trust digest ctx source a z.digest part)) (sym is) (row_gives part)) (λ more holds. each_reaches Stood stood_grows xs more holds)
     each_stands (y ∷ xs) (suc k) part lt is = Reaches-next _ (any_row y part) (λ more u. each_stands xs k more (omega (arith, lt)) is)
 
+    listing : (m : ℕ) → Gives J (answer shelf) (λ (index : OciImageIndex). index ≡ signed.index) (referrers_made (within s m) source a None)
+    unfolding referrers_made
+    listing m = Gives-next _ (words_give FetchManifest source (given_gives home source at_digest a can m)) (λ u given. words_give PullManifest source (referrers_give home valid.short source at_digest a can m digest first valid.image_on.there.named signed.index refl signed.lists))
+
     listing_gives : Gives I (answer shelf) (λ (index : OciImageIndex). index ≡ signed.index) (referrers_call ctx source a None)
-    unfolding referrers_call
-    listing_gives = Gives-next _ (words_give FetchManifest source (given_gives home source at_digest a can moment)) (λ u given. words_give PullManifest source (referrers_give home valid.short source at_digest a can moment digest first valid.image_on.there.named signed.index refl signed.lists))
+    listing_gives = referrers_given s registry a shelf source at_digest None moment listing
 
     listed_stands : (part : Part) (r : Result OciImageIndex SigstoreError) → Yields (λ (index : OciImageIndex). index ≡ signed.index) r → Reaches I (answer shelf) (OrMemory of_memory Stood) (listed_row meaning.trust digest ctx source a part r)
     listed_stands part (Ok index) is = subst (λ (i : OciImageIndex). Reaches I (answer shelf) (OrMemory of_memory Stood) (referrers_row meaning.trust digest ctx source a i.manifests part)) (sym is) (each_stands signed.index.manifests signed.among.0 part signed.among.1 signed.among.2)
@@ -367,10 +381,14 @@ module _ {V : Type 0} {H : V → Type 0} (meaning : Meaning V H) (s : Settings) 
   both_reach (inl (tag_reads, signed)) = Reaches-after _ (source_gives tag_reads signed) (λ tag is. Reaches-next _ (referrers_reach tag is) (λ found stands. Reaches-done (Ok (trusted_layers digest found)) (refl, stands)))
   both_reach (inr signed) = Reaches-next _ source_reaches (λ tag u. Reaches-next _ (referrers_stand signed tag) (λ found stands. Reaches-done (Ok (trusted_layers digest found)) (refl, stands)))
 
+  digest_step : (m : ℕ) → Gives J (answer shelf) (λ (d : List ℕ). d ≡ digest) (digest_made (within s m) image a)
+  unfolding digest_made
+  digest_step m = words_give FetchManifest image (digest_gives home valid.short image at_image a can m digest first valid.image_on.there points_image.plain points_image.points points_image.other)
+
   search_reaches : Signed → Reaches I (answer shelf) (OrMemory of_memory Found) (searched meaning.trust ctx image a)
-  unfolding searched digest_call
+  unfolding searched
   search_reaches signed =
-      Reaches-after _ (words_give FetchManifest image (digest_gives home valid.short image at_image a can moment digest first valid.image_on.there points_image.plain points_image.points points_image.other)) (λ d known.
+      Reaches-after _ (digest_given s registry a shelf image at_image moment digest_step) (λ d known.
       subst (λ (t : List ℕ). Reaches I (answer shelf) (OrMemory of_memory Found) (Done (reading_back (digest_reference image t)) >> (tag_source meaning.trust ctx image a t >>= λ tag. referrers_source meaning.trust t ctx (digest_reference image t) a tag >>= λ found. Done (Ok (trusted_layers t found))))) (sym known)
       (Reaches-after _ (Gives-done (reading_back source) (yields_ok (λ u. Unit {0}) (reading_back source) tt (ap (or_not_valid source) digest_back) tt)) (λ u read. both_reach signed)))
 
@@ -383,8 +401,8 @@ module _ {V : Type 0} {H : V → Type 0} (meaning : Meaning V H) (s : Settings) 
   document_ok = ap (λ r. r and document_read first) (named_ok (digest_of image) first digest valid.image_on.there.named points_image.other) ∙ valid.image_on.reads
 
   blob_row_gives : (x : Layer) (has : HasBlob shelf x.digest) → Gives I (answer shelf) (λ (b : List ℕ). Unit {0}) (blob_call ctx source x)
-  unfolding blob_call
-  blob_row_gives x has = Gives-more (λ (b : List ℕ). Unit {0}) (words_give Pull source (blob_gives home valid.short source at_digest a can moment x has)) (λ b is. tt)
+  unfolding blob_call blob_made
+  blob_row_gives x has = Gives-lifted R (Gives-more (λ (b : List ℕ). Unit {0}) (words_give Pull source (blob_gives home valid.short source at_digest a can moment x has)) (λ b is. tt))
 
   layers_row_give : (xs : List OciDescriptor) (given : List ImageLayer) → All (HasLayer shelf accepted) xs → Gives I (answer shelf) (λ (layers : List ImageLayer). Unit {0}) (layers_row ctx source xs given)
   unfolding layers_row
@@ -405,22 +423,22 @@ module _ {V : Type 0} {H : V → Type 0} (meaning : Meaning V H) (s : Settings) 
   From p P = Gives I (answer shelf) P p
 
   chosen_gives : (document : OciManifest) → LeadsTo s shelf document valid.image_on.manifest → From (manifest_row ctx source a first document) (λ chosen. chosen.manifest ≡ valid.image_on.manifest)
-  unfolding entry_row entry_call document_call
+  unfolding entry_row entry_call document_call document_made
   chosen_gives (Image own) leads = Gives-done (Ok (record { bytes = first; manifest = own; entry = None })) leads
   chosen_gives (ImageIndex index) (entry, is, (bytes, has, reads)) =
       let own : Reference = entry_reference source entry in
-      let at_own : IsAt registry shelf own = record { registry_is = own_registry; repository_is = valid.asked.repository_is; no_mirror = refl } in
+      let at_own : IsAt registry shelf own = entry_at valid.asked digest entry in
       let points = points_itself shelf own entry bytes refl has in
       Gives-next _ (said Pull (whole_text source) (entry_found s.platform_resolver index.manifests) entry is) (λ e same.
       Gives-next _ (subst (λ (t : List ℕ). Gives I (answer shelf) (λ found. found.0 ≡ bytes) (entry_call ctx source a t)) (sym same)
-      (Gives-caught (λ r. Done (with_image (whole_text source) r)) (words_give Pull own (raw_gives home valid.short own at_own a can moment entry bytes manifest_types has points.plain points.points points.other refl)) (λ found known. Gives-done (Ok found) (ap (λ (p : List ℕ × List ℕ). p.0) known)))) (λ found known.
+      (Gives-caught (λ r. Done (with_image (whole_text source) r)) (Gives-lifted R (words_give Pull own (raw_gives home valid.short own at_own a can moment entry bytes manifest_types has points.plain points.points points.other refl))) (λ found known. Gives-done (Ok found) (ap (λ (p : List ℕ × List ℕ). p.0) known)))) (λ found known.
       Gives-next _ (said Pull (whole_text source) (entry_in e found.0) valid.image_on.manifest (ap (λ (t : List ℕ). document_read t before entry_manifest e) known ∙ ap (λ r. r before entry_manifest e) reads)) (λ manifest chosen.
       Gives-done (Ok (record { bytes = found.0; manifest = manifest; entry = Some e })) chosen)))
 
   image_gives : Gives I (answer shelf) (λ pulled. Unit {0}) (image_row ctx image source a accepted)
-  unfolding image_row document_call
+  unfolding image_row document_call document_made
   image_gives =
-      Gives-next _ (words_give Pull source (raw_gives home valid.short source at_digest a can moment digest first manifest_types valid.image_on.there points_source.plain points_source.points points_source.other refl)) (λ found known.
+      Gives-next _ (Gives-lifted R (words_give Pull source (raw_gives home valid.short source at_digest a can moment digest first manifest_types valid.image_on.there points_source.plain points_source.points points_source.other refl))) (λ found known.
       subst (λ (p : List ℕ × List ℕ). Gives I (answer shelf) (λ pulled. Unit {0}) (after_document ctx image source a accepted p.0)) (sym known)
       (Gives-next _ (said Pull (whole_text source) (document_in image first) valid.image_on.document document_ok) (λ document same.
       Gives-next _ (subst (λ (t : OciManifest). From (manifest_row ctx source a first t) (λ chosen. chosen.manifest ≡ valid.image_on.manifest)) (sym same) (chosen_gives valid.image_on.document valid.image_on.leads)) (λ chosen is.
@@ -485,10 +503,6 @@ module _ {V : Type 0} {H : V → Type 0} (meaning : Meaning V H) (s : Settings) 
   memory_is refusal.WantOfMemory is = refl
   memory_is _ is = absurd (cc is)
 
-  table_of : TableOf (answer shelf) (answering shelf)
-  unfolding answering
-  table_of = record { answer = λ place request. refl; never = λ place. refl }
-
   by_memory : (b : Bool) (e : PullRefusal) (P : Type 0) → is_memory e ≡ b → MatchBool b (Unit {0}) (P × (is_memory e ≡ true)) → e ≡ refusal.WantOfMemory
   by_memory true e P is h = memory_is e is
   by_memory false e P is h = memory_is e h.1
@@ -497,43 +511,54 @@ module _ {V : Type 0} {H : V → Type 0} (meaning : Meaning V H) (s : Settings) 
   answered l (Ok v) h = tt
   answered l (Err e) h = by_memory (is_memory e) e (I l) refl h
 
-  -- over a shelf that is valid a client that is settled gets the image, or memory is wanting
-  pub completed_wide : Signed → {old new : Link} {k l : Kept} (r : Result VerifiedImage PullRefusal) → AnswersFrom shelf old → IsSettled image a k → Meets is_memory (verified meaning ctx image a accepted) old new k l r → OkOrMemory r
+  settled_in : (k : Kept) → IsSettled s image a shelf k → I k
+  settled_in k settled = (subst (λ (t : List ℕ). Settled registry t a k.0) valid.asked.repository_is settled.memory, settled.answers)
+
+  -- over a wide shelf a client that is settled gets the image, or memory is wanting
+  pub completed_wide : Signed → {old new : Link} {k l : Kept} (r : Result VerifiedImage PullRefusal) → AnswersFrom shelf old → IsSettled s image a shelf k → Meets is_memory (verified meaning ctx image a accepted) old new k l r → OkOrMemory r
   completed_wide signed {old} {new} {k} {l} r from settled met =
-      answered l r (Meets-comes (answer shelf) (λ l r. I l × OrMemory is_memory (λ (v : VerifiedImage). Unit {0}) r) (answering shelf) (verified meaning ctx image a accepted) from.before old new k l r table_of from.answers from.told from.faults
-      ((verified_reaches signed).reaches k (subst (λ (t : List ℕ). Settled registry t a k) valid.asked.repository_is settled)) met)
+      answered l r (Meets-comes (answer shelf) (λ l r. I l × OrMemory is_memory (λ (v : VerifiedImage). Unit {0}) r) (answering shelf) (verified meaning ctx image a accepted) from.before old new k l r (shelf_table shelf) from.answers from.told from.faults
+      ((verified_reaches signed).reaches k (settled_in k settled)) met)
 
   -- the same of a whole run without faults
-  pub run_wide : Signed → (k l : Kept) (place m n : ℕ) (c : List Exchange) (r : Result VerifiedImage PullRefusal) → IsSettled image a k → AnsweredBy (answering shelf) place c → n ≤ m → m < 2 ^ 64 - 1 → Runs (verified meaning ctx image a accepted) k m c n l r → OrMemory is_memory (λ (v : VerifiedImage). Unit {0}) r
+  pub run_wide : Signed → (k l : Kept) (place m n : ℕ) (c : List Exchange) (r : Result VerifiedImage PullRefusal) → IsSettled s image a shelf k → AnsweredBy (answering shelf) place c → n ≤ m → m < 2 ^ 64 - 1 → Runs (verified meaning ctx image a accepted) k m c n l r → OrMemory is_memory (λ (v : VerifiedImage). Unit {0}) r
   run_wide signed k l place m n c r settled answered_is le lt run =
-      (Runs-over (answer shelf) (λ l r. I l × OrMemory is_memory (λ (v : VerifiedImage). Unit {0}) r) (answering shelf) (verified meaning ctx image a accepted) place k l m n c r table_of
-      ((verified_reaches signed).reaches k (subst (λ (t : List ℕ). Settled registry t a k) valid.asked.repository_is settled)) answered_is le lt run).1
+      (Runs-over (answer shelf) (λ l r. I l × OrMemory is_memory (λ (v : VerifiedImage). Unit {0}) r) (answering shelf) (verified meaning ctx image a accepted) place k l m n c r (shelf_table shelf)
+      ((verified_reaches signed).reaches k (settled_in k settled)) answered_is le lt run).1
 
-abbrev pub image_shelf : {V : Type 0} {H : V → Type 0} {meaning : Meaning V H} {s : Settings} {image : Reference} {a : RegistryAuth} {accepted : List (List ℕ)} {shelf : Shelf} → TaggedShelf meaning s image a accepted shelf → ImageShelf s image a accepted shelf
-image_shelf t = record { asked = t.asked; digest = t.digest; named = t.named; image_on = t.image_on; short = t.short }
-
--- a shelf by the tag is wide
-pub tagged_wide : {V : Type 0} {H : V → Type 0} (meaning : Meaning V H) (s : Settings) (image : Reference) (a : RegistryAuth) (accepted : List (List ℕ)) (shelf : Shelf) → TaggedShelf meaning s image a accepted shelf → WideShelf meaning s image a accepted shelf
-tagged_wide meaning s image a accepted shelf t = record { has = image_shelf t; signed = inl (t.tag_reads, t.signed) }
-
--- a valid shelf is one by the tag
-pub valid_tagged : {V : Type 0} {H : V → Type 0} (meaning : Meaning V H) (s : Settings) (image : Reference) (a : RegistryAuth) (accepted : List (List ℕ)) (shelf : Shelf) → ValidShelf meaning s image a accepted shelf → TaggedShelf meaning s image a accepted shelf
-valid_tagged meaning s image a accepted shelf valid =
+-- a valid shelf is a wide one
+pub valid_wide : {V : Type 0} {H : V → Type 0} (meaning : Meaning V H) (s : Settings) (image : Reference) (a : RegistryAuth) (accepted : List (List ℕ)) (shelf : Shelf) → ValidShelf meaning s image a accepted shelf → WideShelf meaning s image a accepted shelf
+valid_wide meaning s image a accepted shelf valid =
     let first = valid.image_on.first in
     let digest_is = sha256_named valid.digest valid.sha256.0 first valid.sha256.1 valid.image_on.there.named in
-    record {
-      asked = valid.asked;
-      digest = valid.digest;
-      named = valid.named;
-      image_on = valid.image_on;
-      tag_reads = tag_reads_back image (spelled image valid.asked.reads_back_is) (signature_tag valid.digest) (tag_of_signatures valid.digest first digest_is);
-      signed = valid.signed;
-      short = valid.short;
-    }
+    let tag_reads = tag_reads_back image (spelled image valid.asked.reads_back_is) (signature_tag valid.digest) (tag_of_signatures valid.digest first digest_is) in
+    record { has = record { asked = valid.asked; digest = valid.digest; named = valid.named; image_on = valid.image_on; short = valid.short }; signed = inl (tag_reads, valid.signed) }
 
-module _ {V : Type 0} {H : V → Type 0} (meaning : Meaning V H) (s : Settings) (image : Reference) (a : RegistryAuth) (accepted : List (List ℕ)) (shelf : Shelf) (tagged : TaggedShelf meaning s image a accepted shelf) (moment : ℕ) where
-  pub completed : {old new : Link} {k l : Kept} (r : Result VerifiedImage PullRefusal) → AnswersFrom shelf old → IsSettled image a k → Meets is_memory (verified meaning (record { settings = s; moment = moment }) image a accepted) old new k l r → OkOrMemory r
-  completed r from settled met = completed_wide meaning s image a accepted shelf (image_shelf tagged) moment (inl (tagged.tag_reads, tagged.signed)) r from settled met
+-- ---- afterwards
 
-  pub run_completed : (k l : Kept) (place m n : ℕ) (c : List Exchange) (r : Result VerifiedImage PullRefusal) → IsSettled image a k → AnsweredBy (answering shelf) place c → n ≤ m → m < 2 ^ 64 - 1 → Runs (verified meaning (record { settings = s; moment = moment }) image a accepted) k m c n l r → OrMemory is_memory (λ (v : VerifiedImage). Unit {0}) r
-  run_completed k l place m n c r settled answered_is le lt run = run_wide meaning s image a accepted shelf (image_shelf tagged) moment (inl (tagged.tag_reads, tagged.signed)) k l place m n c r settled answered_is le lt run
+module _ {V : Type 0} {H : V → Type 0} (meaning : Meaning V H) (s : Settings) (image : Reference) (a : RegistryAuth) (accepted : List (List ℕ)) (shelf : Shelf) (asked : IsAsked s image a shelf) (moment : ℕ) where
+  abbrev Before : Kept → Type 0
+  Before k = Settled (resolved_registry image) shelf.repository a k.0 × AreRight s (resolved_registry image) a shelf k.1
+
+  settled_again : (k : Kept) → Before k → IsSettled s image a shelf k
+  settled_again k is = record { memory = subst (λ (t : List ℕ). Settled (resolved_registry image) t a k.0) (sym asked.repository_is) is.0; answers = is.1 }
+
+  settled_by : (l : Kept) (b : Bool) (e : PullRefusal) → MatchBool b (Unit {0}) (Before l) → MatchBool b (Unit {0}) (IsSettled s image a shelf l)
+  settled_by l true e h = tt
+  settled_by l false e h = settled_again l h
+
+  settled_unless : (l : Kept) (r : Result VerifiedImage PullRefusal) → UnlessMemory is_memory (λ r. Before l) r → UnlessMemory is_memory (λ r. IsSettled s image a shelf l) r
+  settled_unless l (Ok v) h = settled_again l h
+  settled_unless l (Err e) h = settled_by l (is_memory e) e h
+
+  -- after a pull over a shelf that is asked for the image a client that was settled is settled, whatever was answered
+  pub settled_after : {old new : Link} {k l : Kept} (r : Result VerifiedImage PullRefusal) → AnswersFrom shelf old → IsSettled s image a shelf k → Meets is_memory (verified meaning (record { settings = s; moment = moment }) image a accepted) old new k l r → UnlessMemory is_memory (λ r. IsSettled s image a shelf l) r
+  settled_after {old} {new} {k} {l} r from settled met =
+      settled_unless l r (Meets-comes (answer shelf) (λ l r. Before l) (answering shelf) (verified meaning (record { settings = s; moment = moment }) image a accepted) from.before old new k l r (shelf_table shelf) from.answers from.told from.faults
+      ((verified_stays meaning s image a accepted shelf asked moment).stays k (subst (λ (t : List ℕ). Settled (resolved_registry image) t a k.0) asked.repository_is settled.memory, settled.answers)) met)
+
+  -- so it is after a whole run without faults
+  pub run_settled : (k l : Kept) (place m n : ℕ) (c : List Exchange) (r : Result VerifiedImage PullRefusal) → IsSettled s image a shelf k → AnsweredBy (answering shelf) place c → n ≤ m → m < 2 ^ 64 - 1 → Runs (verified meaning (record { settings = s; moment = moment }) image a accepted) k m c n l r → IsSettled s image a shelf l
+  run_settled k l place m n c r settled answered_is le lt run =
+      settled_again l (Runs-over (answer shelf) (λ l r. Before l) (answering shelf) (verified meaning (record { settings = s; moment = moment }) image a accepted) place k l m n c r (shelf_table shelf)
+      ((verified_stays meaning s image a accepted shelf asked moment).stays k (subst (λ (t : List ℕ). Settled (resolved_registry image) t a k.0) asked.repository_is settled.memory, settled.answers)) answered_is le lt run)

@@ -1,10 +1,12 @@
 -- What a client is built of, and the client that comes of it.
-use Rattle.std.specs.Prelude.{ℕ, List, if◌then◌else◌, unwrap_or}
+use Rattle.std.specs.Prelude.{ℕ, Bool, true, false, List, if◌then◌else◌, Option, Some, None, unwrap_or}
 use Rattle.std.specs.FinMap.{FinMap, empty, entries}
 use Rattle.json_values.specs.Places.{by_bytes}
 use Rattle.oci_auth.specs.Memory.{fresh}
 use Rattle.oci_engine.specs.Clients.{settings_of}
-use Rattle.sig_registry.specs.Clients.{Client as Shown}
+use Rattle.oci_engine.specs.declared.config.ClientConfig.{ClientConfig as OciConfig}
+use Rattle.sig_answers.specs.declared.answers.Answers.{Answers}
+use Rattle.sig_registry.specs.Clients.{Client as Shown, none_kept}
 use Rattle.sig_registry.specs.Config.{oci_config}
 use Rattle.sig_registry.specs.declared.config.ClientConfig.{ClientConfig}
 use Rattle.cosign_layers.specs.Constraint.{has_no_item}
@@ -12,6 +14,10 @@ use Rattle.cosign_client.specs.declared.builder.ClientBuilder.{ClientBuilder}
 
 abbrev pub config_of : ClientBuilder → ClientConfig
 config_of b = b.oci_client_config
+
+-- whether the client will keep answers
+abbrev pub caches : ClientBuilder → Bool
+caches b = b.enable_registry_caching
 
 -- the keys of logs by their ids
 abbrev pub Keys : Type 0
@@ -24,9 +30,17 @@ keys_of b = unwrap_or b.rekor_pub_keys empty
 abbrev pub keys_or : Keys → Keys → Keys
 keys_or given kept = if has_no_item (entries given) then kept else given
 
--- the client of a configuration, which keeps nothing yet
-abbrev pub fresh_client : ClientConfig → Shown
-fresh_client config = record {
-  settings = settings_of (oci_config config);
-  kept = fresh (oci_config config).default_token_expiration_secs;
+-- no answers yet, where answers are kept
+abbrev pub no_answers : Bool → Option Answers
+no_answers true = Some (none_kept None)
+no_answers false = None
+
+abbrev pub fresh_state : OciConfig → Bool → Shown
+fresh_state config caching = record {
+  settings = settings_of config;
+  kept = (fresh config.default_token_expiration_secs, no_answers caching);
 }
+
+-- the client of a configuration, which keeps nothing yet
+abbrev pub fresh_client : ClientConfig → Bool → Shown
+fresh_client config caching = fresh_state (oci_config config) caching

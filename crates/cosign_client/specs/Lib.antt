@@ -8,6 +8,7 @@ pub mod Points
 pub mod References
 pub mod Refusal
 pub mod Search
+pub mod Settled
 pub mod Shelves
 pub mod Skips
 pub mod Sound

@@ -1,10 +1,10 @@
 -- Which registries in memory give a verified image: each one of these does.
-use Rattle.std.specs.Prelude.{◌≡◌, ◌⊎◌, true, ◌<◌, ◌-◌, ◌^◌, ℕ, List, [], ◌∷◌, ◌++◌, Contains, Option, Some, None, Result, Ok, Err, IsTrue}
+use Rattle.std.specs.Prelude.{◌≡◌, ◌⊎◌, true, ◌<◌, ◌-◌, ◌^◌, ℕ, List, [], ◌∷◌, ◌++◌, Contains}
+use Rattle.std.specs.Prelude.{Option, Some, None, Result, Ok, Err, IsTrue}
 use Rattle.std.specs.FinMap as map
 use Rattle.oci_names.specs.declared.reference.Reference.{Reference}
 use Rattle.oci_names.specs.References.{repository_of, digest_of, tag_of, resolved_registry, reads_back}
 use Rattle.oci_auth.specs.declared.auth.RegistryAuth.{RegistryAuth}
-use Rattle.oci_auth.specs.declared.memory.Memory.{Memory}
 use Rattle.oci_digests.specs.Names.{name_of, digest_text}
 use Rattle.oci_digests.specs.declared.digester.Algorithm.TheVariants.{Sha256}
 use Rattle.oci_manifests.specs.declared.descriptor.OciDescriptor.{OciDescriptor}
@@ -15,12 +15,13 @@ use Rattle.oci_manifests.specs.declared.manifest.OciImageManifest.{OciImageManif
 use Rattle.oci_transport.specs.Headers.{is_header_value}
 use Rattle.oci_transport.specs.Link.{Link}
 use Rattle.oci_transport.specs.declared.message.Exchange.{Exchange}
+use Rattle.oci_link.specs.Leads.{redirects_lead}
 use Rattle.oci_link.specs.State.{answering}
 use Rattle.oci_link.specs.Table.{digest_named}
 use Rattle.oci_link.specs.declared.shelf.Shelf.{Shelf}
 use Rattle.engine_requests.specs.Addresses.{manifest_name}
 use Rattle.engine_requests.specs.declared.settings.Settings.{Settings}
-use Rattle.shelf_laws.specs.Home.{IsWrittenPlainly, RedirectsNothing, CanBeShown, Settled}
+use Rattle.shelf_laws.specs.Home.{IsWrittenPlainly, CanBeShown}
 use Rattle.shelf_laws.specs.Shelves.{IsShort, HasManifest, HasBlobs, ImageOn, Lists, layers_on}
 use Rattle.cosign_layers.specs.Standing.{Meaning, StandsFor}
 use Rattle.cosign_layers.specs.Trust.{Trust}
@@ -54,7 +55,8 @@ pub record ReadsStanding {V : Type 0} {H : V → Type 0} (meaning : Meaning V H)
   pub reads : read_on meaning.trust d shelf manifest descriptor ≡ Ok layer
   pub stands_for : StandsFor meaning d layer
 
--- the tag of the digest's signatures leads to a manifest of payloads, of which the shelf has all, and one of them stands
+-- the tag of the digest's signatures leads to a manifest of payloads, of which the shelf has all, and one of them
+-- stands
 pub record SignedByTag {V : Type 0} {H : V → Type 0} (meaning : Meaning V H) (d : List ℕ) (shelf : Shelf)
     : Type 0 where
   pub signatures : List ℕ
@@ -64,17 +66,17 @@ pub record SignedByTag {V : Type 0} {H : V → Type 0} (meaning : Meaning V H) (
   pub payloads : HasBlobs shelf (payload_type ∷ []) manifest
   pub standing : ReadsStanding meaning d shelf manifest
 
--- the shelf is where these settings and credentials ask for the image
+-- the shelf is where these settings and credentials ask for the image, and its redirects lead
 pub record IsAsked (s : Settings) (image : Reference) (a : RegistryAuth) (shelf : Shelf) : Type 0 where
   pub reads_back_is : reads_back image ≡ true
   pub repository_is : repository_of image ≡ shelf.repository
   pub written : IsWrittenPlainly s (resolved_registry image)
   pub agent : IsTrue (is_header_value s.user_agent)
   pub credentials : CanBeShown a
-  pub direct : RedirectsNothing shelf
+  pub lead : IsTrue (redirects_lead shelf)
 
--- One of the digest's referrers has a reference that reads back, and the shelf has its image of bundles; of one of them a
--- layer is read that stands.
+-- One of the digest's referrers has a reference that reads back, and the shelf has its image of bundles; of one of
+-- them a layer is read that stands.
 pub record SignedByReferrer {V : Type 0} {H : V → Type 0} (meaning : Meaning V H) (s : Settings)
     (image : Reference) (d : List ℕ) (shelf : Shelf) : Type 0 where
   pub index : OciImageIndex
@@ -120,28 +122,12 @@ pub record ValidShelf {V : Type 0} {H : V → Type 0} (meaning : Meaning V H) (s
   pub no_certificate : signed.standing.layer.certificate_signature ≡ None
   pub short : IsShort s shelf
 
--- The shelf is asked for the image and has it, by a digest of any algorithm, whose tag makes a reference that reads
--- back, and a layer under the tag stands. Nothing is too long.
-pub record TaggedShelf {V : Type 0} {H : V → Type 0} (meaning : Meaning V H) (s : Settings) (image : Reference)
-    (a : RegistryAuth) (accepted : List (List ℕ)) (shelf : Shelf) : Type 0 where
-  pub asked : IsAsked s image a shelf
-  pub digest : List ℕ
-  pub named : digest_on shelf image ≡ Some digest
-  pub image_on : ImageOn s shelf digest accepted
-  pub tag_reads : reads_back (tag_reference image digest) ≡ true
-  pub signed : SignedByTag meaning digest shelf
-  pub short : IsShort s shelf
-
 -- the transport answers from the shelf and tells what was asked; so does a `ShelfTransport`
 pub record AnswersFrom (shelf : Shelf) (link : Link) : Type 0 where
   pub answers : link.answers ≡ Some (answering shelf)
   pub before : List Exchange
   pub told : link.told ≡ Some before
   pub faults : link.faults < 2 ^ 64 - 1
-
--- a client that keeps no other credentials for the image's registry than these, and no other token than theirs
-abbrev pub IsSettled : Reference → RegistryAuth → Memory → Type 0
-IsSettled image a kept = Settled (resolved_registry image) (repository_of image) a kept
 
 -- an answer, or want of memory
 abbrev pub OkOrMemory : {A : Type 0} → Result A PullRefusal → Type 0

@@ -1,10 +1,10 @@
 -- What a client shows: its settings, what it keeps between its calls, and whom it trusts.
-use Rattle.sig_registry.specs.Clients.{Client as Shown, plain_state}
+use Rattle.sig_registry.specs.Clients.{Client as Shown, state_of}
 use Rattle.cosign_layers.specs.Trust.{Trust, Valid, Vouching, trust}
 use Rattle.cosign_client.specs.declared.client.Client.{Client}
 
 abbrev pub client_state : Client → Shown
-client_state c = plain_state c.registry_client
+client_state c = state_of c.registry_client
 
 -- trust in the logs that the client has keys of, where verifiers and judges answer so
 abbrev pub trusts : Valid → Vouching → Client → Trust

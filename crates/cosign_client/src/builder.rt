@@ -1,32 +1,67 @@
 //! What a client is built of.
-ghost use Rattle.std.specs.Prelude.{◌≡◌, IfOk};
+ghost use Rattle.std.specs.Prelude.{◌≡◌, true, false, IfOk};
 ghost use Rattle.std.specs.FinMap as map;
+ghost use Rattle.sig_registry.specs.Clients.{state_of};
 ghost use Rattle.sig_registry.specs.Config.{default_config};
-ghost use Rattle.cosign_client.specs.Builder.{config_of, keys_of, keys_or, fresh_client};
+ghost use Rattle.cosign_client.specs.Builder.{config_of, caches, keys_of, keys_or, fresh_state, fresh_client};
 ghost use Rattle.cosign_client.specs.State.{client_state};
 
 use crate::client::Client;
 use crate::trust_root::TrustRoot;
 use cosign_layers::LogKeys;
-use sig_registry::{ClientConfig, OciClient};
+use oci_engine::ClientConfig as OciConfig;
+use sig_registry::{ClientConfig, OciCachingClient, OciClient, RegistryClient};
 use std::alloc::{AllocError, Global};
 
-/// What a client is built of: the configuration of its registry's client, and the keys of transparency logs.
+// The client of a configuration, which keeps nothing yet.
+fn registry_client(alloc: Global, config: OciConfig, caching: bool) -> RegistryClient
+    ensures { state_of result ≡ fresh_state config caching }
+{
+    let client = oci_engine::Client::new(alloc, config);
+    if caching {
+        return RegistryClient::Caching(OciCachingClient::new(alloc, client));
+    }
+    RegistryClient::Plain(OciClient::new(client))
+}
+
+/// What a client is built of: the configuration of its registry's client, whether that keeps answers, and the keys of
+/// transparency logs.
 #[derive(Drop)]
 pub struct ClientBuilder {
     oci_client_config: ClientConfig,
+    enable_registry_caching: bool,
     rekor_pub_keys: Option<LogKeys>,
 }
 
 impl ClientBuilder {
-    /// The default configuration, and no keys.
+    /// The default configuration, no kept answers, and no keys.
     pub fn new() -> ClientBuilder
         ensures config { config_of result ≡ default_config }
+        ensures caches { caches result ≡ false }
         ensures keys { keys_of result ≡ map.empty }
     {
         ClientBuilder {
             oci_client_config: ClientConfig::default(),
+            enable_registry_caching: false,
             rekor_pub_keys: None,
+        }
+    }
+
+    /// The client will keep answers and give them again for less than 60 seconds.
+    pub fn enable_registry_caching(self) -> ClientBuilder
+        ensures config { config_of result ≡ config_of self }
+        ensures caches { caches result ≡ true }
+        ensures keys { keys_of result ≡ keys_of self }
+    {
+        let ClientBuilder {
+            oci_client_config,
+            rekor_pub_keys,
+            ..
+        } = self;
+        ClientBuilder {
+            oci_client_config,
+            enable_registry_caching: true,
+            rekor_pub_keys,
         }
     }
 
@@ -37,6 +72,7 @@ impl ClientBuilder {
         repo: &R,
     ) -> Result<ClientBuilder, AllocError>
         ensures config { IfOk result (λ builder. config_of builder ≡ config_of self) }
+        ensures caches { IfOk result (λ builder. caches builder ≡ caches self) }
         ensures keys { IfOk result (λ builder. keys_of builder ≡ keys_or (R.known repo.now) (keys_of self)) }
     {
         let keys = repo.rekor_keys(alloc)?;
@@ -45,10 +81,12 @@ impl ClientBuilder {
         }
         let ClientBuilder {
             oci_client_config,
+            enable_registry_caching,
             ..
         } = self;
         Ok(ClientBuilder {
             oci_client_config,
+            enable_registry_caching,
             rekor_pub_keys: Some(keys),
         })
     }
@@ -56,31 +94,39 @@ impl ClientBuilder {
     /// Takes this configuration in the place of the one that is there.
     pub fn with_oci_client_config(self, config: ClientConfig) -> ClientBuilder
         ensures config { config_of result ≡ config }
+        ensures caches { caches result ≡ caches self }
         ensures keys { keys_of result ≡ keys_of self }
     {
-        let ClientBuilder { rekor_pub_keys, .. } = self;
+        let ClientBuilder {
+            enable_registry_caching,
+            rekor_pub_keys,
+            ..
+        } = self;
         ClientBuilder {
             oci_client_config: config,
+            enable_registry_caching,
             rekor_pub_keys,
         }
     }
 
-    /// The client of what is there. It keeps no credentials and no tokens yet.
+    /// The client of what is there. It keeps no credentials, no tokens and no answers yet.
     pub fn build(self, alloc: Global) -> Result<Client, AllocError>
-        ensures client { IfOk result (λ client. client_state client ≡ fresh_client (config_of self)) }
+        ensures client { IfOk result (λ client. client_state client ≡ fresh_client (config_of self) (caches self)) }
         ensures keys { IfOk result (λ client. client.rekor_pub_keys ≡ keys_of self) }
     {
         let ClientBuilder {
             oci_client_config,
+            enable_registry_caching,
             rekor_pub_keys,
         } = self;
         let config = oci_client_config.into_oci(alloc)?;
+        let registry_client = registry_client(alloc, config, enable_registry_caching);
         let rekor_pub_keys = match rekor_pub_keys {
             Some(keys) => keys,
             None => LogKeys::new(alloc),
         };
         Ok(Client {
-            registry_client: OciClient::new(oci_engine::Client::new(alloc, config)),
+            registry_client,
             rekor_pub_keys,
         })
     }

@@ -9,7 +9,7 @@ ghost use Rattle.cosign_chain.specs.Chain.{Chain};
 ghost use Rattle.cosign_chain.specs.Links.{Links};
 ghost use Rattle.cosign_layers.specs.Standing.{meaning};
 ghost use Rattle.sig_registry.specs.Confinement.{Stays};
-ghost use Rattle.sig_registry.specs.Conversions.{registry_auth};
+ghost use Rattle.sig_settings.specs.Auths.{registry_auth};
 ghost use Rattle.sig_registry.specs.Direct.{reference_in};
 ghost use Rattle.sig_registry.specs.Errors.{is_memory as of_memory};
 ghost use Rattle.sig_registry.specs.Errors.{FaultCounted as SearchFaultCounted, NoSinkFault as NoSinkInSearch};
@@ -18,7 +18,8 @@ ghost use Rattle.cosign_client.specs.DigestStep.{BeginsWithDigest, IsRefusedAs, 
 ghost use Rattle.cosign_client.specs.Points.{point_of};
 ghost use Rattle.cosign_client.specs.Refusal.{is_memory, refused_as, FaultCounted, NoSinkFault};
 ghost use Rattle.cosign_client.specs.Search.{searched};
-ghost use Rattle.cosign_client.specs.Shelves.{AnswersFrom, IsSettled, OkOrMemory, TaggedShelf, ValidShelf, WideShelf};
+ghost use Rattle.cosign_client.specs.Settled.{IsSettled};
+ghost use Rattle.cosign_client.specs.Shelves.{AnswersFrom, IsAsked, OkOrMemory, ValidShelf, WideShelf};
 ghost use Rattle.cosign_client.specs.Skips.{CountsFaults, HoldsNoMemoryNorSink, OnSkipped};
 ghost use Rattle.cosign_client.specs.Sound.{Backed};
 ghost use Rattle.cosign_client.specs.Triangulated.{tag_shown, triangulated};
@@ -34,13 +35,14 @@ use cosign_chain::VerifiedImage;
 use cosign_layers::{LogKeys, Offline, PullPolicy, SignatureVerifier, Trusted};
 use json_values::Text;
 use oci_transport::Transport;
-use sig_registry::{Auth, ClientCapabilities, OciClient, OciReference, SigstoreError};
+use sig_registry::{Auth, ClientCapabilities, OciReference, RegistryClient, SigstoreError};
 use std::alloc::Global;
 
 /// Pulls images only where a trusted signature stands for them.
 #[derive(Drop)]
 pub struct Client {
-    pub registry_client: OciClient,
+    /// One that keeps answers or one that does not.
+    pub registry_client: RegistryClient,
     /// The keys of transparency logs by their ids.
     pub rekor_pub_keys: LogKeys,
 }
@@ -150,7 +152,9 @@ impl Client {
     ///
     /// The answer is a chain that checks by itself: it starts at the digest that was answered for the image, which
     /// names the manifest, whose digests name the configuration and the layers, and one signature layer stands for the
-    /// digest under the policy. See `PullRefusal` for when the call is refused.
+    /// digest under the policy. A client that keeps answers may still give the digest and the signatures of less than
+    /// 60 seconds ago; the image's documents and blobs are always asked for. See `PullRefusal` for when the call is
+    /// refused.
     pub fn verified_pull<'a, T: Transport, V: SignatureVerifier, O: Offline>(
         &mut self,
         alloc: Global,
@@ -198,7 +202,8 @@ impl Client {
             (point_of (client_state self.new) (T.state transport.new)) e)
             (T.state transport.old) (T.state transport.new)) }
         ensures backed { IfOk result (λ v. Told
-            (λ c. Backed (client_state self.old).settings (reference_in image.now) c v)
+            (λ c. Backed (client_state self.old).kept (within (client_state self.old).settings moment)
+            (reference_in image.now) (registry_auth auth.now) c v)
             (T.state transport.old) (T.state transport.new)) }
         ensures links { IfOk result (λ v. Links (reference_in image.now) accepted_media_types.now v) }
         ensures fault { FaultCounted (T.state transport.old) (T.state transport.new) result }
@@ -209,23 +214,25 @@ impl Client {
         ensures confined { Stays (client_state self.old) (client_state self.new) moment (reference_in image.now)
             (Some (registry_auth auth.now)) (T.state transport.old) (T.state transport.new) }
         ensures completes { (shelf : Shelf) → AnswersFrom shelf (T.state transport.old)
-            → IsSettled (reference_in image.now) (registry_auth auth.now) (client_state self.old).kept
+            → IsSettled (client_state self.old).settings (reference_in image.now) (registry_auth auth.now) shelf
+            (client_state self.old).kept
             → ValidShelf (meaning policy.now (λ b. accepts (b.vtable, b.value))
             (trusts (V.valid verifier.now) (O.vouched judge.now) self.old))
             (client_state self.old).settings (reference_in image.now) (registry_auth auth.now)
             accepted_media_types.now shelf → OkOrMemory result }
-        ensures completes_tagged { (shelf : Shelf) → AnswersFrom shelf (T.state transport.old)
-            → IsSettled (reference_in image.now) (registry_auth auth.now) (client_state self.old).kept
-            → TaggedShelf (meaning policy.now (λ b. accepts (b.vtable, b.value))
-            (trusts (V.valid verifier.now) (O.vouched judge.now) self.old))
-            (client_state self.old).settings (reference_in image.now) (registry_auth auth.now)
-            accepted_media_types.now shelf → OkOrMemory result }
         ensures completes_wide { (shelf : Shelf) → AnswersFrom shelf (T.state transport.old)
-            → IsSettled (reference_in image.now) (registry_auth auth.now) (client_state self.old).kept
+            → IsSettled (client_state self.old).settings (reference_in image.now) (registry_auth auth.now) shelf
+            (client_state self.old).kept
             → WideShelf (meaning policy.now (λ b. accepts (b.vtable, b.value))
             (trusts (V.valid verifier.now) (O.vouched judge.now) self.old))
             (client_state self.old).settings (reference_in image.now) (registry_auth auth.now)
             accepted_media_types.now shelf → OkOrMemory result }
+        ensures settled { (shelf : Shelf) → AnswersFrom shelf (T.state transport.old)
+            → IsAsked (client_state self.old).settings (reference_in image.now) (registry_auth auth.now) shelf
+            → IsSettled (client_state self.old).settings (reference_in image.now) (registry_auth auth.now) shelf
+            (client_state self.old).kept
+            → UnlessMemory is_memory (λ r. IsSettled (client_state self.old).settings (reference_in image.now)
+            (registry_auth auth.now) shelf (client_state self.new).kept) result }
     {
         let terms = Terms {
             accepted: accepted_media_types,

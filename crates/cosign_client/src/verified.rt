@@ -4,7 +4,7 @@ ghost use Rattle.engine_requests.specs.Contexts.{within};
 ghost use Rattle.engine_requests.specs.declared.settings.Settings.{Settings};
 ghost use Rattle.oci_names.specs.References.{reads_back};
 ghost use Rattle.sig_registry.specs.Clients.{Made};
-ghost use Rattle.sig_registry.specs.Conversions.{registry_auth};
+ghost use Rattle.sig_settings.specs.Auths.{registry_auth};
 ghost use Rattle.cosign_layers.specs.Standing.{stands};
 ghost use Rattle.cosign_client.specs.Refusal.{is_memory, Says};
 ghost use Rattle.cosign_client.specs.Terms.{meaning_of};

@@ -50,10 +50,10 @@ after_refusal {B = B} e f (Err x) is = same x e (cc is) where
   same : (x e : OciDistributionError) → x ≡ e → ◌≡◌ {A = Result B OciDistributionError} (Err x) (Err e)
   same x e is = ap Err is
 
-handed_on : {A B : Type 0} (e : OciDistributionError) (p : Row A) (f : A → Row B) → Ends (Only e) p → Ends (Only e) (p >>= f)
+pub handed_on : {A B : Type 0} (e : OciDistributionError) (p : Row A) (f : A → Row B) → Ends (Only e) p → Ends (Only e) (p >>= f)
 handed_on e p f h = Ends-bind (Only e) (Only e) p (unless_refused f) h (after_refusal e f)
 
-no_url : {B : Type 0} (text : List ℕ) (f : Parts → Row B) → request_url text ≡ None → Ends (Only (refusal.UrlParseError text)) (Done (url_read text) >>= f)
+pub no_url : {B : Type 0} (text : List ℕ) (f : Parts → Row B) → request_url text ≡ None → Ends (Only (refusal.UrlParseError text)) (Done (url_read text) >>= f)
 unfolding Ends bind
 no_url text f none = after_refusal (refusal.UrlParseError text) f (url_read text) (ap (url_or text) none)
 
@@ -155,14 +155,14 @@ unfolding Ends
 unless_refusal f (Ok a) h = absurd h
 unless_refusal f (Err e) h = h
 
-early_on : {A B : Type 0} (p : Row A) (f : A → Row B) → Ends IsEarly p → Ends IsEarly (p >>= f)
+pub early_on : {A B : Type 0} (p : Row A) (f : A → Row B) → Ends IsEarly p → Ends IsEarly (p >>= f)
 early_on p f h = Ends-bind IsEarly IsEarly p (unless_refused f) h (unless_refusal f)
 
 done_bad : (s : Settings) (method : Method) (url : Parts) (types : List ℕ) (token : Option RegistryTokenType) → HasBadHeader s types → Ends {K = Memory} IsEarly (Done (request_of s method url (Some types) token))
 unfolding Ends
 done_bad s method url types token bad = subst IsEarly (sym (request_bad s method url types token bad)) tt
 
-prepared_bad : (s : Context) (image : Reference) (op : RegistryOperation) (method : Method) (url : Parts) (types : List ℕ) → HasBadHeader s.settings types → Ends IsEarly (prepared s image op method url types)
+pub prepared_bad : (s : Context) (image : Reference) (op : RegistryOperation) (method : Method) (url : Parts) (types : List ℕ) → HasBadHeader s.settings types → Ends IsEarly (prepared s image op method url types)
 unfolding prepared
 prepared_bad s image op method url types bad = Ends-bind (Early AnyText) IsEarly (authorized s image op url) (unless_refused (λ token. Done (request_of s.settings method url (Some types) token))) (authorized_early AnyText s types image op url tt) (unless_early s.settings types (λ token. Done (request_of s.settings method url (Some types) token)) (λ token. done_bad s.settings method url types token bad))
 
@@ -171,7 +171,7 @@ unfolding Ends
 by_url text f (Some url) is each = each url
 by_url text f None is each = is
 
-url_first : {B : Type 0} (text : List ℕ) (f : Parts → Row B) → ((url : Parts) → Ends IsEarly (f url)) → Ends IsEarly (Done (url_read text) >>= f)
+pub url_first : {B : Type 0} (text : List ℕ) (f : Parts → Row B) → ((url : Parts) → Ends IsEarly (f url)) → Ends IsEarly (Done (url_read text) >>= f)
 unfolding bind
 url_first text f each = by_url text f (request_url text) refl each
 

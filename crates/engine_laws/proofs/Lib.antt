@@ -3,6 +3,7 @@ pub mod BlobCauses
 pub mod CallCauses
 pub mod CallConfined
 pub mod CallResults
+pub mod Confines
 pub mod Confining
 pub mod DigestAnswers
 pub mod DigestCauses
@@ -24,6 +25,7 @@ pub mod ReferrersAnswers
 pub mod ReferrersCauses
 pub mod ReferrersConfined
 pub mod ReferrersPlain
+pub mod ReferrersRefusals
 pub mod ReferrersSound
 pub mod RunParts
 pub mod SafeKeeps

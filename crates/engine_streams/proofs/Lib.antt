@@ -1,4 +1,5 @@
 pub mod Decimals
+pub mod Joining
 pub mod Judging
 pub mod Pieces
 pub mod Responses

@@ -1,4 +1,5 @@
 pub mod Heads
+pub mod Joined
 pub mod Ranges
 pub mod Rows
 pub mod Streams

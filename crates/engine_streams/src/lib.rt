@@ -4,9 +4,11 @@
 mod asking;
 mod blobs;
 mod head;
+mod laws;
 mod range;
 mod stream;
 
 pub use blobs::{BlobResponse, pull_blob_stream, pull_blob_stream_partial};
+pub use laws::pieces_are_the_body;
 pub use range::ByteRange;
 pub use stream::SizedStream;

@@ -3,3 +3,4 @@ pub mod StreamCalls
 pub mod StreamCauses
 pub mod StreamRanges
 pub mod StreamSafety
+pub mod StreamsRefused

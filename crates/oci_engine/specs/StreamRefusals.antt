@@ -1,5 +1,5 @@
 -- Why a stream of a blob was not opened.
-use Rattle.std.specs.Prelude.{◌≡◌, ◌≤◌, ◌+◌, ◌^◌, ℕ, List, [], Option, Some, None}
+use Rattle.std.specs.Prelude.{◌≡◌, ◌<◌, ◌≤◌, ◌+◌, ◌^◌, ℕ, List, [], Option, Some, None}
 use Rattle.oci_transport.specs.declared.message.Exchange.{Exchange}
 use Rattle.oci_names.specs.declared.reference.Reference.{Reference}
 use Rattle.engine_requests.specs.Requests.{manifest_types}
@@ -20,6 +20,11 @@ range_of offset length = record { offset = offset; length = length }
 abbrev pub Overflows : Option ByteRange → Type 0
 Overflows None = ⊥
 Overflows (Some range) = (n : ℕ) × (range.length ≡ Some n) × (2 ^ 64 ≤ range.offset + n)
+
+-- it does not, or nothing is said of it
+abbrev pub Fits : Option ByteRange → Type 0
+Fits None = Unit {0}
+Fits (Some range) = (n : ℕ) → range.length ≡ Some n → range.offset + n < 2 ^ 64
 
 -- that, before any request; or what the last answer shows, a text that is no URL, a value that cannot stand there
 abbrev pub StreamCause : Option ByteRange → (List ℕ → Type 0) → (List Exchange → Type 0) → Settings → List ℕ

@@ -1,6 +1,7 @@
 //! The client of a registry (OCI distribution specification).
 #![tactic(auto)]
 
+mod certificate;
 mod client;
 mod config;
 mod config_files;
@@ -9,6 +10,7 @@ mod referrers;
 mod source;
 mod streams;
 
+pub use certificate::{Certificate, CertificateEncoding};
 pub use client::Client;
 pub use config::{
     ClientConfig, DEFAULT_MAX_CONCURRENT_DOWNLOAD, DEFAULT_MAX_CONCURRENT_UPLOAD,

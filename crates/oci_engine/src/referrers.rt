@@ -1,10 +1,14 @@
 // The call that answers what refers to a manifest.
-ghost use Rattle.std.specs.Prelude.{◌≡◌, option_copied};
+ghost use Rattle.std.specs.Prelude.{◌≡◌, IfSome, option_copied};
+ghost use Rattle.oci_names.specs.References.{digest_of};
 ghost use Rattle.oci_protocol.specs.Runs.{Meets};
 ghost use Rattle.engine_requests.specs.Errors.{is_memory};
+ghost use Rattle.engine_requests.specs.Referrers.{referrers_text};
+ghost use Rattle.engine_requests.specs.Requests.{manifest_types};
 ghost use Rattle.engine_pull.specs.Referrers.{pull_referrers};
+ghost use Rattle.engine_laws.specs.Causes.{HasBadHeader, IsEarly};
 ghost use Rattle.oci_engine.specs.Confinement.{StaysWithTag};
-ghost use Rattle.oci_engine.specs.Refusals.{RefusedFor, FaultCounted, at_moment};
+ghost use Rattle.oci_engine.specs.Refusals.{RefusedFor, FaultCounted, UrlRefused, at_moment};
 ghost use Rattle.oci_engine.specs.Refusals.{ReferrersRefused, DigestWanted};
 
 use crate::client::Client;
@@ -36,6 +40,10 @@ impl Client {
             (T.state transport.old) (T.state transport.new) result }
         ensures fault { FaultCounted (T.state transport.old) (T.state transport.new) result }
         ensures no_digest { DigestWanted image.now result }
+        ensures no_url { IfSome (digest_of image.now) (λ digest.
+            UrlRefused (referrers_text self.old.settings image.now digest) result) }
+        ensures bad_header { IfSome (digest_of image.now) (λ digest.
+            HasBadHeader self.old.settings manifest_types → IsEarly result) }
     {
         let call = Call {
             settings: &self.settings,

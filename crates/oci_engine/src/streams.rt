@@ -1,16 +1,19 @@
 // The calls that open a stream of a blob.
 ghost use Rattle.std.specs.Prelude.{◌≡◌, [], Some, None, IfOk};
 ghost use Rattle.oci_protocol.specs.Runs.{Meets};
+ghost use Rattle.engine_requests.specs.Addresses.{blob_text};
 ghost use Rattle.engine_requests.specs.Errors.{is_memory};
+ghost use Rattle.engine_requests.specs.Requests.{manifest_types};
 ghost use Rattle.engine_streams.specs.Rows.{blob_stream, blob_stream_partial, opening_in, response_in};
 ghost use Rattle.engine_streams.specs.Rows.{stream_in, IsLeft};
 ghost use Rattle.engine_streams.specs.Streams.{IsOpen, opening_of};
+ghost use Rattle.engine_laws.specs.Causes.{HasBadHeader, IsEarly, IsRefusedAs};
 ghost use Rattle.oci_engine.specs.Confinement.{Stays};
-ghost use Rattle.oci_engine.specs.Refusals.{RefusedFor, FaultCounted, at_moment};
-ghost use Rattle.oci_engine.specs.StreamRefusals.{StreamRefused, range_of};
+ghost use Rattle.oci_engine.specs.Refusals.{RefusedFor, FaultCounted, UrlRefused, at_moment};
+ghost use Rattle.oci_engine.specs.StreamRefusals.{StreamRefused, Overflows, Fits, range_of};
 
 use crate::client::Client;
-use engine_requests::{AsLayerDescriptor, Call, OciDistributionError};
+use engine_requests::{AsLayerDescriptor, Call, GenericCause, OciDistributionError};
 use engine_streams::{BlobResponse, ByteRange, SizedStream};
 use oci_names::Reference;
 use oci_transport::Transport;
@@ -39,6 +42,8 @@ impl Client {
         ensures causes { RefusedFor (StreamRefused None self.old moment image.now (L.layer layer.now))
             (T.state transport.old) (T.state transport.new) result }
         ensures fault { FaultCounted (T.state transport.old) (T.state transport.new) result }
+        ensures no_url { UrlRefused (blob_text self.old.settings image.now (L.layer layer.now).digest) result }
+        ensures bad_header { HasBadHeader self.old.settings manifest_types → IsEarly result }
     {
         let call = Call {
             settings: &self.settings,
@@ -74,6 +79,12 @@ impl Client {
             (StreamRefused (Some (range_of offset length)) self.old moment image.now (L.layer layer.now))
             (T.state transport.old) (T.state transport.new) result }
         ensures fault { FaultCounted (T.state transport.old) (T.state transport.new) result }
+        ensures past { Overflows (Some (range_of offset length))
+            → IsRefusedAs (OciDistributionError.GenericError GenericCause.RangeOverflow) result }
+        ensures no_url { Fits (Some (range_of offset length))
+            → UrlRefused (blob_text self.old.settings image.now (L.layer layer.now).digest) result }
+        ensures bad_header { Fits (Some (range_of offset length))
+            → HasBadHeader self.old.settings manifest_types → IsEarly result }
     {
         let call = Call {
             settings: &self.settings,

@@ -1,11 +1,11 @@
 -- What holds of each case.
 use Rattle.std.proofs.Common.{◌≡◌, codes, ℕ, ◌<◌, List, Bool, true, nat_lt, if◌then◌else◌, length, Option, Some, None, Result, Ok, Err, IfSome, IsOk, is_ok, refl, subst, arith}
 use Rattle.std.proofs.lemmas.Bool.Decides.{nat_tests}
-use Rattle.std.specs.Prelude.{[], IsTrue, option_map}
+use Rattle.std.specs.Prelude.{[], false, IsTrue, option_map}
 use Rattle.std.specs.FinMap.{empty}
 use Rattle.serde_json.specs.Data.{Data}
 use Rattle.serde_json.specs.Find.{get}
-use Rattle.json_tables.specs.Reading.{◌>>=◌, text_of, u64_of, list_of, required, optional, at_name, only}
+use Rattle.json_tables.specs.Reading.{◌>>=◌, text_of, bool_of, u64_of, list_of, required, optional, at_name, only}
 use Rattle.json_tables.specs.Bytes.{bytes_of}
 use Rattle.engine_requests.specs.declared.settings.ClientProtocol.TheVariants.{Https}
 use Rattle.oci_names.specs.References.{reference_of}
@@ -97,6 +97,7 @@ members_of d =
     through (HasRead d) (at_name (unless_absent Anonymous auth_of) (codes "auth") d) _ (λ auth _.
     through (HasRead d) (required (list_of text_of) (codes "accepted") d) _ (λ accepted _.
     through (HasRead d) (optional platform_of (codes "platform") d) _ (λ platform _.
+    through (HasRead d) (at_name (unless_absent false bool_of) (codes "caching") d) _ (λ caching _.
     through (HasRead d) (required moments_of (codes "moments") d) _ (λ moments are_moments.
     through (HasRead d) (at_name (unless_absent None number_of) (codes "limit") d) _ (λ limit _.
     through (HasRead d) (required (list_of bytes_of) (codes "keys") d) _ (λ keys _.
@@ -104,7 +105,7 @@ members_of d =
     through (HasRead d) (at_name (unless_absent empty log_keys_of) (codes "log_keys") d) _ (λ log_keys _.
     through (HasRead d) (required (list_of signature_of) (codes "signatures") d) _ (λ signatures _.
     through (HasRead d) (at_name (unless_absent (judge_by []) judge_of) (codes "vouched") d) _ (λ vouched _.
-    (is_reference, are_moments, is_registry)))))))))))))))
+    (is_reference, are_moments, is_registry))))))))))))))))
 
 -- what follows from what holds of a value that is there
 follows : {A : Type 0} (P Q : A → Type 0) (o : Option A) → IfSome o P → ((a : A) → P a → Q a) → IfSome o Q

@@ -1,10 +1,12 @@
 -- Recorded cases: what to pull, under which policy, and what the registry answers.
-use Rattle.std.specs.Prelude.{ℕ, nat_lt, List, [], ◌∷◌, Option, Some, None, is_ok, IsOk, length, if◌then◌else◌, codes}
+use Rattle.std.specs.Prelude.{ℕ, nat_lt, false, List, [], ◌∷◌, Option, Some, None, is_ok, IsOk}
+use Rattle.std.specs.Prelude.{length, if◌then◌else◌, codes}
 use Rattle.std.specs.FinMap.{empty}
 use Rattle.std.specs.Str.{bytes_eq}
 use Rattle.serde_json.specs.Data.{Data}
 use Rattle.json_values.specs.JsonText.{plain_json_of}
-use Rattle.json_tables.specs.Reading.{◌>>=◌, text_of, u64_of, list_of, required, optional, at_name, only}
+use Rattle.json_tables.specs.Reading.{◌>>=◌, text_of, bool_of, u64_of, list_of, required, optional}
+use Rattle.json_tables.specs.Reading.{at_name, only}
 use Rattle.json_tables.specs.Bytes.{bytes_of}
 use Rattle.oci_names.specs.References.{reference_of}
 use Rattle.oci_auth.specs.declared.auth.RegistryAuth.TheVariants.{Anonymous}
@@ -43,6 +45,7 @@ members =
     ∷ codes "auth"
     ∷ codes "accepted"
     ∷ codes "platform"
+    ∷ codes "caching"
     ∷ codes "moments"
     ∷ codes "limit"
     ∷ codes "keys"
@@ -55,8 +58,9 @@ members =
     ∷ []
 
 -- An object with no members but these. The protocol may be absent, which is `https`, the credentials, which are
--- anonymous, the platform, which is none, as null is, the limit of a body, which is the client's own, and the keys of
--- logs and what is vouched, which are none. Exactly one of `answers` and `shelf` is there.
+-- anonymous, the platform, which is none, as null is, whether answers are kept, which they are not, the limit of a body,
+-- which is the client's own, and the keys of logs and what is vouched, which are none. Exactly one of `answers` and
+-- `shelf` is there.
 unfoldable pub case_of : Data → Option Case
 case_of d = do
   known ← only members d
@@ -66,6 +70,7 @@ case_of d = do
   auth ← at_name (unless_absent Anonymous auth_of) (codes "auth") d
   accepted ← required (list_of text_of) (codes "accepted") d
   platform ← optional platform_of (codes "platform") d
+  caching ← at_name (unless_absent false bool_of) (codes "caching") d
   moments ← required moments_of (codes "moments") d
   limit ← at_name (unless_absent None number_of) (codes "limit") d
   keys ← required (list_of bytes_of) (codes "keys") d
@@ -79,6 +84,7 @@ case_of d = do
     auth = auth;
     accepted = accepted;
     platform = platform;
+    caching = caching;
     moments = moments;
     limit = limit;
     keys = keys;

@@ -30,6 +30,8 @@ pub struct Case {
     /// `"os/architecture"`, split at the first slash, for the first image of an index that is for it, or
     /// `{"digest": text}` for the image of that digest; an index is refused where the member is absent or null.
     pub platform: Option<PlatformResolver>,
+    /// Whether the client keeps answers between its pulls; it does not where the member is absent.
+    pub caching: bool,
     /// A list of at least one number, in seconds since 1970, at each of which the image is pulled.
     pub moments: List<u64>,
     /// How many bytes a body may have that is held; the client's own limit where the member is absent.
@@ -57,6 +59,7 @@ const NAMES: &[&str] = &[
     "auth",
     "accepted",
     "platform",
+    "caching",
     "moments",
     "limit",
     "keys",
@@ -83,7 +86,9 @@ type Limit = (OrUsual<Option<u64>>, Keys);
 
 type Times = (Moments, Limit);
 
-type Platforms = (Platform, Times);
+type Caching = (OrUsual<bool>, Times);
+
+type Platforms = (Platform, Caching);
 
 type Accepted = (List<Text>, Platforms);
 
@@ -108,6 +113,7 @@ impl Reads for Case {
             auth,
             accepted,
             platform,
+            caching,
             moments,
             limit,
             keys,
@@ -122,6 +128,7 @@ impl Reads for Case {
             auth: auth.value,
             accepted,
             platform: platform.resolver,
+            caching: caching.value,
             moments: moments.list,
             limit: limit.value,
             keys,

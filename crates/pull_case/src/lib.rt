@@ -18,6 +18,9 @@ mod trust;
 
 pub use case::{Case, read_case};
 pub use constraint::WrittenConstraint;
+pub use entries::{Entries, Entry, OrUsual, Usual};
+pub use members::ReferenceText;
+pub use platform::Platform;
 pub use policy::case_policy;
 pub use registry::Registry;
 pub use replay::Replay;

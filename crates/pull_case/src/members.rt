@@ -108,6 +108,26 @@ impl Usual for Option<u64> {
     }
 }
 
+impl Entry for bool {
+    ghost use Rattle.json_tables.specs.Reading.{bool_of};
+
+    ghost entry = { bool_of };
+
+    fn read_entry(alloc: Global, value: &Value) -> Result<bool, ReadError> {
+        Reads::read_value(alloc, value)
+    }
+}
+
+impl Usual for bool {
+    ghost use Rattle.std.specs.Prelude.{false};
+
+    ghost usual = { false };
+
+    fn usual(_alloc: Global) -> bool {
+        false
+    }
+}
+
 /// At least one moment, in seconds since 1970. A contract sees the list of them.
 #[derive(Drop)]
 pub struct Moments {

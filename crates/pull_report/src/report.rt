@@ -45,7 +45,8 @@ pub fn write_refusal(alloc: Global, out: &mut Blob, refusal: &PullRefusal) -> Re
     Ok(())
 }
 
-fn write_outcome(
+/// Adds the lines of an outcome at the end of `out`: those of the image, or those of the refusal.
+pub fn write_outcome(
     alloc: Global,
     out: &mut Blob,
     outcome: &Result<VerifiedImage, PullRefusal>,

@@ -28,7 +28,7 @@ use Rattle.cosign_client.specs.Sound.{Sound}
 use Rattle.cosign_client.specs.Verified.{Whole, constrained, is_unconstrained, readable, part_of, stands_by, standing_by, verified_image, after_search, verified}
 use Rattle.cosign_client.specs.declared.refusal.PullRefusal.{PullRefusal}
 use Rattle.cosign_client.proofs.Images.{Seen}
-use Rattle.cosign_client.proofs.Chains.{verified_shows}
+use Rattle.cosign_client.proofs.Chains.{verified_seen}
 use Rattle.engine_requests.specs.Contexts.{Context}
 use Rattle.std.specs.Prelude.{find}
 use Rattle.pull_case.specs.Policy.{constraint_by, constraints_by, policy_of, meaning_of, trust_of}
@@ -37,7 +37,7 @@ use Rattle.pull_run.specs.declared.report.Report.{Report}
 use Rattle.pull_run.specs.Pulls.{Talk, InTurn, settings_of, fresh, row_of, SoundResult, EachSound, ReportsCase}
 use Rattle.pull_run.specs.Rounds.{row_by, row_for, Played}
 use Rattle.pull_run.specs.declared.pulls.Terms.{Terms}
-use Rattle.sig_registry.specs.Conversions.{registry_auth}
+use Rattle.sig_settings.specs.Auths.{registry_auth}
 use Rattle.sig_registry.specs.Direct.{reference_in}
 use Rattle.json_values.specs.Places.{by_bytes}
 use Rattle.std.specs.FinMap.{FinMap}
@@ -92,20 +92,20 @@ row_same {V} {H} policy own case image is =
     ∙ ap (λ (f : SignatureLayer → Bool). by_parts (within (settings_of case) moment) image case.auth case.accepted (is_unconstrained (policy_of case)) f (trust_of case)) (fun_ext (λ layer. stands_same V ⊥ H (λ v. ⊥) own (λ box layer. false) case.keys case.constraints (valid_in (record { rows = case.signatures })) layer))
     ∙ sym (is_by_parts (meaning_of case) (within (settings_of case) moment) image case.auth case.accepted))
 
-sound_result : (case : Case) (image : Reference) (m n : ℕ) (c : List Exchange) (r : Result VerifiedImage PullRefusal) → Seen (Sound (settings_of case) (meaning_of case) image case.accepted) m c n r → SoundResult case image c r
-sound_result case image m n c (Ok v) h = h
-sound_result case image m n c (Err e) h = tt
+sound_result : (case : Case) (image : Reference) (k : Kept) (moment m n : ℕ) (c : List Exchange) (r : Result VerifiedImage PullRefusal) → Seen (Sound k (within (settings_of case) moment) (meaning_of case) image case.auth case.accepted) m c n r → SoundResult case image k moment c r
+sound_result case image k moment m n c (Ok v) h = h
+sound_result case image k moment m n c (Err e) h = tt
 
 each_sound : (case : Case) (image : Reference) (k l : Kept) (m n : ℕ) (talks : List Talk) → InTurn (row_of case image) k m talks l n → EachSound case image talks
 each_sound case image k l m n [] h = tt
-each_sound case image k l m n (talk ∷ talks) h = (sound_result case image m h.1 talk.conversation talk.result ((verified_shows (within (settings_of case) talk.moment) (meaning_of case) image case.auth case.accepted).shows k h.0 m h.1 talk.conversation talk.result h.2), each_sound case image h.0 l h.1 n talks h.3)
+each_sound case image k l m n (talk ∷ talks) h = (sound_result case image talk.before talk.moment m h.2 talk.conversation talk.result ((verified_seen talk.before (within (settings_of case) talk.moment) (meaning_of case) image case.auth case.accepted).seen h.1 m h.2 talk.conversation talk.result h.3), each_sound case image h.1 l h.2 n talks h.4)
 
 -- what was played of a case is its report
 pub reports_case : {V : Type 0} {H : V → Type 0} (policy : PullPolicy V H) (own : DynBox V Global H → SignatureLayer → Bool) (case : Case) (image : Reference) (l : Kept) (made : Report)
     → reference_of case.reference ≡ Ok image → policy.keys ≡ case.keys → policy.constraints ≡ constraints_by case.constraints
-    → Played (row_by (meaning policy own (trust_of case)) (settings_of case) image case.auth case.accepted) case.registry case.moments fresh l made → ReportsCase case made
+    → Played (row_by (meaning policy own (trust_of case)) (settings_of case) image case.auth case.accepted) case.registry case.moments (fresh case.caching) l made → ReportsCase case made
 reports_case policy own case image l made reads keys constraints played =
-    let turn = subst (λ row. InTurn row fresh 0 played.talks l played.faults) (row_same policy own case image (policy_is policy case keys constraints)) played.in_turn in
+    let turn = subst (λ row. InTurn row (fresh case.caching) 0 played.talks l played.faults) (row_same policy own case image (policy_is policy case keys constraints)) played.in_turn in
     record {
       talks = played.talks;
       pulled = record {
@@ -117,7 +117,7 @@ reports_case policy own case image l made reads keys constraints played =
         in_turn = turn;
         answered = played.answered;
         calm_is = played.calm_is;
-        sound = each_sound case image fresh l 0 played.faults played.talks turn;
+        sound = each_sound case image (fresh case.caching) l 0 played.faults played.talks turn;
         whole = played.whole;
       };
       written = played.written;
@@ -126,7 +126,7 @@ reports_case policy own case image l made reads keys constraints played =
 
 -- the same, of a client that was made fresh
 pub reports_fresh : {V : Type 0} {H : V → Type 0} (own : Owns V H) (case : Case) (terms : Terms V H) (client : Client) (log_keys : FinMap by_bytes (List ℕ)) (moments : List ℕ) (l : Kept) (made : Report)
-    → client ≡ record { settings = settings_of case; kept = fresh } → log_keys ≡ case.log_keys → moments ≡ case.moments
+    → client ≡ record { settings = settings_of case; kept = fresh case.caching } → log_keys ≡ case.log_keys → moments ≡ case.moments
     → registry_auth terms.auth ≡ case.auth → terms.accepted ≡ case.accepted
     → terms.verifier ≡ record { rows = case.signatures } → terms.judge ≡ case.vouched
     → reference_of case.reference ≡ Ok (reference_in terms.image) → terms.policy.keys ≡ case.keys → terms.policy.constraints ≡ constraints_by case.constraints

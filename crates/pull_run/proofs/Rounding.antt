@@ -30,9 +30,9 @@ use Rattle.cosign_layers.specs.Standing.{Owns}
 use Rattle.pull_run.specs.declared.pulls.Terms.{Terms}
 use Rattle.pull_run.specs.Rounds.{row_for, Rounds, Round, Played}
 
-turn_more : (row : ℕ → Whole VerifiedImage) (k l j : Kept) (m n o : ℕ) (talks : List Talk) (talk : Talk) → InTurn row k m talks l n → Runs (row talk.moment) l n talk.conversation o j talk.result → InTurn row k m (talks ++ talk ∷ []) j o
-turn_more row k l j m n o [] talk h run = (j, o, rw (h.0, h.1) run, (refl, refl))
-turn_more row k l j m n o (t ∷ talks) talk h run = (h.0, h.1, h.2, turn_more row h.0 l j h.1 n o talks talk h.3 run)
+turn_more : (row : ℕ → Whole VerifiedImage) (k l j : Kept) (m n o : ℕ) (talks : List Talk) (talk : Talk) → InTurn row k m talks l n → l ≡ talk.before → Runs (row talk.moment) talk.before n talk.conversation o j talk.result → InTurn row k m (talks ++ talk ∷ []) j o
+turn_more row k l j m n o [] talk h is run = (h.0 ∙ is, j, o, rw h.1 run, (refl, refl))
+turn_more row k l j m n o (t ∷ talks) talk h is run = (h.0, h.1, h.2, h.3, turn_more row h.1 l j h.2 n o talks talk h.4 is run)
 
 joined_more : (talks : List Talk) (talk : Talk) → joined (talks ++ talk ∷ []) ≡ joined talks ++ talk.conversation
 joined_more [] talk = append-nil talk.conversation
@@ -67,13 +67,13 @@ not_both true b = refl
 not_both false b = refl
 
 one_more : {row : ℕ → Whole VerifiedImage} {mid new : Link} {k l : Kept} {before after : Report} (talk : Talk)
-    → Extends mid new talk.conversation → Runs (row talk.moment) k mid.faults talk.conversation new.faults l talk.result → is_wanting talk.result ≡ false → after.bytes ≡ before.bytes ++ report_of talk → after.refused ≡ (before.refused || not (is_answered talk.result))
+    → k ≡ talk.before → Extends mid new talk.conversation → Runs (row talk.moment) talk.before mid.faults talk.conversation new.faults l talk.result → is_wanting talk.result ≡ false → after.bytes ≡ before.bytes ++ report_of talk → after.refused ≡ (before.refused || not (is_answered talk.result))
     → (moments : List ℕ) (start : Link) (j : Kept) → Rounds row moments start mid j k before → Rounds row (moments ++ talk.moment ∷ []) start new j l after
-one_more {row} {mid} {new} {k} {l} {before} {after} talk told run done bytes refused moments start j rounds = record {
+one_more {row} {mid} {new} {k} {l} {before} {after} talk here told run done bytes refused moments start j rounds = record {
   talks = rounds.talks ++ talk ∷ [];
   moments_are = moments_more rounds.talks talk ∙ ap (λ ms. ms ++ talk.moment ∷ []) rounds.moments_are;
   told = rw joined_more (Extends-more start mid new (joined rounds.talks) talk.conversation rounds.told told);
-  in_turn = turn_more row j k l start.faults mid.faults new.faults rounds.talks talk rounds.in_turn run;
+  in_turn = turn_more row j k l start.faults mid.faults new.faults rounds.talks talk rounds.in_turn here run;
   whole = whole_more rounds.talks talk rounds.whole done;
   written = bytes ∙ ap (λ b. b ++ report_of talk) rounds.written ∙ sym (reports_more rounds.talks talk);
   refused = refused ∙ ap (λ b. b || not (is_answered talk.result)) rounds.refused ∙ not_both (all_answered rounds.talks) (is_answered talk.result) ∙ ap not (sym (answered_more rounds.talks talk));
@@ -81,7 +81,7 @@ one_more {row} {mid} {new} {k} {l} {before} {after} talk told run done bytes ref
 
 pub round : {row : ℕ → Whole VerifiedImage} {moment : ℕ} {mid new : Link} {k l : Kept} {before after : Report} (c : List Exchange) (r : Result VerifiedImage PullRefusal)
     → Extends mid new c → Runs (row moment) k mid.faults c new.faults l r → is_wanting r ≡ false → after.bytes ≡ before.bytes ++ report moment c r → after.refused ≡ (before.refused || not (is_answered r)) → Round row moment mid new k l before after
-round {row} {moment} {mid} {new} {k} {l} {before} {after} c r told run done bytes refused = record { more = one_more {row = row} {mid = mid} {new = new} {k = k} {l = l} {before = before} {after = after} (record { moment = moment; conversation = c; result = r }) told run done bytes refused }
+round {row} {moment} {mid} {new} {k} {l} {before} {after} c r told run done bytes refused = record { more = one_more {row = row} {mid = mid} {new = new} {k = k} {l = l} {before = before} {after = after} (record { before = k; moment = moment; conversation = c; result = r }) refl told run done bytes refused }
 
 -- no pull yet
 pub none_yet : {row : ℕ → Whole VerifiedImage} {link : Link} {k : Kept} (made : Report) → Extends link link [] → made.bytes ≡ [] → made.refused ≡ false → Rounds row [] link link k k made

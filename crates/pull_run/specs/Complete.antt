@@ -1,5 +1,5 @@
 -- Which cases end with 0: those whose registry is a shelf that has the image, signed as the policy asks.
-use Rattle.std.specs.Prelude.{◌≡◌, ◌≤◌, ◌⊎◌, ℕ, List, [], ◌∷◌, length, Some, Ok}
+use Rattle.std.specs.Prelude.{◌≡◌, ◌≤◌, ◌⊎◌, ℕ, List, length, Some, Ok}
 use Rattle.json_values.specs.Counts.{Rose}
 use Rattle.json_values.specs.Tray.{Tray}
 use Rattle.pull_edge.specs.Source.{Spring}
@@ -16,11 +16,8 @@ use Rattle.pull_run.specs.Pulls.{settings_of}
 use Rattle.pull_run.specs.Word.{word_of}
 use Rattle.pull_run.specs.declared.word.Word.TheVariants.{Pull}
 
--- it has one moment, and its registry is a shelf that has the image, for which a layer under its signature tag or of one of
--- its referrers stands
+-- its registry is a shelf that has the image, for which a layer under its signature tag or of one of its referrers stands
 pub record HasImage (case : Case) : Type 0 where
-  pub moment : ℕ
-  pub one : case.moments ≡ moment ∷ []
   pub shelf : Shelf
   pub held : case.registry ≡ registries.Shelf shelf
   pub image : Reference

@@ -12,6 +12,7 @@ use Rattle.engine_requests.specs.declared.settings.ClientProtocol.{ClientProtoco
 use Rattle.engine_requests.specs.declared.settings.Settings.{Settings}
 use Rattle.oci_platforms.specs.declared.promise.ResolverPromise.{ResolverPromise}
 use Rattle.sig_registry.specs.Clients.{Kept}
+use Rattle.cosign_client.specs.Builder.{no_answers}
 use Rattle.cosign_client.specs.Refusal.{is_memory}
 use Rattle.cosign_client.specs.Sound.{Sound}
 use Rattle.cosign_client.specs.Verified.{Whole, verified}
@@ -23,8 +24,9 @@ use Rattle.pull_case.specs.declared.case.Case.{Case}
 use Rattle.pull_report.specs.Report.{report}
 use Rattle.pull_run.specs.declared.report.Report.{Report}
 
--- one pull: its moment, its conversation and its result
+-- one pull: what the client kept before it, its moment, its conversation and its result
 pub record Talk : Type 0 where
+  pub before : Kept
   pub moment : ℕ
   pub conversation : List Exchange
   pub result : Result VerifiedImage PullRefusal
@@ -69,8 +71,8 @@ all_answered (talk ∷ talks) = is_answered talk.result && all_answered talks
 abbrev pub InTurn : (ℕ → Whole VerifiedImage) → Kept → ℕ → List Talk → Kept → ℕ → Type 0
 InTurn row k m [] l n = (k ≡ l) × (m ≡ n)
 InTurn row k m (talk ∷ talks) l n =
-    (kept : Kept) × (count : ℕ)
-    × Runs (row talk.moment) k m talk.conversation count kept talk.result
+    (k ≡ talk.before) × (kept : Kept) × (count : ℕ)
+    × Runs (row talk.moment) talk.before m talk.conversation count kept talk.result
     × InTurn row kept count talks l n
 
 -- the limit of a body that is held, or the usual one
@@ -90,24 +92,25 @@ settings_by protocol limit platform = record {
 abbrev pub settings_of : Case → Settings
 settings_of case = settings_by case.protocol case.limit case.platform
 
--- a client that keeps nothing yet
-abbrev pub fresh : Kept
-fresh = nothing_kept 60
+-- a client that keeps nothing yet, and will keep answers or not
+abbrev pub fresh : Bool → Kept
+fresh caching = (nothing_kept 60, no_answers caching)
 
 -- the pull of a case's image at a moment
 abbrev pub row_of : Case → Reference → ℕ → Whole VerifiedImage
 row_of case image moment =
     verified (meaning_of case) (within (settings_of case) moment) image case.auth case.accepted
 
--- each image that was answered has a chain that holds, and comes of its conversation
-abbrev pub SoundResult : Case → Reference → List Exchange → Result VerifiedImage PullRefusal → Type 0
-SoundResult case image c (Ok v) = Sound (settings_of case) (meaning_of case) image case.accepted c v
-SoundResult case image c (Err refusal) = Unit {0}
+-- an image that was answered has a chain that holds, and comes of this conversation; its digest may still have been kept
+abbrev pub SoundResult : Case → Reference → Kept → ℕ → List Exchange → Result VerifiedImage PullRefusal → Type 0
+SoundResult case image k moment c (Ok v) =
+    Sound k (within (settings_of case) moment) (meaning_of case) image case.auth case.accepted c v
+SoundResult case image k moment c (Err refusal) = Unit {0}
 
 abbrev pub EachSound : Case → Reference → List Talk → Type 0
 EachSound case image [] = Unit {0}
 EachSound case image (talk ∷ talks) =
-    SoundResult case image talk.conversation talk.result × EachSound case image talks
+    SoundResult case image talk.before talk.moment talk.conversation talk.result × EachSound case image talks
 
 -- The pulls of a case by a client that was fresh before the first. Each exchange was answered by the recorded answer
 -- at its place, or by the table of the shelf. A transport's fault stands only where one is recorded: over a shelf
@@ -118,7 +121,7 @@ pub record Pulled (case : Case) (talks : List Talk) : Type 0 where
   pub moments : map moment_of talks ≡ case.moments
   pub kept : Kept
   pub faults : ℕ
-  pub in_turn : InTurn (row_of case image) fresh 0 talks kept faults
+  pub in_turn : InTurn (row_of case image) (fresh case.caching) 0 talks kept faults
   pub answered : AnsweredBy (answering_by case.registry) 0 (joined talks)
   pub calm_is : IsTrue (calm (answering_by case.registry).fails 0 (joined talks) faults)
   pub sound : EachSound case image talks

@@ -8,7 +8,7 @@ use Rattle.oci_auth.specs.declared.auth.RegistryAuth.{RegistryAuth}
 use Rattle.engine_requests.specs.Contexts.{within}
 use Rattle.engine_requests.specs.declared.settings.Settings.{Settings}
 use Rattle.sig_registry.specs.Clients.{Kept}
-use Rattle.sig_registry.specs.Conversions.{registry_auth}
+use Rattle.sig_settings.specs.Auths.{registry_auth}
 use Rattle.sig_registry.specs.Direct.{reference_in}
 use Rattle.json_values.specs.Places.{by_bytes}
 use Rattle.cosign_layers.specs.Judge.{vouched_in}

@@ -2,12 +2,14 @@
 ghost use Rattle.std.specs.Prelude.{◌≡◌, ◌++◌, ◌||◌, false, not, Ok, IsOk, IfOk, IfSome, OnOk};
 ghost use Rattle.oci_names.specs.References.{reference_of};
 ghost use Rattle.sig_registry.specs.Direct.{reference_in};
+ghost use Rattle.oci_engine.specs.Clients.{settings_of};
+ghost use Rattle.cosign_client.specs.Builder.{fresh_state};
 ghost use Rattle.cosign_client.specs.State.{client_state};
 ghost use Rattle.pull_case.specs.Case.{case_in, IsReady};
 ghost use Rattle.pull_case.specs.Registry.{Leads};
 ghost use Rattle.pull_case.specs.Replay.{IsCalm, state_of};
 ghost use Rattle.pull_report.specs.Report.{report as lines_of};
-ghost use Rattle.pull_run.specs.Pulls.{is_answered, is_wanting, settings_by, fresh, ReportsCase};
+ghost use Rattle.pull_run.specs.Pulls.{is_answered, is_wanting, settings_by, ReportsCase};
 ghost use Rattle.pull_run.specs.Rounds.{row_for, Round, Played};
 
 use crate::report::Report;
@@ -20,7 +22,9 @@ use oci_platforms::PlatformResolver;
 use oci_transport::Exchange;
 use pull_case::{Case, Registry, Replay, case_policy, read_case};
 use pull_report::write_report;
-use sig_registry::{Auth, OciClient, OciReference, SigstoreError};
+use sig_registry::{
+    Auth, OciCachingClient, OciClient, OciReference, RegistryClient, SigstoreError,
+};
 use std::alloc::{AllocError, Global};
 
 // Whether memory was wanting.
@@ -123,26 +127,43 @@ fn pull_each(
     Ok(report)
 }
 
-// A client that knows these logs and keeps nothing yet.
-fn fresh_client(
+// What a case says of a client's settings, all else as usual.
+fn config(
     alloc: Global,
     protocol: ClientProtocol,
     limit: Option<u64>,
     platform: Option<PlatformResolver>,
-    rekor_pub_keys: LogKeys,
-) -> Result<Client, AllocError>
-    ensures state { IfOk result (λ client.
-        client_state client ≡ record { settings = settings_by protocol limit platform; kept = fresh }) }
-    ensures log_keys { IfOk result (λ client. client.rekor_pub_keys ≡ rekor_pub_keys) }
+) -> Result<ClientConfig, AllocError>
+    ensures settings { IfOk result (λ config. settings_of config ≡ settings_by protocol limit platform) }
+    ensures expiration { IfOk result (λ config. config.default_token_expiration_secs ≡ 60) }
 {
     let mut config = ClientConfig::default(alloc)?;
     config.protocol = protocol;
     config.max_body_bytes = limit.unwrap_or(config.max_body_bytes);
     config.platform_resolver = platform;
-    Ok(Client {
-        registry_client: OciClient::new(oci_engine::Client::new(alloc, config)),
+    Ok(config)
+}
+
+// A client that knows these logs, keeps nothing yet, and will keep answers or not.
+fn fresh_client(
+    alloc: Global,
+    config: ClientConfig,
+    caching: bool,
+    rekor_pub_keys: LogKeys,
+) -> Client
+    ensures state { client_state result ≡ fresh_state config caching }
+    ensures log_keys { result.rekor_pub_keys ≡ rekor_pub_keys }
+{
+    let client = oci_engine::Client::new(alloc, config);
+    let registry_client = if caching {
+        RegistryClient::Caching(OciCachingClient::new(alloc, client))
+    } else {
+        RegistryClient::Plain(OciClient::new(client))
+    };
+    Client {
+        registry_client,
         rekor_pub_keys,
-    })
+    }
 }
 
 // The reference in a text that reads back as one.
@@ -191,13 +212,8 @@ pub fn pull_case(alloc: Global, case: Case) -> Result<Report, AllocError>
         },
         judge: case.vouched,
     };
-    let mut client = fresh_client(
-        alloc,
-        case.protocol,
-        case.limit,
-        case.platform,
-        case.log_keys,
-    )?;
+    let config = config(alloc, case.protocol, case.limit, case.platform)?;
+    let mut client = fresh_client(alloc, config, case.caching, case.log_keys);
     pull_each(
         alloc,
         &mut client,

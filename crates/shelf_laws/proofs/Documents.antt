@@ -20,6 +20,7 @@ use Rattle.oci_digests.specs.declared.digester.Algorithm.TheVariants.{Sha256, Sh
 use Rattle.oci_digests.specs.declared.error.DigestError.TheVariants as digest_refusal
 use Rattle.oci_digests.proofs.Validated.{algorithm_named, is_validated}
 use Rattle.oci_transport.specs.Headers.{Fields, values_of, first_of, added, held, is_header_value, digest_header}
+use Rattle.oci_transport.specs.Redirects.{may_follow}
 use Rattle.oci_transport.specs.declared.message.Request.{Request}
 use Rattle.oci_transport.specs.declared.message.Answer.{Answer}
 use Rattle.oci_transport.specs.declared.message.Method.{Method}
@@ -56,11 +57,12 @@ use Rattle.engine_pull.specs.Pulls.{document, manifest_document, pull_manifest_r
 use Rattle.shelf_laws.specs.Comes.{Comes, Yields, Gives, IsHeld}
 use Rattle.shelf_laws.specs.Home.{front_of, Home, IsAt, CanBeShown, Settled}
 use Rattle.shelf_laws.specs.Shelves.{IsShort, HasDocument, HasBlob}
-use Rattle.shelf_laws.proofs.Coming.{Stands, Comes-follow, Gives-done, Gives-next}
+use Rattle.shelf_laws.proofs.Coming.{Gives-done, Gives-next}
 use Rattle.shelf_laws.proofs.DigestTexts.{digest_all, is_lower_digit}
+use Rattle.shelf_laws.proofs.Leading.{none_held, Answers, Comes-led}
 use Rattle.shelf_laws.proofs.PlainNames.{digest_segment, item_plain}
 use Rattle.shelf_laws.proofs.Places.{item_path, answers_manifest, answers_blob, manifest_text_is, blob_text_is}
-use Rattle.shelf_laws.proofs.Requests.{yields_ok, none_held, IsFor, url_reads, stands_200, within_reads}
+use Rattle.shelf_laws.proofs.Requests.{yields_ok, IsFor, url_reads, within_reads}
 use Rattle.shelf_laws.proofs.Tokens.{prepared_gives, store_gives}
 
 -- ---- the digest of an answer
@@ -227,74 +229,80 @@ module _ {s : Settings} {registry : List ℕ} {shelf : Shelf} (home : Home s reg
   abbrev limit : ℕ
   limit = s.max_body_bytes
 
-  whole_gives : (request : Request) (x : Answer) (digest bytes : List ℕ) → answer shelf request ≡ x → IsGood digest bytes x → length bytes ≤ limit → Gives I (answer shelf) (λ got. IsGood digest bytes got.answer) (whole 10 request limit)
+  whole_gives : (request : Request) (x : Answer) (digest bytes : List ℕ) → Answers shelf request x → IsGood digest bytes x → length bytes ≤ limit → Gives I (answer shelf) (λ got. IsGood digest bytes got.answer) (whole 10 request limit)
   unfolding whole read_within Comes
-  whole_gives request x digest bytes is good le = record {
-    gives = λ k h. Comes-follow (answer shelf) (λ l r. I l × Yields (λ got. IsGood digest bytes got.answer) r) 10 request (read_within limit) whole_reply x k is (stands_200 10 request x good.status) tt
-        (subst (λ reply. Comes (answer shelf) (λ l r. I l × Yields (λ got. IsGood digest bytes got.answer) r) (whole_reply request reply) k) (sym (within_reads limit x (subst (λ (b : List ℕ). length b ≤ limit) (sym good.body_is) le))) (h, good));
+  whole_gives request x digest bytes asked good le = record {
+    gives = λ k h. Comes-led home.lead (λ l r. I l × Yields (λ got. IsGood digest bytes got.answer) r) (read_within limit) whole_reply x k tt
+        (λ last. subst (λ reply. Comes (answer shelf) (λ l r. I l × Yields (λ got. IsGood digest bytes got.answer) r) (whole_reply last reply) k) (sym (within_reads limit x (subst (λ (b : List ℕ). length b ≤ limit) (sym good.body_is) le))) (h, good))
+        request asked;
   }
 
-  -- a whole answer that is no redirect
-  pub answer_gives : (request : Request) (x : Answer) → answer shelf request ≡ x → Stands 10 request x → length x.body ≤ limit → Gives I (answer shelf) (λ got. got.answer ≡ x) (whole 10 request limit)
+  -- a whole answer
+  pub answer_gives : (request : Request) (x : Answer) → Answers shelf request x → length x.body ≤ limit → Gives I (answer shelf) (λ got. got.answer ≡ x) (whole 10 request limit)
   unfolding whole read_within Comes
-  answer_gives request x is stands le = record {
-    gives = λ k h. Comes-follow (answer shelf) (λ l r. I l × Yields (λ got. got.answer ≡ x) r) 10 request (read_within limit) whole_reply x k is stands tt
-        (subst (λ reply. Comes (answer shelf) (λ l r. I l × Yields (λ got. got.answer ≡ x) r) (whole_reply request reply) k) (sym (within_reads limit x le)) (h, refl));
+  answer_gives request x asked le = record {
+    gives = λ k h. Comes-led home.lead (λ l r. I l × Yields (λ got. got.answer ≡ x) r) (read_within limit) whole_reply x k tt
+        (λ last. subst (λ reply. Comes (answer shelf) (λ l r. I l × Yields (λ got. got.answer ≡ x) r) (whole_reply last reply) k) (sym (within_reads limit x le)) (h, refl))
+        request asked;
   }
 
-  attempt_gives : (request : Request) (x : Answer) (digest bytes : List ℕ) → answer shelf request ≡ x → Names digest bytes → IsGood digest bytes x → length bytes ≤ limit → Gives I (answer shelf) (λ (b : List ℕ). b ≡ bytes) (attempt IntoMemory limit digest request)
+  attempt_gives : (request : Request) (x : Answer) (digest bytes : List ℕ) → Answers shelf request x → Names digest bytes → IsGood digest bytes x → length bytes ≤ limit → Gives I (answer shelf) (λ (b : List ℕ). b ≡ bytes) (attempt IntoMemory limit digest request)
   unfolding attempt blob_reading Comes
-  attempt_gives request x digest bytes is (alg, named) good le = record {
+  attempt_gives request x digest bytes asked (alg, named) good le = record {
     gives = λ k h.
         let reading : blob_reading IntoMemory limit digest (head_part x) ≡ Within limit = ap (reading_by IntoMemory limit) (plan_is digest alg bytes x named good) in
-        Comes-follow (answer shelf) (λ l r. I l × Yields (λ (b : List ℕ). b ≡ bytes) r) 10 request (blob_reading IntoMemory limit digest) (blob_reply digest) x k is (stands_200 10 request x good.status)
+        Comes-led home.lead (λ l r. I l × Yields (λ (b : List ℕ). b ≡ bytes) r) (blob_reading IntoMemory limit digest) (blob_reply digest) x k
         (subst IsHeld (sym reading) tt)
-        (subst (λ (way : Reading). Comes (answer shelf) (λ l r. I l × Yields (λ (b : List ℕ). b ≡ bytes) r) (blob_reply digest request (reply_of way x)) k) (sym reading)
-        (subst (λ reply. Comes (answer shelf) (λ l r. I l × Yields (λ (b : List ℕ). b ≡ bytes) r) (blob_reply digest request reply) k) (sym (within_reads limit x (subst (λ (b : List ℕ). length b ≤ limit) (sym good.body_is) le)))
-        (h, yields_ok (λ (b : List ℕ). b ≡ bytes) (read_by request.url x (plan_of digest (head_part x))) bytes (blob_read digest request.url alg bytes x named good) refl)));
+        (λ last. subst (λ (way : Reading). Comes (answer shelf) (λ l r. I l × Yields (λ (b : List ℕ). b ≡ bytes) r) (blob_reply digest last (reply_of way x)) k) (sym reading)
+        (subst (λ reply. Comes (answer shelf) (λ l r. I l × Yields (λ (b : List ℕ). b ≡ bytes) r) (blob_reply digest last reply) k) (sym (within_reads limit x (subst (λ (b : List ℕ). length b ≤ limit) (sym good.body_is) le)))
+        (h, yields_ok (λ (b : List ℕ). b ≡ bytes) (read_by last.url x (plan_of digest (head_part x))) bytes (blob_read digest last.url alg bytes x named good) refl)))
+        request asked;
   }
 
-  offer_gives : (request : Request) (x : Answer) (digest bytes : List ℕ) (next : Row (List ℕ)) → answer shelf request ≡ x → Names digest bytes → IsGood digest bytes x → length bytes ≤ limit → Gives I (answer shelf) (λ (b : List ℕ). b ≡ bytes) (offer IntoMemory limit digest next request)
+  offer_gives : (request : Request) (x : Answer) (digest bytes : List ℕ) (next : Row (List ℕ)) → Answers shelf request x → Names digest bytes → IsGood digest bytes x → length bytes ≤ limit → Gives I (answer shelf) (λ (b : List ℕ). b ≡ bytes) (offer IntoMemory limit digest next request)
   unfolding offer offer_reading blob_reading Comes
-  offer_gives request x digest bytes next is (alg, named) good le = record {
+  offer_gives request x digest bytes next asked (alg, named) good le = record {
     gives = λ k h.
         let own : Reading = blob_reading IntoMemory limit digest (head_part x) in
         let reading : offer_reading IntoMemory limit digest (head_part x) ≡ Within limit = ap (λ n. if is_error n then Unread else own) good.status ∙ ap (reading_by IntoMemory limit) (plan_is digest alg bytes x named good) in
-        Comes-follow (answer shelf) (λ l r. I l × Yields (λ (b : List ℕ). b ≡ bytes) r) 10 request (offer_reading IntoMemory limit digest) (offer_reply digest next) x k is (stands_200 10 request x good.status)
+        Comes-led home.lead (λ l r. I l × Yields (λ (b : List ℕ). b ≡ bytes) r) (offer_reading IntoMemory limit digest) (offer_reply digest next) x k
         (subst IsHeld (sym reading) tt)
-        (subst (λ (way : Reading). Comes (answer shelf) (λ l r. I l × Yields (λ (b : List ℕ). b ≡ bytes) r) (offer_reply digest next request (reply_of way x)) k) (sym reading)
-        (subst (λ reply. Comes (answer shelf) (λ l r. I l × Yields (λ (b : List ℕ). b ≡ bytes) r) (offer_reply digest next request reply) k) (sym (within_reads limit x (subst (λ (b : List ℕ). length b ≤ limit) (sym good.body_is) le)))
-        (h, yields_ok (λ (b : List ℕ). b ≡ bytes) (read_by request.url x (plan_of digest (head_part x))) bytes (blob_read digest request.url alg bytes x named good) refl)));
+        (λ last. subst (λ (way : Reading). Comes (answer shelf) (λ l r. I l × Yields (λ (b : List ℕ). b ≡ bytes) r) (offer_reply digest next last (reply_of way x)) k) (sym reading)
+        (subst (λ reply. Comes (answer shelf) (λ l r. I l × Yields (λ (b : List ℕ). b ≡ bytes) r) (offer_reply digest next last reply) k) (sym (within_reads limit x (subst (λ (b : List ℕ). length b ≤ limit) (sym good.body_is) le)))
+        (h, yields_ok (λ (b : List ℕ). b ≡ bytes) (read_by last.url x (plan_of digest (head_part x))) bytes (blob_read digest last.url alg bytes x named good) refl)))
+        request asked;
   }
 
   -- the shelf's answer is taken, whatever other places there are
-  tried_gives : (places : List Place) (request : Request) (x : Answer) (digest bytes : List ℕ) → answer shelf request ≡ x → Names digest bytes → IsGood digest bytes x → length bytes ≤ limit → Gives I (answer shelf) (λ (b : List ℕ). b ≡ bytes) (tried IntoMemory s digest places request)
+  tried_gives : (places : List Place) (request : Request) (x : Answer) (digest bytes : List ℕ) → Answers shelf request x → Names digest bytes → IsGood digest bytes x → length bytes ≤ limit → Gives I (answer shelf) (λ (b : List ℕ). b ≡ bytes) (tried IntoMemory s digest places request)
   unfolding tried
-  tried_gives [] request x digest bytes is named good le = attempt_gives request x digest bytes is named good le
-  tried_gives (p ∷ ps) request x digest bytes is named good le = offer_gives request x digest bytes (Done (asked_at s p) >>= (λ next. tried IntoMemory s digest ps next)) is named good le
+  tried_gives [] request x digest bytes asked named good le = attempt_gives request x digest bytes asked named good le
+  tried_gives (p ∷ ps) request x digest bytes asked named good le = offer_gives request x digest bytes (Done (asked_at s p) >>= (λ next. tried IntoMemory s digest ps next)) asked named good le
 
-  named_gives : (request : Request) (x : Answer) (digest bytes : List ℕ) → answer shelf request ≡ x → Names digest bytes → IsGood digest [] x → Gives I (answer shelf) (λ n. (got : Got) × (n ≡ ByHeader digest got) × (got.answer.status ≡ 200)) (named_after 10 request limit)
+  named_gives : (request : Request) (x : Answer) (digest bytes : List ℕ) → Answers shelf request x → Names digest bytes → IsGood digest [] x → Gives I (answer shelf) (λ n. (got : Got) × (n ≡ ByHeader digest got) × (got.answer.status ≡ 200)) (named_after 10 request limit)
   unfolding named_after named_reading Comes
-  named_gives request x digest bytes is named good = record {
+  named_gives request x digest bytes asked named good = record {
     gives = λ k h.
         let P : Named → Type 0 = λ n. (got : Got) × (n ≡ ByHeader digest got) × (got.answer.status ≡ 200) in
         let reading : named_reading limit (head_part x) ≡ Within limit = ap (reading_named limit) (header_is digest bytes named good) in
-        let got : Got = record { url = request.url; answer = x } in
-        Comes-follow (answer shelf) (λ l r. I l × Yields P r) 10 request (named_reading limit) named_reply x k is (stands_200 10 request x good.status)
+        let got : Request → Got = λ last. record { url = last.url; answer = x } in
+        Comes-led home.lead (λ l r. I l × Yields P r) (named_reading limit) named_reply x k
         (subst IsHeld (sym reading) tt)
-        (subst (λ (way : Reading). Comes (answer shelf) (λ l r. I l × Yields P r) (named_reply request (reply_of way x)) k) (sym reading)
-        (subst (λ reply. Comes (answer shelf) (λ l r. I l × Yields P r) (named_reply request reply) k) (sym (within_reads limit x (subst (λ (b : List ℕ). length b ≤ limit) (sym good.body_is) (omega arith))))
-        (h, yields_ok P (read_named got (header_digest x.headers)) (ByHeader digest got) (ap (read_named got) (header_is digest bytes named good)) (got, refl, good.status))));
+        (λ last. subst (λ (way : Reading). Comes (answer shelf) (λ l r. I l × Yields P r) (named_reply last (reply_of way x)) k) (sym reading)
+        (subst (λ reply. Comes (answer shelf) (λ l r. I l × Yields P r) (named_reply last reply) k) (sym (within_reads limit x (subst (λ (b : List ℕ). length b ≤ limit) (sym good.body_is) (omega arith))))
+        (h, yields_ok P (read_named (got last) (header_digest x.headers)) (ByHeader digest (got last)) (ap (read_named (got last)) (header_is digest bytes named good)) (got last, refl, good.status))))
+        request asked;
   }
 
   abbrev name_of_image : List ℕ
   name_of_image = manifest_name (digest_of image) (tag_of image)
 
   -- the document of the image's digest or tag is at its URL
-  shelf_document : (method : Method) (digest bytes : List ℕ) (has : HasDocument shelf digest bytes) (request : Request) → Segment name_of_image → digest_named shelf name_of_image ≡ Some digest → is_get_or_head method ≡ true → IsFor method (front_of s registry ++ item_path shelf.repository (codes "manifests") name_of_image) request → answer shelf request ≡ document_answer method digest (Some has.document)
-  shelf_document method digest bytes has request segment points get is =
-      answers_manifest home request name_of_image segment is.url_is ∙ ap (λ m. manifest_answer shelf m name_of_image) is.method_is
-      ∙ ap (λ b. if b then digest_answer shelf method (digest_named shelf name_of_image) else not_found) get ∙ ap (digest_answer shelf method) points ∙ ap (document_answer method digest) has.there
+  shelf_document : (method : Method) (digest bytes : List ℕ) (has : HasDocument shelf digest bytes) (request : Request) → Segment name_of_image → digest_named shelf name_of_image ≡ Some digest → is_get_or_head method ≡ true → may_follow method ≡ true → IsFor method (front_of s registry ++ item_path shelf.repository (codes "manifests") name_of_image) request → Answers shelf request (document_answer method digest (Some has.document))
+  shelf_document method digest bytes has request segment points get follows is =
+      answers_manifest home request name_of_image (document_answer method digest (Some has.document)) segment is.url_is (ap may_follow is.method_is ∙ follows) refl
+      (ap (λ m. manifest_answer shelf m name_of_image) is.method_is
+      ∙ ap (λ b. if b then digest_answer shelf method (digest_named shelf name_of_image) else not_found) get ∙ ap (digest_answer shelf method) points ∙ ap (document_answer method digest) has.there)
 
   has_short : (digest bytes : List ℕ) (has : HasDocument shelf digest bytes) → length bytes ≤ limit
   has_short digest bytes has = subst (λ (b : List ℕ). length b ≤ limit) has.content (short.documents digest has.document has.there)
@@ -307,7 +315,7 @@ module _ {s : Settings} {registry : List ℕ} {shelf : Shelf} (home : Home s reg
   unfolding document
   document_gives digest bytes types url has segment points other listed text =
       Gives-next _ (prepared_gives home image at a can moment Get url types listed) (λ request is.
-      Gives-next _ (whole_gives request (document_answer Get digest (Some has.document)) digest bytes (shelf_document Get digest bytes has request segment points refl (record { method_is = is.method_is; url_is = is.url_is ∙ text })) (document_good Get digest bytes has.document has.named has.content refl) (has_short digest bytes has)) (λ got good.
+      Gives-next _ (whole_gives request (document_answer Get digest (Some has.document)) digest bytes (shelf_document Get digest bytes has request segment points refl refl (record { method_is = is.method_is; url_is = is.url_is ∙ text })) (document_good Get digest bytes has.document has.named has.content refl) (has_short digest bytes has)) (λ got good.
       Gives-done (document_in image got) (yields_ok (λ found. found ≡ (bytes, digest)) (document_in image got) (bytes, digest) (document_is image got digest bytes has.named other good) refl)))
 
   -- the document of the image
@@ -334,7 +342,7 @@ module _ {s : Settings} {registry : List ℕ} {shelf : Shelf} (home : Home s reg
       Gives-next _ (store_gives home image at a can moment) (λ u stored_is.
       Gives-next _ (Gives-done (url_read (manifest_text s image)) (url_reads home (manifest_text s image) (item_path shelf.repository (codes "manifests") name_of_image) (manifest_text_is home at) (manifests_plain segment))) (λ url is.
       Gives-next _ (prepared_gives home image at a can moment Head url manifest_types refl) (λ request made.
-      Gives-next _ (named_gives request (document_answer Head digest (Some has.document)) digest bytes (shelf_document Head digest bytes has request segment points refl (record { method_is = made.method_is; url_is = made.url_is ∙ is.text_is })) has.named (head_good digest bytes has.document has.named)) (λ n found.
+      Gives-next _ (named_gives request (document_answer Head digest (Some has.document)) digest bytes (shelf_document Head digest bytes has request segment points refl refl (record { method_is = made.method_is; url_is = made.url_is ∙ is.text_is })) has.named (head_good digest bytes has.document has.named)) (λ n found.
       subst (λ n. Gives I (answer shelf) (λ (d : List ℕ). d ≡ digest) (digest_by ctx image url n)) (sym found.1) (fitting digest bytes url found.0 has.named other found.2)))))
 
   -- a blob
@@ -346,5 +354,5 @@ module _ {s : Settings} {registry : List ℕ} {shelf : Shelf} (home : Home s reg
       Gives-next _ (Gives-done (url_read (blob_text s image digest)) (url_reads home (blob_text s image digest) (item_path shelf.repository (codes "blobs") digest) (blob_text_is home at digest) (item_plain shelf.repository (codes "blobs") digest home.path (98, codes "lobs", refl, refl, refl) segment))) (λ url is.
       Gives-next _ (prepared_gives home image at a can moment Get url manifest_types refl) (λ request made.
       tried_gives (places_of layer.urls) request (bytes_answer (with_digest digest) (Some has.blob)) digest has.blob
-      (answers_blob home request digest segment (made.url_is ∙ is.text_is) ∙ ap (λ m. blob_answer shelf m digest) made.method_is ∙ ap (bytes_answer (with_digest digest)) has.there)
+      (answers_blob home request digest (bytes_answer (with_digest digest) (Some has.blob)) segment (made.url_is ∙ is.text_is) (ap may_follow made.method_is) refl (ap (λ m. blob_answer shelf m digest) made.method_is ∙ ap (bytes_answer (with_digest digest)) has.there))
       has.named (blob_good digest has.blob has.named) (short.blobs digest has.blob has.there)))

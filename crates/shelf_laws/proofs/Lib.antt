@@ -3,10 +3,14 @@ pub mod DigestTags
 pub mod DigestTexts
 pub mod Documents
 pub mod Images
+pub mod Leading
+pub mod Lifted
 pub mod Listing
 pub mod PlainNames
 pub mod Places
 pub mod Pointing
+pub mod ReadHosts
+pub mod ReadUrls
 pub mod References
 pub mod Requests
 pub mod Staying

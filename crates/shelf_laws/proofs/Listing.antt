@@ -2,7 +2,7 @@
 use Rattle.std.specs.Prelude.{codes, if◌then◌else◌}
 use Rattle.std.specs.List.{list_any}
 use Rattle.std.specs.FinMap as map
-use Rattle.std.proofs.Common.{◌≡◌, ◌≤◌, ℕ, ◌==◌, List, ◌++◌, length, Option, Some, None, Result, Ok, Err, refl, sym, ap, ◌∙◌, subst, arith}
+use Rattle.std.proofs.Common.{◌≡◌, ◌≤◌, ℕ, ◌==◌, false, List, ◌++◌, length, Option, Some, None, Result, Ok, Err, refl, sym, ap, ◌∙◌, subst, arith}
 use Rattle.url.specs.Parts.{Parts}
 use Rattle.oci_names.specs.declared.reference.Reference.{Reference}
 use Rattle.oci_names.specs.References.{digest_of}
@@ -12,12 +12,12 @@ use Rattle.oci_digests.specs.Names.{Names}
 use Rattle.oci_manifests.specs.declared.document.OciManifest.{OciManifest}
 use Rattle.oci_manifests.specs.declared.document.OciManifest.TheVariants.{ImageIndex}
 use Rattle.oci_manifests.specs.declared.index.OciImageIndex.{OciImageIndex}
+use Rattle.oci_transport.specs.Redirects.{may_follow, is_redirect_status}
 use Rattle.oci_transport.specs.declared.message.Answer.{Answer}
-use Rattle.oci_transport.specs.declared.message.Request.{Request}
 use Rattle.oci_transport.specs.declared.message.Method.TheVariants.{Get}
 use Rattle.oci_protocol.specs.Proto.{Done, ◌>>=◌}
 use Rattle.oci_link.specs.PlainPaths.{Segment}
-use Rattle.oci_link.specs.Table.{answer, found, not_found, bytes_answer, referrers_answer, digest_named}
+use Rattle.oci_link.specs.Table.{answer, found, bytes_answer, referrers_answer, digest_named}
 use Rattle.oci_link.specs.declared.shelf.Shelf.{Shelf}
 use Rattle.engine_requests.specs.declared.answers.Got.{Got}
 use Rattle.engine_requests.specs.declared.error.OciDistributionError.{OciDistributionError}
@@ -33,12 +33,12 @@ use Rattle.engine_pull.specs.Referrers.{referrers_asked, referrers_tagged, refer
 use Rattle.shelf_laws.specs.Comes.{Yields, Gives}
 use Rattle.shelf_laws.specs.Home.{front_of, Home, IsAt, CanBeShown, Settled}
 use Rattle.shelf_laws.specs.Shelves.{IsShort, TagLists, ListsBy, Lists}
-use Rattle.shelf_laws.proofs.Coming.{Stands, Gives-done, Gives-next, Gives-caught}
+use Rattle.shelf_laws.proofs.Coming.{Gives-done, Gives-next, Gives-caught}
 use Rattle.shelf_laws.proofs.DigestTags.{dashed_text, dashed_segment, dashed_colonless}
 use Rattle.shelf_laws.proofs.Documents.{named_segment, asked_gives, answer_gives}
 use Rattle.shelf_laws.proofs.PlainNames.{item_plain}
 use Rattle.shelf_laws.proofs.Places.{item_path, answers_referrers, referrers_text_is}
-use Rattle.shelf_laws.proofs.Requests.{yields_ok, IsUrl, url_reads, stands_200, stands_404}
+use Rattle.shelf_laws.proofs.Requests.{yields_ok, IsUrl, url_reads}
 use Rattle.shelf_laws.proofs.Staying.{resolved_again}
 use Rattle.shelf_laws.proofs.Tokens.{prepared_gives}
 
@@ -59,9 +59,9 @@ module _ {s : Settings} {registry : List ℕ} {shelf : Shelf} (home : Home s reg
   abbrev listed : Option (List ℕ)
   listed = map.get shelf.referrers digest
 
-  stands : (request : Request) (o : Option (List ℕ)) → Stands 10 request (bytes_answer map.empty o)
-  stands request None = stands_404 10 request not_found refl
-  stands request (Some body) = stands_200 10 request (found map.empty body) refl
+  rests : (o : Option (List ℕ)) → is_redirect_status (bytes_answer map.empty o).status ≡ false
+  rests None = refl
+  rests (Some body) = refl
 
   short_body : (o : Option (List ℕ)) → listed ≡ o → length (bytes_answer map.empty o).body ≤ s.max_body_bytes
   short_body None is = omega arith
@@ -75,8 +75,8 @@ module _ {s : Settings} {registry : List ℕ} {shelf : Shelf} (home : Home s reg
       Gives-next _ (Gives-done (referrers_url s image digest None) (unrestricted (IsUrl (front_of s registry ++ item_path shelf.repository (codes "referrers") digest) home.written.url) (url_read (referrers_text s image digest)) url_ok)) (λ url is.
       Gives-next _ (prepared_gives home image at a can moment Get url manifest_types refl) (λ request made.
       answer_gives home short image at a can moment request (bytes_answer map.empty listed)
-      (answers_referrers home request digest segment (made.url_is ∙ is.text_is) ∙ ap (λ m. referrers_answer shelf m digest) made.method_is)
-      (stands request listed) (short_body listed refl))) where
+      (answers_referrers home request digest (bytes_answer map.empty listed) segment (made.url_is ∙ is.text_is) (ap may_follow made.method_is) (rests listed) (ap (λ m. referrers_answer shelf m digest) made.method_is))
+      (short_body listed refl))) where
         unrestricted : (P : Parts → Type 0) (r : Result Parts OciDistributionError) → Yields P r → Yields P (r into λ url. Ok (with_artifact_type None url))
         unrestricted P (Ok url) h = h
         unrestricted P (Err e) h = h

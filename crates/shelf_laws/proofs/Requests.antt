@@ -1,15 +1,13 @@
 -- The requests that can be made, and how an answer of status 200 comes.
 use Rattle.std.specs.Prelude.{codes, nat_lt, sum_by, unwrap_or, IsTrue, if◌then◌else◌}
 use Rattle.std.specs.FinMap as map
-use Rattle.std.specs.FinMap.{entries-insert, len-entries, len-empty, get-empty, get-insert, put}
+use Rattle.std.specs.FinMap.{entries-insert, get-empty, get-insert, put}
 use Rattle.std.specs.Cmp.Lexicographic.{nat_list_cmp_total}
-use Rattle.std.proofs.Common.{◌≡◌, ◌≤◌, ℕ, zero, suc, Bool, true, false, ◌&&◌, List, [], ◌∷◌, ◌++◌, length, Option, Some, None, Result, Ok, Err, refl, sym, ap, ◌∙◌, subst}
+use Rattle.std.proofs.Common.{◌≡◌, ◌≤◌, ℕ, true, ◌&&◌, List, [], ◌∷◌, ◌++◌, length, Option, Some, None, Result, Ok, Err, refl, sym, ap, ◌∙◌, subst}
 use Rattle.std.proofs.lemmas.Bool.{le-ltb}
-use Rattle.std.proofs.lemmas.List.{nil_from_length}
 use Rattle.url.specs.Parts.{Parts, serialize}
 use Rattle.json_values.specs.Places.{by_bytes}
-use Rattle.oci_transport.specs.Headers.{Fields, values_of, first_of, added, held, is_header_value}
-use Rattle.oci_transport.specs.Redirects.{may_follow, is_redirect_status, redirected, moved_to, location_of}
+use Rattle.oci_transport.specs.Headers.{Fields, values_of, added, held, is_header_value}
 use Rattle.oci_transport.specs.Urls.{request_url}
 use Rattle.oci_transport.specs.declared.message.Request.{Request}
 use Rattle.oci_transport.specs.declared.message.Answer.{Answer}
@@ -27,19 +25,13 @@ use Rattle.engine_requests.specs.Addresses.{url_or, url_read}
 use Rattle.engine_requests.specs.Requests.{with_header, with_token, request_of}
 use Rattle.shelf_laws.specs.Comes.{Yields}
 use Rattle.shelf_laws.specs.Home.{front_of, Home}
-use Rattle.shelf_laws.proofs.Coming.{Stands}
+use Rattle.shelf_laws.proofs.Leading.{no_entries, none_held}
 use Rattle.shelf_laws.proofs.Places.{reads_at}
 
 pub yields_ok : {A E : Type 0} (P : A → Type 0) (r : Result A E) (a : A) → r ≡ Ok a → P a → Yields P r
 yields_ok P r a is h = subst (Yields P) (sym is) h
 
 -- ---- there is room for the headers
-
-no_entries : map.entries (map.empty {X = List (List ℕ)} {R = by_bytes}) ≡ []
-no_entries = nil_from_length _ (sym (len-entries map.empty) ∙ len-empty by_bytes (List (List ℕ)))
-
-pub none_held : held map.empty ≡ 0
-none_held = ap (λ (es : List (List ℕ × List (List ℕ))). sum_by (λ e. length e.1) es) no_entries
 
 agent_entries : (name : List ℕ) → map.entries (added map.empty (codes "user-agent") name) ≡ (codes "user-agent", name ∷ []) ∷ []
 agent_entries name =
@@ -110,27 +102,6 @@ pub url_reads : {s : Settings} {registry : List ℕ} {shelf : Shelf} (home : Hom
 url_reads {s} {registry} home text path is plain =
     let read = reads_at home path plain in
     yields_ok (IsUrl (front_of s registry ++ path) home.written.url) (url_read text) read.read (ap url_read is ∙ ap (url_or (front_of s registry ++ path)) read.reads) (record { text_is = read.same_text; reads = read.reads; scheme = read.scheme; host = read.host; port = read.port })
-
--- ---- answers of status 200
-
-never_both : (b : Bool) → (b && false) ≡ false
-never_both true = refl
-never_both false = refl
-
-pub stands_200 : (n : ℕ) (request : Request) (answer : Answer) → answer.status ≡ 200 → Stands n request answer
-unfolding redirected
-stands_200 zero request answer is = tt
-stands_200 (suc n) request answer is =
-    ap (λ b. if may_follow request.method && b then moved_to request (location_of (first_of (codes "location") answer.headers)) else None) (ap is_redirect_status is)
-    ∙ ap (λ b. if b then moved_to request (location_of (first_of (codes "location") answer.headers)) else None) (never_both (may_follow request.method))
-
--- nor is an answer of status 404
-pub stands_404 : (n : ℕ) (request : Request) (answer : Answer) → answer.status ≡ 404 → Stands n request answer
-unfolding redirected
-stands_404 zero request answer is = tt
-stands_404 (suc n) request answer is =
-    ap (λ b. if may_follow request.method && b then moved_to request (location_of (first_of (codes "location") answer.headers)) else None) (ap is_redirect_status is)
-    ∙ ap (λ b. if b then moved_to request (location_of (first_of (codes "location") answer.headers)) else None) (never_both (may_follow request.method))
 
 -- a body that is not too long
 pub within_reads : (limit : ℕ) (answer : Answer) → length answer.body ≤ limit → reply_of (Within limit) answer ≡ Answered answer

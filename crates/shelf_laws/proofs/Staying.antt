@@ -1,6 +1,6 @@
 -- Rows that may answer anything over a shelf leave a client settled.
 use Rattle.std.specs.Prelude.{bytes_eq, codes, unwrap_or, nat_eq, if◌then◌else◌}
-use Rattle.std.proofs.Common.{◌≡◌, ap, ◌∙◌, is_some, ℕ, Bool, true, false, List, [], ◌∷◌, ◌++◌, Option, Some, None, refl}
+use Rattle.std.proofs.Common.{◌≡◌, ap, ◌∙◌, is_some, ℕ, Bool, true, false, List, [], ◌∷◌, ◌++◌, Option, Some, None, Result, Ok, Err, refl}
 use Rattle.url.specs.Parts.{Parts}
 use Rattle.oci_names.specs.declared.reference.Reference.{Reference}
 use Rattle.oci_names.specs.References.{digest_of, namespace_of, resolved_registry}
@@ -15,14 +15,14 @@ use Rattle.oci_transport.specs.Headers.{is_header_value}
 use Rattle.oci_transport.specs.declared.message.Request.{Request}
 use Rattle.oci_transport.specs.declared.message.AnswerHead.{AnswerHead}
 use Rattle.oci_transport.specs.declared.message.Method.{Method}
-use Rattle.oci_transport.specs.declared.message.Method.TheVariants.{Get}
+use Rattle.oci_transport.specs.declared.message.Method.TheVariants.{Get, Head}
 use Rattle.oci_protocol.specs.Proto.{Unread, Reply, Headed, Answered, Failed, TooLong, SinkFailed, Done, read_within, ◌>>=◌}
 use Rattle.oci_link.specs.Table.{answer}
 use Rattle.oci_link.specs.declared.shelf.Shelf.{Shelf}
 use Rattle.engine_requests.specs.declared.blobs.Plan.{Plan}
 use Rattle.engine_requests.specs.declared.blobs.Plan.TheVariants.{Refuse, Judge, Pour}
 use Rattle.engine_requests.specs.Addresses.{manifest_text, blob_text, url_read}
-use Rattle.engine_requests.specs.Answers.{is_error}
+use Rattle.engine_requests.specs.Answers.{is_error, accepted, header_digest}
 use Rattle.engine_requests.specs.Blobs.{plan_of}
 use Rattle.engine_requests.specs.Contexts.{Context}
 use Rattle.engine_requests.specs.Documents.{document_read}
@@ -31,12 +31,15 @@ use Rattle.engine_requests.specs.Requests.{manifest_types}
 use Rattle.engine_requests.specs.Referrers.{digest_given, referrers_url, referrers_in, fallback_reference}
 use Rattle.engine_requests.specs.Sources.{Layer, described, places_of, asked_at}
 use Rattle.engine_requests.specs.declared.answers.Got.{Got}
+use Rattle.engine_requests.specs.declared.error.OciDistributionError.{OciDistributionError}
 use Rattle.engine_requests.specs.declared.sources.Place.{Place}
 use Rattle.engine_requests.specs.declared.settings.Settings.{Settings}
-use Rattle.engine_steps.specs.Rows.{Row, whole_reply, whole, prepared}
+use Rattle.engine_steps.specs.declared.asking.Named.{Named}
+use Rattle.engine_steps.specs.declared.asking.Named.TheVariants.{ByHeader, Unnamed}
+use Rattle.engine_steps.specs.Rows.{Row, whole_reply, whole, reading_named, named_reading, named_reply, named_after, prepared}
 use Rattle.engine_steps.specs.Offers.{offer_reading, offer_reply, offer, tried}
 use Rattle.engine_steps.specs.Blobs.{IntoMemory, reading_by, blob_reading, blob_reply, attempt}
-use Rattle.engine_pull.specs.Pulls.{document, manifest_document, pull_manifest_raw, manifest_asked, pull_manifest, blob_to, held_blob}
+use Rattle.engine_pull.specs.Pulls.{document, digest_by, fetch_manifest_digest, manifest_document, pull_manifest_raw, manifest_asked, pull_manifest, blob_to, held_blob}
 use Rattle.engine_pull.specs.Manifests.{pull_entry, manifest_by, pull_image_manifest_and_list_digest}
 use Rattle.engine_pull.specs.Referrers.{referrers_asked, referrers_tagged, pull_referrers}
 use Rattle.engine_pull.specs.Images.{layers_accepted, layer_of, pull_layers, pull}
@@ -128,11 +131,36 @@ module _ {s : Settings} {registry : List ℕ} {shelf : Shelf} (home : Home s reg
     unfolding pull_manifest_raw manifest_document
     raw_stays types listed = Stays-next _ (Gives-stays (store_gives home image at a can moment)) (λ u. Stays-next _ (Stays-done (url_read (manifest_text s image))) (λ url. document_stays url types listed))
 
+    named_stays : (request : Request) → Stays I (answer shelf) (named_after 10 request s.max_body_bytes)
+    unfolding named_after named_reading
+    named_stays request = Stays-follow I (answer shelf) 10 request (named_reading s.max_body_bytes) named_reply (λ head. held_named (header_digest head.headers)) by_reply where
+      held_named : (r : Result (Option (List ℕ)) OciDistributionError) → IsHeld (reading_named s.max_body_bytes r)
+      held_named (Ok (Some digest)) = tt
+      held_named (Ok None) = tt
+      held_named (Err e) = tt
+
+      by_reply : (last : Request) (reply : Reply) → Stays I (answer shelf) (named_reply last reply)
+      by_reply last (Headed head) = Stays-done _
+      by_reply last (Answered x) = Stays-done _
+      by_reply last Failed = Stays-done _
+      by_reply last TooLong = Stays-done _
+      by_reply last SinkFailed = Stays-done _
+
+    by_name : (url : Parts) (n : Named) → Stays I (answer shelf) (digest_by ctx image url n)
+    by_name url (ByHeader digest got) = Stays-next _ (Stays-done (accepted got.url got.answer)) (λ x. Stays-done _)
+    by_name url Unnamed = Stays-next _ (document_stays url manifest_types refl) (λ found. Stays-done _)
+
+    pub digest_stays : Stays I (answer shelf) (fetch_manifest_digest ctx image a)
+    unfolding fetch_manifest_digest
+    digest_stays =
+        Stays-next _ (Gives-stays (store_gives home image at a can moment)) (λ u. Stays-next _ (Stays-done (url_read (manifest_text s image))) (λ url.
+        Stays-next _ (prepared_stays Head url manifest_types refl) (λ request. Stays-next _ (named_stays request) (λ n. by_name url n))))
+
     pub manifest_stays : Stays I (answer shelf) (pull_manifest ctx image a)
     unfolding pull_manifest
     manifest_stays = Stays-next _ (raw_stays manifest_types refl) (λ found. Stays-next _ (Stays-done (document_read found.0)) (λ d. Stays-done _))
 
-    blob_stays : (layer : Layer) → Stays I (answer shelf) (held_blob ctx image layer)
+    pub blob_stays : (layer : Layer) → Stays I (answer shelf) (held_blob ctx image layer)
     unfolding blob_to
     blob_stays layer = Stays-next _ (Stays-done (url_read (blob_text s image layer.digest))) (λ url. Stays-next _ (prepared_stays Get url manifest_types refl) (λ request. tried_stays layer.digest (places_of layer.urls) request))
 

@@ -1,16 +1,16 @@
 -- The token of a request to a shelf: what is kept, or what the credentials are by themselves.
-use Rattle.std.specs.Prelude.{codes, nat_le, slice_get, unwrap_or, option_and_then}
+use Rattle.std.specs.Prelude.{codes, nat_le, option_and_then}
 use Rattle.std.specs.Option.{option_map_or}
 use Rattle.std.specs.FinMap as map
 use Rattle.std.specs.FinMap.{get-empty, get-insert}
 use Rattle.std.specs.Cmp.{eq_by_cmp_equiv}
 use Rattle.std.specs.Cmp.Lexicographic.{nat_list_cmp_total}
-use Rattle.std.proofs.Common.{◌≡◌, inl, inr, ℕ, Bool, true, false, cond, List, [], ◌++◌, is_some, Option, Some, None, Ok, refl, sym, ap, ◌∙◌, subst}
+use Rattle.std.proofs.Common.{◌≡◌, inl, inr, ℕ, Bool, true, false, cond, List, ◌++◌, is_some, Option, Some, None, Ok, refl, sym, ap, ◌∙◌, subst}
 use Rattle.url.specs.Parts.{Parts, serialize}
 use Rattle.json_values.specs.Places.{by_bytes}
 use Rattle.oci_names.specs.declared.reference.Reference.{Reference}
 use Rattle.oci_names.specs.References.{repository_of, resolved_registry}
-use Rattle.oci_transport.specs.Headers.{Fields, first_of, is_header_value}
+use Rattle.oci_transport.specs.Headers.{first_of, is_header_value}
 use Rattle.oci_transport.specs.Urls.{request_url}
 use Rattle.oci_transport.specs.declared.message.Request.{Request}
 use Rattle.oci_transport.specs.declared.message.AnswerHead.{AnswerHead}
@@ -30,7 +30,7 @@ use Rattle.oci_auth.specs.Keys.{Key, under, kept_under, inserted}
 use Rattle.oci_auth.specs.Memory.{fresh, stored}
 use Rattle.oci_auth.proofs.Places.{is_kept}
 use Rattle.oci_protocol.specs.Proto.{read_none, bind}
-use Rattle.oci_link.specs.Table.{answer, found, not_found, is_get}
+use Rattle.oci_link.specs.Table.{answer}
 use Rattle.oci_link.specs.declared.shelf.Shelf.{Shelf}
 use Rattle.engine_requests.specs.declared.settings.Settings.{Settings}
 use Rattle.engine_requests.specs.declared.tokens.Wanted.TheVariants as wants
@@ -42,7 +42,7 @@ use Rattle.engine_steps.specs.Rows.{Row, head_reply, head_after, store, fetched,
 use Rattle.shelf_laws.specs.Comes.{Comes, Yields, Gives}
 use Rattle.shelf_laws.specs.Home.{front_of, Home, IsAt, CanBeShown, shown_unasked, NoneBut, IsToken, Settled}
 use Rattle.shelf_laws.proofs.Coming.{Comes-follow, Gives-done, Gives-next, Gives-more, Gives-caught}
-use Rattle.shelf_laws.proofs.Places.{answers_base, base_text_is, registry_text_is}
+use Rattle.shelf_laws.proofs.Places.{base_unasked, base_text_is, registry_text_is}
 use Rattle.shelf_laws.proofs.PlainNames.{base_plain}
 use Rattle.shelf_laws.proofs.Requests.{yields_ok, CanStand, IsFor, request_made, bare_made, url_reads}
 
@@ -87,9 +87,9 @@ can_show a token can (inr own) = subst CanStand (sym own) (by_kind a can) where
   by_kind (Basic user password) can = tt
   by_kind Anonymous can = tt
 
-wants_nothing : (head : AnswerHead) → head.headers ≡ map.empty → wanted head ≡ wants.Nothing
+wants_nothing : (head : AnswerHead) → first_of (codes "www-authenticate") head.headers ≡ None → wanted head ≡ wants.Nothing
 unfolding wanted
-wants_nothing head is = ap (λ (m : Fields). wanted_in (first_of (codes "www-authenticate") m)) is ∙ ap (λ (o : Option (List (List ℕ))). wanted_in (slice_get (unwrap_or o []) 0)) (get-empty by_bytes (codes "www-authenticate"))
+wants_nothing head is = ap wanted_in is
 
 module _ {s : Settings} {registry : List ℕ} {shelf : Shelf} (home : Home s registry shelf) (image : Reference) (at : IsAt registry shelf image) (a : RegistryAuth) (can : CanBeShown a) (moment : ℕ) where
   abbrev I : Memory → Type 0
@@ -102,12 +102,14 @@ module _ {s : Settings} {registry : List ℕ} {shelf : Shelf} (home : Home s reg
   unfolding store Comes bind
   store_gives = record { gives = λ k h. (subst (λ (r : List ℕ). Settled registry shelf.repository a (stored k r a)) (sym at.registry_is) (settled_stored registry shelf.repository a k h), tt) }
 
+  abbrev Unasked : AnswerHead → Type 0
+  Unasked head = first_of (codes "www-authenticate") head.headers ≡ None
+
   -- the shelf asks for nothing
-  base_head : (request : Request) → IsFor Get (front_of s registry ++ codes "/v2/") request → Gives I (answer shelf) (λ (head : AnswerHead). head.headers ≡ map.empty) (head_after 0 request)
+  base_head : (request : Request) → IsFor Get (front_of s registry ++ codes "/v2/") request → Gives I (answer shelf) Unasked (head_after 0 request)
   unfolding head_after read_none Comes
   base_head request is = record {
-    gives = λ k h. Comes-follow (answer shelf) (λ l r. I l × Yields (λ (head : AnswerHead). head.headers ≡ map.empty) r) 0 request read_none head_reply (found map.empty []) k
-        (answers_base home request is.url_is ∙ ap (λ m. cond (is_get m) (found map.empty []) not_found) is.method_is) tt tt (h, refl);
+    gives = λ k h. Comes-follow (answer shelf) (λ l r. I l × Yields Unasked r) 0 request read_none head_reply (answer shelf request) k refl tt tt (h, base_unasked home request is.url_is);
   }
 
   asked_nothing : Gives I (answer shelf) (λ (o : Option RegistryTokenType). o ≡ None) (registry_asked s image a Pull)

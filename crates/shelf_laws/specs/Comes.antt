@@ -22,6 +22,10 @@ Comes table Q (Ask request reading next) k =
 Comes table Q (Recall next) k = Comes table Q (next k) k
 Comes table Q (Keep kept rest) k = Comes table Q rest kept
 
+-- it comes to this answer
+abbrev pub ComesTo : {K A : Type 0} → (Request → Answer) → Proto K A → K → A → Type 0
+ComesTo table p k answer = Comes table (λ l a. a ≡ answer) p k
+
 -- it is no refusal, and this is so of it
 abbrev pub Yields : {A E : Type 0} → (A → Type 0) → Result A E → Type 0
 Yields P (Ok a) = P a

@@ -7,7 +7,7 @@ use Rattle.oci_names.specs.References.{repository_of, resolved_registry, namespa
 use Rattle.oci_names.specs.Words.{Domain, Path}
 use Rattle.oci_transport.specs.Urls.{request_url}
 use Rattle.oci_transport.specs.Headers.{is_header_value}
-use Rattle.oci_link.specs.PlainPaths.{PlainPathsRead}
+use Rattle.oci_link.specs.Leads.{redirects_lead}
 use Rattle.oci_link.specs.declared.shelf.Shelf.{Shelf}
 use Rattle.oci_auth.specs.declared.auth.RegistryAuth.{RegistryAuth}
 use Rattle.oci_auth.specs.declared.auth.RegistryAuth.TheVariants.{Anonymous, Basic, Bearer}
@@ -25,25 +25,19 @@ use Rattle.engine_requests.specs.declared.settings.Settings.{Settings}
 abbrev pub front_of : Settings → List ℕ → List ℕ
 front_of s registry = scheme_for s.protocol registry ++ codes "://" ++ registry
 
--- The registry's URL reads, and is written as it is printed: its text is the scheme, `://`, the registry and a slash.
--- That plain paths read behind it, `plain_paths_read` of `oci_link` says of each URL that was read.
+-- the registry's URL reads, and is written as it is printed: its text is the scheme, `://`, the registry and a slash
 pub record IsWrittenPlainly (s : Settings) (registry : List ℕ) : Type 0 where
   pub url : Parts
   pub reads : request_url (front_of s registry) ≡ Some url
   pub text : serialize url ≡ front_of s registry ++ codes "/"
-  pub plain_paths : PlainPathsRead url
 
--- no text of a URL is redirected
-abbrev pub RedirectsNothing : Shelf → Type 0
-RedirectsNothing shelf = (text : List ℕ) → map.get shelf.redirects text ≡ None
-
--- the requests for the shelf's repository at this registry can be made, and the shelf answers them itself
+-- the requests for the shelf's repository at this registry can be made, and the shelf answers them, redirects or not
 pub record Home (s : Settings) (registry : List ℕ) (shelf : Shelf) : Type 0 where
   pub written : IsWrittenPlainly s registry
   pub domain : Domain registry
   pub path : Path shelf.repository
   pub agent : IsTrue (is_header_value s.user_agent)
-  pub direct : RedirectsNothing shelf
+  pub lead : IsTrue (redirects_lead shelf)
 
 -- the image is one of the shelf's repository at this registry, which is its own and no mirror
 pub record IsAt (registry : List ℕ) (shelf : Shelf) (image : Reference) : Type 0 where

@@ -1,6 +1,6 @@
 -- The answers that a caching client keeps, and which of them it still gives.
 use Rattle.std.specs.Prelude.{ℕ, Bool, true, false, ◌&&◌, not, ◌-◌, nat_le, nat_lt, bytes_eq, if◌then◌else◌}
-use Rattle.std.specs.Prelude.{List, [], ◌∷◌, ◌++◌, find, filter, Option, Some, None, option_and_then}
+use Rattle.std.specs.Prelude.{List, [], ◌∷◌, ◌++◌, length, find, filter, Option, Some, None, option_and_then}
 use Rattle.oci_manifests.specs.declared.document.OciManifest.{OciManifest}
 use Rattle.oci_manifests.specs.declared.index.OciImageIndex.{OciImageIndex}
 use Rattle.engine_pull.specs.declared.image.ImageData.{ImageData}
@@ -47,18 +47,20 @@ fresh kind key now k = option_and_then (given_at now) (find (is_of kind key) k.e
 -- the entries are as few and as light as the bounds say; without bounds they always are
 abbrev pub fits : Option Bounds → List Entry → Bool
 fits None es = true
-fits (Some b) es = nat_le (List.length es) b.answers && nat_le (weight es) b.bytes
+fits (Some b) es = nat_le (length es) b.answers && nat_le (weight es) b.bytes
 
 -- those that were kept longest ago go, until the others fit
 abbrev pub within : Option Bounds → List Entry → List Entry
 within bounds [] = []
 within bounds (e ∷ es) = if fits bounds (e ∷ es) then e ∷ es else within bounds es
 
--- the answer takes the place of what was kept for its key; the latest stands last
+-- the answer in the place of what was kept for its key; the latest stands last
+abbrev pub replaced : Entry → List Entry → List Entry
+replaced e es = filter (λ other. not (is_of (kind_of e.answer) e.key other)) es ++ e ∷ []
+
+-- the answer is kept, within the bounds
 abbrev pub keep : Entry → Answers → Answers
-keep e k = record k {
-  entries = within k.bounds (filter (λ other. not (is_of (kind_of e.answer) e.key other)) k.entries ++ e ∷ []);
-}
+keep e k = record k { entries = within k.bounds (replaced e k.entries) }
 
 -- ---- by the call that gave them
 

@@ -18,6 +18,7 @@ use Rattle.engine_requests.specs.declared.settings.Settings.{Settings}
 use Rattle.engine_requests.specs.declared.error.OciDistributionError.{OciDistributionError}
 use Rattle.engine_requests.specs.declared.error.OciDistributionError.TheVariants as engine
 use Rattle.oci_transport.specs.declared.message.Exchange.{Exchange}
+use Rattle.oci_engine.specs.declared.client.Client.{Client}
 use Rattle.oci_engine.specs.Refusals.{RefusedFor}
 use Rattle.engine_requests.specs.Errors.{is_memory as engine_is_memory}
 use Rattle.engine_steps.specs.Rows.{Row as Engine, token_given}
@@ -31,27 +32,27 @@ use Rattle.sig_registry.specs.declared.error.SigstoreError.TheVariants as sigsto
 use Rattle.sig_registry.specs.declared.wording.Called.{Called}
 use Rattle.sig_registry.specs.Errors.{is_memory, refusal, worded, Says, IsRefusedBy, NoSinkFault}
 use Rattle.sig_registry.proofs.InWords.{worded_fault, worded_no_sink}
-use Rattle.sig_registry.specs.Clients.{Row, Made, Client}
+use Rattle.sig_registry.specs.Clients.{Plain, PlainlyMade}
 
 -- a refusal that is the result of both
 result_is : {B : Type 0} (e : SigstoreError) (r : Result B SigstoreError) → IsErrAnd r (λ x. x ≡ e) → r ≡ Err e
 result_is e r is = let at = err_from_is_err_and r is in at.1 ∙ ap Err at.2
 
 -- the first one was refused
-pub made_refused : {A B : Type 0} (s : Settings) {p : Row A} (f : A → Row B) {c d : Client} {old new : Link} (e : SigstoreError) (r : Result B SigstoreError) → Made is_memory s p c d old new (Err e) → IsErrAnd r (λ x. x ≡ e) → Made is_memory s (p >>= f) c d old new r
+pub made_refused : {A B : Type 0} (s : Settings) {p : Plain A} (f : A → Plain B) {c d : Client} {old new : Link} (e : SigstoreError) (r : Result B SigstoreError) → PlainlyMade s p c d old new (Err e) → IsErrAnd r (λ x. x ≡ e) → PlainlyMade s (p >>= f) c d old new r
 made_refused {A} {B} s {p} f {c} {d} {old} {new} e r first is = record { made = by_settings } where
-  by_settings : c.settings ≡ s → (d.settings ≡ s) × Meets is_memory (p >>= f) old new c.kept d.kept r
+  by_settings : c.settings ≡ s → (d.settings ≡ s) × Meets is_memory (p >>= f) old new c.memory d.memory r
   by_settings same =
-      let h : (d.settings ≡ s) × Meets is_memory p old new c.kept d.kept (Err e) = first.made same in
-      (h.0, subst (λ z. Meets is_memory (p >>= f) old new c.kept d.kept z) (sym (result_is e r is)) (Meets-refused f h.1))
+      let h : (d.settings ≡ s) × Meets is_memory p old new c.memory d.memory (Err e) = first.made same in
+      (h.0, subst (λ z. Meets is_memory (p >>= f) old new c.memory d.memory z) (sym (result_is e r is)) (Meets-refused f h.1))
 
 -- both were made
-pub made_next : {A B : Type 0} (s : Settings) {p : Row A} (f : A → Row B) {c m d : Client} {old mid new : Link} (a : A) (r : Result B SigstoreError) → Made is_memory s p c m old mid (Ok a) → Made is_memory s (f a) m d mid new r → Made is_memory s (p >>= f) c d old new r
+pub made_next : {A B : Type 0} (s : Settings) {p : Plain A} (f : A → Plain B) {c m d : Client} {old mid new : Link} (a : A) (r : Result B SigstoreError) → PlainlyMade s p c m old mid (Ok a) → PlainlyMade s (f a) m d mid new r → PlainlyMade s (p >>= f) c d old new r
 made_next {A} {B} s {p} f {c} {m} {d} {old} {mid} {new} a r first second = record { made = by_settings } where
-  by_settings : c.settings ≡ s → (d.settings ≡ s) × Meets is_memory (p >>= f) old new c.kept d.kept r
+  by_settings : c.settings ≡ s → (d.settings ≡ s) × Meets is_memory (p >>= f) old new c.memory d.memory r
   by_settings same =
-      let h : (m.settings ≡ s) × Meets is_memory p old mid c.kept m.kept (Ok a) = first.made same in
-      let g : (d.settings ≡ s) × Meets is_memory (f a) mid new m.kept d.kept r = second.made h.0 in
+      let h : (m.settings ≡ s) × Meets is_memory p old mid c.memory m.memory (Ok a) = first.made same in
+      let g : (d.settings ≡ s) × Meets is_memory (f a) mid new m.memory d.memory r = second.made h.0 in
       (g.0, Meets-next f h.1 g.1)
 
 -- the first one's refusal is the result

@@ -21,7 +21,7 @@ use Rattle.sig_registry.specs.declared.error.SigstoreError.{SigstoreError}
 use Rattle.sig_registry.specs.declared.error.SigstoreError.TheVariants as sigstore
 use Rattle.sig_registry.specs.declared.wording.Called.{Called}
 use Rattle.sig_registry.specs.Errors.{is_memory, refusal, worded, Says, registry_refusal, IsRefusedBy, NoSinkFault}
-use Rattle.sig_registry.specs.Clients.{Row, Made, engine_state}
+use Rattle.sig_registry.specs.Clients.{Plain, PlainlyMade}
 use Rattle.sig_registry.specs.Calls.{in_words}
 
 true_is_not_false : true ≡ false → ⊥
@@ -39,7 +39,7 @@ wants (Ok a) = false
 wants (Err e) = is_memory e
 
 -- memory cut the call off
-cut : {A : Type 0} (p : Row A) {old new : Link} {k l : Memory} (s : Result A SigstoreError) → Breaks p old new k l → Says s (Err sigstore.WantOfMemory) → Meets is_memory p old new k l s
+cut : {A : Type 0} (p : Plain A) {old new : Link} {k l : Memory} (s : Result A SigstoreError) → Breaks p old new k l → Says s (Err sigstore.WantOfMemory) → Meets is_memory p old new k l s
 cut p (Ok a) h w = absurd (true_is_not_false (ap wants w))
 cut {A} p {old} {new} {k} {l} (Err e) h w = record { outcome = cut_off (is_memory e) refl w } where
   cut_off : (b : Bool) → is_memory e ≡ b → MatchBool b (Unit {0}) (◌≡◌ {A = Result A SigstoreError} (Err sigstore.WantOfMemory) (Err e)) → MatchBool b (Breaks p old new k l) (Performs p old new k l (Err e))
@@ -58,7 +58,7 @@ in_the_words {A} called image {p} {old} {new} {k} {l} (Err e) s h w = by_memory 
 -- a call of a client that keeps its settings
 pub made : {A : Type 0} (called : Called) (image : Reference) (row : Settings → Engine A) (s : Settings) {c d : Client} {old new : Link} {r : Result A OciDistributionError} {t : Result A SigstoreError}
     → d.settings ≡ c.settings → Meets engine_is_memory (row c.settings) old new c.memory d.memory r → Says t (worded called (whole_text image) r)
-    → Made is_memory s (in_words called image (row s)) (engine_state c) (engine_state d) old new t
+    → PlainlyMade s (in_words called image (row s)) c d old new t
 made called image row s {c} {d} {old} {new} {r} {t} kept met says = record { made = λ same. (kept ∙ same, rw (sym same) (in_the_words called image r t met says)) }
 
 -- ---- what a refusal holds

@@ -1,3 +1,6 @@
-pub mod InWords
+pub mod Cached
+pub mod Facts
 pub mod InTurn
+pub mod InWords
+pub mod Logs
 pub mod NoMirror

@@ -39,3 +39,8 @@ recalled cache key now p = Recall (λ k. known_or cache key now p (known cache k
 abbrev pub cached : {A : Type 0} → Bool → Cache A → List ℕ → ℕ → Plain A → Row A
 cached true cache key now p = recalled cache key now p
 cached false cache key now p = lifted p
+
+-- the key that the answer is kept under, where it may be
+abbrev pub key_if : Bool → List ℕ → Option (List ℕ)
+key_if true key = Some key
+key_if false key = None

@@ -1,5 +1,5 @@
 -- What a client of a registry is, whatever keeps it.
-use Rattle.std.specs.Prelude.{◌≡◌, Bool, Option, Some, None, Result}
+use Rattle.std.specs.Prelude.{◌≡◌, [], Bool, Option, Some, None, Result, IsErr, unwrap_or}
 use Rattle.oci_transport.specs.Link.{Link}
 use Rattle.oci_auth.specs.declared.memory.Memory.{Memory}
 use Rattle.oci_protocol.specs.Proto.{Proto}
@@ -7,6 +7,8 @@ use Rattle.oci_protocol.specs.Runs.{Meets}
 use Rattle.engine_requests.specs.declared.settings.Settings.{Settings}
 use Rattle.oci_engine.specs.declared.client.Client.{Client as Engine}
 use Rattle.sig_answers.specs.declared.answers.Answers.{Answers}
+use Rattle.sig_answers.specs.declared.answers.Bounds.{Bounds}
+use Rattle.sig_registry.specs.Errors.{is_memory}
 use Rattle.sig_registry.specs.declared.error.SigstoreError.{SigstoreError}
 use Rattle.sig_registry.specs.declared.caching.OciCachingClient.{OciCachingClient}
 use Rattle.sig_registry.specs.declared.plain.OciClient.{OciClient}
@@ -42,7 +44,28 @@ abbrev pub state_of : RegistryClient → Client
 state_of (given.Plain c) = plain_state c
 state_of (given.Caching c) = caching_state c
 
+-- no answers yet, of which so many may be kept
+abbrev pub none_kept : Option Bounds → Answers
+none_kept bounds = record { bounds = bounds; entries = [] }
+
+-- it keeps answers from now on, and those that it keeps already
+abbrev pub now_caching : Client → Client
+now_caching c = record c { kept = (c.kept.0, Some (unwrap_or c.kept.1 (none_kept None))) }
+
 -- a client with these settings still has them, and its call is this protocol
 pub record Made {A E : Type 0} (of_memory : E → Bool) (s : Settings) (p : Proto Kept (Result A E))
     (c d : Client) (old new : Link) (r : Result A E) : Type 0 where
   pub made : c.settings ≡ s → (d.settings ≡ s) × Meets of_memory p old new c.kept d.kept r
+
+-- the same of a call that knows of no kept answers
+pub record PlainlyMade {A : Type 0} (s : Settings) (p : Plain A) (c d : Engine) (old new : Link)
+    (r : Result A SigstoreError) : Type 0 where
+  pub made : c.settings ≡ s → (d.settings ≡ s) × Meets is_memory p old new c.memory d.memory r
+
+-- the answers that are kept stay as they were
+abbrev pub KeepsAnswers : Client → Client → Type 0
+KeepsAnswers before after = after.kept.1 ≡ before.kept.1
+
+-- a refusal, want of memory too, leaves them as they were
+abbrev pub RefusalKeeps : {A : Type 0} → Client → Client → Result A SigstoreError → Type 0
+RefusalKeeps before after r = IsErr r → KeepsAnswers before after

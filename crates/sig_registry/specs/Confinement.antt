@@ -15,7 +15,9 @@ use Rattle.sig_registry.specs.Clients.{Client}
 -- repository.
 abbrev pub Stays : Client → Client → ℕ → Reference → Option RegistryAuth → Link → Link → Type 0
 Stays before after moment image handed old new =
-    Told (Within (pulling before.kept.0 (within before.settings moment) image handed) before.settings after.kept.0) old new
+    Told
+    (Within (pulling before.kept.0 (within before.settings moment) image handed) before.settings after.kept.0)
+    old new
 
 -- The same of a call that may ask a tag in place of a list of referrers: from then on to the tag's registry.
 abbrev pub StaysWithTag : Client → Client → ℕ → Reference → Option RegistryAuth → Link → Link → Type 0

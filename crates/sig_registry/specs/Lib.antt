@@ -1,8 +1,9 @@
 pub mod Caching
 pub mod Calls
+pub mod Certificates
 pub mod Clients
 pub mod Config
 pub mod Confinement
-pub mod Conversions
 pub mod Direct
 pub mod Errors
+pub mod Log

@@ -1,18 +1,11 @@
 // A client that keeps no answers.
-ghost use Rattle.std.specs.Prelude.{◌≡◌};
-ghost use Rattle.engine_requests.specs.declared.settings.Settings.{Settings};
-ghost use Rattle.engine_requests.specs.Contexts.{within};
-ghost use Rattle.engine_requests.specs.Requests.{listed};
-ghost use Rattle.sig_registry.specs.Errors.{is_memory, FaultCounted, NoSinkFault};
-ghost use Rattle.sig_registry.specs.Clients.{Made, plain_state};
-ghost use Rattle.sig_registry.specs.Calls.{digest_call, manifest_call, image_call, document_call, blob_call};
-ghost use Rattle.sig_registry.specs.Calls.{referrers_call};
-
+use crate::calls::{
+    blob_made, digest_made, document_made, image_made, manifest_made, referrers_made,
+};
 use crate::capabilities::ClientCapabilities;
 use crate::error::SigstoreError;
-use crate::wording::{Called, worded};
 use json_values::{Blob, Text};
-use oci_auth::{RegistryAuth, RegistryOperation};
+use oci_auth::RegistryAuth;
 use oci_engine::{Client, ImageData, PlatformResolver};
 use oci_manifests::{OciDescriptor, OciImageIndex, OciManifest};
 use oci_names::Reference;
@@ -26,16 +19,26 @@ pub struct OciClient {
 }
 
 impl OciClient {
-    ghost use Rattle.sig_registry.specs.Clients.{engine_state};
+    ghost use Rattle.std.specs.Prelude.{◌≡◌, None};
+    ghost use Rattle.sig_registry.specs.Clients.{engine_state, plain_state};
 
     pub fn new(client: Client) -> OciClient
-        ensures { plain_state result ≡ engine_state client }
+        ensures { plain_state result ≡ engine_state client None }
     {
         OciClient { client }
+    }
+
+    /// The client of the registry's that makes the calls, with what it keeps.
+    pub fn into_client(self) -> Client
+        ensures { engine_state result None ≡ plain_state self }
+    {
+        self.client
     }
 }
 
 impl ClientCapabilities for OciClient {
+    ghost use Rattle.sig_registry.specs.Clients.{plain_state};
+
     ghost state = { plain_state };
 
     fn fetch_manifest_digest<T: Transport>(
@@ -46,10 +49,7 @@ impl ClientCapabilities for OciClient {
         image: &Reference,
         auth: &RegistryAuth,
     ) -> Result<Text, SigstoreError> {
-        let outcome = self
-            .client
-            .fetch_manifest_digest(alloc, transport, moment, image, auth);
-        worded(alloc, Called::FetchManifest, image, outcome)
+        digest_made(&mut self.client, alloc, transport, moment, image, auth)
     }
 
     fn pull<T: Transport>(
@@ -61,8 +61,15 @@ impl ClientCapabilities for OciClient {
         auth: &RegistryAuth,
         accepted_media_types: &[Text],
     ) -> Result<ImageData, SigstoreError> {
-        let outcome = self.client.pull(alloc, transport, moment, image, auth, accepted_media_types);
-        worded(alloc, Called::Pull, image, outcome)
+        image_made(
+            &mut self.client,
+            alloc,
+            transport,
+            moment,
+            image,
+            auth,
+            accepted_media_types,
+        )
     }
 
     fn pull_manifest<T: Transport>(
@@ -73,10 +80,7 @@ impl ClientCapabilities for OciClient {
         image: &Reference,
         auth: &RegistryAuth,
     ) -> Result<(OciManifest, Text), SigstoreError> {
-        let outcome = self
-            .client
-            .pull_manifest(alloc, transport, moment, image, auth);
-        worded(alloc, Called::PullManifest, image, outcome)
+        manifest_made(&mut self.client, alloc, transport, moment, image, auth)
     }
 
     fn pull_referrers<T: Transport>(
@@ -88,19 +92,15 @@ impl ClientCapabilities for OciClient {
         auth: &RegistryAuth,
         artifact_type: Option<&str>,
     ) -> Result<OciImageIndex, SigstoreError> {
-        let given = self.client.auth(
+        referrers_made(
+            &mut self.client,
             alloc,
             transport,
             moment,
             image,
             auth,
-            RegistryOperation::Pull,
-        );
-        let _token = worded(alloc, Called::FetchManifest, image, given)?;
-        let outcome = self
-            .client
-            .pull_referrers(alloc, transport, moment, image, artifact_type);
-        worded(alloc, Called::PullManifest, image, outcome)
+            artifact_type,
+        )
     }
 
     fn pull_manifest_raw<T: Transport>(
@@ -112,15 +112,15 @@ impl ClientCapabilities for OciClient {
         auth: &RegistryAuth,
         accepted_media_types: &[Text],
     ) -> Result<(Blob, Text), SigstoreError> {
-        let outcome = self.client.pull_manifest_raw(
+        document_made(
+            &mut self.client,
             alloc,
             transport,
             moment,
             image,
             auth,
             accepted_media_types,
-        );
-        worded(alloc, Called::Pull, image, outcome)
+        )
     }
 
     fn pull_blob<T: Transport>(
@@ -131,10 +131,7 @@ impl ClientCapabilities for OciClient {
         image: &Reference,
         layer: &OciDescriptor,
     ) -> Result<Blob, SigstoreError> {
-        let outcome = self
-            .client
-            .pulled_blob(alloc, transport, moment, image, layer);
-        worded(alloc, Called::Pull, image, outcome)
+        blob_made(&mut self.client, alloc, transport, moment, image, layer)
     }
 
     fn platform_resolver(&self) -> Option<&PlatformResolver> {

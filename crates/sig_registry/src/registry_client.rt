@@ -1,4 +1,5 @@
 // The clients of a registry that there are.
+use crate::caching::OciCachingClient;
 use crate::capabilities::ClientCapabilities;
 use crate::error::SigstoreError;
 use crate::plain::OciClient;
@@ -15,6 +16,26 @@ use std::alloc::Global;
 pub enum RegistryClient {
     /// One that keeps no answers.
     Plain(OciClient),
+    /// One that keeps answers.
+    Caching(OciCachingClient),
+}
+
+impl RegistryClient {
+    ghost use Rattle.std.specs.Prelude.{◌≡◌};
+    ghost use Rattle.sig_registry.specs.Clients.{now_caching, state_of};
+
+    /// The same client, which keeps answers from now on. One that keeps them already is as it was.
+    pub fn caching(self, alloc: Global) -> RegistryClient
+        ensures { state_of result ≡ now_caching (state_of self) }
+    {
+        match self {
+            RegistryClient::Plain(client) => {
+                let client = OciCachingClient::new(alloc, client.into_client());
+                RegistryClient::Caching(client)
+            }
+            RegistryClient::Caching(client) => RegistryClient::Caching(client),
+        }
+    }
 }
 
 impl ClientCapabilities for RegistryClient {
@@ -32,6 +53,9 @@ impl ClientCapabilities for RegistryClient {
     ) -> Result<Text, SigstoreError> {
         match self {
             RegistryClient::Plain(client) => client.fetch_manifest_digest(
+                alloc, transport, moment, image, auth,
+            ),
+            RegistryClient::Caching(client) => client.fetch_manifest_digest(
                 alloc, transport, moment, image, auth,
             ),
         }
@@ -55,6 +79,14 @@ impl ClientCapabilities for RegistryClient {
                 auth,
                 accepted_media_types,
             ),
+            RegistryClient::Caching(client) => client.pull(
+                alloc,
+                transport,
+                moment,
+                image,
+                auth,
+                accepted_media_types,
+            ),
         }
     }
 
@@ -68,6 +100,9 @@ impl ClientCapabilities for RegistryClient {
     ) -> Result<(OciManifest, Text), SigstoreError> {
         match self {
             RegistryClient::Plain(client) => client.pull_manifest(
+                alloc, transport, moment, image, auth,
+            ),
+            RegistryClient::Caching(client) => client.pull_manifest(
                 alloc, transport, moment, image, auth,
             ),
         }
@@ -84,6 +119,14 @@ impl ClientCapabilities for RegistryClient {
     ) -> Result<OciImageIndex, SigstoreError> {
         match self {
             RegistryClient::Plain(client) => client.pull_referrers(
+                alloc,
+                transport,
+                moment,
+                image,
+                auth,
+                artifact_type,
+            ),
+            RegistryClient::Caching(client) => client.pull_referrers(
                 alloc,
                 transport,
                 moment,
@@ -112,6 +155,14 @@ impl ClientCapabilities for RegistryClient {
                 auth,
                 accepted_media_types,
             ),
+            RegistryClient::Caching(client) => client.pull_manifest_raw(
+                alloc,
+                transport,
+                moment,
+                image,
+                auth,
+                accepted_media_types,
+            ),
         }
     }
 
@@ -127,12 +178,16 @@ impl ClientCapabilities for RegistryClient {
             RegistryClient::Plain(client) => client.pull_blob(
                 alloc, transport, moment, image, layer,
             ),
+            RegistryClient::Caching(client) => client.pull_blob(
+                alloc, transport, moment, image, layer,
+            ),
         }
     }
 
     fn platform_resolver(&self) -> Option<&PlatformResolver> {
         match self {
             RegistryClient::Plain(client) => client.platform_resolver(),
+            RegistryClient::Caching(client) => client.platform_resolver(),
         }
     }
 }

@@ -2,7 +2,7 @@ use Rattle.std.proofs.Common.{refl}
 use Rattle.engine_requests.specs.Contexts.{within}
 use Rattle.cosign_client.specs.State.{client_state, trusts}
 use Rattle.cosign_client.proofs.Exits.{meets_wanting}
-use Rattle.sig_registry.specs.Conversions.{registry_auth}
+use Rattle.sig_settings.specs.Auths.{registry_auth}
 use Rattle.sig_registry.specs.Direct.{reference_in}
 use Rattle.cosign_client.proofs.Causes.{search_cause}
 use Rattle.cosign_client.proofs.Confinement.{search_confined}

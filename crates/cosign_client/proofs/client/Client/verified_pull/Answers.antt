@@ -1,6 +1,6 @@
 use Rattle.std.proofs.Common.{refl}
 use Rattle.engine_requests.specs.Contexts.{within}
-use Rattle.sig_registry.specs.Conversions.{registry_auth}
+use Rattle.sig_settings.specs.Auths.{registry_auth}
 use Rattle.sig_registry.specs.Direct.{reference_in}
 use Rattle.cosign_layers.specs.Standing.{Meaning, meaning}
 use Rattle.cosign_client.specs.State.{client_state, trusts}
@@ -10,7 +10,7 @@ use Rattle.cosign_client.proofs.Confinement.{pull_confined}
 use Rattle.cosign_client.proofs.DigestStep.{unread_refused, pull_decided}
 use Rattle.cosign_client.proofs.Faults.{pull_no_memory, pull_faults}
 use Rattle.cosign_client.proofs.Refusals.{pull_fault, pull_no_sink}
-use Rattle.cosign_client.proofs.ShelfPulls.{completed, completed_wide, valid_tagged}
+use Rattle.cosign_client.proofs.ShelfPulls.{completed_wide, settled_after, valid_wide}
 use Rattle.cosign_client.proofs.client.Client.verified_pull.Goals as goal
 
 pub returns-clause-run : goal.returns-clause-run
@@ -29,16 +29,16 @@ pub returns-clause-digest : goal.returns-clause-digest
 returns-clause-digest g c = λ some reads. pull_decided (meaning c.args.policy.now (λ b. (goal.VerificationConstraint-dyn g (b.vtable, b.value)).accepts b.value) (trusts (g.V.SignatureVerifier.valid c.args.verifier.now) (g.O.Offline.vouched c.args.judge.now) c.args.self.now)) (within (client_state c.args.self.now).settings c.args.moment) (reference_in c.args.image.now) (registry_auth c.args.auth.now) c.args.accepted_media_types.now c.pull_verified.result some reads (returns-clause-run g c)
 
 pub returns-clause-chain : goal.returns-clause-chain
-returns-clause-chain g c = chain_of _ _ _ (registry_auth c.args.auth.now) _ c.pull_verified.result (returns-clause-run g c)
+returns-clause-chain g c = chain_of _ _ _ _ (registry_auth c.args.auth.now) _ c.pull_verified.result (returns-clause-run g c)
 
 pub returns-clause-causes : goal.returns-clause-causes
 returns-clause-causes g c = pull_cause _ _ _ (registry_auth c.args.auth.now) c.args.accepted_media_types.now c.pull_verified.result (returns-clause-run g c)
 
 pub returns-clause-backed : goal.returns-clause-backed
-returns-clause-backed g c = backed_of _ (meaning c.args.policy.now (λ b. (goal.VerificationConstraint-dyn g (b.vtable, b.value)).accepts b.value) (trusts (g.V.SignatureVerifier.valid c.args.verifier.now) (g.O.Offline.vouched c.args.judge.now) c.args.self.now)) _ (registry_auth c.args.auth.now) c.args.accepted_media_types.now c.pull_verified.result (returns-clause-run g c)
+returns-clause-backed g c = backed_of _ _ (meaning c.args.policy.now (λ b. (goal.VerificationConstraint-dyn g (b.vtable, b.value)).accepts b.value) (trusts (g.V.SignatureVerifier.valid c.args.verifier.now) (g.O.Offline.vouched c.args.judge.now) c.args.self.now)) _ (registry_auth c.args.auth.now) c.args.accepted_media_types.now c.pull_verified.result (returns-clause-run g c)
 
 pub returns-clause-links : goal.returns-clause-links
-returns-clause-links g c = links_of _ (meaning c.args.policy.now (λ b. (goal.VerificationConstraint-dyn g (b.vtable, b.value)).accepts b.value) (trusts (g.V.SignatureVerifier.valid c.args.verifier.now) (g.O.Offline.vouched c.args.judge.now) c.args.self.now)) _ (registry_auth c.args.auth.now) c.args.accepted_media_types.now c.pull_verified.result (returns-clause-run g c)
+returns-clause-links g c = links_of _ _ (meaning c.args.policy.now (λ b. (goal.VerificationConstraint-dyn g (b.vtable, b.value)).accepts b.value) (trusts (g.V.SignatureVerifier.valid c.args.verifier.now) (g.O.Offline.vouched c.args.judge.now) c.args.self.now)) _ (registry_auth c.args.auth.now) c.args.accepted_media_types.now c.pull_verified.result (returns-clause-run g c)
 
 pub returns-clause-no_memory : goal.returns-clause-no_memory
 returns-clause-no_memory g c = pull_no_memory (meaning c.args.policy.now (λ b. (goal.VerificationConstraint-dyn g (b.vtable, b.value)).accepts b.value) (trusts (g.V.SignatureVerifier.valid c.args.verifier.now) (g.O.Offline.vouched c.args.judge.now) c.args.self.now)) _ _ (registry_auth c.args.auth.now) c.args.accepted_media_types.now c.pull_verified.result (returns-clause-run g c)
@@ -55,11 +55,11 @@ returns-clause-no_sink g c = pull_no_sink (meaning c.args.policy.now (λ b. (goa
 pub returns-clause-completes_wide : goal.returns-clause-completes_wide
 returns-clause-completes_wide g c = λ shelf from settled wide. completed_wide (meaning c.args.policy.now (λ b. (goal.VerificationConstraint-dyn g (b.vtable, b.value)).accepts b.value) (trusts (g.V.SignatureVerifier.valid c.args.verifier.now) (g.O.Offline.vouched c.args.judge.now) c.args.self.now)) (client_state c.args.self.now).settings (reference_in c.args.image.now) (registry_auth c.args.auth.now) c.args.accepted_media_types.now shelf wide.has c.args.moment wide.signed c.pull_verified.result from settled (returns-clause-run g c)
 
-pub returns-clause-completes_tagged : goal.returns-clause-completes_tagged
-returns-clause-completes_tagged g c = λ shelf from settled tagged. completed (meaning c.args.policy.now (λ b. (goal.VerificationConstraint-dyn g (b.vtable, b.value)).accepts b.value) (trusts (g.V.SignatureVerifier.valid c.args.verifier.now) (g.O.Offline.vouched c.args.judge.now) c.args.self.now)) (client_state c.args.self.now).settings (reference_in c.args.image.now) (registry_auth c.args.auth.now) c.args.accepted_media_types.now shelf tagged c.args.moment c.pull_verified.result from settled (returns-clause-run g c)
-
 pub returns-clause-completes : goal.returns-clause-completes
-returns-clause-completes g c = λ shelf from settled valid. returns-clause-completes_tagged g c shelf from settled (valid_tagged (meaning c.args.policy.now (λ b. (goal.VerificationConstraint-dyn g (b.vtable, b.value)).accepts b.value) (trusts (g.V.SignatureVerifier.valid c.args.verifier.now) (g.O.Offline.vouched c.args.judge.now) c.args.self.now)) (client_state c.args.self.now).settings (reference_in c.args.image.now) (registry_auth c.args.auth.now) c.args.accepted_media_types.now shelf valid)
+returns-clause-completes g c = λ shelf from settled valid. returns-clause-completes_wide g c shelf from settled (valid_wide (meaning c.args.policy.now (λ b. (goal.VerificationConstraint-dyn g (b.vtable, b.value)).accepts b.value) (trusts (g.V.SignatureVerifier.valid c.args.verifier.now) (g.O.Offline.vouched c.args.judge.now) c.args.self.now)) (client_state c.args.self.now).settings (reference_in c.args.image.now) (registry_auth c.args.auth.now) c.args.accepted_media_types.now shelf valid)
+
+pub returns-clause-settled : goal.returns-clause-settled
+returns-clause-settled g c = λ shelf from asked settled. settled_after (meaning c.args.policy.now (λ b. (goal.VerificationConstraint-dyn g (b.vtable, b.value)).accepts b.value) (trusts (g.V.SignatureVerifier.valid c.args.verifier.now) (g.O.Offline.vouched c.args.judge.now) c.args.self.now)) (client_state c.args.self.now).settings (reference_in c.args.image.now) (registry_auth c.args.auth.now) c.args.accepted_media_types.now shelf asked c.args.moment c.pull_verified.result from settled (returns-clause-run g c)
 
 pub returns-clause-confined : goal.returns-clause-confined
 returns-clause-confined g c = pull_confined (meaning c.args.policy.now (λ b. (goal.VerificationConstraint-dyn g (b.vtable, b.value)).accepts b.value) (trusts (g.V.SignatureVerifier.valid c.args.verifier.now) (g.O.Offline.vouched c.args.judge.now) c.args.self.now)) (within (client_state c.args.self.now).settings c.args.moment) (reference_in c.args.image.now) (registry_auth c.args.auth.now) c.args.accepted_media_types.now c.pull_verified.result c.args.image.now.direct (returns-clause-run g c)

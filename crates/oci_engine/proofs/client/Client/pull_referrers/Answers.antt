@@ -1,7 +1,9 @@
 use Rattle.std.specs.Prelude.{option_copied}
 use Rattle.engine_laws.proofs.ReferrersCauses.{referrers_reason, referrers_fault, no_digest}
 use Rattle.engine_laws.proofs.ReferrersConfined.{referrers_confined}
-use Rattle.engine_laws.proofs.ExactRefusals.{met_only}
+use Rattle.engine_laws.proofs.ReferrersRefusals.{referrers_no_url, referrers_bad, of_digest}
+use Rattle.engine_laws.proofs.ExactRefusals.{met_only, met_early}
+use Rattle.oci_names.specs.References.{digest_of}
 use Rattle.engine_requests.specs.Contexts.{within}
 use Rattle.oci_engine.proofs.client.Client.pull_referrers.Goals as goal
 
@@ -16,3 +18,9 @@ returns-clause-no_digest g c = λ none. met_only _ (no_digest (within c.args.sel
 
 pub returns-clause-confined : goal.returns-clause-confined
 returns-clause-confined g c = referrers_confined (within c.args.self.now.settings c.args.moment) c.args.image.now (option_copied c.args.artifact_type) c.pull_referrers.ensures
+
+pub returns-clause-no_url : goal.returns-clause-no_url
+returns-clause-no_url g c = of_digest _ (digest_of c.args.image.now) (λ digest is none. met_only _ (referrers_no_url (within c.args.self.now.settings c.args.moment) c.args.image.now (option_copied c.args.artifact_type) digest is none) c.pull_referrers.ensures)
+
+pub returns-clause-bad_header : goal.returns-clause-bad_header
+returns-clause-bad_header g c = of_digest _ (digest_of c.args.image.now) (λ digest is bad. met_early (referrers_bad (within c.args.self.now.settings c.args.moment) c.args.image.now (option_copied c.args.artifact_type) digest is bad) c.pull_referrers.ensures)

@@ -1,16 +1,20 @@
-use Rattle.oci_engine.specs.Refusals.{DigestRefused}
-use Rattle.engine_pull.specs.Pulls.{fetch_manifest_digest}
+use Rattle.std.specs.Prelude.{refl}
 use Rattle.engine_requests.specs.Contexts.{within}
-use Rattle.sig_registry.specs.Calls.{digest_call}
-use Rattle.sig_registry.specs.declared.wording.Called.TheVariants.{FetchManifest}
-use Rattle.sig_registry.proofs.InWords.{made, worded_fault, worded_no_sink}
+use Rattle.sig_registry.specs.Calls.{digests, digest_made, digest_call}
+use Rattle.sig_registry.specs.Log.{DigestCall}
+use Rattle.sig_registry.proofs.Facts.{digests_kept, plainly}
 use Rattle.sig_registry.proofs.plain.OciClientClientCapabilities.fetch_manifest_digest.Goals as goal
 
 pub returns : goal.returns
 unfolding digest_call
-returns g c = record {
-  run = λ s. made FetchManifest c.args.image.now (λ t. fetch_manifest_digest (within t c.args.moment) c.args.image.now c.args.auth.now) s c.fetch_manifest_digest-outcome.ensures.settings c.fetch_manifest_digest-outcome.ensures.run c.worded.ensures;
-  fault = worded_fault FetchManifest _ _ _ _ c.fetch_manifest_digest-outcome.ensures.fault c.worded.ensures;
-  no_sink = worded_no_sink FetchManifest _ (DigestRefused c.args.self.now.client c.args.moment c.args.image.now c.args.auth.now) _ _ _ _ (λ d n h. h.holds) c.fetch_manifest_digest-outcome.ensures.causes c.worded.ensures;
-  confined = c.fetch_manifest_digest-outcome.ensures.confined;
-}
+returns g c =
+    let f = plainly digests digests_kept (DigestCall c.args.image.now c.args.auth.now) c.args.moment (λ s. digest_made (within s c.args.moment) c.args.image.now c.args.auth.now) refl (λ s. refl) c.digest_made.ensures.run in
+    record {
+      run = f.run;
+      fault = c.digest_made.ensures.fault;
+      no_sink = c.digest_made.ensures.no_sink;
+      confined = c.digest_made.ensures.confined;
+      refused = f.refused;
+      recalled = f.recalled;
+      logged = f.logged;
+    }

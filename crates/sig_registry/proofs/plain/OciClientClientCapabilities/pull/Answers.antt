@@ -1,16 +1,20 @@
-use Rattle.oci_engine.specs.Refusals.{PullRefused}
-use Rattle.engine_pull.specs.Images.{pull}
+use Rattle.std.specs.Prelude.{refl}
 use Rattle.engine_requests.specs.Contexts.{within}
-use Rattle.sig_registry.specs.Calls.{image_call}
-use Rattle.sig_registry.specs.declared.wording.Called.TheVariants.{Pull}
-use Rattle.sig_registry.proofs.InWords.{made, worded_fault, worded_no_sink}
+use Rattle.sig_registry.specs.Calls.{images, image_made, image_call}
+use Rattle.sig_registry.specs.Log.{ImageCall}
+use Rattle.sig_registry.proofs.Facts.{images_kept, plainly}
 use Rattle.sig_registry.proofs.plain.OciClientClientCapabilities.pull.Goals as goal
 
 pub returns : goal.returns
 unfolding image_call
-returns g c = record {
-  run = λ s. made Pull c.args.image.now (λ t. pull (within t c.args.moment) c.args.image.now c.args.auth.now c.args.accepted_media_types.now) s c.pull-outcome.ensures.settings c.pull-outcome.ensures.run c.worded.ensures;
-  fault = worded_fault Pull _ _ _ _ c.pull-outcome.ensures.fault c.worded.ensures;
-  no_sink = worded_no_sink Pull _ (PullRefused c.args.self.now.client c.args.moment c.args.image.now c.args.auth.now c.args.accepted_media_types.now) _ _ _ _ (λ d n h. h) c.pull-outcome.ensures.causes c.worded.ensures;
-  confined = c.pull-outcome.ensures.confined;
-}
+returns g c =
+    let f = plainly images images_kept (ImageCall c.args.image.now c.args.auth.now c.args.accepted_media_types.now) c.args.moment (λ s. image_made (within s c.args.moment) c.args.image.now c.args.auth.now c.args.accepted_media_types.now) refl (λ s. refl) c.image_made.ensures.run in
+    record {
+      run = f.run;
+      fault = c.image_made.ensures.fault;
+      no_sink = c.image_made.ensures.no_sink;
+      confined = c.image_made.ensures.confined;
+      refused = f.refused;
+      recalled = f.recalled;
+      logged = f.logged;
+    }

@@ -1,18 +1,14 @@
-use Rattle.engine_steps.specs.Blobs.{IntoMemory}
-use Rattle.oci_engine.specs.Refusals.{BlobRefused}
-use Rattle.engine_pull.specs.Pulls.{held_blob}
-use Rattle.engine_requests.specs.Contexts.{within}
-use Rattle.engine_requests.specs.Sources.{described}
+use Rattle.std.specs.Prelude.{refl}
 use Rattle.sig_registry.specs.Calls.{blob_call}
-use Rattle.sig_registry.specs.declared.wording.Called.TheVariants.{Pull}
-use Rattle.sig_registry.proofs.InWords.{made, worded_fault, worded_no_sink}
+use Rattle.sig_registry.proofs.Facts.{never_kept}
 use Rattle.sig_registry.proofs.plain.OciClientClientCapabilities.pull_blob.Goals as goal
 
 pub returns : goal.returns
 unfolding blob_call
 returns g c = record {
-  run = λ s. made Pull c.args.image.now (λ t. held_blob (within t c.args.moment) c.args.image.now (described c.args.layer.now)) s c.pulled_blob-outcome.ensures.settings c.pulled_blob-outcome.ensures.run c.worded.ensures;
-  fault = worded_fault Pull _ _ _ _ c.pulled_blob-outcome.ensures.fault c.worded.ensures;
-  no_sink = worded_no_sink Pull _ (BlobRefused IntoMemory c.args.self.now.client c.args.moment c.args.image.now (described c.args.layer.now)) _ _ _ _ (λ d n h. h) c.pulled_blob-outcome.ensures.causes c.worded.ensures;
-  confined = c.pulled_blob-outcome.ensures.confined;
+  run = λ s. never_kept (c.blob_made.ensures.run s);
+  fault = c.blob_made.ensures.fault;
+  no_sink = c.blob_made.ensures.no_sink;
+  confined = c.blob_made.ensures.confined;
+  answers = refl;
 }

@@ -1,16 +1,20 @@
-use Rattle.oci_engine.specs.Refusals.{ManifestRefused}
-use Rattle.engine_pull.specs.Pulls.{pull_manifest}
+use Rattle.std.specs.Prelude.{refl}
 use Rattle.engine_requests.specs.Contexts.{within}
-use Rattle.sig_registry.specs.Calls.{manifest_call}
-use Rattle.sig_registry.specs.declared.wording.Called.TheVariants.{PullManifest}
-use Rattle.sig_registry.proofs.InWords.{made, worded_fault, worded_no_sink}
+use Rattle.sig_registry.specs.Calls.{manifests, manifest_made, manifest_call}
+use Rattle.sig_registry.specs.Log.{ManifestCall}
+use Rattle.sig_registry.proofs.Facts.{manifests_kept, plainly}
 use Rattle.sig_registry.proofs.plain.OciClientClientCapabilities.pull_manifest.Goals as goal
 
 pub returns : goal.returns
 unfolding manifest_call
-returns g c = record {
-  run = λ s. made PullManifest c.args.image.now (λ t. pull_manifest (within t c.args.moment) c.args.image.now c.args.auth.now) s c.pull_manifest-outcome.ensures.settings c.pull_manifest-outcome.ensures.run c.worded.ensures;
-  fault = worded_fault PullManifest _ _ _ _ c.pull_manifest-outcome.ensures.fault c.worded.ensures;
-  no_sink = worded_no_sink PullManifest _ (ManifestRefused c.args.self.now.client c.args.moment c.args.image.now c.args.auth.now) _ _ _ _ (λ d n h. h.holds) c.pull_manifest-outcome.ensures.causes c.worded.ensures;
-  confined = c.pull_manifest-outcome.ensures.confined;
-}
+returns g c =
+    let f = plainly manifests manifests_kept (ManifestCall c.args.image.now c.args.auth.now) c.args.moment (λ s. manifest_made (within s c.args.moment) c.args.image.now c.args.auth.now) refl (λ s. refl) c.manifest_made.ensures.run in
+    record {
+      run = f.run;
+      fault = c.manifest_made.ensures.fault;
+      no_sink = c.manifest_made.ensures.no_sink;
+      confined = c.manifest_made.ensures.confined;
+      refused = f.refused;
+      recalled = f.recalled;
+      logged = f.logged;
+    }

@@ -1,34 +1,20 @@
-use Rattle.std.specs.Prelude.{option_copied}
-use Rattle.oci_auth.specs.declared.token_type.RegistryOperation.TheVariants as operation
-use Rattle.oci_names.specs.References.{whole_text}
-use Rattle.oci_engine.specs.Refusals.{ReferrersRefused}
-use Rattle.engine_laws.specs.TokenCauses.{TokenCause}
-use Rattle.engine_laws.proofs.ReferrersCauses.{referrers_no_sink}
-use Rattle.engine_laws.specs.Held.{pulling}
-use Rattle.engine_steps.specs.Rows.{token_given}
-use Rattle.engine_pull.specs.Referrers.{pull_referrers}
+use Rattle.std.specs.Prelude.{refl, option_copied}
 use Rattle.engine_requests.specs.Contexts.{within}
-use Rattle.sig_registry.specs.Calls.{referrers_call}
-use Rattle.sig_registry.specs.declared.wording.Called.TheVariants.{FetchManifest, PullManifest}
-use Rattle.sig_registry.proofs.InWords.{made, worded_fault, worded_no_sink}
-use Rattle.sig_registry.proofs.InTurn.{made_refused, made_next, refused_fault, refused_no_sink, worded_ok, rose_in_second, first_confined, both_confined}
+use Rattle.sig_registry.specs.Calls.{referrers, referrers_made, referrers_call}
+use Rattle.sig_registry.specs.Log.{ReferrersCall}
+use Rattle.sig_registry.proofs.Facts.{referrers_kept, plainly}
 use Rattle.sig_registry.proofs.plain.OciClientClientCapabilities.pull_referrers.Goals as goal
-
-pub returns-in_err-_token : goal.returns-in_err-_token
-unfolding referrers_call
-returns-in_err-_token g c = record {
-  run = λ s. made_refused s _ c.in_err-_token.field-0.0 _ (made FetchManifest c.args.image.now (λ t. token_given (within t c.args.moment) c.args.image.now c.args.auth.now operation.Pull) s c.auth-given.ensures.settings c.auth-given.ensures.run c.in_err-_token.ensures) c.from_residual.ensures.1;
-  fault = refused_fault FetchManifest (whole_text c.args.image.now) c.auth-given.result c.in_err-_token.field-0.0 c.from_residual.result _ c.auth-given.ensures.fault c.in_err-_token.ensures c.from_residual.ensures.1;
-  no_sink = refused_no_sink FetchManifest (whole_text c.args.image.now) (TokenCause c.args.self.now.client.settings c.args.image.now c.args.auth.now) _ _ c.auth-given.result c.in_err-_token.field-0.0 c.from_residual.result (λ d n h. h) c.auth-given.ensures.causes c.in_err-_token.ensures c.from_residual.ensures.1;
-  confined = first_confined _ _ _ c.auth-given.ensures.confined;
-}
 
 pub returns : goal.returns
 unfolding referrers_call
-returns g c = let ok = worded_ok FetchManifest (whole_text c.args.image.now) c.auth-given.result c.in_ok-_token._token c.in_ok-_token.ensures in record {
-  run = λ s. made_next s _ c.in_ok-_token._token _ (made FetchManifest c.args.image.now (λ t. token_given (within t c.args.moment) c.args.image.now c.args.auth.now operation.Pull) s c.auth-given.ensures.settings c.auth-given.ensures.run c.in_ok-_token.ensures)
-      (made PullManifest c.args.image.now (λ t. pull_referrers (within t c.args.moment) c.args.image.now (option_copied c.args.artifact_type)) s c.pull_referrers-outcome.ensures.settings c.pull_referrers-outcome.ensures.run c.worded-2.ensures);
-  fault = λ held. rose_in_second c.auth-given.ensures.run ok (worded_fault PullManifest _ _ _ _ c.pull_referrers-outcome.ensures.fault c.worded-2.ensures held);
-  no_sink = worded_no_sink PullManifest _ (ReferrersRefused _ c.args.moment c.args.image.now) _ _ _ _ (λ d n h. referrers_no_sink _ _ d n h) c.pull_referrers-outcome.ensures.causes c.worded-2.ensures;
-  confined = both_confined _ _ c.args.moment c.args.image.now c.args.auth.now (option_copied c.args.artifact_type) c.auth-given.ensures.settings ok c.auth-given.ensures.run c.pull_referrers-outcome.ensures.run;
-}
+returns g c =
+    let f = plainly referrers referrers_kept (ReferrersCall c.args.image.now c.args.auth.now (option_copied c.args.artifact_type)) c.args.moment (λ s. referrers_made (within s c.args.moment) c.args.image.now c.args.auth.now (option_copied c.args.artifact_type)) refl (λ s. refl) c.referrers_made.ensures.run in
+    record {
+      run = f.run;
+      fault = c.referrers_made.ensures.fault;
+      no_sink = c.referrers_made.ensures.no_sink;
+      confined = c.referrers_made.ensures.confined;
+      refused = f.refused;
+      recalled = f.recalled;
+      logged = f.logged;
+    }

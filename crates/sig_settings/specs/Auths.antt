@@ -6,8 +6,8 @@ use Rattle.json_values.specs.Writing.{listed}
 use Rattle.json_writing.specs.Fields.{fields}
 use Rattle.oci_auth.specs.declared.auth.RegistryAuth.{RegistryAuth}
 use Rattle.oci_auth.specs.declared.auth.RegistryAuth.TheVariants as registry
-use Rattle.sig_registry.specs.declared.auth.Auth.{Auth}
-use Rattle.sig_registry.specs.declared.auth.Auth.TheVariants as given
+use Rattle.sig_settings.specs.declared.auth.Auth.{Auth}
+use Rattle.sig_settings.specs.declared.auth.Auth.TheVariants as given
 
 abbrev pub registry_auth : Auth → RegistryAuth
 registry_auth given.Anonymous = registry.Anonymous

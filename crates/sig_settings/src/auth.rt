@@ -1,6 +1,6 @@
 // What is shown to a registry.
 ghost use Rattle.std.specs.Prelude.{◌≡◌, ◌∷◌, [], IfOk};
-ghost use Rattle.sig_registry.specs.Conversions.{registry_auth, auth_from};
+ghost use Rattle.sig_settings.specs.Auths.{registry_auth, auth_from};
 
 use json_values::{Copied, List, Text, ToValue, copy_all, row};
 use json_writing::object;
@@ -67,7 +67,7 @@ fn pair(alloc: Global, user: &Text, password: &Text) -> Result<List<Text>, Alloc
 
 /// `"Anonymous"`, `{"Basic": [user, password]}` or `{"Bearer": token}`.
 impl ToValue for Auth {
-    ghost use Rattle.sig_registry.specs.Conversions.{auth_value};
+    ghost use Rattle.sig_settings.specs.Auths.{auth_value};
 
     ghost written = { auth_value };
 
@@ -89,7 +89,7 @@ impl ToValue for Auth {
 
 /// Neither the password nor the token is shown.
 impl fmt::Debug for Auth {
-    ghost use Rattle.sig_registry.specs.Conversions.{redacted};
+    ghost use Rattle.sig_settings.specs.Auths.{redacted};
 
     ghost debug_output = { redacted };
 

@@ -1,0 +1,3 @@
+pub mod Backs
+pub mod Kept
+pub mod Longest

@@ -1,0 +1,14 @@
+use Rattle.std.specs.Prelude.{refl}
+use Rattle.sig_registry.specs.Calls.{document_call}
+use Rattle.sig_registry.proofs.Facts.{never_kept}
+use Rattle.sig_registry.proofs.caching.OciCachingClientClientCapabilities.pull_manifest_raw.Goals as goal
+
+pub returns : goal.returns
+unfolding document_call
+returns g c = record {
+  run = λ s. never_kept (c.document_made.ensures.run s);
+  fault = c.document_made.ensures.fault;
+  no_sink = c.document_made.ensures.no_sink;
+  confined = c.document_made.ensures.confined;
+  answers = refl;
+}

@@ -1,0 +1,16 @@
+use Rattle.oci_engine.specs.Refusals.{DigestRefused}
+use Rattle.engine_pull.specs.Pulls.{fetch_manifest_digest}
+use Rattle.engine_requests.specs.Contexts.{within}
+use Rattle.sig_registry.specs.Calls.{digest_made}
+use Rattle.sig_registry.specs.declared.wording.Called.TheVariants.{FetchManifest}
+use Rattle.sig_registry.proofs.InWords.{made, worded_fault, worded_no_sink}
+use Rattle.sig_registry.proofs.calls.digest_made.Goals as goal
+
+pub returns : goal.returns
+unfolding digest_made
+returns g c = record {
+  run = λ s. made FetchManifest c.args.image.now (λ t. fetch_manifest_digest (within t c.args.moment) c.args.image.now c.args.auth.now) s c.fetch_manifest_digest-outcome.ensures.settings c.fetch_manifest_digest-outcome.ensures.run c.worded.ensures;
+  fault = worded_fault FetchManifest _ _ _ _ c.fetch_manifest_digest-outcome.ensures.fault c.worded.ensures;
+  no_sink = worded_no_sink FetchManifest _ (DigestRefused c.args.client.now c.args.moment c.args.image.now c.args.auth.now) _ _ _ _ (λ d n h. h.holds) c.fetch_manifest_digest-outcome.ensures.causes c.worded.ensures;
+  confined = c.fetch_manifest_digest-outcome.ensures.confined;
+}

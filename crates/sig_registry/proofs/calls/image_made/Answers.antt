@@ -1,0 +1,16 @@
+use Rattle.oci_engine.specs.Refusals.{PullRefused}
+use Rattle.engine_pull.specs.Images.{pull}
+use Rattle.engine_requests.specs.Contexts.{within}
+use Rattle.sig_registry.specs.Calls.{image_made}
+use Rattle.sig_registry.specs.declared.wording.Called.TheVariants.{Pull}
+use Rattle.sig_registry.proofs.InWords.{made, worded_fault, worded_no_sink}
+use Rattle.sig_registry.proofs.calls.image_made.Goals as goal
+
+pub returns : goal.returns
+unfolding image_made
+returns g c = record {
+  run = λ s. made Pull c.args.image.now (λ t. pull (within t c.args.moment) c.args.image.now c.args.auth.now c.args.accepted_media_types.now) s c.pull-outcome.ensures.settings c.pull-outcome.ensures.run c.worded.ensures;
+  fault = worded_fault Pull _ _ _ _ c.pull-outcome.ensures.fault c.worded.ensures;
+  no_sink = worded_no_sink Pull _ (PullRefused c.args.client.now c.args.moment c.args.image.now c.args.auth.now c.args.accepted_media_types.now) _ _ _ _ (λ d n h. h) c.pull-outcome.ensures.causes c.worded.ensures;
+  confined = c.pull-outcome.ensures.confined;
+}

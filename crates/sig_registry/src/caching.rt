@@ -1,0 +1,220 @@
+// A client that keeps answers.
+use crate::calls::{
+    blob_made, digest_made, document_made, image_made, manifest_made, referrers_made,
+};
+use crate::capabilities::ClientCapabilities;
+use crate::error::SigstoreError;
+use crate::keys::{image_key, list_key, manifest_key};
+use crate::known::{
+    keep_digest, keep_image, keep_manifest, keep_referrers, known_digest, known_image,
+    known_manifest, known_referrers,
+};
+use json_values::{Blob, Text};
+use oci_auth::RegistryAuth;
+use oci_engine::{Client, ImageData, PlatformResolver};
+use oci_manifests::{OciDescriptor, OciImageIndex, OciManifest};
+use oci_names::Reference;
+use oci_transport::Transport;
+use sig_answers::{Answers, Bounds};
+use std::alloc::Global;
+
+/// A client that keeps answers between its calls. One that was kept at a moment is given again, with no request, to
+/// the same call for less than 60 seconds from that moment on. A call whose reference does not read back is always
+/// made, and its answer is not kept.
+#[derive(Drop)]
+pub struct OciCachingClient {
+    client: Client,
+    answers: Answers,
+}
+
+impl OciCachingClient {
+    ghost use Rattle.std.specs.Prelude.{◌≡◌, [], Some, None};
+    ghost use Rattle.engine_requests.specs.declared.settings.Settings.{Settings};
+    ghost use Rattle.sig_registry.specs.Clients.{engine_state, caching_state, none_kept};
+    ghost use Rattle.sig_registry.specs.Log.{IsBacked};
+
+    /// A client that keeps all answers.
+    pub fn new(alloc: Global, client: Client) -> OciCachingClient
+        ensures state { caching_state result ≡ engine_state client (Some (none_kept None)) }
+        ensures backed { (s : Settings) → IsBacked s (caching_state result).kept.1 [] }
+    {
+        OciCachingClient {
+            client,
+            answers: Answers::new(alloc, None),
+        }
+    }
+
+    /// A client that keeps at most so many answers, and so many bytes of them: beyond that those go that were kept
+    /// longest ago, until the others fit.
+    pub fn with_bounds(alloc: Global, client: Client, answers: u64, bytes: u64) -> OciCachingClient
+        ensures state { caching_state result
+            ≡ engine_state client (Some (none_kept (Some (record { answers = answers; bytes = bytes })))) }
+        ensures backed { (s : Settings) → IsBacked s (caching_state result).kept.1 [] }
+    {
+        let bounds = Bounds { answers, bytes };
+        OciCachingClient {
+            client,
+            answers: Answers::new(alloc, Some(bounds)),
+        }
+    }
+}
+
+impl ClientCapabilities for OciCachingClient {
+    ghost use Rattle.sig_registry.specs.Clients.{caching_state};
+
+    ghost state = { caching_state };
+
+    fn fetch_manifest_digest<T: Transport>(
+        &mut self,
+        alloc: Global,
+        transport: &mut T,
+        moment: u64,
+        image: &Reference,
+        auth: &RegistryAuth,
+    ) -> Result<Text, SigstoreError> {
+        let found = manifest_key(alloc, image, auth)?;
+        let Some(key) = found else {
+            return digest_made(&mut self.client, alloc, transport, moment, image, auth);
+        };
+        let known = known_digest(alloc, &self.answers, &key, moment)?;
+        if let Some(digest) = known {
+            return Ok(digest);
+        }
+        let digest = digest_made(&mut self.client, alloc, transport, moment, image, auth)?;
+        keep_digest(alloc, &mut self.answers, key, moment, &digest)?;
+        Ok(digest)
+    }
+
+    fn pull<T: Transport>(
+        &mut self,
+        alloc: Global,
+        transport: &mut T,
+        moment: u64,
+        image: &Reference,
+        auth: &RegistryAuth,
+        accepted_media_types: &[Text],
+    ) -> Result<ImageData, SigstoreError> {
+        let types = accepted_media_types;
+        let found = image_key(alloc, image, auth, types)?;
+        let Some(key) = found else {
+            return image_made(
+                &mut self.client,
+                alloc,
+                transport,
+                moment,
+                image,
+                auth,
+                types,
+            );
+        };
+        let known = known_image(alloc, &self.answers, &key, moment)?;
+        if let Some(data) = known {
+            return Ok(data);
+        }
+        let data = image_made(
+            &mut self.client,
+            alloc,
+            transport,
+            moment,
+            image,
+            auth,
+            types,
+        )?;
+        keep_image(alloc, &mut self.answers, key, moment, &data)?;
+        Ok(data)
+    }
+
+    fn pull_manifest<T: Transport>(
+        &mut self,
+        alloc: Global,
+        transport: &mut T,
+        moment: u64,
+        image: &Reference,
+        auth: &RegistryAuth,
+    ) -> Result<(OciManifest, Text), SigstoreError> {
+        let found = manifest_key(alloc, image, auth)?;
+        let Some(key) = found else {
+            return manifest_made(&mut self.client, alloc, transport, moment, image, auth);
+        };
+        let known = known_manifest(alloc, &self.answers, &key, moment)?;
+        if let Some(manifest) = known {
+            return Ok(manifest);
+        }
+        let manifest = manifest_made(&mut self.client, alloc, transport, moment, image, auth)?;
+        keep_manifest(alloc, &mut self.answers, key, moment, &manifest)?;
+        Ok(manifest)
+    }
+
+    fn pull_referrers<T: Transport>(
+        &mut self,
+        alloc: Global,
+        transport: &mut T,
+        moment: u64,
+        image: &Reference,
+        auth: &RegistryAuth,
+        artifact_type: Option<&str>,
+    ) -> Result<OciImageIndex, SigstoreError> {
+        let found = list_key(alloc, image, auth, artifact_type)?;
+        let Some(key) = found else {
+            return referrers_made(
+                &mut self.client,
+                alloc,
+                transport,
+                moment,
+                image,
+                auth,
+                artifact_type,
+            );
+        };
+        let known = known_referrers(alloc, &self.answers, &key, moment)?;
+        if let Some(index) = known {
+            return Ok(index);
+        }
+        let index = referrers_made(
+            &mut self.client,
+            alloc,
+            transport,
+            moment,
+            image,
+            auth,
+            artifact_type,
+        )?;
+        keep_referrers(alloc, &mut self.answers, key, moment, &index)?;
+        Ok(index)
+    }
+
+    fn pull_manifest_raw<T: Transport>(
+        &mut self,
+        alloc: Global,
+        transport: &mut T,
+        moment: u64,
+        image: &Reference,
+        auth: &RegistryAuth,
+        accepted_media_types: &[Text],
+    ) -> Result<(Blob, Text), SigstoreError> {
+        document_made(
+            &mut self.client,
+            alloc,
+            transport,
+            moment,
+            image,
+            auth,
+            accepted_media_types,
+        )
+    }
+
+    fn pull_blob<T: Transport>(
+        &mut self,
+        alloc: Global,
+        transport: &mut T,
+        moment: u64,
+        image: &Reference,
+        layer: &OciDescriptor,
+    ) -> Result<Blob, SigstoreError> {
+        blob_made(&mut self.client, alloc, transport, moment, image, layer)
+    }
+
+    fn platform_resolver(&self) -> Option<&PlatformResolver> {
+        self.client.platform_resolver()
+    }
+}

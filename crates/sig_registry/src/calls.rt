@@ -1,0 +1,160 @@
+// The calls of the registry's client, with their refusals in the words of the calls here.
+ghost use Rattle.std.specs.Prelude.{Some, None, option_copied};
+ghost use Rattle.engine_requests.specs.declared.settings.Settings.{Settings};
+ghost use Rattle.engine_requests.specs.Contexts.{within};
+ghost use Rattle.engine_requests.specs.Requests.{listed};
+ghost use Rattle.engine_requests.specs.Sources.{described};
+ghost use Rattle.sig_registry.specs.Calls.{digest_made, manifest_made, image_made, document_made, blob_made};
+ghost use Rattle.sig_registry.specs.Calls.{referrers_made};
+ghost use Rattle.sig_registry.specs.Clients.{PlainlyMade, engine_state};
+ghost use Rattle.sig_registry.specs.Confinement.{Stays, StaysWithTag};
+ghost use Rattle.sig_registry.specs.Errors.{FaultCounted, NoSinkFault};
+
+use crate::error::SigstoreError;
+use crate::wording::{Called, worded};
+use json_values::{Blob, Text};
+use oci_auth::{RegistryAuth, RegistryOperation};
+use oci_engine::{Client, ImageData};
+use oci_manifests::{OciDescriptor, OciImageIndex, OciManifest};
+use oci_names::Reference;
+use oci_transport::Transport;
+use std::alloc::Global;
+
+/// The digest of the image's manifest or index.
+pub(crate) fn digest_made<T: Transport>(
+    client: &mut Client,
+    alloc: Global,
+    transport: &mut T,
+    moment: u64,
+    image: &Reference,
+    auth: &RegistryAuth,
+) -> Result<Text, SigstoreError>
+    ensures run { (s : Settings) → PlainlyMade s (digest_made (within s moment) image.now auth.now)
+        client.old client.new (T.state transport.old) (T.state transport.new) result }
+    ensures fault { FaultCounted (T.state transport.old) (T.state transport.new) result }
+    ensures no_sink { NoSinkFault result }
+    ensures confined { Stays (engine_state client.old None) (engine_state client.new None) moment image.now (Some auth.now)
+        (T.state transport.old) (T.state transport.new) }
+{
+    let outcome = client.fetch_manifest_digest(alloc, transport, moment, image, auth);
+    worded(alloc, Called::FetchManifest, image, outcome)
+}
+
+/// The image with its blobs.
+pub(crate) fn image_made<T: Transport>(
+    client: &mut Client,
+    alloc: Global,
+    transport: &mut T,
+    moment: u64,
+    image: &Reference,
+    auth: &RegistryAuth,
+    accepted_media_types: &[Text],
+) -> Result<ImageData, SigstoreError>
+    ensures run { (s : Settings) → PlainlyMade s (image_made (within s moment) image.now auth.now accepted_media_types.now)
+        client.old client.new (T.state transport.old) (T.state transport.new) result }
+    ensures fault { FaultCounted (T.state transport.old) (T.state transport.new) result }
+    ensures no_sink { NoSinkFault result }
+    ensures confined { Stays (engine_state client.old None) (engine_state client.new None) moment image.now (Some auth.now)
+        (T.state transport.old) (T.state transport.new) }
+{
+    let outcome = client.pull(alloc, transport, moment, image, auth, accepted_media_types);
+    worded(alloc, Called::Pull, image, outcome)
+}
+
+/// The image's manifest or index with its digest.
+pub(crate) fn manifest_made<T: Transport>(
+    client: &mut Client,
+    alloc: Global,
+    transport: &mut T,
+    moment: u64,
+    image: &Reference,
+    auth: &RegistryAuth,
+) -> Result<(OciManifest, Text), SigstoreError>
+    ensures run { (s : Settings) → PlainlyMade s (manifest_made (within s moment) image.now auth.now)
+        client.old client.new (T.state transport.old) (T.state transport.new) result }
+    ensures fault { FaultCounted (T.state transport.old) (T.state transport.new) result }
+    ensures no_sink { NoSinkFault result }
+    ensures confined { Stays (engine_state client.old None) (engine_state client.new None) moment image.now (Some auth.now)
+        (T.state transport.old) (T.state transport.new) }
+{
+    let outcome = client.pull_manifest(alloc, transport, moment, image, auth);
+    worded(alloc, Called::PullManifest, image, outcome)
+}
+
+/// The index of what refers to the image's digest, for which a token is got first.
+pub(crate) fn referrers_made<T: Transport>(
+    client: &mut Client,
+    alloc: Global,
+    transport: &mut T,
+    moment: u64,
+    image: &Reference,
+    auth: &RegistryAuth,
+    artifact_type: Option<&str>,
+) -> Result<OciImageIndex, SigstoreError>
+    ensures run { (s : Settings) → PlainlyMade s (referrers_made (within s moment) image.now auth.now (option_copied artifact_type.entry))
+        client.old client.new (T.state transport.old) (T.state transport.new) result }
+    ensures fault { FaultCounted (T.state transport.old) (T.state transport.new) result }
+    ensures no_sink { NoSinkFault result }
+    ensures confined { StaysWithTag (engine_state client.old None) (engine_state client.new None) moment image.now (Some auth.now)
+        (T.state transport.old) (T.state transport.new) }
+{
+    let given = client.auth(
+        alloc,
+        transport,
+        moment,
+        image,
+        auth,
+        RegistryOperation::Pull,
+    );
+    let _token = worded(alloc, Called::FetchManifest, image, given)?;
+    let outcome = client.pull_referrers(alloc, transport, moment, image, artifact_type);
+    worded(alloc, Called::PullManifest, image, outcome)
+}
+
+/// The bytes of the image's manifest or index with their digest.
+pub(crate) fn document_made<T: Transport>(
+    client: &mut Client,
+    alloc: Global,
+    transport: &mut T,
+    moment: u64,
+    image: &Reference,
+    auth: &RegistryAuth,
+    accepted_media_types: &[Text],
+) -> Result<(Blob, Text), SigstoreError>
+    ensures run { (s : Settings) → PlainlyMade s (document_made (within s moment) image.now auth.now (listed accepted_media_types.now))
+        client.old client.new (T.state transport.old) (T.state transport.new) result }
+    ensures fault { FaultCounted (T.state transport.old) (T.state transport.new) result }
+    ensures no_sink { NoSinkFault result }
+    ensures confined { Stays (engine_state client.old None) (engine_state client.new None) moment image.now (Some auth.now)
+        (T.state transport.old) (T.state transport.new) }
+{
+    let outcome = client.pull_manifest_raw(
+        alloc,
+        transport,
+        moment,
+        image,
+        auth,
+        accepted_media_types,
+    );
+    worded(alloc, Called::Pull, image, outcome)
+}
+
+/// The bytes of the blob of a descriptor.
+pub(crate) fn blob_made<T: Transport>(
+    client: &mut Client,
+    alloc: Global,
+    transport: &mut T,
+    moment: u64,
+    image: &Reference,
+    layer: &OciDescriptor,
+) -> Result<Blob, SigstoreError>
+    ensures run { (s : Settings) → PlainlyMade s (blob_made (within s moment) image.now (described layer.now))
+        client.old client.new (T.state transport.old) (T.state transport.new) result }
+    ensures fault { FaultCounted (T.state transport.old) (T.state transport.new) result }
+    ensures no_sink { NoSinkFault result }
+    ensures confined { Stays (engine_state client.old None) (engine_state client.new None) moment image.now None
+        (T.state transport.old) (T.state transport.new) }
+{
+    let outcome = client.pulled_blob(alloc, transport, moment, image, layer);
+    worded(alloc, Called::Pull, image, outcome)
+}

@@ -1,0 +1,3 @@
+pub mod Auths
+pub mod Keys
+pub mod Settings

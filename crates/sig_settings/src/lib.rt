@@ -1,0 +1,16 @@
+//! What calls of a registry's client are asked with, and the texts that their answers are kept under.
+#![tactic(auto)]
+
+mod auth;
+mod laws;
+mod manifest_settings;
+mod pull_settings;
+mod referrers_settings;
+mod text;
+mod written;
+
+pub use auth::Auth;
+pub use laws::keys_tell_settings;
+pub use manifest_settings::PullManifestSettings;
+pub use pull_settings::PullSettings;
+pub use referrers_settings::PullReferrersSettings;
