@@ -252,7 +252,7 @@ class Command(WithFolder):
             status, _, err = self.pull(place, "--timeout", "0.3")
             self.assertEqual((status, self.left()), (1, []))
             self.assertIn("timed out", err)
-            self.assertLess(time.monotonic() - began, 3)
+            self.assertLess(time.monotonic() - began, 15)
         with registry(_blobs_=dripping) as (place, _):
             status, _, err = self.pull(place, "--deadline", "1")
             self.assertEqual((status, err, self.left()), (4, "roksnaep: stopped at the --deadline\n", []))
