@@ -211,6 +211,40 @@ def pulls():
     tag = compact(f"{REGISTRY}/app@{digest(IMAGE)}")
     lines = ["moment 100"] + asked + [f"GET {other}"] * 10 + [f"refused RegistryPullError {tag} ServerError 307 {compact(other)} 0"]
     write("pulls/eleven_redirects", case(answers[:-1] + again, [signature]), lines, 1)
+    twelve_layers()
+
+
+def twelve_layers():
+    """An image as a registry of many users has it: one of eight platforms, twelve layers with notes, behind a service that gives tokens."""
+    gzipped, registry = LAYER + "+gzip", "https://index.docker.io/v2/"
+    realm = "https://auth.docker.io/token"
+    contents = [f"layer {i}\n" * (i + 1) for i in range(12)]
+    image = compact({
+        "schemaVersion": 2, "mediaType": MANIFEST, "config": descriptor(CONFIG, "{}"),
+        "layers": [descriptor(gzipped, content, {"org.example.layer": str(i)}) for i, content in enumerate(contents)],
+        "annotations": {"org.opencontainers.image.title": "app", "org.opencontainers.image.version": "1.2"},
+    })
+    others = ["386", "arm", "arm64", "mips64le", "ppc64le", "riscv64", "s390x"]
+    index = index_of(*[entry(architecture, architecture) for architecture in others], entry("amd64", image))
+    signature = payload(image=index)
+    signatures, tag = manifest("{}", [signed(signature)]), digest(index).replace(":", "-")
+    wanted = answer(status=401, headers=[["www-authenticate", f'Bearer realm="{realm}",service="registry.docker.io"']])
+    given = answer(compact({"token": "e30.eyJleHAiOjE3MDAwMDAzMDB9.signature"}))
+    # A token serves all requests, but that the list of referrers is asked for with a new one.
+    found = [signatures, signatures, "{}", signature, None, None, index, image, "{}", *contents]
+    answers = [wanted, given, answer(None, digest(index))]
+    answers += [answer(status=404) if content is None else answer(content, digest(content)) for content in found]
+    answers[7:7] = [wanted, given]
+    tokens = [f"GET {registry}", f"GET {realm}?scope=repository%3Alibrary%2Fapp%3Apull&service=registry.docker.io"]
+    paths = [f"manifests/{tag}.sig"] * 2 + ["blobs/" + digest("{}"), "blobs/" + digest(signature)]
+    later = ["referrers/" + digest(index), f"manifests/{tag}", "manifests/" + digest(index), "manifests/" + digest(image)]
+    later += ["blobs/" + digest(content) for content in ("{}", *contents)]
+    asked = tokens + [f"HEAD {registry}library/app/manifests/1.2"] + [f"GET {registry}library/app/{path}" for path in paths]
+    asked += tokens + [f"GET {registry}library/app/{path}" for path in later]
+    lines = ["moment 1700000000"] + asked + ["ok " + digest(index), "manifest " + digest(image), "config " + digest("{}")]
+    lines += ["layer " + digest(content) for content in contents] + ["signature " + digest(signature)]
+    members = {"reference": "docker.io/library/app:1.2", "protocol": "https", "moments": [1700000000], "accepted": [gzipped], "platform": "linux/amd64"}
+    write("pulls/twelve_layers_behind_a_token_service", case(answers, [signature], **members), lines)
 
 
 def shelves():
