@@ -11,7 +11,7 @@ ghost use Rattle.generated_image.specs.Shelf.{generated_shelf, HasTwoDigests};
 ghost use Rattle.pull_generated.specs.Generated.{generated_context, fresh, generated_reference};
 ghost use Rattle.pull_generated.specs.Generated.{generated_types, generated_meaning, PullsGenerated, IsCaused, IsCount};
 
-use crate::terms::{fresh_client, terms};
+use crate::terms::{fresh_client, terms_for};
 use cosign_client::{PullRefusal, VerifiedImage};
 use cosign_layers::NoCertificates;
 use oci_transport::Transport;
@@ -28,7 +28,7 @@ fn pulled<T: Transport>(
     ensures completes { IsCount layers → HasTwoDigests layers
         → AnswersFrom (generated_shelf layers) (T.state transport.old) → OkOrMemory result }
 {
-    let terms = terms(alloc, layers)?;
+    let terms = terms_for(alloc, layers)?;
     let mut client = fresh_client(alloc)?;
     client.verified_pull(
         alloc,

@@ -75,7 +75,7 @@ pub(crate) struct Terms {
     pub verifier: TableVerifier,
 }
 
-pub(crate) fn terms(alloc: Global, layers: u32) -> Result<Terms, AllocError>
+pub(crate) fn terms_for(alloc: Global, layers: u32) -> Result<Terms, AllocError>
     ensures image { IfOk result (λ terms. reference_in terms.image ≡ generated_reference) }
     ensures accepted { IfOk result (λ terms. terms.accepted ≡ generated_types) }
     ensures keys { IfOk result (λ terms. terms.policy.keys ≡ codes "k1" ∷ []) }
