@@ -1,11 +1,9 @@
 -- The pulls of a case at its moments.
-use Rattle.std.proofs.Common.{◌≡◌, ℕ, Bool, true, false, List, [], ◌∷◌, ◌++◌, Option, sym, ap, subst, append_assoc}
+use Rattle.std.proofs.Common.{ℕ, Bool, true, false, List, [], ◌∷◌, ◌++◌, ap, subst, append_assoc}
 use Rattle.engine_requests.specs.declared.settings.Settings.{Settings}
-use Rattle.sig_answers.specs.declared.answers.Answers.{Answers}
 use Rattle.sig_registry.specs.Clients.{Kept}
 use Rattle.sig_registry.specs.Log.{Place, IsRun, IsBacked}
 use Rattle.cosign_chain.specs.declared.image.VerifiedImage.{VerifiedImage}
-use Rattle.cosign_client.specs.Builder.{no_answers}
 use Rattle.cosign_client.specs.Verified.{Whole}
 use Rattle.pull_case.specs.Policy.{meaning_of}
 use Rattle.pull_case.specs.declared.case.Case.{Case}

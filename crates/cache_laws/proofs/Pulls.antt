@@ -1,7 +1,7 @@
 -- The whole pull of an image: what the search, the search's sources and the image ask of the client.
 use Rattle.std.proofs.Common.{ℕ, Bool, true, false, List, [], ◌∷◌, ◌++◌, None, Result, Ok, Err}
 use Rattle.oci_names.specs.declared.reference.Reference.{Reference}
-use Rattle.oci_names.specs.References.{whole_text, reads_back}
+use Rattle.oci_names.specs.References.{reads_back}
 use Rattle.oci_auth.specs.declared.auth.RegistryAuth.{RegistryAuth}
 use Rattle.oci_manifests.specs.declared.document.OciManifest.{OciManifest}
 use Rattle.oci_manifests.specs.declared.document.OciManifest.TheVariants.{Image, ImageIndex}
@@ -10,7 +10,7 @@ use Rattle.oci_manifests.specs.declared.index_entry.ImageIndexEntry.{ImageIndexE
 use Rattle.oci_manifests.specs.declared.manifest.OciImageManifest.{OciImageManifest}
 use Rattle.oci_manifests.specs.declared.descriptor.OciDescriptor.{OciDescriptor}
 use Rattle.oci_manifests.specs.declared.blob.ImageLayer.{ImageLayer}
-use Rattle.oci_protocol.specs.Proto.{Done, ◌>>=◌}
+use Rattle.oci_protocol.specs.Proto.{Done}
 use Rattle.engine_requests.specs.declared.settings.Settings.{Settings}
 use Rattle.engine_requests.specs.Contexts.{within}
 use Rattle.engine_requests.specs.Requests.{manifest_types}
@@ -26,12 +26,13 @@ use Rattle.cosign_client.specs.References.{tag_reference, digest_reference}
 use Rattle.cosign_client.specs.Search.{payload_type, bundle_type, tag_layers, tag_by, tag_source, referrer_by, referrer_row, referrers_row, listed_row, referrers_source, searched}
 use Rattle.cosign_client.specs.Image.{layers_row, blobs_row, entry_call, entry_row, manifest_row, after_document, image_row}
 use Rattle.cosign_client.specs.Verified.{part_of, after_standing, after_search, verified}
-use Rattle.cosign_client.specs.declared.found.Part.{Part}
-use Rattle.cosign_client.specs.declared.found.TrustedLayers.{TrustedLayers}
-use Rattle.cosign_client.specs.declared.verified.Standing.{Standing}
 use Rattle.cache_laws.specs.Growth.{Grows}
 use Rattle.cache_laws.proofs.Growing.{grows_done, grows_bind, grows_next}
 use Rattle.cache_laws.proofs.Calls.{digest_grows, manifest_grows, image_grows, referrers_grow, document_grows, blob_grows}
+
+-- for each of a type that the property tells
+abbrev Each : {P : Type 0} → (P → Type 0) → Type 0
+Each {P} Q = (p : P) → Q p
 
 module _ (s : Settings) (now : ℕ) (a : RegistryAuth) where
   -- ---- the search
@@ -51,26 +52,26 @@ module _ (s : Settings) (now : ℕ) (a : RegistryAuth) where
   unfolding tag_source
   tag_grows trust image d = tag_by_grows trust d (tag_reference image d) (reads_back (tag_reference image d))
 
-  referrer_by_grows : (trust : Trust) (d : List ℕ) (referrer : Reference) (digest : List ℕ) (part : Part) (b : Bool) → Grows s (referrer_by trust d (within s now) referrer a digest part b)
-  referrer_by_grows trust d referrer digest part false = grows_done s _
-  referrer_by_grows trust d referrer digest part true = grows_bind s (image_call (within s now) referrer a (bundle_type ∷ [])) _ (image_grows s now referrer a (bundle_type ∷ [])) (λ r. grows_done s _)
+  referrer_by_grows : (trust : Trust) (d : List ℕ) (referrer : Reference) (digest : List ℕ) (b : Bool) → Each (λ part. Grows s (referrer_by trust d (within s now) referrer a digest part b))
+  referrer_by_grows trust d referrer digest false = λ part. grows_done s _
+  referrer_by_grows trust d referrer digest true = λ part. grows_bind s (image_call (within s now) referrer a (bundle_type ∷ [])) _ (image_grows s now referrer a (bundle_type ∷ [])) (λ r. grows_done s _)
 
-  referrer_grows : (trust : Trust) (d : List ℕ) (source : Reference) (digest : List ℕ) (part : Part) → Grows s (referrer_row trust d (within s now) source a digest part)
+  referrer_grows : (trust : Trust) (d : List ℕ) (source : Reference) (digest : List ℕ) → Each (λ part. Grows s (referrer_row trust d (within s now) source a digest part))
   unfolding referrer_row
-  referrer_grows trust d source digest part = referrer_by_grows trust d (digest_reference source digest) digest part (reads_back (digest_reference source digest))
+  referrer_grows trust d source digest = λ part. referrer_by_grows trust d (digest_reference source digest) digest (reads_back (digest_reference source digest)) part
 
-  referrers_row_grows : (trust : Trust) (d : List ℕ) (source : Reference) (xs : List ImageIndexEntry) (part : Part) → Grows s (referrers_row trust d (within s now) source a xs part)
+  referrers_row_grows : (trust : Trust) (d : List ℕ) (source : Reference) (xs : List ImageIndexEntry) → Each (λ part. Grows s (referrers_row trust d (within s now) source a xs part))
   unfolding referrers_row
-  referrers_row_grows trust d source [] part = grows_done s _
-  referrers_row_grows trust d source (x ∷ xs) part = grows_next s (referrer_row trust d (within s now) source a x.digest part) _ (referrer_grows trust d source x.digest part) (λ more. referrers_row_grows trust d source xs more)
+  referrers_row_grows trust d source [] = λ part. grows_done s _
+  referrers_row_grows trust d source (x ∷ xs) = λ part. grows_next s (referrer_row trust d (within s now) source a x.digest part) _ (referrer_grows trust d source x.digest part) (λ more. referrers_row_grows trust d source xs more)
 
-  listed_grows : (trust : Trust) (d : List ℕ) (source : Reference) (part : Part) (r : Result OciImageIndex SigstoreError) → Grows s (listed_row trust d (within s now) source a part r)
-  listed_grows trust d source part (Ok index) = referrers_row_grows trust d source index.manifests part
-  listed_grows trust d source part (Err e) = grows_done s _
+  listed_grows : (trust : Trust) (d : List ℕ) (source : Reference) (r : Result OciImageIndex SigstoreError) → Each (λ part. Grows s (listed_row trust d (within s now) source a part r))
+  listed_grows trust d source (Ok index) = λ part. referrers_row_grows trust d source index.manifests part
+  listed_grows trust d source (Err e) = λ part. grows_done s _
 
-  referrers_source_grows : (trust : Trust) (d : List ℕ) (source : Reference) (part : Part) → Grows s (referrers_source trust d (within s now) source a part)
+  referrers_source_grows : (trust : Trust) (d : List ℕ) (source : Reference) → Each (λ part. Grows s (referrers_source trust d (within s now) source a part))
   unfolding referrers_source
-  referrers_source_grows trust d source part = grows_bind s (referrers_call (within s now) source a None) _ (referrers_grow s now source a None) (λ r. listed_grows trust d source part r)
+  referrers_source_grows trust d source = λ part. grows_bind s (referrers_call (within s now) source a None) _ (referrers_grow s now source a None) (λ r. listed_grows trust d source r part)
 
   pub search_grows : (trust : Trust) (image : Reference) → Grows s (searched trust (within s now) image a)
   unfolding searched
@@ -129,12 +130,12 @@ module _ (s : Settings) (now : ℕ) (a : RegistryAuth) where
   unfolding part_of
   part_grows p h = grows_bind s p _ h (λ r. grows_done s _)
 
-  after_standing_grows : (image : Reference) (accepted : List (List ℕ)) (stood : Standing) → Grows s (after_standing (within s now) image a accepted stood)
-  after_standing_grows image accepted stood = grows_next s (part_of (image_row (within s now) image (digest_reference image stood.digest) a accepted)) _ (part_grows (image_row (within s now) image (digest_reference image stood.digest) a accepted) (image_row_grows image (digest_reference image stood.digest) accepted)) (λ pulled. grows_done s _)
+  after_standing_grows : (image : Reference) (accepted : List (List ℕ)) → Each (λ stood. Grows s (after_standing (within s now) image a accepted stood))
+  after_standing_grows image accepted = λ stood. grows_next s (part_of (image_row (within s now) image (digest_reference image stood.digest) a accepted)) _ (part_grows (image_row (within s now) image (digest_reference image stood.digest) a accepted) (image_row_grows image (digest_reference image stood.digest) accepted)) (λ pulled. grows_done s _)
 
-  after_search_grows : {V : Type 0} {H : V → Type 0} (meaning : Meaning V H) (image : Reference) (accepted : List (List ℕ)) (found : TrustedLayers) → Grows s (after_search meaning (within s now) image a accepted found)
+  after_search_grows : {V : Type 0} {H : V → Type 0} (meaning : Meaning V H) (image : Reference) (accepted : List (List ℕ)) → Each (λ found. Grows s (after_search meaning (within s now) image a accepted found))
   unfolding after_search
-  after_search_grows meaning image accepted found = grows_next s (Done _) _ (grows_done s _) (λ stood. after_standing_grows image accepted stood)
+  after_search_grows meaning image accepted = λ found. grows_next s (Done _) _ (grows_done s _) (λ stood. after_standing_grows image accepted stood)
 
   pub pull_grows : {V : Type 0} {H : V → Type 0} (meaning : Meaning V H) (image : Reference) (accepted : List (List ℕ)) → Grows s (verified meaning (within s now) image a accepted)
   unfolding verified

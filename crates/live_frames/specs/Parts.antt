@@ -1,0 +1,57 @@
+-- The parts of a frame, as they are read: the line, its object, the bytes behind it.
+use Rattle.std.specs.Prelude.{◌≡◌, ℕ, ◌≤◌, ◌<◌, true, List, [], length, Some, None, Result, Ok, Err, ⊤}
+use Rattle.std.specs.Io.KnownBytes.{IsAtEnd}
+use Rattle.serde_json.specs.Data.{Data}
+use Rattle.json_values.specs.Counts.{Rose, Stays}
+use Rattle.pull_edge.specs.Source.{Spring, Takes}
+use Rattle.live_frames.specs.Frame.{is_line, most_bytes, head_of, size_of}
+use Rattle.live_frames.specs.Reading.{size_at, lined, Stops}
+use Rattle.live_frames.specs.declared.reading.FrameError.{FrameError}
+use Rattle.live_frames.specs.declared.reading.FrameError.TheVariants.{SourceFault, Ended, TooLong, NoFrame, WantOfMemory}
+
+-- a line with its line feed
+pub record IsTakenLine (line : List ℕ) (old new : Spring) : Type 0 where
+  pub taken : Takes (lined line []) old new
+  pub inside : is_line line ≡ true
+  pub short : length line ≤ most_bytes
+  pub count : Stays old.faults new.faults
+
+abbrev pub ReadsLine : ℕ → Result (List ℕ) FrameError → Spring → Spring → Type 0
+ReadsLine most (Ok line) old new = IsTakenLine line old new
+ReadsLine most (Err e) old new = (text : List ℕ) × Takes text old new × Stops most e text old new
+
+-- the object of a line and its size
+abbrev pub ReadsHead : Result (Data × ℕ) FrameError → List ℕ → Type 0
+ReadsHead (Ok head) line = (head_of line ≡ Some head.0) × (size_of head.0 ≡ Some head.1)
+ReadsHead (Err SourceFault) line = ⊥
+ReadsHead (Err Ended) line = ⊥
+ReadsHead (Err TooLong) line = ⊥
+ReadsHead (Err NoFrame) line = size_at line ≡ None
+ReadsHead (Err WantOfMemory) line = ⊤
+
+-- why fewer bytes came
+abbrev pub IsShort : ℕ → FrameError → List ℕ → Spring → Spring → Type 0
+IsShort n SourceFault part old new = Rose old.faults new.faults
+IsShort n Ended part old new = IsAtEnd new.left × (length part < n) × Stays old.faults new.faults
+IsShort n TooLong part old new = ⊥
+IsShort n NoFrame part old new = ⊥
+IsShort n WantOfMemory part old new = Stays old.faults new.faults
+
+-- so many bytes, or a front of them
+abbrev pub ReadsBytes : ℕ → Result (List ℕ) FrameError → Spring → Spring → Type 0
+ReadsBytes n (Ok bytes) old new = Takes bytes old new × (length bytes ≡ n) × Stays old.faults new.faults
+ReadsBytes n (Err e) old new = (part : List ℕ) × Takes part old new × IsShort n e part old new
+
+-- why no further byte came
+abbrev pub IsNone : FrameError → List ℕ → Spring → Spring → Type 0
+IsNone SourceFault part old new = Rose old.faults new.faults
+IsNone Ended part old new = IsAtEnd new.left × (part ≡ []) × Stays old.faults new.faults
+IsNone TooLong part old new = ⊥
+IsNone NoFrame part old new = ⊥
+IsNone WantOfMemory part old new = Stays old.faults new.faults
+
+-- at least one byte, and at most so many, or some that are lost
+abbrev pub TakesUpTo : ℕ → Result (List ℕ) FrameError → Spring → Spring → Type 0
+TakesUpTo most (Ok bytes) old new =
+    Takes bytes old new × (0 < length bytes) × (length bytes ≤ most) × Stays old.faults new.faults
+TakesUpTo most (Err e) old new = (part : List ℕ) × Takes part old new × IsNone e part old new

@@ -1,0 +1,47 @@
+-- Reading a frame from a source.
+use Rattle.std.specs.Prelude.{◌≡◌, ℕ, ◌<◌, true, List, [], ◌∷◌, ◌++◌, length, Option, Some, None, Result, Ok, Err}
+use Rattle.std.specs.Io.KnownBytes.{IsAtEnd}
+use Rattle.json_values.specs.Counts.{Rose, Stays}
+use Rattle.json_tables.specs.Reading.{◌>>=◌}
+use Rattle.pull_edge.specs.Source.{Spring, Takes}
+use Rattle.live_frames.specs.Frame.{IsFrame, is_line, most_bytes, head_of, size_of}
+use Rattle.live_frames.specs.declared.frame.Frame.{Frame}
+use Rattle.live_frames.specs.declared.reading.FrameError.{FrameError}
+use Rattle.live_frames.specs.declared.reading.FrameError.TheVariants.{SourceFault, Ended, TooLong, NoFrame, WantOfMemory}
+
+-- the size that a line says
+abbrev pub size_at : List ℕ → Option ℕ
+size_at line = head_of line >>= size_of
+
+-- a line and its line feed, and then these bytes
+abbrev pub lined : List ℕ → List ℕ → List ℕ
+lined line bytes = line ++ 10 ∷ bytes
+
+-- a line that is too long, or a line that says more bytes than so many
+pub data IsLong (most : ℕ) (text : List ℕ) : Type 0 where
+  a_line : is_line text ≡ true → most_bytes < length text → IsLong most text
+  a_size : (line : List ℕ) (n : ℕ) → text ≡ lined line [] → size_at line ≡ Some n → most < n → IsLong most text
+
+-- a front of a frame: of its line, or of the bytes behind it
+pub data IsCut (text : List ℕ) : Type 0 where
+  in_line : is_line text ≡ true → IsCut text
+  in_bytes : (line part : List ℕ) (n : ℕ)
+      → text ≡ lined line part → size_at line ≡ Some n → length part < n → IsCut text
+
+-- a line that says no object with a size
+pub data IsNoHead (text : List ℕ) : Type 0 where
+  no_head : (line : List ℕ) → text ≡ lined line [] → is_line line ≡ true → size_at line ≡ None → IsNoHead text
+
+-- why what was taken is no frame
+abbrev pub Stops : ℕ → FrameError → List ℕ → Spring → Spring → Type 0
+Stops most SourceFault text old new = Rose old.faults new.faults
+Stops most Ended text old new = IsAtEnd new.left × IsCut text × Stays old.faults new.faults
+Stops most TooLong text old new = IsLong most text × Stays old.faults new.faults
+Stops most NoFrame text old new = IsNoHead text × Stays old.faults new.faults
+Stops most WantOfMemory text old new = Stays old.faults new.faults
+
+-- What was taken: a frame, or what is none. The count of faults rises where the source failed, and stays otherwise.
+abbrev pub ReadsFrame : ℕ → Result Frame FrameError → Spring → Spring → Type 0
+ReadsFrame most (Ok frame) old new =
+    (text : List ℕ) × Takes text old new × IsFrame most frame text × Stays old.faults new.faults
+ReadsFrame most (Err e) old new = (text : List ℕ) × Takes text old new × Stops most e text old new

@@ -1,0 +1,8 @@
+use json_values::{Blob, Json};
+
+/// A frame that was read: the object of its line, and the bytes behind it.
+#[derive(Drop)]
+pub struct Frame {
+    pub head: Json,
+    pub bytes: Blob,
+}

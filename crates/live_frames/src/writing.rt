@@ -1,0 +1,42 @@
+// A frame written into a sink.
+ghost use Rattle.std.specs.Prelude.{◌≡◌, ◌≤◌, false, IfOk, OnOk, OnErr, IsErrOf};
+ghost use Rattle.serde_json.specs.Written.{has_float};
+ghost use Rattle.json_values.specs.Counts.{Rose, Stays};
+ghost use Rattle.json_values.specs.Tray.{Adds, AddsFront, AddsPart};
+ghost use Rattle.live_frames.specs.Frame.{frame_text};
+
+use json_values::{Blob, Json, Sink, SinkError, put_all};
+use std::alloc::{AllocError, Global};
+
+/// Puts the object as a line, and these bytes behind it. Where that fails, a front of them went out.
+pub fn write_frame<K: Sink>(
+    alloc: Global,
+    sink: &mut K,
+    head: &Json,
+    bytes: &[u8],
+) -> Result<(), SinkError>
+    requires plain { has_float head.now ≡ false }
+    ensures count { (K.state sink.old).faults ≤ (K.state sink.new).faults }
+    ensures whole { OnOk result (Adds (frame_text head.now bytes.now) (K.state sink.old) (K.state sink.new)) }
+    ensures front { AddsFront (frame_text head.now bytes.now) (K.state sink.old) (K.state sink.new) }
+    ensures fault { IsErrOf result SinkError.Failed
+        → Rose (K.state sink.old).faults (K.state sink.new).faults }
+    ensures served { OnOk result (Stays (K.state sink.old).faults (K.state sink.new).faults) }
+    ensures wanting { IsErrOf result SinkError.WantOfMemory
+        → Stays (K.state sink.old).faults (K.state sink.new).faults }
+{
+    let Ok(text) = frame_text(alloc, head, bytes) else {
+        return Err(SinkError::WantOfMemory);
+    };
+    put_all(sink, text.as_slice())
+}
+
+fn frame_text(alloc: Global, head: &Json, bytes: &[u8]) -> Result<Blob, AllocError>
+    requires plain { has_float head.now ≡ false }
+    ensures { IfOk result (λ text. text ≡ frame_text head.now bytes.now) }
+{
+    let mut text = Blob::from_vec(head.value().to_vec(alloc)?);
+    text.append(b"\n")?;
+    text.append(bytes)?;
+    Ok(text)
+}

@@ -1,0 +1,10 @@
+pub mod Added
+pub mod Kept
+pub mod Laws
+pub mod Opening
+pub mod Pieces
+pub mod Plain
+pub mod Shown
+pub mod Steps
+pub mod Turns
+pub mod Writing

@@ -1,0 +1,128 @@
+-- What a transport tells after a request and after a piece.
+use Rattle.std.proofs.Common.{◌≡◌, ℕ, true, List, [], ◌∷◌, ◌++◌, map, Option, Some, None, refl, sym, ap, subst, ◌∙◌, append-nil}
+use Rattle.std.specs.Prelude.{is_some, option_map, unwrap_or, Result, Ok, Err}
+use Rattle.std.specs.Coded.{Coded-set, coded_bool}
+use Rattle.std.specs.Io.KnownBytes.{Consumes}
+use Rattle.std.proofs.Math.Logic.{∥∥₁_elim}
+use Rattle.std.proofs.lemmas.Grind.{flat_map-append}
+use Rattle.json_values.specs.Tray.{Tray}
+use Rattle.pull_edge.specs.Source.{Spring}
+use Rattle.http_server.specs.declared.log.Log.{Log}
+use Rattle.oci_transport.specs.Link.{Link, Answering, Extends, Steady}
+use Rattle.oci_transport.specs.declared.message.Exchange.{Exchange}
+use Rattle.oci_transport.specs.declared.message.Request.{Request}
+use Rattle.live_link.specs.Asking.{Asks, piece_after, Gives}
+use Rattle.live_link.specs.Bodies.{body_in}
+use Rattle.live_link.specs.Requests.{more_text}
+use Rattle.live_link.specs.Spoken.{Replies}
+use Rattle.live_link.specs.State.{body_left, exchange_in, exchanges_by, told_from, told_since, rest_in, Holds}
+use Rattle.live_link.specs.declared.replies.Reply.{Reply}
+use Rattle.live_link.specs.declared.replies.Reply.TheVariants.{Answer, Piece, End, Failed, Other}
+use Rattle.live_link.specs.declared.stage.Breach.{Breach}
+use Rattle.live_link.specs.declared.stage.Heard.{Heard}
+use Rattle.live_link.specs.declared.stage.Stage.{Stage}
+use Rattle.live_link.specs.declared.stage.Stage.TheVariants.{Open}
+use Rattle.live_link.proofs.Pieces.{body_piece, body_end, not_empty}
+
+-- ---- the history
+
+pub one_entry : {S : Type 0} (spring : S → Spring) (items later : List (S × Log Request Heard)) (source : S) (said : Log Request Heard) (entry : Request × Heard)
+    → later ≡ items ++ (source, said) ∷ [] → said.items ≡ entry ∷ [] → exchanges_by spring later ≡ exchanges_by spring items ++ exchange_in (spring source).left entry ∷ []
+one_entry spring items later source said entry is one =
+    ap (exchanges_by spring) is ∙ flat_map-append _ items ((source, said) ∷ [])
+    ∙ ap (λ t. exchanges_by spring items ++ t) (append-nil _ ∙ ap (map (exchange_in (spring source).left)) one)
+
+told_more : (took leaves : Option (List ℕ)) (c before : List Exchange) (e : Exchange) → told_from took leaves c ≡ Some before → told_from took leaves (c ++ e ∷ []) ≡ Some (before ++ e ∷ [])
+told_more None leaves c before e told = absurd (cc told)
+told_more (Some t) None c before e told = absurd (cc told)
+told_more (Some t) (Some l) c before e told = ap (option_map (λ b. b ++ e ∷ [])) told
+
+pub tells_more : {S K : Type 0} (spring : S → Spring) (tray : K → Tray) (began : List (S × K)) (c d before : List Exchange) (e : Exchange)
+    → d ≡ c ++ e ∷ [] → told_since spring tray began c ≡ Some before → told_since spring tray began d ≡ Some (before ++ e ∷ [])
+tells_more spring tray [] c d before e is told = absurd (cc told)
+tells_more spring tray (first ∷ later) c d before e is told =
+    ap (told_from (tray first.1).taken (spring first.0).left) is ∙ told_more (tray first.1).taken (spring first.0).left c before e told
+
+-- ---- where exchanges are told, the source tells its bytes
+
+began_so : (took leaves : Option (List ℕ)) (c before : List Exchange) → told_from took leaves c ≡ Some before → (taken : List ℕ) × (left : List ℕ) × (took ≡ Some taken) × (leaves ≡ Some left)
+began_so None leaves c before told = absurd (cc told)
+began_so (Some t) None c before told = absurd (cc told)
+began_so (Some t) (Some l) c before told = (t, l, refl, refl)
+
+pub tells : {S K : Type 0} (spring : S → Spring) (tray : K → Tray) (began : List (S × K)) (source : S) (sink : K) (stage : Stage) (c d before : List Exchange)
+    → ∥ Holds spring tray began source sink stage c ∥₁ → told_since spring tray began d ≡ Some before → is_some (spring source).left ≡ true
+tells spring tray [] source sink stage c d before holds told = absurd (cc told)
+tells spring tray (first ∷ later) source sink stage c d before holds told =
+    let so = began_so (tray first.1).taken (spring first.0).left d before told in
+    ∥∥₁_elim holds (Coded-set coded_bool _ _) (λ h. ap is_some (h so.0 so.1 so.2 so.3).held.leaves)
+
+body_known : (o : Option (List ℕ)) → is_some o ≡ true → option_map body_in o ≡ Some (body_left o)
+body_known None is = absurd (cc is)
+body_known (Some xs) is = refl
+
+-- the rest of the body after the head of an answer
+pub rest_known : (stage : Stage) (o : Option (List ℕ)) → stage ≡ Open → is_some o ≡ true → rest_in stage o ≡ Some (body_left o)
+rest_known stage o opened is = ap (λ s. rest_in s o) opened ∙ body_known o is
+
+-- ---- the laws of a transport that does not say what it answers by
+
+no_answering : (o : Option Answering) (a : Answering) → o ≡ None → o ≡ Some a → ⊥
+no_answering o a none is = cc (none, is)
+
+pub steady : (old new : Link) → old.answers ≡ None → Steady old new
+steady old new none = record {
+  steady = λ a is. absurd (no_answering old.answers a none is);
+  quiet = λ a is never. absurd (no_answering old.answers a none is);
+}
+
+pub extends : (old new : Link) (added : List Exchange) → old.answers ≡ None
+    → ((before : List Exchange) → old.told ≡ Some before → new.told ≡ Some (before ++ added)) → Extends old new added
+extends old new added none told = record {
+  told = told;
+  table = λ a before is was. absurd (no_answering old.answers a none is);
+  stays = steady old new none;
+}
+
+-- ---- a piece
+
+piece_bytes : (came after p : List ℕ) → Replies (Piece p) came → (body_in (came ++ after) ≡ p ++ body_in after) × (p ≡ [] → ⊥)
+piece_bytes came after p is = (body_piece is.frame came after p is.is is.says, not_empty is.frame p is.says)
+
+taken_by : (a b : Option (List ℕ)) (came p rest : List ℕ) → Replies (Piece p) came → Consumes a b came → option_map body_in a ≡ Some rest
+    → (left : List ℕ) × (rest ≡ p ++ left) × (option_map body_in b ≡ Some left) × (p ≡ [] → rest ≡ [])
+taken_by None b came p rest is taken told = absurd (cc told)
+taken_by (Some xs) None came p rest is taken told = absurd taken
+taken_by (Some xs) (Some ys) came p rest is taken told =
+    let piece = piece_bytes came ys p is in
+    (body_in ys, sym (ap (λ o. unwrap_or o []) told) ∙ ap body_in taken ∙ piece.0, refl, λ none. absurd (piece.1 none))
+
+ended_by : (a b : Option (List ℕ)) (came rest : List ℕ) → Replies End came → Consumes a b came → option_map body_in a ≡ Some rest → rest ≡ []
+ended_by None b came rest is taken told = absurd (cc told)
+ended_by (Some xs) None came rest is taken told = absurd taken
+ended_by (Some xs) (Some ys) came rest is taken told =
+    sym (ap (λ o. unwrap_or o []) told) ∙ ap body_in taken ∙ body_end is.frame came ys is.is is.says
+
+-- the piece is the front of what was left
+abbrev TakesPart : List ℕ → Option (List ℕ) → Option (List ℕ) → Type 0
+TakesPart p old new = (rest : List ℕ) → old ≡ Some rest → (left : List ℕ) × (rest ≡ p ++ left) × (new ≡ Some left) × (p ≡ [] → rest ≡ [])
+
+part_of : (s t : Spring) (k l : Tray) (reply : Result Reply Breach) (p : List ℕ) → Asks more_text reply s t k l → (piece_after reply).1 ≡ Some p
+    → TakesPart p (rest_in Open s.left) (rest_in (piece_after reply).0 t.left)
+part_of s t k l (Ok (Answer head)) p asks is rest told = absurd (cc is)
+part_of s t k l (Ok (Piece piece)) p asks is rest told =
+    taken_by s.left t.left asks.came p rest (subst (λ q. Replies (Piece q) asks.came) (ap (λ o. unwrap_or o []) is) asks.replied) asks.taken told
+part_of s t k l (Ok End) p asks is rest told =
+    let none : [] ≡ p = ap (λ o. unwrap_or o []) is in
+    let over = ended_by s.left t.left asks.came rest asks.replied asks.taken told in
+    ([], over ∙ none ∙ sym (append-nil p), refl, λ empty. over)
+part_of s t k l (Ok Failed) p asks is rest told = absurd (cc is)
+part_of s t k l (Ok Other) p asks is rest told = absurd (cc is)
+part_of s t k l (Err breach) p asks is rest told = absurd (cc is)
+
+pub takes_part : (s t : Spring) (k l : Tray) (stage : Stage) (r : Stage × Option (List ℕ)) (p : List ℕ) → stage ≡ Open → Gives r s t k l → r.1 ≡ Some p
+    → TakesPart p (rest_in stage s.left) (rest_in r.0 t.left)
+takes_part s t k l stage r p opened got is =
+    subst (λ u. TakesPart p (rest_in u s.left) (rest_in r.0 t.left)) (sym opened)
+    (subst (λ (q : Stage × Option (List ℕ)). TakesPart p (rest_in Open s.left) (rest_in q.0 t.left)) (sym got.is)
+    (part_of s t k l got.reply p got.asks (sym (ap (λ (q : Stage × Option (List ℕ)). q.1) got.is) ∙ is)))

@@ -1,0 +1,71 @@
+-- One question to the host: a frame goes out, and a frame comes in.
+use Rattle.std.specs.Prelude.{◌≡◌, ℕ, List, [], Option, Some, None, Result, Ok, Err}
+use Rattle.json_values.specs.Tray.{Tray, Adds}
+use Rattle.pull_edge.specs.Source.{Spring, Takes}
+use Rattle.oci_transport.specs.declared.message.Request.{Request}
+use Rattle.oci_transport.specs.declared.message.AnswerHead.{AnswerHead}
+use Rattle.live_link.specs.Requests.{request_text, more_text}
+use Rattle.live_link.specs.Spoken.{Replies}
+use Rattle.live_link.specs.State.{breach_in}
+use Rattle.live_link.specs.declared.replies.Reply.{Reply}
+use Rattle.live_link.specs.declared.replies.Reply.TheVariants.{Answer, Piece, End, Failed, Other}
+use Rattle.live_link.specs.declared.stage.Breach.{Breach}
+use Rattle.live_link.specs.declared.stage.Breach.TheVariants.{Frame}
+use Rattle.live_link.specs.declared.stage.Stage.{Stage}
+use Rattle.live_link.specs.declared.stage.Stage.TheVariants.{Ended, Open, Cut, Broken}
+
+-- this text went out, and this reply came in
+pub record Asked (text : List ℕ) (reply : Reply) (s t : Spring) (k l : Tray) : Type 0 where
+  pub came : List ℕ
+  pub sent : Adds text k l
+  pub replied : Replies reply came
+  pub taken : Takes came s t
+
+-- whatever went out and came in
+pub record Lost (s t : Spring) (k l : Tray) : Type 0 where
+  pub front : List ℕ
+  pub came : List ℕ
+  pub sent : Adds front k l
+  pub taken : Takes came s t
+
+abbrev pub Asks : List ℕ → Result Reply Breach → Spring → Spring → Tray → Tray → Type 0
+Asks text (Ok reply) s t k l = Asked text reply s t k l
+Asks text (Err breach) s t k l = Lost s t k l
+
+-- the stage of a request that is not sent
+abbrev pub unsent : Stage → Stage
+unsent Ended = Ended
+unsent Open = Ended
+unsent Cut = Ended
+unsent (Broken breach) = Broken breach
+
+-- the stage after the reply to a request, and the head of its answer, if one came
+abbrev pub head_after : Result Reply Breach → Stage × Option AnswerHead
+head_after (Ok (Answer head)) = (Open, Some head)
+head_after (Ok (Piece piece)) = (Broken Frame, None)
+head_after (Ok End) = (Broken Frame, None)
+head_after (Ok Failed) = (Ended, None)
+head_after (Ok Other) = (Broken Frame, None)
+head_after (Err breach) = (Broken breach, None)
+
+-- the stage after the reply to the wish for a piece, and the piece, which is empty at the end, if one came
+abbrev pub piece_after : Result Reply Breach → Stage × Option (List ℕ)
+piece_after (Ok (Answer head)) = (Broken Frame, None)
+piece_after (Ok (Piece piece)) = (Open, Some piece)
+piece_after (Ok End) = (Ended, Some [])
+piece_after (Ok Failed) = (Cut, None)
+piece_after (Ok Other) = (Broken Frame, None)
+piece_after (Err breach) = (Broken breach, None)
+
+-- a request was not sent, or it was and this came of it
+pub data Sends (request : Request) (stage : Stage) (r : Stage × Option AnswerHead) (s t : Spring) (k l : Tray)
+    : Type 0 where
+  not_sent : r ≡ (unsent stage, None) → t ≡ s → l ≡ k → Sends request stage r s t k l
+  was_sent : (reply : Result Reply Breach) → breach_in stage ≡ None → r ≡ head_after reply
+      → Asks (request_text request) reply s t k l → Sends request stage r s t k l
+
+-- a piece was asked for, and this came of it
+pub record Gives (r : Stage × Option (List ℕ)) (s t : Spring) (k l : Tray) : Type 0 where
+  pub reply : Result Reply Breach
+  pub is : r ≡ piece_after reply
+  pub asks : Asks more_text reply s t k l

@@ -1,0 +1,8 @@
+pub mod Asking
+pub mod Bodies
+pub mod Heads
+pub mod Replies
+pub mod Requests
+pub mod Shown
+pub mod Spoken
+pub mod State

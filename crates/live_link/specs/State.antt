@@ -1,0 +1,112 @@
+-- What a transport over a source and a sink shows.
+use Rattle.std.specs.Prelude.{◌≡◌, ℕ, Bool, true, false, List, [], ◌∷◌, ◌++◌, map, Option, Some, None, option_map, unwrap_or, is_some}
+use Rattle.std.specs.FinMap.{empty}
+use Rattle.std.specs.List.{flat_map}
+use Rattle.json_values.specs.Tray.{Tray}
+use Rattle.pull_edge.specs.Source.{Spring}
+use Rattle.oci_transport.specs.Link.{answer_of}
+use Rattle.oci_transport.specs.declared.message.Method.TheVariants.{Get}
+use Rattle.oci_transport.specs.declared.message.Request.{Request}
+use Rattle.oci_transport.specs.declared.message.Exchange.{Exchange}
+use Rattle.http_server.specs.declared.log.Log.{Log}
+use Rattle.live_link.specs.Bodies.{body_in}
+use Rattle.live_link.specs.Spoken.{Spoke}
+use Rattle.live_link.specs.declared.stage.Breach.{Breach}
+use Rattle.live_link.specs.declared.stage.Stage.{Stage}
+use Rattle.live_link.specs.declared.stage.Stage.TheVariants.{Ended, Open, Cut, Broken}
+use Rattle.live_link.specs.declared.stage.Heard.{Heard}
+
+-- the body of the last answer is being read
+abbrev pub is_open : Stage → Bool
+is_open Ended = false
+is_open Open = true
+is_open Cut = false
+is_open (Broken why) = false
+
+-- why nothing is sent any more
+abbrev pub breach_in : Stage → Option Breach
+breach_in Ended = None
+breach_in Open = None
+breach_in Cut = None
+breach_in (Broken breach) = Some breach
+
+-- the body that these bytes begin with, of an answer whose head was read before them
+abbrev pub body_left : Option (List ℕ) → List ℕ
+body_left left = body_in (unwrap_or left [])
+
+abbrev pub exchange_in : Option (List ℕ) → Request × Heard → Exchange
+exchange_in left entry = record {
+  request = entry.0;
+  answer = option_map (λ head. answer_of head (body_left left)) entry.1.head;
+  faults = entry.1.faults;
+}
+
+-- the exchanges of a history, each with the source as its head was read
+abbrev pub exchanges_by : {S : Type 0} → (S → Spring) → List (S × Log Request Heard) → List Exchange
+exchanges_by spring items = flat_map (λ item. map (exchange_in (spring item.0).left) item.1.items) items
+
+abbrev pub is_answered : Exchange → Bool
+is_answered e = is_some e.answer
+
+-- the last of these exchanges was answered
+abbrev pub ends_answered : List Exchange → Bool
+ends_answered [] = false
+ends_answered (e ∷ []) = is_answered e
+ends_answered (e ∷ f ∷ c) = ends_answered (f ∷ c)
+
+-- What stands before the exchanges that are told, and is none: what the sink had taken in the beginning, as the body of
+-- a request, and what the source had left, as that of an answer. So who hands a transport to a call knows afterwards
+-- that it is over the same streams.
+abbrev pub opening : List ℕ → List ℕ → Exchange
+opening taken left = record {
+  request = record { method = Get; url = []; headers = empty; body = taken };
+  answer = Some (record { status = 0; headers = empty; body = left });
+  faults = 0;
+}
+
+abbrev pub told_from : Option (List ℕ) → Option (List ℕ) → List Exchange → Option (List Exchange)
+told_from None left c = None
+told_from (Some taken) None c = None
+told_from (Some taken) (Some left) c = Some (opening taken left ∷ c)
+
+-- exchanges are told where source and sink told their bytes in the beginning
+abbrev pub told_since : {S K : Type 0}
+    → (S → Spring) → (K → Tray) → List (S × K) → List Exchange → Option (List Exchange)
+told_since spring tray [] c = None
+told_since spring tray (first ∷ later) c = told_from (tray first.1).taken (spring first.0).left c
+
+-- what is left of the last answer's body, where the source tells that
+abbrev pub rest_in : Stage → Option (List ℕ) → Option (List ℕ)
+rest_in Ended left = Some []
+rest_in Open left = option_map body_in left
+rest_in Cut left = Some []
+rest_in (Broken why) left = Some []
+
+-- All that went out since and all that came in, where source and sink told their bytes: the frames of these exchanges,
+-- and behind them, where something broke the streams, what stands outside of all frames.
+pub record Held (taken left : List ℕ) (tray : Tray) (spring : Spring) (breach : Option Breach) (c : List Exchange)
+    : Type 0 where
+  pub sent : List ℕ
+  pub came : List ℕ
+  pub lost_out : List ℕ
+  pub lost_in : List ℕ
+  pub after : List ℕ
+  pub took : tray.taken ≡ Some (taken ++ (sent ++ lost_out))
+  pub leaves : spring.left ≡ Some after
+  pub gave : left ≡ came ++ (lost_in ++ after)
+  pub spoke : Spoke c sent came (lost_in ++ after)
+  pub in_step : breach ≡ None → (lost_out ≡ []) × (lost_in ≡ [])
+
+-- while a body is read, the last exchange was answered
+pub record HeldAt (taken left : List ℕ) (tray : Tray) (spring : Spring) (stage : Stage) (c : List Exchange)
+    : Type 0 where
+  pub held : Held taken left tray spring (breach_in stage) c
+  pub answered : is_open stage ≡ true → ends_answered c ≡ true
+
+-- the same where the beginning is in a history
+abbrev pub Holds : {S K : Type 0}
+    → (S → Spring) → (K → Tray) → List (S × K) → S → K → Stage → List Exchange → Type 0
+Holds spring tray [] source sink stage c = Unit {0}
+Holds spring tray (first ∷ later) source sink stage c =
+    (taken left : List ℕ) → (tray first.1).taken ≡ Some taken → (spring first.0).left ≡ Some left
+    → HeldAt taken left (tray sink) (spring source) stage c

@@ -1,0 +1,130 @@
+// What the frames that come in say.
+ghost use Rattle.std.specs.Prelude.{◌≡◌, IfOk, codes};
+ghost use Rattle.std.specs.FinMap.{empty};
+ghost use Rattle.serde_json.specs.View.{view};
+ghost use Rattle.json_tables.specs.Outcomes.{Gives};
+ghost use Rattle.json_tables.specs.Reading.{required};
+ghost use Rattle.live_link.specs.Heads.{answer_head_of, status_of, headers_of, with_headers, Adds};
+ghost use Rattle.live_link.specs.Replies.{reply_of, piece_reply, plain_reply, answer_reply};
+
+use json_tables::{ReadError, Reads, only, required};
+use json_values::{Blob, List, Text};
+use live_frames::Frame;
+use oci_transport::{AnswerHead, HeaderError, Headers};
+use serde_json::Value;
+use std::alloc::{AllocError, Global};
+
+/// What a frame replies.
+#[derive(Drop)]
+pub(crate) enum Reply {
+    /// The head of an answer.
+    Answer(AnswerHead),
+    /// A piece of a body, which is not empty.
+    Piece(Blob),
+    /// The body's end.
+    End,
+    /// No answer comes, or no further piece.
+    Failed,
+    /// It is none of these.
+    Other,
+}
+
+/// What this frame replies.
+#[tactic(auto, unfolding(crate::specs::Replies::reply_of))]
+pub(crate) fn read_reply(alloc: Global, frame: Frame) -> Result<Reply, AllocError>
+    ensures { IfOk result (λ reply. reply ≡ reply_of frame) }
+{
+    let Frame { head, bytes } = frame;
+    let Some(Value::String(kind)) = head.value().get("frame") else {
+        return Ok(Reply::Other);
+    };
+    if !bytes.as_slice().is_empty() {
+        return Ok(piece_reply(kind.as_str(), bytes));
+    }
+    let reply = plain_reply(alloc, kind.as_str(), head.value())?;
+    Ok(reply)
+}
+
+fn piece_reply(kind: &str, bytes: Blob) -> Reply
+    ensures { result ≡ piece_reply kind.now bytes }
+{
+    if kind == "piece" {
+        return Reply::Piece(bytes);
+    }
+    Reply::Other
+}
+
+fn plain_reply(alloc: Global, kind: &str, head: &Value) -> Result<Reply, AllocError>
+    ensures { IfOk result (λ reply. reply ≡ plain_reply kind.now (view head.now)) }
+{
+    match kind {
+        "answer" => answer_reply(alloc, head),
+        "end" => Ok(Reply::End),
+        "failed" => Ok(Reply::Failed),
+        _ => Ok(Reply::Other),
+    }
+}
+
+fn answer_reply(alloc: Global, head: &Value) -> Result<Reply, AllocError>
+    ensures { IfOk result (λ reply. reply ≡ answer_reply (answer_head_of (view head.now))) }
+{
+    match read_head(alloc, head) {
+        Ok(head) => Ok(Reply::Answer(head)),
+        Err(ReadError::Shape) => Ok(Reply::Other),
+        Err(_) => Err(AllocError),
+    }
+}
+
+// The head of an answer.
+#[tactic(auto, unfolding(crate::specs::Heads::answer_head_of))]
+fn read_head(alloc: Global, value: &Value) -> Result<AnswerHead, ReadError>
+    ensures { Gives result (answer_head_of (view value.now)) }
+{
+    only(value, &["frame", "status", "headers"])?;
+    let status = read_status(alloc, value)?;
+    let headers = read_headers(alloc, value)?;
+    Ok(AnswerHead { status, headers })
+}
+
+// The status, a number from 100 to 999.
+fn read_status(alloc: Global, value: &Value) -> Result<u16, ReadError>
+    ensures { Gives result (required status_of (codes "status") (view value.now)) }
+{
+    let status: u16 = required(alloc, value, "status")?;
+    if status < 100 || status > 999 {
+        return Err(ReadError::Shape);
+    }
+    Ok(status)
+}
+
+// The headers, a list of pairs of a name and a value.
+fn read_headers(alloc: Global, value: &Value) -> Result<Headers, ReadError>
+    ensures { Gives result (required headers_of (codes "headers") (view value.now)) }
+{
+    let pairs: List<(Text, Blob)> = required(alloc, value, "headers")?;
+    let headers = headers_from(alloc, pairs.as_slice())?;
+    Ok(headers)
+}
+
+fn headers_from(alloc: Global, pairs: &[(Text, Blob)]) -> Result<Headers, ReadError>
+    ensures { Gives result (with_headers empty pairs.now) }
+{
+    let mut headers = Headers::new(alloc);
+    for (name, value) in pairs {
+        add_header(&mut headers, name.as_str(), value.as_slice())?;
+    }
+    Ok(headers)
+}
+
+// Adds a header behind the others of its name.
+fn add_header(headers: &mut Headers, name: &str, value: &[u8]) -> Result<(), ReadError>
+    ensures { Adds result headers.old headers.new (name.now, value.now) }
+{
+    match headers.add(name, value) {
+        Ok(()) => Ok(()),
+        Err(HeaderError::BadName) => Err(ReadError::Shape),
+        Err(HeaderError::BadValue) => Err(ReadError::Shape),
+        Err(HeaderError::TooMany) => Err(ReadError::Shape),
+        Err(HeaderError::WantOfMemory) => Err(ReadError::WantOfMemory),
+    }
+}

@@ -1,0 +1,124 @@
+// A transport over a source and a sink.
+ghost use Rattle.live_link.specs.State.{Holds, exchanges_by};
+
+use crate::asking::{ask_piece, ask_request};
+use crate::requests::{more_object, request_object};
+use crate::stage::{Breach, Heard, Stage};
+use http_server::Log;
+use json_values::{Blob, Sink};
+use oci_transport::{AnswerHead, LinkError, Request, Transport};
+use pull_edge::Source;
+use std::alloc::Global;
+
+/// Sends requests as frames into a sink, and reads their answers as frames of a source: who holds the other ends makes
+/// the connections. Once a frame does not read, is out of turn or does not come whole, each send fails.
+#[derive(Drop)]
+pub struct StreamTransport<S: Source, K: Sink> {
+    source: S,
+    sink: K,
+    stage: Stage,
+    faults: u64,
+    // Of these two only proofs know: the streams as they were in the beginning, and each exchange with the source as
+    // the head of its answer was read.
+    began: Log<S, K>,
+    heard: Log<S, Log<Request, Heard>>,
+    ghost spoken: { ∥ Holds S.state K.state began.items source sink stage (exchanges_by S.state heard.items) ∥₁ },
+}
+
+impl<S: Source, K: Sink> StreamTransport<S, K> {
+    ghost use Rattle.std.specs.Prelude.{◌≡◌, ℕ, List, [], ◌∷◌, Some, None};
+    ghost use Rattle.oci_transport.specs.declared.message.Exchange.{Exchange};
+    ghost use Rattle.live_link.specs.State.{opening, told_from, Held};
+    ghost use Rattle.live_link.specs.Shown.{state_of, breach_of};
+
+    /// A transport over these streams, over which nothing was sent yet.
+    pub fn new(source: S, sink: K) -> StreamTransport<S, K>
+        ensures told { (state_of result).told ≡ told_from (K.state sink).taken (S.state source).left [] }
+        ensures faults { (state_of result).faults ≡ 0 }
+        ensures breach { breach_of result ≡ None }
+    {
+        let began = Log::new().and(&source, &sink);
+        StreamTransport {
+            source,
+            sink,
+            stage: Stage::Ended,
+            faults: 0,
+            began,
+            heard: Log::new(),
+        }
+    }
+
+    /// Why nothing is sent any more, if that is so.
+    pub fn breach(&self) -> Option<Breach>
+        ensures { result ≡ breach_of self.now }
+    {
+        match self.stage {
+            Stage::Broken(breach) => Some(breach),
+            _ => None,
+        }
+    }
+
+    /// The streams. What went out and came in since the beginning is the frames of the exchanges that are told.
+    pub fn finish(self) -> (S, K)
+        ensures spoke { (taken left : List ℕ) (c : List Exchange)
+            → (state_of self).told ≡ Some (opening taken left ∷ c)
+            → ∥ Held taken left (K.state result.1) (S.state result.0) (breach_of self) c ∥₁ }
+    {
+        let StreamTransport { source, sink, .. } = self;
+        (source, sink)
+    }
+}
+
+impl<S: Source, K: Sink> Transport for StreamTransport<S, K> {
+    ghost use Rattle.live_link.specs.Shown.{state_of};
+
+    ghost state = { state_of };
+
+    fn send(&mut self, alloc: Global, request: &Request) -> Result<AnswerHead, LinkError> {
+        let object = request_object(alloc, request)?;
+        let (stage, head) = ask_request(
+            alloc,
+            &mut self.source,
+            &mut self.sink,
+            self.stage,
+            request,
+            &object,
+        );
+        self.stage = stage;
+        let heard = Heard {
+            head,
+            faults: self.faults,
+        };
+        let entry = Log::new().and(request, &heard);
+        self.heard = self.heard.and(&self.source, &entry);
+        let Heard { head, .. } = heard;
+        let Some(head) = head else {
+            self.faults = self.faults.saturating_add(1);
+            return Err(LinkError::Failed);
+        };
+        Ok(head)
+    }
+
+    fn piece(&mut self, alloc: Global) -> Result<Blob, LinkError> {
+        match self.stage {
+            Stage::Ended => return Ok(Blob::empty(alloc)),
+            Stage::Open => {}
+            _ => {
+                self.faults = self.faults.saturating_add(1);
+                return Err(LinkError::Failed);
+            }
+        }
+        let object = more_object(alloc)?;
+        let (stage, piece) = ask_piece(alloc, &mut self.source, &mut self.sink, &object);
+        self.stage = stage;
+        let Some(piece) = piece else {
+            self.faults = self.faults.saturating_add(1);
+            return Err(LinkError::Failed);
+        };
+        Ok(piece)
+    }
+
+    fn faults(&self) -> u64 {
+        self.faults
+    }
+}

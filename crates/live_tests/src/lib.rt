@@ -1,0 +1,7 @@
+//! Tests of frames and of the transport over them.
+#![tactic(auto)]
+
+#[cfg(test)]
+mod conversations;
+#[cfg(test)]
+mod frames;
