@@ -1,4 +1,0 @@
-pub mod Calls
-pub mod Cases
-pub mod Growing
-pub mod Pulls
