@@ -17,7 +17,6 @@ pub mod Leads
 pub mod Reading
 pub mod ReferrerRows
 pub mod Refusals
-pub mod RightShelf
 pub mod ShelfCalls
 pub mod ShelfPulls
 pub mod ShelfStays
