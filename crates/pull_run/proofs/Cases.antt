@@ -34,7 +34,11 @@ use Rattle.std.specs.Prelude.{find}
 use Rattle.pull_case.specs.Policy.{constraint_by, constraints_by, policy_of, meaning_of, trust_of}
 use Rattle.pull_case.specs.declared.case.Case.{Case}
 use Rattle.pull_run.specs.declared.report.Report.{Report}
-use Rattle.pull_run.specs.Pulls.{Talk, InTurn, settings_of, fresh, row_of, SoundResult, EachSound, ReportsCase}
+use Rattle.oci_auth.specs.Memory.{fresh as nothing_kept}
+use Rattle.oci_engine.specs.Clients.{settings_of as settings_in}
+use Rattle.oci_engine.specs.declared.config.ClientConfig.{ClientConfig}
+use Rattle.cosign_client.specs.Builder.{no_answers, fresh_state}
+use Rattle.pull_run.specs.Pulls.{Talk, InTurn, settings_by, settings_of, fresh, row_of, SoundResult, EachSound, ReportsCase}
 use Rattle.pull_run.specs.Rounds.{row_by, row_for, Played}
 use Rattle.pull_run.specs.declared.pulls.Terms.{Terms}
 use Rattle.sig_settings.specs.Auths.{registry_auth}
@@ -123,6 +127,11 @@ reports_case policy own case image l made reads keys constraints played =
       written = played.written;
       refused = played.refused;
     }
+
+-- the client of a case's settings keeps nothing yet
+pub fresh_as : {shown : Client} (config : ClientConfig) (case : Case) → shown ≡ fresh_state config case.caching → settings_in config ≡ settings_by case.protocol case.limit case.platform → config.default_token_expiration_secs ≡ 60
+    → shown ≡ record { settings = settings_of case; kept = fresh case.caching }
+fresh_as config case is settings secs = is ∙ (λ i. record { settings = settings i; kept = (nothing_kept (secs i), no_answers case.caching) })
 
 -- the same, of a client that was made fresh
 pub reports_fresh : {V : Type 0} {H : V → Type 0} (own : Owns V H) (case : Case) (terms : Terms V H) (client : Client) (log_keys : FinMap by_bytes (List ℕ)) (moments : List ℕ) (l : Kept) (made : Report)

@@ -1,6 +1,6 @@
 use Rattle.std.proofs.Common.{refl}
 use Rattle.cosign_client.specs.State.{client_state}
-use Rattle.pull_run.proofs.Cases.{reports_fresh, ok_weaker}
+use Rattle.pull_run.proofs.Cases.{fresh_as, reports_fresh, ok_weaker}
 use Rattle.pull_run.proofs.pulls.pull_case.Goals as goal
 
 pub returns : goal.returns
@@ -14,8 +14,8 @@ returns c =
       verifier = record { rows = c.args.case.signatures };
       judge = c.args.case.vouched;
     })
-    (client_state c.in_ok-client.client) c.in_ok-client.client.rekor_pub_keys c.as_slice-2.result.now _ made
-    c.in_ok-client.ensures.state c.in_ok-client.ensures.log_keys c.as_slice-2.ensures c.in_ok-from_registry.ensures.back
+    (client_state c.fresh_client-client.result) c.fresh_client-client.result.rekor_pub_keys c.as_slice-2.result.now _ made
+    (fresh_as c.in_ok-config.config c.args.case c.fresh_client-client.ensures.state c.in_ok-config.ensures.settings c.in_ok-config.ensures.expiration) c.fresh_client-client.ensures.log_keys c.as_slice-2.ensures c.in_ok-from_registry.ensures.back
     refl refl refl (rw c.as_str.ensures at c.in_ok-image_in.ensures) c.in_ok-case_policy.ensures.keys
     (rw c.as_slice.ensures at c.in_ok-case_policy.ensures.constraints) played)
     c.pull_each.ensures
