@@ -75,9 +75,9 @@ fn held_tried<T: Transport>(
     Ok(bytes)
 }
 
-/// Puts the bytes of a blob, piece by piece as they come. It is asked at the registry, and while the answer is one of an
-/// error at the URLs of its descriptor, in order and with no credentials. After a refusal the sink has taken a front of
-/// the last answer's body, whose status is one of success, or nothing.
+/// Puts the bytes of a blob, piece by piece as they come. It is asked at the registry, and while the answer is one of
+/// an error at the URLs of its descriptor, in order and with no credentials. After a refusal the sink has taken a
+/// front of the last answer's body, whose status is one of success, or nothing.
 pub fn pull_blob<T: Transport, K: Sink>(
     alloc: Global,
     transport: &mut T,

@@ -27,7 +27,9 @@ manifest_types = codes "application/vnd.docker.distribution.manifest.v2+json, ap
 
 -- a header is added, where its value can stand there
 abbrev pub with_header : Fields → List ℕ → List ℕ → Result Fields OciDistributionError
-with_header headers name value = if is_header_value value && nat_lt (held headers) 1000 then Ok (added headers name value) else Err (refusal.GenericError HeaderText)
+with_header headers name value =
+    if is_header_value value && nat_lt (held headers) 1000 then Ok (added headers name value)
+    else Err (refusal.GenericError HeaderText)
 
 abbrev pub with_accept : Option (List ℕ) → Fields → Result Fields OciDistributionError
 with_accept None headers = Ok headers
@@ -40,11 +42,13 @@ with_token (Some token) headers = with_header headers (codes "authorization") (a
 -- Every request names the client, and one for a document or a blob the types that are accepted. A
 -- token is shown where there is one.
 abbrev pub headers_of : Settings → Option (List ℕ) → Option RegistryTokenType → Result Fields OciDistributionError
-headers_of s types token = with_header map.empty (codes "user-agent") s.user_agent >>= with_accept types >>= with_token token
+headers_of s types token =
+    with_header map.empty (codes "user-agent") s.user_agent >>= with_accept types >>= with_token token
 
 abbrev pub bare_request : Method → Parts → Fields → Request
 bare_request method url headers = record { method = method; url = serialize url; headers = headers; body = [] }
 
 -- a request without a body
-unfoldable pub request_of : Settings → Method → Parts → Option (List ℕ) → Option RegistryTokenType → Result Request OciDistributionError
+unfoldable pub request_of : Settings → Method → Parts → Option (List ℕ) → Option RegistryTokenType
+    → Result Request OciDistributionError
 request_of s method url types token = headers_of s types token >>= λ headers. Ok (bare_request method url headers)

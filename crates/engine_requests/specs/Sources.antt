@@ -1,4 +1,5 @@
--- Where a blob may be: at the registry by its digest, and at the URLs that its descriptor lists (OCI image specification, descriptor.md, `urls`).
+-- Where a blob may be: at the registry by its digest, and at the URLs that its descriptor lists (OCI image
+-- specification, descriptor.md, `urls`).
 use Rattle.std.specs.Prelude.{ℕ, ◌&&◌, ◌||◌, List, [], ◌∷◌, Option, Some, None, Result, Ok, Err, codes, bytes_eq}
 use Rattle.std.specs.Prelude.{option_copied, unwrap_or, if◌then◌else◌}
 use Rattle.url.specs.Parts.{Parts}

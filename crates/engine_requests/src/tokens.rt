@@ -111,8 +111,8 @@ fn realm_url(
     Ok(url)
 }
 
-/// The request for a token: `url` is the realm's, whose query then says the scope and the service. Credentials of a user
-/// are shown to the realm.
+/// The request for a token: `url` is the realm's, whose query then says the scope and the service. Credentials of a
+/// user are shown to the realm.
 #[tactic(auto, unfolding(crate::specs::Tokens::realm_request))]
 pub fn realm_request(
     alloc: Global,
@@ -144,8 +144,8 @@ fn decoded(alloc: Global, body: Blob) -> Result<Option<RegistryTokenType>, OciDi
     }
 }
 
-/// The token that a realm answers: `AuthenticationFailure` where the status is not 200, `RegistryTokenDecodeError` where the
-/// body holds no token.
+/// The token that a realm answers: `AuthenticationFailure` where the status is not 200, `RegistryTokenDecodeError`
+/// where the body holds no token.
 pub fn token_read(
     alloc: Global,
     answer: Answer,

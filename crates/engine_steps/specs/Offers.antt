@@ -1,5 +1,5 @@
--- A blob that may be in more than one place: the registry is asked, and then the URLs that its descriptor lists, in order,
--- while the answer is one of an error (OCI image specification, descriptor.md, `urls`).
+-- A blob that may be in more than one place: the registry is asked, and then the URLs that its descriptor lists, in
+-- order, while the answer is one of an error (OCI image specification, descriptor.md, `urls`).
 use Rattle.std.specs.Prelude.{◌≡◌, ◌⊎◌, ℕ, Bool, true, false, List, [], ◌∷◌, Option, Some, None, Result, Ok, Err}
 use Rattle.std.specs.Prelude.{if◌then◌else◌}
 use Rattle.json_values.specs.Tray.{Tray}
@@ -38,7 +38,8 @@ tried to s digest [] request = attempt to s.max_body_bytes digest request
 tried to s digest (p ∷ ps) request = offer to s.max_body_bytes digest
     (Done (asked_at s p) >>= (λ next. tried to s digest ps next)) request
 
--- the row takes the answer with this head as the body of a blob: it is the attempt, or the offer where the answer is no error
+-- the row takes the answer with this head as the body of a blob: it is the attempt, or the offer where the answer is
+-- no error
 abbrev pub Takes : Destination → ℕ → List ℕ → Request → AnswerHead → Row (List ℕ) → Type 0
 Takes to limit digest request head p = (p ≡ attempt to limit digest request)
     ⊎ ((is_error head.status ≡ false) × (next : Row (List ℕ)) × (p ≡ offer to limit digest next request))

@@ -85,8 +85,8 @@ pub fn attempt<T: Transport, K: Sink>(
     Ok(())
 }
 
-/// One request for a blob that may be somewhere else too. Its bytes are put as they come; where its answer is one of an
-/// error, it is not read, nothing is put, and the result is false.
+/// One request for a blob that may be somewhere else too. Its bytes are put as they come; where its answer is one of
+/// an error, it is not read, nothing is put, and the result is false.
 #[tactic(none)]
 pub fn offer<T: Transport, K: Sink>(
     alloc: Global,
@@ -96,7 +96,8 @@ pub fn offer<T: Transport, K: Sink>(
     request: &Request,
     out: &mut K,
 ) -> Result<bool, OciDistributionError>
-    ensures { (k : Memory) (next : Row (List ℕ)) → OfferedInto next (offer IntoSink limit digest.now next request.now)
+    ensures { (k : Memory) (next : Row (List ℕ)) → OfferedInto next
+        (offer IntoSink limit digest.now next request.now)
         (T.state transport.old) (T.state transport.new) k (K.state out.old) (K.state out.new) result }
 {
     let reached = match reach(alloc, transport, 10, request) {
@@ -181,8 +182,8 @@ pub fn held<T: Transport>(
     Ok(body)
 }
 
-/// One request for a blob that may be somewhere else too, whose bytes are held whole. None where its answer is one of an
-/// error, which is not read. No sink takes part.
+/// One request for a blob that may be somewhere else too, whose bytes are held whole. None where its answer is one of
+/// an error, which is not read. No sink takes part.
 #[tactic(none)]
 pub fn held_offer<T: Transport>(
     alloc: Global,

@@ -25,7 +25,8 @@ fn shown_text(alloc: Global, token: &RegistryTokenType) -> Result<Option<Text>, 
     }
 }
 
-/// Stores the credentials and keeps the token that they give; its text is answered where it is a realm's or was handed in.
+/// Stores the credentials and keeps the token that they give; its text is answered where it is a realm's or was handed
+/// in.
 #[tactic(none)]
 pub fn token_given<T: Transport>(
     alloc: Global,

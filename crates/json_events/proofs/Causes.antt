@@ -10,7 +10,7 @@ use Rattle.json_events.specs.declared.property.JsonProperty.{JsonProperty}
 use Rattle.json_events.specs.declared.spot.Spot.{Spot}
 use Rattle.json_events.specs.declared.spot.Spot.TheVariants.{Start, Whole, Finished, Items, ItemDue, ItemDone, Names, NameDue, NameDone, Named, ValueDue, ValueDone}
 use Rattle.json_events.specs.Canonical.{in_range, truth_text}
-use Rattle.json_events.specs.Drafts.{Level, Draft, Turn, refused, moves, Stage, turned, act, run, fresh, writes, at, after_value, level, opened, where_due, where_around, is_at, only_at, places, begins_item, ends_array, ends_object, ends_member}
+use Rattle.json_events.specs.Drafts.{Level, Draft, Turn, refused, moves, Stage, carried_out, act, run, fresh, writes, at, after_value, level, opened, where_due, where_around, is_at, only_at, places, begins_item, ends_array, ends_object, ends_member}
 use Rattle.json_events.specs.Events.{Event, write_null, write_bool, write_integer, write_float, write_string, write_raw_fragment, begin_array, begin_array_value, end_array_value, end_array, begin_object, begin_object_key, end_object_key, begin_object_value, end_object_value, end_object, finish}
 use Rattle.json_events.specs.Laws.{FirstBad, RefusalStays}
 use Rattle.json_events.specs.Members.{property, kept_object}
@@ -179,10 +179,10 @@ act_why finish d xs so = only_why xs finish d Whole (moves (at Finished d) []) (
 pub going_is : (s : Stage) → s.refusal ≡ None → s ≡ going s.draft
 going_is s is = ap (λ o. record { refusal = o; draft = s.draft }) is
 
-next_is : (xs : List Event) (x : Event) → (after xs fresh).refusal ≡ None → after (xs ++ x ∷ []) fresh ≡ (turned (act x (after xs fresh).draft) (after xs fresh).draft).stage
+next_is : (xs : List Event) (x : Event) → (after xs fresh).refusal ≡ None → after (xs ++ x ∷ []) fresh ≡ (carried_out (act x (after xs fresh).draft) (after xs fresh).draft).stage
 next_is xs x none = after-append xs (x ∷ []) fresh ∙ ap (after (x ∷ [])) (going_is (after xs fresh) none)
 
-turn_refusal : (t : Turn) (d : Draft) (e : CanonError) → (turned t d).stage.refusal ≡ Some e → t ≡ refused e
+turn_refusal : (t : Turn) (d : Draft) (e : CanonError) → (carried_out t d).stage.refusal ≡ Some e → t ≡ refused e
 turn_refusal (refused c) d e is = cc
 turn_refusal (moves new out) d e is = cc
 
@@ -203,7 +203,7 @@ cause_of xs x none e is =
     cause_by e xs x (subst (λ t. TurnWhy xs x t) turn (act_why x d xs (fits xs none))) is
 
 is_refused : (xs : List Event) (x : Event) → (after xs fresh).refusal ≡ None → (e : CanonError) → act x (after xs fresh).draft ≡ refused e → (after (xs ++ x ∷ []) fresh).refusal ≡ Some e
-is_refused xs x none e is = ap (λ s. s.refusal) (next_is xs x none) ∙ ap (λ t. (turned t (after xs fresh).draft).stage.refusal) is
+is_refused xs x none e is = ap (λ s. s.refusal) (next_is xs x none) ∙ ap (λ t. (carried_out t (after xs fresh).draft).stage.refusal) is
 
 -- an event that no well-nested list has here
 unnested_by : (e : CanonError) (xs : List Event) (x : Event) → Why xs x e → (Begins (xs ++ x ∷ []) → ⊥) → e ≡ NotWellNested
@@ -249,7 +249,7 @@ unrefused_at (Some e) ys s is none = let all : Some e ≡ None = sym (ap (λ t. 
 pub unrefused : (xs ys : List Event) → (after (xs ++ ys) fresh).refusal ≡ None → (after xs fresh).refusal ≡ None
 unrefused xs ys none = unrefused_at (after xs fresh).refusal ys (after xs fresh) refl (sym (ap (λ s. s.refusal) (after-append xs ys fresh)) ∙ none)
 
-due_at : (o : Option Spot) (turn : Spot → Turn) (d : Draft) (ys : List Event) → (after ys (turned (where_due o turn) d).stage).refusal ≡ None → (s : Spot) × (o ≡ Some s)
+due_at : (o : Option Spot) (turn : Spot → Turn) (d : Draft) (ys : List Event) → (after ys (carried_out (where_due o turn) d).stage).refusal ≡ None → (s : Spot) × (o ≡ Some s)
 due_at None turn d ys none = let all : Some NotWellNested ≡ None = sym (ap (λ t. t.refusal) (stays ys (record { refusal = Some NotWellNested; draft = d }) NotWellNested refl)) ∙ none in cc
 due_at (Some s) turn d ys none = (s, refl)
 

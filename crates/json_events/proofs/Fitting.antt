@@ -11,7 +11,7 @@ use Rattle.json_events.specs.declared.property.JsonProperty.{JsonProperty}
 use Rattle.json_events.specs.declared.spot.Spot.{Spot}
 use Rattle.json_events.specs.declared.spot.Spot.TheVariants.{Start, Whole, Finished, Items, ItemDue, ItemDone, Names, NameDue, NameDone, Named, ValueDue, ValueDone}
 use Rattle.json_events.specs.Canonical.{in_range, truth_text}
-use Rattle.json_events.specs.Drafts.{Level, Draft, Turn, refused, moves, step, turned, act, fresh, writes, at, after_value, level, opened, where_due, where_around, spot_index, is_at, only_at, places, begins_item, ends_array, ends_object, ends_member}
+use Rattle.json_events.specs.Drafts.{Level, Draft, Turn, refused, moves, step, carried_out, act, fresh, writes, at, after_value, level, opened, where_due, where_around, spot_index, is_at, only_at, places, begins_item, ends_array, ends_object, ends_member}
 use Rattle.json_events.specs.Events.{Event, write_null, write_bool, write_integer, write_float, write_string, write_raw_fragment, begin_array, begin_array_value, end_array_value, end_array, begin_object, begin_object_key, end_object_key, begin_object_value, end_object_value, end_object, finish}
 use Rattle.json_events.specs.Members.{property, kept_object}
 use Rattle.json_events.specs.Units.{by_units}
@@ -248,7 +248,7 @@ act_fits finish d xs so = only (xs ++ finish ∷ []) d Whole (moves (at Finished
     goes_on Whole Finished d.inner.name d.inner.name d.inner.members d.inner.members finish d.outer xs (λ out. (out.0, ap (λ l. l ++ finish ∷ []) out.1)) (λ mid w. absurd w) (from Whole d xs is so))
 
 run_fits_by : (t : Turn) (d : Draft) (ps xs : List Event) → ((new : Draft) (qs : List Event) → Fits qs new → (after xs (going new)).refusal ≡ None → Fits (qs ++ xs) (after xs (going new)).draft) → TurnFits ps t
-    → (after xs (turned t d).stage).refusal ≡ None → Fits (ps ++ xs) (after xs (turned t d).stage).draft
+    → (after xs (carried_out t d).stage).refusal ≡ None → Fits (ps ++ xs) (after xs (carried_out t d).stage).draft
 run_fits_by (refused e) d ps xs more so is = let all : Some e ≡ None = sym (ap (λ s. s.refusal) (stays xs (record { refusal = Some e; draft = d }) e refl)) ∙ is in cc
 run_fits_by (moves new out) d ps xs more so is = more new ps so is
 

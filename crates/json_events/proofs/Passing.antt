@@ -13,7 +13,7 @@ use Rattle.json_events.specs.declared.property.JsonProperty.{JsonProperty}
 use Rattle.json_events.specs.declared.spot.Spot.{Spot}
 use Rattle.json_events.specs.declared.spot.Spot.TheVariants.{Whole, Finished, Items, ItemDue, ItemDone, Names, NameDue, ValueDue, ValueDone}
 use Rattle.json_events.specs.Canonical.{in_range, truth_text}
-use Rattle.json_events.specs.Drafts.{Level, Draft, Turn, refused, moves, Stage, step, turned, run, fresh, writes, at, after_value, level, opened, where_due, where_around, is_at, places, begins_item, ends_array, ends_object, ends_member}
+use Rattle.json_events.specs.Drafts.{Level, Draft, Turn, refused, moves, Stage, step, carried_out, run, fresh, writes, at, after_value, level, opened, where_due, where_around, is_at, places, begins_item, ends_array, ends_object, ends_member}
 use Rattle.json_events.specs.Events.{Event, write_string, begin_array, begin_array_value, end_array_value, end_array, begin_object, begin_object_key, end_object_key, begin_object_value, end_object_value, end_object, finish}
 use Rattle.json_events.specs.Members.{property, kept_object}
 use Rattle.json_events.specs.Units.{units, by_units}
@@ -66,16 +66,16 @@ weaker : (P Q : Level → Type 0) (ls ms : List Level) (s : Stage) → ls ≡ ms
 weaker P Q ls ms s same step (inl goes) = inl (record { new = goes.new; is = goes.is; inner = step goes.new.inner goes.inner; outer = goes.outer ∙ same })
 weaker P Q ls ms s same step (inr stop) = inr stop
 
-moved : (P : Level → Type 0) (ls : List Level) (t : Turn) (d new : Draft) (out : List ℕ) → t ≡ moves new out → P new.inner → new.outer ≡ ls → Passes P ls (turned t d).stage
-moved P ls t d new out is inner outer = inl (record { new = new; is = ap (λ u. (turned u d).stage) is; inner = inner; outer = outer })
+moved : (P : Level → Type 0) (ls : List Level) (t : Turn) (d new : Draft) (out : List ℕ) → t ≡ moves new out → P new.inner → new.outer ≡ ls → Passes P ls (carried_out t d).stage
+moved P ls t d new out is inner outer = inl (record { new = new; is = ap (λ u. (carried_out u d).stage) is; inner = inner; outer = outer })
 
-barred : (P : Level → Type 0) (ls : List Level) (t : Turn) (d : Draft) (e : CanonError) → t ≡ refused e → e ≢ NotWellNested → Passes P ls (turned t d).stage
-barred P ls t d e is other = inr (record { why = e; is = ap (λ u. (turned u d).stage.refusal) is; other = other })
+barred : (P : Level → Type 0) (ls : List Level) (t : Turn) (d : Draft) (e : CanonError) → t ≡ refused e → e ≢ NotWellNested → Passes P ls (carried_out t d).stage
+barred P ls t d e is other = inr (record { why = e; is = ap (λ u. (carried_out u d).stage.refusal) is; other = other })
 
-wrote : (P : Level → Type 0) (ls : List Level) (t : Turn) (piece : List ℕ) (e d : Draft) → t ≡ writes piece e → P e.inner → e.outer ≡ ls → Passes P ls (turned t d).stage
+wrote : (P : Level → Type 0) (ls : List Level) (t : Turn) (piece : List ℕ) (e d : Draft) → t ≡ writes piece e → P e.inner → e.outer ≡ ls → Passes P ls (carried_out t d).stage
 wrote P ls t piece e d is inner outer = moved P ls t d (with_text piece e) (sent piece e) (is ∙ written piece e) inner outer
 
-either : (P : Level → Type 0) (ls : List Level) (b : Bool) (t u : Turn) (d : Draft) → Passes P ls (turned t d).stage → Passes P ls (turned u d).stage → Passes P ls (turned (if b then t else u) d).stage
+either : (P : Level → Type 0) (ls : List Level) (b : Bool) (t u : Turn) (d : Draft) → Passes P ls (carried_out t d).stage → Passes P ls (carried_out u d).stage → Passes P ls (carried_out (if b then t else u) d).stage
 either P ls true t u d first second = first
 either P ls false t u d first second = second
 
@@ -83,10 +83,10 @@ either P ls false t u d first second = second
 abbrev pub InPlace : Draft → Spot → Level → Type 0
 InPlace d s l = l ≡ (at s d).inner
 
-due_passes : (P : Level → Type 0) (ls : List Level) (turn : Spot → Turn) (d : Draft) (s : Spot) → after_value d.inner.spot ≡ Some s → Passes P ls (turned (turn s) d).stage → Passes P ls (turned (where_due (after_value d.inner.spot) turn) d).stage
-due_passes P ls turn d s due is = subst (λ t. Passes P ls (turned t d).stage) (sym (ap (λ o. where_due o turn) due)) is
+due_passes : (P : Level → Type 0) (ls : List Level) (turn : Spot → Turn) (d : Draft) (s : Spot) → after_value d.inner.spot ≡ Some s → Passes P ls (carried_out (turn s) d).stage → Passes P ls (carried_out (where_due (after_value d.inner.spot) turn) d).stage
+due_passes P ls turn d s due is = subst (λ t. Passes P ls (carried_out t d).stage) (sym (ap (λ o. where_due o turn) due)) is
 
-piece_passes : (piece : List ℕ) (d : Draft) (s : Spot) → after_value d.inner.spot ≡ Some s → Passes (InPlace d s) d.outer (turned (places piece d) d).stage
+piece_passes : (piece : List ℕ) (d : Draft) (s : Spot) → after_value d.inner.spot ≡ Some s → Passes (InPlace d s) d.outer (carried_out (places piece d) d).stage
 piece_passes piece d s due = due_passes (InPlace d s) d.outer (λ t. writes piece (at t d)) d s due (wrote (InPlace d s) d.outer _ piece (at s d) d refl refl refl)
 
 scalar_passes : (c : Scalar) (d : Draft) (s : Spot) → after_value d.inner.spot ≡ Some s → Passes (InPlace d s) d.outer (after (nested (scalar c)) (going d))
@@ -96,7 +96,7 @@ scalar_passes (a_whole z) d s due =
     due_passes (InPlace d s) d.outer (λ t. if in_range z then writes (signed_decimal z) (at t d) else refused IntegerOutOfRange) d s due
     (either (InPlace d s) d.outer (in_range z) _ _ d (wrote (InPlace d s) d.outer _ (signed_decimal z) (at s d) d refl refl refl) (barred (InPlace d s) d.outer _ d IntegerOutOfRange refl (λ e. cc)))
 scalar_passes a_float d s due = due_passes (InPlace d s) d.outer (λ t. refused Float) d s due (barred (InPlace d s) d.outer _ d Float refl (λ e. cc))
-scalar_passes (a_string t) d s due = subst (λ u. Passes (InPlace d s) d.outer (turned u d).stage) (sym (string_acts t d s due)) (piece_passes (quoted_text t) d s due)
+scalar_passes (a_string t) d s due = subst (λ u. Passes (InPlace d s) d.outer (carried_out u d).stage) (sym (string_acts t d s due)) (piece_passes (quoted_text t) d s due)
 scalar_passes a_fragment d s due = due_passes (InPlace d s) d.outer (λ t. refused RawFragment) d s due (barred (InPlace d s) d.outer _ d RawFragment refl (λ e. cc))
 
 here : (q r : Spot) (t : Turn) → q ≡ r → is_at r r ≡ true → (if is_at q r then t else refused NotWellNested) ≡ t

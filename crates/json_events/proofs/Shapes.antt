@@ -4,7 +4,7 @@ use Rattle.json_events.specs.declared.error.CanonError.TheVariants.{NotWellNeste
 use Rattle.json_events.specs.declared.property.JsonProperty.{JsonProperty}
 use Rattle.json_events.specs.declared.spot.Spot.{Spot}
 use Rattle.json_events.specs.declared.spot.Spot.TheVariants.{Start, Whole, Finished, Items as AtItems, ItemDue, ItemDone, Names, NameDue, NameDone, Named, ValueDue, ValueDone}
-use Rattle.json_events.specs.Drafts.{Level, Draft, Turn, refused as refuses, moves, Stage, turned, act, run, fresh, at, after_value, is_at}
+use Rattle.json_events.specs.Drafts.{Level, Draft, Turn, refused as refuses, moves, Stage, carried_out, act, run, fresh, at, after_value, is_at}
 use Rattle.json_events.specs.Events.{Event, begin_array, begin_array_value, begin_object, begin_object_key, write_string, end_object_key, finish}
 use Rattle.json_events.specs.Laws.{TextsSoFar}
 use Rattle.json_events.specs.Spelling.{spelled_items, spelled_members, AreTexts}
@@ -191,7 +191,7 @@ record Quiet (xs : List Event) (d : Draft) : Type 0 where
   out : (run xs (going d)).out ≡ []
   text : (after xs (going d)).draft.text ≡ d.text
 
-end_by : (b : Bool) (d : Draft) → ((turned (if b then moves (at Finished d) [] else refuses NotWellNested) d).out ++ [] ≡ []) × ((turned (if b then moves (at Finished d) [] else refuses NotWellNested) d).stage.draft.text ≡ d.text)
+end_by : (b : Bool) (d : Draft) → ((carried_out (if b then moves (at Finished d) [] else refuses NotWellNested) d).out ++ [] ≡ []) × ((carried_out (if b then moves (at Finished d) [] else refuses NotWellNested) d).stage.draft.text ≡ d.text)
 end_by true d = (refl, refl)
 end_by false d = (refl, refl)
 

@@ -14,7 +14,7 @@ use Rattle.json_events.specs.declared.property.JsonProperty.{JsonProperty}
 use Rattle.json_events.specs.declared.spot.Spot.{Spot}
 use Rattle.json_events.specs.declared.spot.Spot.TheVariants.{Start, Whole, Finished, Items as AtItems, ItemDue, ItemDone, Names, NameDue, NameDone, Named, ValueDue, ValueDone}
 use Rattle.json_events.specs.Canonical.{Canonical, CanonicalItems, CanonicalMembers, Entry, in_range, truth_text, array_text}
-use Rattle.json_events.specs.Drafts.{Draft, Turn, refused as refuses, moves, Stage, step, turned, act, run, fresh, writes, at, after_value, level, where_due, is_at, places, by_key}
+use Rattle.json_events.specs.Drafts.{Draft, Turn, refused as refuses, moves, Stage, step, carried_out, act, run, fresh, writes, at, after_value, level, where_due, is_at, places, by_key}
 use Rattle.json_events.specs.Events.{Event, write_null, write_bool, write_integer, write_string, begin_array, begin_array_value, end_array_value, end_array, begin_object, begin_object_key, end_object_key, begin_object_value, end_object_value, end_object}
 use Rattle.json_events.specs.Members.{property, Keeps, kept_object}
 use Rattle.json_events.specs.Refused.{refused, refused_items, refused_members, refused_by}
@@ -80,11 +80,11 @@ abbrev pub Leaves : List Event → Draft → Draft → List ℕ → Type 0
 Leaves xs d new out = run xs (going d) ≡ record { stage = going new; out = out }
 
 pub one : (x : Event) (d new : Draft) (out : List ℕ) → act x d ≡ moves new out → Leaves (x ∷ []) d new out
-one x d new out is = ap (λ t. record { stage = (turned t d).stage; out = (turned t d).out ++ [] }) is ∙ ap (λ o. record { stage = going new; out = o }) (append-nil out)
+one x d new out is = ap (λ t. record { stage = (carried_out t d).stage; out = (carried_out t d).out ++ [] }) is ∙ ap (λ o. record { stage = going new; out = o }) (append-nil out)
 
 pub first_then : (x : Event) (xs : List Event) (d mid new : Draft) (out more : List ℕ) → act x d ≡ moves mid out → Leaves xs mid new more → Leaves (x ∷ xs) d new (out ++ more)
 first_then x xs d mid new out more is rest =
-    ap (λ t. record { stage = (run xs (turned t d).stage).stage; out = (turned t d).out ++ (run xs (turned t d).stage).out }) is
+    ap (λ t. record { stage = (run xs (carried_out t d).stage).stage; out = (carried_out t d).out ++ (run xs (carried_out t d).stage).out }) is
     ∙ ap (λ r. record { stage = r.stage; out = out ++ r.out }) rest
 
 pub joins : (xs ys : List Event) (d mid new : Draft) (out more : List ℕ) → Leaves xs d mid out → Leaves ys mid new more → Leaves (xs ++ ys) d new (out ++ more)

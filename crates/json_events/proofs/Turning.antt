@@ -4,7 +4,7 @@ use Rattle.json_values.specs.Tray.{Tray, Adds, AddsFront}
 use Rattle.json_values.proofs.Sinks.{adds_none}
 use Rattle.json_events.specs.declared.error.CanonError.{CanonError}
 use Rattle.json_events.specs.declared.error.CanonError.TheVariants.{NotWellNested, DuplicateKey}
-use Rattle.json_events.specs.Drafts.{Draft, Turn, refused, moves, Level, act, turned, by_key, is_at, only_at, where_around, writes, ends_array, ends_object, ends_member}
+use Rattle.json_events.specs.Drafts.{Draft, Turn, refused, moves, Level, act, carried_out, by_key, is_at, only_at, where_around, writes, ends_array, ends_object, ends_member}
 use Rattle.json_events.specs.declared.property.JsonProperty.{JsonProperty}
 use Rattle.json_events.specs.declared.spot.Spot.{Spot}
 use Rattle.json_events.specs.declared.spot.Spot.TheVariants.{Names, ValueDone}
@@ -36,21 +36,21 @@ ended x (Ok u) d new tray is = record { out = []; is = is; added = adds_nothing 
 ended x (Err e) d new tray (inl bar) = inl (record { is = bar.0; same = bar.1; added = adds_nothing tray })
 ended x (Err e) d new tray (inr want) = inr (inr (record { is = want; front = front_none (out_of (act x d)) tray tray refl }))
 
-out_turned : (t : Turn) (d : Draft) → (turned t d).out ≡ out_of t
+out_turned : (t : Turn) (d : Draft) → (carried_out t d).out ≡ out_of t
 out_turned (refused e) d = refl
 out_turned (moves new out) d = refl
 
 made_taken : (x : Event) (d new : Draft) (before after : Tray) (u : Unit {0}) → Made (act x d) new before after → Taken x (Ok u) (record { refusal = None; draft = d }) (record { refusal = None; draft = new }) before after
 made_taken x d new before after u made = record {
-  stage = ap (λ t. (turned t d).stage) (sym made.is);
-  added = subst (λ out. Adds out before after) (sym (ap (λ t. (turned t d).out) made.is)) made.added;
+  stage = ap (λ t. (carried_out t d).stage) (sym made.is);
+  added = subst (λ out. Adds out before after) (sym (ap (λ t. (carried_out t d).out) made.is)) made.added;
   answers = refl;
 }
 
 barred_taken : (x : Event) (e : CanonError) (d new : Draft) (before after : Tray) → Barred (act x d) e d new before after → Taken x (Err e) (record { refusal = None; draft = d }) (record { refusal = Some e; draft = new }) before after
 barred_taken x e d new before after bar = record {
-  stage = ap (λ n. record { refusal = Some e; draft = n }) bar.same ∙ ap (λ t. (turned t d).stage) (sym bar.is);
-  added = subst (λ out. Adds out before after) (sym (ap (λ t. (turned t d).out) bar.is)) bar.added;
+  stage = ap (λ n. record { refusal = Some e; draft = n }) bar.same ∙ ap (λ t. (carried_out t d).stage) (sym bar.is);
+  added = subst (λ out. Adds out before after) (sym (ap (λ t. (carried_out t d).out) bar.is)) bar.added;
   answers = refl;
 }
 

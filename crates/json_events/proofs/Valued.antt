@@ -13,7 +13,7 @@ use Rattle.json_events.specs.declared.property.JsonProperty.{JsonProperty}
 use Rattle.json_events.specs.declared.spot.Spot.{Spot}
 use Rattle.json_events.specs.declared.spot.Spot.TheVariants.{Items as AtItems, ItemDue, ItemDone, Names, ValueDue, ValueDone, Whole, Finished}
 use Rattle.json_events.specs.Canonical.{in_range}
-use Rattle.json_events.specs.Drafts.{Level, Draft, Turn, refused as refuses, moves, turned, act, fresh, writes, at, after_value, where_due, is_at, ends_member}
+use Rattle.json_events.specs.Drafts.{Level, Draft, Turn, refused as refuses, moves, carried_out, act, fresh, writes, at, after_value, where_due, is_at, ends_member}
 use Rattle.json_events.specs.Events.{Event, begin_array, begin_array_value, end_array_value, end_array, begin_object, end_object_value, end_object, finish}
 use Rattle.json_events.specs.Laws.{FinishedSpells}
 use Rattle.json_events.specs.Members.{property}
@@ -152,10 +152,10 @@ its_integer : (z : ℤ) → as_integer (num_of z) ≡ Some z
 its_integer (pos n) = refl
 its_integer z = refl
 
-taken_due : (turn : Spot → Turn) (d : Draft) (s : Spot) → after_value d.inner.spot ≡ Some s → (turned (where_due (after_value d.inner.spot) turn) d).stage.refusal ≡ None → (turned (turn s) d).stage.refusal ≡ None
-taken_due turn d s due none = sym (ap (λ o. (turned (where_due o turn) d).stage.refusal) due) ∙ none
+taken_due : (turn : Spot → Turn) (d : Draft) (s : Spot) → after_value d.inner.spot ≡ Some s → (carried_out (where_due (after_value d.inner.spot) turn) d).stage.refusal ≡ None → (carried_out (turn s) d).stage.refusal ≡ None
+taken_due turn d s due none = sym (ap (λ o. (carried_out (where_due o turn) d).stage.refusal) due) ∙ none
 
-within_range : (b : Bool) (t : Turn) (d : Draft) → (turned (if b then t else refuses IntegerOutOfRange) d).stage.refusal ≡ None → b ≡ true
+within_range : (b : Bool) (t : Turn) (d : Draft) → (carried_out (if b then t else refuses IntegerOutOfRange) d).stage.refusal ≡ None → b ≡ true
 within_range true t d none = refl
 within_range false t d none = cc
 
@@ -192,7 +192,7 @@ once_by false g is spot none = refl
 once_by true g is spot none =
     let new = record g { text = []; inner = record g.inner { spot = Names; members = insert_key by_key g.inner.members (property (g.inner.name, g.text)) } } in
     let turn : act end_object_value g ≡ refuses DuplicateKey = ap (λ q. if is_at q ValueDone then ends_member g else refuses NotWellNested) spot ∙ ap (λ c. if c then refuses DuplicateKey else moves new []) is in
-    let all : Some DuplicateKey ≡ None = sym (ap (λ t. (turned t g).stage.refusal) turn) ∙ none in
+    let all : Some DuplicateKey ≡ None = sym (ap (λ t. (carried_out t g).stage.refusal) turn) ∙ none in
     cc
 
 -- ---- trees
@@ -276,7 +276,7 @@ at_whole : (ls : List Level) (n : List ℕ) (ms : List JsonProperty) (xs : List 
 at_whole [] n ms xs so = so
 at_whole (l ∷ ls) n ms xs so = absurd so.4
 
-ended_at : (b : Bool) (d : Draft) (t : Turn) → is_at d.inner.spot Whole ≡ b → (turned (if b then t else refuses NotWellNested) d).stage.refusal ≡ None → b ≡ true
+ended_at : (b : Bool) (d : Draft) (t : Turn) → is_at d.inner.spot Whole ≡ b → (carried_out (if b then t else refuses NotWellNested) d).stage.refusal ≡ None → b ≡ true
 ended_at true d t is none = refl
 ended_at false d t is none = cc
 
@@ -284,7 +284,7 @@ pub finished_spells : FinishedSpells
 finished_spells xs texts none =
     let first = unrefused xs (finish ∷ []) none in
     let d = (after xs fresh).draft in
-    let there : after (xs ++ finish ∷ []) fresh ≡ (turned (act finish d) d).stage = after-append xs (finish ∷ []) fresh ∙ ap (after (finish ∷ [])) (going_is (after xs fresh) first) in
+    let there : after (xs ++ finish ∷ []) fresh ≡ (carried_out (act finish d) d).stage = after-append xs (finish ∷ []) fresh ∙ ap (after (finish ∷ [])) (going_is (after xs fresh) first) in
     let spot = same_spot d.inner.spot Whole (ended_at (is_at d.inner.spot Whole) d (moves (at Finished d) []) refl (sym (ap (λ s. s.refusal) there) ∙ none)) in
     let tree = at_whole d.outer d.inner.name d.inner.members xs (subst (λ q. Opens q d.inner.name d.inner.members d.outer xs) spot (fits xs first)) in
     let so = tree_spells tree.0 fresh.draft Whole refl (subst AreTexts tree.1 texts) (ap (λ l. (after l fresh).refusal) (sym tree.1) ∙ first) in

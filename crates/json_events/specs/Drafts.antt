@@ -173,14 +173,14 @@ pub record Step : Type 0 where
   pub stage : Stage
   pub out : List ℕ
 
-abbrev pub turned : Turn → Draft → Step
-turned (refused e) d = record { stage = record { refusal = Some e; draft = d }; out = [] }
-turned (moves new out) d = record { stage = record { refusal = None; draft = new }; out = out }
+abbrev pub carried_out : Turn → Draft → Step
+carried_out (refused e) d = record { stage = record { refusal = Some e; draft = d }; out = [] }
+carried_out (moves new out) d = record { stage = record { refusal = None; draft = new }; out = out }
 
 -- after a refusal nothing is written
 abbrev pub step_from : Option CanonError → Event → Draft → Step
 step_from (Some e) x d = record { stage = record { refusal = Some e; draft = d }; out = [] }
-step_from None x d = turned (act x d) d
+step_from None x d = carried_out (act x d) d
 
 abbrev pub step : Event → Stage → Step
 step x s = step_from s.refusal x s.draft

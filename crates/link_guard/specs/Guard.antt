@@ -46,7 +46,8 @@ unless_answered (Some answer) pass = pass
 -- each request that was answered keeps the rules, where this realm was named directly before
 unfoldable pub keep_after : Rules → Option (List ℕ) → List Exchange → Bool
 keep_after rules realm [] = true
-keep_after rules realm (e ∷ c) = unless_answered e.answer (passes rules realm e.request) && keep_after rules (realm_of e) c
+keep_after rules realm (e ∷ c) =
+    unless_answered e.answer (passes rules realm e.request) && keep_after rules (realm_of e) c
 
 abbrev pub keep : Rules → List Exchange → Bool
 keep rules c = keep_after rules None c

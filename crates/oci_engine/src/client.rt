@@ -283,9 +283,9 @@ impl Client {
         )
     }
 
-    /// Puts the bytes of a blob of the image's repository into the sink, piece by piece as they come. While the registry
-    /// answers with an error, the URLs of the blob's descriptor are asked, in order and with no credentials; one that does
-    /// not read, or has a user name or a password, is `UrlParseError`.
+    /// Puts the bytes of a blob of the image's repository into the sink, piece by piece as they come. While the
+    /// registry answers with an error, the URLs of the blob's descriptor are asked, in order and with no credentials;
+    /// one that does not read, or has a user name or a password, is `UrlParseError`.
     pub fn pull_blob<T: Transport, L: AsLayerDescriptor, K: Sink>(
         &mut self,
         alloc: Global,

@@ -30,10 +30,10 @@ ends_within zero redirects text = is_none (map.get redirects text)
 ends_within (suc n) redirects text = option_map_or (ends_within n redirects) (map.get redirects text) true
 
 -- a name and its value lead, ten steps at most being followed
-abbrev pub leads : Texts → List ℕ × List ℕ → Bool
-leads redirects entry =
+abbrev pub entry_leads : Texts → List ℕ × List ℕ → Bool
+entry_leads redirects entry =
     is_own_text entry.1 (request_url entry.1)
     && (same_path (path_of entry.0) (path_of entry.1) && ends_within 10 redirects entry.0)
 
 unfoldable pub redirects_lead : Shelf → Bool
-redirects_lead shelf = list_all (leads shelf.redirects) (map.entries shelf.redirects)
+redirects_lead shelf = list_all (entry_leads shelf.redirects) (map.entries shelf.redirects)

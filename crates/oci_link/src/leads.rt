@@ -44,13 +44,13 @@ fn ends_within(steps: usize, redirects: &Annotations, text: &str) -> bool
     redirects.get(text).is_none()
 }
 
-fn leads(
+fn entry_leads(
     alloc: Global,
     redirects: &Annotations,
     name: &str,
     value: &str,
 ) -> Result<bool, AllocError>
-    ensures { IfOk result (λ leads. leads ≡ words.leads redirects.now (name.now, value.now)) }
+    ensures { IfOk result (λ leads. leads ≡ words.entry_leads redirects.now (name.now, value.now)) }
 {
     if !is_own_text(alloc, value)? {
         return Ok(false);
@@ -63,10 +63,10 @@ fn all_lead(
     redirects: &Annotations,
     entries: &[(Text, Text)],
 ) -> Result<bool, AllocError>
-    ensures { IfOk result (λ lead. lead ≡ list_all (words.leads redirects.now) entries.now) }
+    ensures { IfOk result (λ lead. lead ≡ list_all (words.entry_leads redirects.now) entries.now) }
 {
     for entry in entries {
-        if !leads(alloc, redirects, entry.0.as_str(), entry.1.as_str())? {
+        if !entry_leads(alloc, redirects, entry.0.as_str(), entry.1.as_str())? {
             return Ok(false);
         }
     }

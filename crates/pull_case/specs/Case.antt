@@ -58,9 +58,9 @@ members =
     ∷ []
 
 -- An object with no members but these. The protocol may be absent, which is `https`, the credentials, which are
--- anonymous, the platform, which is none, as null is, whether answers are kept, which they are not, the limit of a body,
--- which is the client's own, and the keys of logs and what is vouched, which are none. Exactly one of `answers` and
--- `shelf` is there.
+-- anonymous, the platform, which is none, as null is, whether answers are kept, which they are not, the limit of a
+-- body, which is the client's own, and the keys of logs and what is vouched, which are none. Exactly one of `answers`
+-- and `shelf` is there.
 unfoldable pub case_of : Data → Option Case
 case_of d = do
   known ← only members d

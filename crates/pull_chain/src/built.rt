@@ -143,11 +143,14 @@ fn read_written<V: SignatureVerifier, O: Offline>(
     written: &WrittenSignature,
 ) -> Result<SignatureLayer, LayerRejection>
     ensures gives { IfOk result (Gives
-        (trust (V.valid verifier.now) (O.vouched judge.now) log_keys.now) digest.now (words.input_by named.now written.now)) }
+        (trust (V.valid verifier.now) (O.vouched judge.now) log_keys.now) digest.now
+        (words.input_by named.now written.now)) }
     ensures rejects { IfErr result (RejectedUnlessMemory
-        (trust (V.valid verifier.now) (O.vouched judge.now) log_keys.now) digest.now (words.input_by named.now written.now)) }
+        (trust (V.valid verifier.now) (O.vouched judge.now) log_keys.now) digest.now
+        (words.input_by named.now written.now)) }
     ensures law { HasOneOutcome
-        (trust (V.valid verifier.now) (O.vouched judge.now) log_keys.now) digest.now (words.input_by named.now written.now) }
+        (trust (V.valid verifier.now) (O.vouched judge.now) log_keys.now) digest.now
+        (words.input_by named.now written.now) }
 {
     let (content, notes) = (&written.content, &written.annotations);
     match written.kind {

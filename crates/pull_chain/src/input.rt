@@ -29,8 +29,8 @@ pub struct WrittenEntry {
     pub content: Blob,
 }
 
-/// The documents and blobs of an image, and its signature layer: a JSON object with a member of each field's name and no
-/// others.
+/// The documents and blobs of an image, and its signature layer: a JSON object with a member of each field's name and
+/// no others.
 #[derive(Drop)]
 pub struct WrittenChain {
     /// The digest that was answered for the reference.
@@ -171,8 +171,8 @@ impl Reads for ChainInput {
     }
 }
 
-/// Reads a case and a chain. None exactly where the bytes are no JSON text (RFC 8259) that nests at most 127 deep, where a
-/// float stands in it, or where it is no object of a case and a chain.
+/// Reads a case and a chain. None exactly where the bytes are no JSON text (RFC 8259) that nests at most 127 deep,
+/// where a float stands in it, or where it is no object of a case and a chain.
 pub fn read_chain_input(alloc: Global, bytes: &[u8]) -> Result<Option<ChainInput>, AllocError>
     ensures exact { IfOk result (λ found. found ≡ chain_input_in bytes.now) }
     ensures ready { IfOk result (λ found. IfSome found (λ input. IsReady input.case)) }

@@ -16,7 +16,8 @@ use Rattle.pull_run.specs.Pulls.{settings_of}
 use Rattle.pull_run.specs.Word.{word_of}
 use Rattle.pull_run.specs.declared.word.Word.TheVariants.{Pull}
 
--- its registry is a shelf that has the image, for which a layer under its signature tag or of one of its referrers stands
+-- its registry is a shelf that has the image, for which a layer under its signature tag or of one of its referrers
+-- stands
 pub record HasImage (case : Case) : Type 0 where
   pub shelf : Shelf
   pub held : case.registry ≡ registries.Shelf shelf

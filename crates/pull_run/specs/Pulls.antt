@@ -101,7 +101,8 @@ abbrev pub row_of : Case → Reference → ℕ → Whole VerifiedImage
 row_of case image moment =
     verified (meaning_of case) (within (settings_of case) moment) image case.auth case.accepted
 
--- an image that was answered has a chain that holds, and comes of this conversation; its digest may still have been kept
+-- an image that was answered has a chain that holds, and comes of this conversation; its digest may still have been
+-- kept
 abbrev pub SoundResult : Case → Reference → Kept → ℕ → List Exchange → Result VerifiedImage PullRefusal → Type 0
 SoundResult case image k moment c (Ok v) =
     Sound k (within (settings_of case) moment) (meaning_of case) image case.auth case.accepted c v

@@ -32,7 +32,7 @@ use Rattle.oci_protocol.specs.Proto.{Reading, Reply, Headed, Proto}
 use Rattle.oci_protocol.specs.Drive.{reply_of}
 use Rattle.oci_protocol.specs.Follow.{unread_if, turned, go_if, turn, follow}
 use Rattle.oci_protocol.specs.Runs.{head_part}
-use Rattle.oci_link.specs.Leads.{Texts, is_own_text, same_path, ends_within, leads, redirects_lead}
+use Rattle.oci_link.specs.Leads.{Texts, is_own_text, same_path, ends_within, entry_leads, redirects_lead}
 use Rattle.oci_link.specs.Paths.{path_of}
 use Rattle.oci_link.specs.Table.{answer, at_path, redirect_to, unless_redirected, is_get_or_head}
 use Rattle.oci_link.specs.declared.shelf.Shelf.{Shelf}
@@ -89,7 +89,7 @@ unfolding redirects_lead
 leads_at shelf name value lead is =
     let own = is_own_text value (request_url value) in
     let paths = same_path (path_of name) (path_of value) in
-    let all : leads shelf.redirects (name, value) ≡ true = found_all (leads shelf.redirects) (map.entries shelf.redirects) name value lead (sym (get-entries shelf.redirects name) ∙ is) in
+    let all : entry_leads shelf.redirects (name, value) ≡ true = found_all (entry_leads shelf.redirects) (map.entries shelf.redirects) name value lead (sym (get-entries shelf.redirects name) ∙ is) in
     let later = and_right own (paths && ends_within 10 shelf.redirects name) all in
     let url = own_url value (request_url value) (and_left own (paths && ends_within 10 shelf.redirects name) all) in
     record { url = url.0; reads = url.1; text = url.2; path = paths_same (path_of name) (path_of value) (and_left paths (ends_within 10 shelf.redirects name) later); ends = and_right paths (ends_within 10 shelf.redirects name) later }

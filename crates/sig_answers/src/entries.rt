@@ -68,7 +68,8 @@ impl Row<Entry> {
         self.inner.iter().find(|entry| entry.is_of(kind, key))
     }
 
-    /// Puts an entry at the end, in the place of what is kept under its key. What else is kept moves, and is not copied.
+    /// Puts an entry at the end, in the place of what is kept under its key. What else is kept moves, and is not
+    /// copied.
     pub fn put(&mut self, entry: Entry) -> Result<(), AllocError>
         ensures ok { OnOk result (self.new ≡ replaced entry self.old) }
         ensures err { OnErr result (self.new ≡ self.old) }

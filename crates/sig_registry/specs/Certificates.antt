@@ -39,13 +39,17 @@ abbrev pub order : Certificate → Certificate → Ordering
 order a b = ordering_then (slice_cmp nat_cmp a.content b.content) (nat_cmp (place a.encoding) (place b.encoding))
 
 pub equal : IsEquivalence is_same
-equal = and_equiv (on_texts_equal (λ (c : Certificate). c.content)) (on_equiv (λ (c : Certificate). place c.encoding) nat_eq_equiv)
+equal = and_equiv (on_texts_equal (λ (c : Certificate). c.content))
+    (on_equiv (λ (c : Certificate). place c.encoding) nat_eq_equiv)
 
 pub ordered : IsTotalOrder order
-ordered = then_total (on_texts (λ (c : Certificate). c.content)) (on_total (λ (c : Certificate). place c.encoding) nat_cmp_total)
+ordered = then_total (on_texts (λ (c : Certificate). c.content))
+    (on_total (λ (c : Certificate). place c.encoding) nat_cmp_total)
 
 ties : (a b : Certificate) → is_same a b ≡ eq_by_cmp order a b
-ties a b = both_tied (bytes_eq a.content b.content) (is_same_encoding a.encoding b.encoding) (slice_cmp nat_cmp a.content b.content) (nat_cmp (place a.encoding) (place b.encoding)) (texts_ties a.content b.content) (unsigned_ties (place a.encoding) (place b.encoding))
+ties a b = both_tied (bytes_eq a.content b.content) (is_same_encoding a.encoding b.encoding)
+    (slice_cmp nat_cmp a.content b.content) (nat_cmp (place a.encoding) (place b.encoding))
+    (texts_ties a.content b.content) (unsigned_ties (place a.encoding) (place b.encoding))
 
 pub partly_ordered : IsPartialOrder is_same (λ a b. Some (order a b))
 partly_ordered = po ordered ties

@@ -30,11 +30,12 @@ pub(crate) fn digest_made<T: Transport>(
     auth: &RegistryAuth,
 ) -> Result<Text, SigstoreError>
     ensures run { (s : Settings) → PlainlyMade s (digest_made (within s moment) image.now auth.now)
-        client.old client.new (T.state transport.old) (T.state transport.new) result }
+        client.old client.new
+        (T.state transport.old) (T.state transport.new) result }
     ensures fault { FaultCounted (T.state transport.old) (T.state transport.new) result }
     ensures no_sink { NoSinkFault result }
-    ensures confined { Stays (engine_state client.old None) (engine_state client.new None) moment image.now (Some auth.now)
-        (T.state transport.old) (T.state transport.new) }
+    ensures confined { Stays (engine_state client.old None) (engine_state client.new None) moment image.now
+        (Some auth.now) (T.state transport.old) (T.state transport.new) }
 {
     let outcome = client.fetch_manifest_digest(alloc, transport, moment, image, auth);
     worded(alloc, Called::FetchManifest, image, outcome)
@@ -50,12 +51,13 @@ pub(crate) fn image_made<T: Transport>(
     auth: &RegistryAuth,
     accepted_media_types: &[Text],
 ) -> Result<ImageData, SigstoreError>
-    ensures run { (s : Settings) → PlainlyMade s (image_made (within s moment) image.now auth.now accepted_media_types.now)
-        client.old client.new (T.state transport.old) (T.state transport.new) result }
+    ensures run { (s : Settings) → PlainlyMade s
+        (image_made (within s moment) image.now auth.now accepted_media_types.now) client.old client.new
+        (T.state transport.old) (T.state transport.new) result }
     ensures fault { FaultCounted (T.state transport.old) (T.state transport.new) result }
     ensures no_sink { NoSinkFault result }
-    ensures confined { Stays (engine_state client.old None) (engine_state client.new None) moment image.now (Some auth.now)
-        (T.state transport.old) (T.state transport.new) }
+    ensures confined { Stays (engine_state client.old None) (engine_state client.new None) moment image.now
+        (Some auth.now) (T.state transport.old) (T.state transport.new) }
 {
     let outcome = client.pull(alloc, transport, moment, image, auth, accepted_media_types);
     worded(alloc, Called::Pull, image, outcome)
@@ -71,11 +73,12 @@ pub(crate) fn manifest_made<T: Transport>(
     auth: &RegistryAuth,
 ) -> Result<(OciManifest, Text), SigstoreError>
     ensures run { (s : Settings) → PlainlyMade s (manifest_made (within s moment) image.now auth.now)
-        client.old client.new (T.state transport.old) (T.state transport.new) result }
+        client.old client.new
+        (T.state transport.old) (T.state transport.new) result }
     ensures fault { FaultCounted (T.state transport.old) (T.state transport.new) result }
     ensures no_sink { NoSinkFault result }
-    ensures confined { Stays (engine_state client.old None) (engine_state client.new None) moment image.now (Some auth.now)
-        (T.state transport.old) (T.state transport.new) }
+    ensures confined { Stays (engine_state client.old None) (engine_state client.new None) moment image.now
+        (Some auth.now) (T.state transport.old) (T.state transport.new) }
 {
     let outcome = client.pull_manifest(alloc, transport, moment, image, auth);
     worded(alloc, Called::PullManifest, image, outcome)
@@ -91,12 +94,13 @@ pub(crate) fn referrers_made<T: Transport>(
     auth: &RegistryAuth,
     artifact_type: Option<&str>,
 ) -> Result<OciImageIndex, SigstoreError>
-    ensures run { (s : Settings) → PlainlyMade s (referrers_made (within s moment) image.now auth.now (option_copied artifact_type.entry))
-        client.old client.new (T.state transport.old) (T.state transport.new) result }
+    ensures run { (s : Settings) → PlainlyMade s
+        (referrers_made (within s moment) image.now auth.now (option_copied artifact_type.entry)) client.old client.new
+        (T.state transport.old) (T.state transport.new) result }
     ensures fault { FaultCounted (T.state transport.old) (T.state transport.new) result }
     ensures no_sink { NoSinkFault result }
-    ensures confined { StaysWithTag (engine_state client.old None) (engine_state client.new None) moment image.now (Some auth.now)
-        (T.state transport.old) (T.state transport.new) }
+    ensures confined { StaysWithTag (engine_state client.old None) (engine_state client.new None) moment image.now
+        (Some auth.now) (T.state transport.old) (T.state transport.new) }
 {
     let given = client.auth(
         alloc,
@@ -121,12 +125,13 @@ pub(crate) fn document_made<T: Transport>(
     auth: &RegistryAuth,
     accepted_media_types: &[Text],
 ) -> Result<(Blob, Text), SigstoreError>
-    ensures run { (s : Settings) → PlainlyMade s (document_made (within s moment) image.now auth.now (listed accepted_media_types.now))
-        client.old client.new (T.state transport.old) (T.state transport.new) result }
+    ensures run { (s : Settings) → PlainlyMade s
+        (document_made (within s moment) image.now auth.now (listed accepted_media_types.now)) client.old client.new
+        (T.state transport.old) (T.state transport.new) result }
     ensures fault { FaultCounted (T.state transport.old) (T.state transport.new) result }
     ensures no_sink { NoSinkFault result }
-    ensures confined { Stays (engine_state client.old None) (engine_state client.new None) moment image.now (Some auth.now)
-        (T.state transport.old) (T.state transport.new) }
+    ensures confined { Stays (engine_state client.old None) (engine_state client.new None) moment image.now
+        (Some auth.now) (T.state transport.old) (T.state transport.new) }
 {
     let outcome = client.pull_manifest_raw(
         alloc,
@@ -149,7 +154,8 @@ pub(crate) fn blob_made<T: Transport>(
     layer: &OciDescriptor,
 ) -> Result<Blob, SigstoreError>
     ensures run { (s : Settings) → PlainlyMade s (blob_made (within s moment) image.now (described layer.now))
-        client.old client.new (T.state transport.old) (T.state transport.new) result }
+        client.old client.new
+        (T.state transport.old) (T.state transport.new) result }
     ensures fault { FaultCounted (T.state transport.old) (T.state transport.new) result }
     ensures no_sink { NoSinkFault result }
     ensures confined { Stays (engine_state client.old None) (engine_state client.new None) moment image.now None
