@@ -1,0 +1,4 @@
+pub mod Calls
+pub mod Cases
+pub mod Growing
+pub mod Pulls

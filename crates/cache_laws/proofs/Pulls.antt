@@ -1,0 +1,146 @@
+-- The whole pull of an image: what the search, the search's sources and the image ask of the client.
+use Rattle.std.proofs.Common.{ℕ, Bool, true, false, List, [], ◌∷◌, ◌++◌, None, Result, Ok, Err}
+use Rattle.oci_names.specs.declared.reference.Reference.{Reference}
+use Rattle.oci_names.specs.References.{reads_back}
+use Rattle.oci_auth.specs.declared.auth.RegistryAuth.{RegistryAuth}
+use Rattle.oci_manifests.specs.declared.document.OciManifest.{OciManifest}
+use Rattle.oci_manifests.specs.declared.document.OciManifest.TheVariants.{Image, ImageIndex}
+use Rattle.oci_manifests.specs.declared.index.OciImageIndex.{OciImageIndex}
+use Rattle.oci_manifests.specs.declared.index_entry.ImageIndexEntry.{ImageIndexEntry}
+use Rattle.oci_manifests.specs.declared.manifest.OciImageManifest.{OciImageManifest}
+use Rattle.oci_manifests.specs.declared.descriptor.OciDescriptor.{OciDescriptor}
+use Rattle.oci_manifests.specs.declared.blob.ImageLayer.{ImageLayer}
+use Rattle.oci_protocol.specs.Proto.{Done}
+use Rattle.engine_requests.specs.declared.settings.Settings.{Settings}
+use Rattle.engine_requests.specs.Contexts.{within}
+use Rattle.engine_requests.specs.Requests.{manifest_types}
+use Rattle.engine_requests.specs.Sources.{described}
+use Rattle.engine_requests.specs.Index.{entry_reference}
+use Rattle.engine_pull.specs.Images.{layer_of}
+use Rattle.sig_registry.specs.declared.error.SigstoreError.{SigstoreError}
+use Rattle.sig_registry.specs.Clients.{Row}
+use Rattle.sig_registry.specs.Calls.{digest_call, manifest_call, image_call, referrers_call, document_call, blob_call}
+use Rattle.cosign_layers.specs.Trust.{Trust}
+use Rattle.cosign_layers.specs.Standing.{Meaning}
+use Rattle.cosign_client.specs.References.{tag_reference, digest_reference}
+use Rattle.cosign_client.specs.Search.{payload_type, bundle_type, tag_layers, tag_by, tag_source, referrer_by, referrer_row, referrers_row, listed_row, referrers_source, searched}
+use Rattle.cosign_client.specs.Image.{layers_row, blobs_row, entry_call, entry_row, manifest_row, after_document, image_row}
+use Rattle.cosign_client.specs.Verified.{part_of, after_standing, after_search, verified}
+use Rattle.cache_laws.specs.Growth.{Grows}
+use Rattle.cache_laws.proofs.Growing.{grows_done, grows_bind, grows_next}
+use Rattle.cache_laws.proofs.Calls.{digest_grows, manifest_grows, image_grows, referrers_grow, document_grows, blob_grows}
+
+-- for each of a type that the property tells
+abbrev Each : {P : Type 0} → (P → Type 0) → Type 0
+Each {P} Q = (p : P) → Q p
+
+module _ (s : Settings) (now : ℕ) (a : RegistryAuth) where
+  -- ---- the search
+
+  tag_layers_grow : (trust : Trust) (d : List ℕ) (tag : Reference) → Grows s (tag_layers trust d (within s now) tag a)
+  unfolding tag_layers
+  tag_layers_grow trust d tag =
+      grows_next s (manifest_call (within s now) tag a) _ (manifest_grows s now tag a) (λ document.
+      grows_next s (image_call (within s now) tag a (payload_type ∷ [])) _ (image_grows s now tag a (payload_type ∷ [])) (λ image.
+      grows_done s _))
+
+  tag_by_grows : (trust : Trust) (d : List ℕ) (tag : Reference) (b : Bool) → Grows s (tag_by trust d (within s now) tag a b)
+  tag_by_grows trust d tag false = grows_done s _
+  tag_by_grows trust d tag true = grows_bind s (tag_layers trust d (within s now) tag a) _ (tag_layers_grow trust d tag) (λ r. grows_done s _)
+
+  tag_grows : (trust : Trust) (image : Reference) (d : List ℕ) → Grows s (tag_source trust (within s now) image a d)
+  unfolding tag_source
+  tag_grows trust image d = tag_by_grows trust d (tag_reference image d) (reads_back (tag_reference image d))
+
+  referrer_by_grows : (trust : Trust) (d : List ℕ) (referrer : Reference) (digest : List ℕ) (b : Bool) → Each (λ part. Grows s (referrer_by trust d (within s now) referrer a digest part b))
+  referrer_by_grows trust d referrer digest false = λ part. grows_done s _
+  referrer_by_grows trust d referrer digest true = λ part. grows_bind s (image_call (within s now) referrer a (bundle_type ∷ [])) _ (image_grows s now referrer a (bundle_type ∷ [])) (λ r. grows_done s _)
+
+  referrer_grows : (trust : Trust) (d : List ℕ) (source : Reference) (digest : List ℕ) → Each (λ part. Grows s (referrer_row trust d (within s now) source a digest part))
+  unfolding referrer_row
+  referrer_grows trust d source digest = λ part. referrer_by_grows trust d (digest_reference source digest) digest (reads_back (digest_reference source digest)) part
+
+  referrers_row_grows : (trust : Trust) (d : List ℕ) (source : Reference) (xs : List ImageIndexEntry) → Each (λ part. Grows s (referrers_row trust d (within s now) source a xs part))
+  unfolding referrers_row
+  referrers_row_grows trust d source [] = λ part. grows_done s _
+  referrers_row_grows trust d source (x ∷ xs) = λ part. grows_next s (referrer_row trust d (within s now) source a x.digest part) _ (referrer_grows trust d source x.digest part) (λ more. referrers_row_grows trust d source xs more)
+
+  listed_grows : (trust : Trust) (d : List ℕ) (source : Reference) (r : Result OciImageIndex SigstoreError) → Each (λ part. Grows s (listed_row trust d (within s now) source a part r))
+  listed_grows trust d source (Ok index) = λ part. referrers_row_grows trust d source index.manifests part
+  listed_grows trust d source (Err e) = λ part. grows_done s _
+
+  referrers_source_grows : (trust : Trust) (d : List ℕ) (source : Reference) → Each (λ part. Grows s (referrers_source trust d (within s now) source a part))
+  unfolding referrers_source
+  referrers_source_grows trust d source = λ part. grows_bind s (referrers_call (within s now) source a None) _ (referrers_grow s now source a None) (λ r. listed_grows trust d source r part)
+
+  pub search_grows : (trust : Trust) (image : Reference) → Grows s (searched trust (within s now) image a)
+  unfolding searched
+  search_grows trust image =
+      grows_next s (digest_call (within s now) image a) _ (digest_grows s now image a) (λ digest.
+      grows_next s (Done _) _ (grows_done s _) (λ _.
+      grows_next s (tag_source trust (within s now) image a digest) _ (tag_grows trust image digest) (λ tag.
+      grows_next s (referrers_source trust digest (within s now) (digest_reference image digest) a tag) _ (referrers_source_grows trust digest (digest_reference image digest) tag) (λ found.
+      grows_done s _))))
+
+  -- ---- the image
+
+  layers_grow : (source : Reference) (xs : List OciDescriptor) (layers : List ImageLayer) → Grows s (layers_row (within s now) source xs layers)
+  unfolding layers_row
+  layers_grow source [] layers = grows_done s _
+  layers_grow source (x ∷ xs) layers = grows_next s (blob_call (within s now) source (described x)) _ (blob_grows s now source (described x)) (λ content. layers_grow source xs (layers ++ layer_of x content ∷ []))
+
+  blobs_grow : (source : Reference) (accepted : List (List ℕ)) (manifest : OciImageManifest) → Grows s (blobs_row (within s now) source accepted manifest)
+  unfolding blobs_row
+  blobs_grow source accepted manifest =
+      grows_next s (blob_call (within s now) source (described manifest.config)) _ (blob_grows s now source (described manifest.config)) (λ content.
+      grows_next s (Done _) _ (grows_done s _) (λ _.
+      grows_next s (layers_row (within s now) source manifest.layers []) _ (layers_grow source manifest.layers []) (λ layers.
+      grows_done s _)))
+
+  entry_call_grows : (source : Reference) (entry : List ℕ) → Grows s (entry_call (within s now) source a entry)
+  unfolding entry_call
+  entry_call_grows source entry = grows_bind s (document_call (within s now) (entry_reference source entry) a manifest_types) _ (document_grows s now (entry_reference source entry) a manifest_types) (λ r. grows_done s _)
+
+  entry_grows : (source : Reference) (entries : List ImageIndexEntry) → Grows s (entry_row (within s now) source a entries)
+  unfolding entry_row
+  entry_grows source entries =
+      grows_next s (Done _) _ (grows_done s _) (λ entry.
+      grows_next s (entry_call (within s now) source a entry) _ (entry_call_grows source entry) (λ found.
+      grows_next s (Done _) _ (grows_done s _) (λ manifest.
+      grows_done s _)))
+
+  manifest_grows_by : (source : Reference) (first : List ℕ) (document : OciManifest) → Grows s (manifest_row (within s now) source a first document)
+  manifest_grows_by source first (Image manifest) = grows_done s _
+  manifest_grows_by source first (ImageIndex index) = entry_grows source index.manifests
+
+  after_document_grows : (image source : Reference) (accepted : List (List ℕ)) (first : List ℕ) → Grows s (after_document (within s now) image source a accepted first)
+  after_document_grows image source accepted first =
+      grows_next s (Done _) _ (grows_done s _) (λ document.
+      grows_next s (manifest_row (within s now) source a first document) _ (manifest_grows_by source first document) (λ chosen.
+      grows_next s (blobs_row (within s now) source accepted chosen.manifest) _ (blobs_grow source accepted chosen.manifest) (λ blobs.
+      grows_done s _)))
+
+  image_row_grows : (image source : Reference) (accepted : List (List ℕ)) → Grows s (image_row (within s now) image source a accepted)
+  unfolding image_row
+  image_row_grows image source accepted = grows_next s (document_call (within s now) source a manifest_types) _ (document_grows s now source a manifest_types) (λ found. after_document_grows image source accepted found.0)
+
+  -- ---- the whole
+
+  part_grows : {B : Type 0} (p : Row B) → Grows s p → Grows s (part_of p)
+  unfolding part_of
+  part_grows p h = grows_bind s p _ h (λ r. grows_done s _)
+
+  after_standing_grows : (image : Reference) (accepted : List (List ℕ)) → Each (λ stood. Grows s (after_standing (within s now) image a accepted stood))
+  after_standing_grows image accepted = λ stood. grows_next s (part_of (image_row (within s now) image (digest_reference image stood.digest) a accepted)) _ (part_grows (image_row (within s now) image (digest_reference image stood.digest) a accepted) (image_row_grows image (digest_reference image stood.digest) accepted)) (λ pulled. grows_done s _)
+
+  after_search_grows : {V : Type 0} {H : V → Type 0} (meaning : Meaning V H) (image : Reference) (accepted : List (List ℕ)) → Each (λ found. Grows s (after_search meaning (within s now) image a accepted found))
+  unfolding after_search
+  after_search_grows meaning image accepted = λ found. grows_next s (Done _) _ (grows_done s _) (λ stood. after_standing_grows image accepted stood)
+
+  pub pull_grows : {V : Type 0} {H : V → Type 0} (meaning : Meaning V H) (image : Reference) (accepted : List (List ℕ)) → Grows s (verified meaning (within s now) image a accepted)
+  unfolding verified
+  pull_grows meaning image accepted =
+      grows_next s (Done _) _ (grows_done s _) (λ _.
+      grows_next s (Done _) _ (grows_done s _) (λ _.
+      grows_next s (part_of (searched meaning.trust (within s now) image a)) _ (part_grows (searched meaning.trust (within s now) image a) (search_grows meaning.trust image)) (λ found.
+      after_search_grows meaning image accepted found)))
