@@ -1,0 +1,65 @@
+// Pulls over a shelf that fails.
+use cosign_client::{ClientBuilder, PullRefusal, VerifiedImage};
+use cosign_layers::{PullPolicy, TableJudge, TableVerifier};
+use json_values::{Copied, List, Text};
+use oci_link::{FaultyShelf, Shelf};
+use oci_transport::Transport;
+use sig_registry::{Auth, ClientConfig, ClientProtocol, OciReference};
+use std::alloc::{AllocError, Global};
+
+/// What each pull asks for, and over which shelf.
+#[derive(Drop)]
+pub struct Terms {
+    pub image: OciReference,
+    pub auth: Auth,
+    pub accepted: List<Text>,
+    pub policy: PullPolicy,
+    pub verifier: TableVerifier,
+    pub judge: TableJudge,
+    pub shelf: Shelf,
+    pub moment: u64,
+}
+
+/// What a pull came to.
+#[derive(Drop)]
+pub struct Pulled {
+    pub requests: u64,
+    pub faults: u64,
+    pub outcome: Result<VerifiedImage, PullRefusal>,
+}
+
+/// Pulls by a fresh client over the shelf, which fails at these numbers of sends and of calls for a piece. None where
+/// the redirects of the shelf do not lead.
+pub fn pull_over(
+    alloc: Global,
+    terms: &Terms,
+    sends: List<u64>,
+    pieces: List<u64>,
+) -> Result<Option<Pulled>, AllocError> {
+    let shelf = terms.shelf.copy(alloc)?;
+    if !shelf.redirects_lead(alloc)? {
+        return Ok(None);
+    }
+    let mut transport = FaultyShelf::new(alloc, shelf, sends, pieces);
+    let mut config = ClientConfig::default();
+    config.protocol = ClientProtocol::Http;
+    let mut client = ClientBuilder::new()
+        .with_oci_client_config(config)
+        .build(alloc)?;
+    let outcome = client.verified_pull(
+        alloc,
+        &mut transport,
+        terms.moment,
+        &terms.image,
+        &terms.auth,
+        terms.accepted.as_slice(),
+        &terms.policy,
+        &terms.verifier,
+        &terms.judge,
+    );
+    Ok(Some(Pulled {
+        requests: transport.conversation().as_slice().len() as u64,
+        faults: transport.faults(),
+        outcome,
+    }))
+}

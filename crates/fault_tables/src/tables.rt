@@ -1,0 +1,93 @@
+// What each pull came to, line by line.
+use crate::pulls::{Pulled, Terms, pull_over};
+use cosign_layers::TableVerifier;
+use json_values::{Blob, List, write_decimal};
+use pull_case::{Case, Registry, case_policy};
+use pull_report::{text_line, write_outcome};
+use sig_registry::{Auth, OciReference};
+use std::alloc::{AllocError, Global};
+
+/// How many pieces may fail, one a pull, before the table ends anyway.
+const MOST_PIECES: u64 = 1000;
+
+// What a case asks for, where its registry is a shelf.
+fn terms_of(alloc: Global, case: Case) -> Result<Option<Terms>, AllocError> {
+    let Registry::Shelf(shelf) = case.registry else {
+        return Ok(None);
+    };
+    let Ok(image) = OciReference::parse(alloc, case.reference.as_str()) else {
+        return Err(AllocError);
+    };
+    Ok(Some(Terms {
+        image,
+        auth: Auth::from_registry(alloc, &case.auth)?,
+        accepted: case.accepted,
+        policy: case_policy(alloc, case.keys, case.constraints.as_slice())?,
+        verifier: TableVerifier {
+            rows: case.signatures,
+        },
+        judge: case.vouched,
+        shelf,
+        moment: case.moments.as_slice().first().copied().unwrap_or(0),
+    }))
+}
+
+fn number_line(alloc: Global, out: &mut Blob, label: &str, number: u64) -> Result<(), AllocError> {
+    let digits = write_decimal(alloc, number)?;
+    text_line(out, label, digits.as_str())
+}
+
+fn write_pulled(alloc: Global, out: &mut Blob, pulled: &Pulled) -> Result<(), AllocError> {
+    number_line(alloc, out, "requests", pulled.requests)?;
+    write_outcome(alloc, out, &pulled.outcome)
+}
+
+fn one(alloc: Global, number: u64) -> Result<List<u64>, AllocError> {
+    let mut numbers = List::new(alloc);
+    numbers.push(number)?;
+    Ok(numbers)
+}
+
+// A pull for each send that fails, of as many as a pull without faults makes.
+fn write_sends(alloc: Global, out: &mut Blob, terms: &Terms) -> Result<(), AllocError> {
+    let Some(whole) = pull_over(alloc, terms, List::new(alloc), List::new(alloc))? else {
+        return Ok(());
+    };
+    write_pulled(alloc, out, &whole)?;
+    for number in 0..whole.requests {
+        let sends = one(alloc, number)?;
+        let Some(pulled) = pull_over(alloc, terms, sends, List::new(alloc))? else {
+            return Ok(());
+        };
+        number_line(alloc, out, "send", number)?;
+        write_pulled(alloc, out, &pulled)?;
+    }
+    Ok(())
+}
+
+// A pull for each piece that fails, until one meets no fault.
+fn write_pieces(alloc: Global, out: &mut Blob, terms: &Terms) -> Result<(), AllocError> {
+    for number in 0..MOST_PIECES {
+        let pieces = one(alloc, number)?;
+        let Some(pulled) = pull_over(alloc, terms, List::new(alloc), pieces)? else {
+            return Ok(());
+        };
+        number_line(alloc, out, "piece", number)?;
+        write_pulled(alloc, out, &pulled)?;
+        if pulled.faults == 0 {
+            return Ok(());
+        }
+    }
+    Ok(())
+}
+
+/// Both tables, where the case's registry is a shelf.
+pub fn write_tables(alloc: Global, case: Case) -> Result<Option<Blob>, AllocError> {
+    let Some(terms) = terms_of(alloc, case)? else {
+        return Ok(None);
+    };
+    let mut out = Blob::empty(alloc);
+    write_sends(alloc, &mut out, &terms)?;
+    write_pieces(alloc, &mut out, &terms)?;
+    Ok(Some(out))
+}
