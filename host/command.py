@@ -1,6 +1,8 @@
-"""The command: its options, and the conversation with the core."""
+"""Pulls a container image where a signature that you trust stands for it."""
+# the command: its options, and the conversation with the core
 import argparse
 import base64
+import contextlib
 import json
 import platform
 import re
@@ -21,21 +23,15 @@ LAYERS = [OCI + "v1.tar", OCI + "v1.tar+gzip", OCI + "v1.tar+zstd", DOCKER + "di
           OCI + "nondistributable.v1.tar", OCI + "nondistributable.v1.tar+gzip", DOCKER + "foreign.diff.tar.gzip",
           "application/vnd.wasm.content.layer.v1+wasm"]
 MACHINE = {"x86_64": "amd64", "aarch64": "arm64", "armv7l": "arm", "i686": "386"}.get(platform.machine(), platform.machine())
-TEXT = "Pulls a container image where a signature that you trust stands for it."
 STATUSES = "Ends with 0: pulled, 1: refused, 2: wrong use, 3: no reference, 4 to 6: it was not decided or not written."
 ENDS = {3: "is no reference that reads, or --platform is no OS/ARCH", 5: "is not pulled: the core could not write", 6: "is not pulled: memory was wanting"}
 
-
-def annotation(text: str) -> tuple[str, str]:
-    name, equals, value = text.partition("=")
-    if not equals:
-        raise argparse.ArgumentTypeError(f"{text} has no =")
-    return name, value
-
-
 OPTIONS: dict[str, dict[str, Any]] = {
-    "--key": dict(action="append", type=public_key, required=True, metavar="FILE", help="a public key (PEM) that may sign; repeatable"),
-    "--annotation": dict(action="append", type=annotation, default=[], metavar="NAME=VALUE", help="what the signature says; repeatable"),
+    "word": dict(choices=["pull", "verify"], help="pull: into an OCI image layout; verify: the same checks, nothing is written"),
+    "reference": dict(help="such as registry.example/team/app:1.0, or with @sha256:.. behind"),
+    "--out": dict(type=Path, metavar="DIR", help="where pull puts it, not there or empty (default: the image's name)"),
+    "--key": dict(action="append", type=Path, required=True, metavar="FILE", help="a public key (PEM) that may sign; repeatable"),
+    "--annotation": dict(action="append", default=[], metavar="NAME=VALUE", help="what the signature says; repeatable"),
     "--platform": dict(default=f"linux/{MACHINE}", metavar="OS/ARCH", help="which image of an index (default: %(default)s)"),
     "--username": dict(help="for the registry (default: the credentials that ~/.docker/config.json keeps for it)"),
     "--password-stdin": dict(action="store_true", help="reads the password from standard input"),
@@ -50,17 +46,11 @@ OPTIONS: dict[str, dict[str, Any]] = {
 
 
 def parser() -> argparse.ArgumentParser:
-    top = argparse.ArgumentParser(prog="roksnaep", description=TEXT, epilog=STATUSES)
-    top.add_argument("--version", action="version", version="roksnaep 0.1.0")
-    words = top.add_subparsers(dest="word", required=True)
-    for word, does in (("pull", "pulls an image into an OCI image layout"), ("verify", "checks an image, writes nothing")):
-        one = words.add_parser(word, help=does, description=TEXT, epilog=STATUSES)
-        one.add_argument("reference", help="such as registry.example/team/app:1.0, or with @sha256:.. behind")
-        for name, rest in OPTIONS.items():
-            one.add_argument(name, **rest)
-        if word == "pull":
-            one.add_argument("--out", type=Path, metavar="DIR", help="not there, or empty (default: the image's name)")
-    return top
+    made = argparse.ArgumentParser(prog="roksnaep", description=__doc__, epilog=STATUSES)
+    made.add_argument("--version", action="version", version="roksnaep 0.1.0")
+    for name, rest in OPTIONS.items():
+        made.add_argument(name, **rest)
+    return made
 
 
 def registry_of(reference: str) -> str:
@@ -71,15 +61,18 @@ def registry_of(reference: str) -> str:
 def settings(option: argparse.Namespace) -> Frame:
     if option.password_stdin != bool(option.username):
         raise ValueError("--username and --password-stdin go together")
+    if option.out and option.word == "verify":
+        raise ValueError("--out is for pull")
+    if not all("=" in text for text in option.annotation):
+        raise ValueError("--annotation wants NAME=VALUE")
     registry = registry_of(option.reference)
     credentials = (option.username, sys.stdin.read().rstrip("\r\n")) if option.username else kept_credentials(registry)
-    plain = option.http or is_loopback(registry) and not option.ca
     return {
-        "frame": "settings", "moment": int(time.time()), "reference": option.reference, "accepted": LAYERS,
-        "protocol": "http" if plain else "https", "platform": option.platform, "blobs": option.word == "pull",
-        "auth": {"basic": list(credentials)} if credentials else "anonymous", "log_keys": {},
-        "keys": [base64.b64encode(key).decode() for key in option.key],
-        "constraints": [{"annotations": dict(option.annotation)}],
+        "frame": "settings", "moment": int(time.time()), "reference": option.reference, "accepted": LAYERS, "log_keys": {},
+        "protocol": "http" if option.http or is_loopback(registry) and not option.ca else "https", "platform": option.platform,
+        "auth": {"basic": list(credentials)} if credentials else "anonymous", "blobs": option.word == "pull",
+        "keys": [base64.b64encode(public_key(path)).decode() for path in option.key],
+        "constraints": [{"annotations": dict(text.split("=", 1) for text in option.annotation)}],
     }
 
 
@@ -91,10 +84,8 @@ def converse(core: Core, first: Frame, network: Network, layout: Layout | None) 
         match frame["frame"]:
             case "begin":
                 core.write(first)
-            case "request":
-                core.write(*network.send(frame))
-            case "more":
-                core.write(*network.piece())
+            case "request" | "more":
+                core.write(*network.reply(frame))
             case "verify":
                 key, signature = (base64.b64decode(frame[name]) for name in ("key", "signature"))
                 core.write({"frame": "verified", "valid": verifies(key, b"".join(body), signature)})
@@ -156,20 +147,17 @@ def stop(number: int, _: object) -> None:
 def main(words: list[str]) -> int:
     usage = parser()
     option = usage.parse_args(words)
-    core = layout = None
     for number in (signal.SIGINT, signal.SIGTERM, signal.SIGALRM):
         signal.signal(number, stop)
     signal.alarm(option.deadline)
-    try:
-        first = settings(option)
-        if option.word == "pull":
-            layout = Layout(option.out or Path(re.split("[:@]", option.reference.rpartition("/")[2])[0]))
-        core = Core(find_core())
-        return run(core, option, first, layout)
-    except (OSError, ValueError) as error:
-        usage.error(str(error))
-    finally:
-        if core:
-            core.process.kill()
-        if layout:
-            shutil.rmtree(layout.folder, ignore_errors=True)
+    with contextlib.ExitStack() as after:
+        try:
+            first, layout = settings(option), None
+            if option.word == "pull":
+                layout = Layout(option.out or Path(re.split("[:@]", option.reference.rpartition("/")[2])[0]))
+                after.callback(shutil.rmtree, layout.folder, ignore_errors=True)
+            core = Core(find_core())
+            after.callback(core.process.kill)
+            return run(core, option, first, layout)
+        except (OSError, ValueError) as error:
+            usage.error(str(error))

@@ -1,5 +1,4 @@
 """The core as a process, and the frames between it and its host: a line of JSON, then as many bytes as the line says."""
-import contextlib
 import json
 import os
 import subprocess
@@ -13,11 +12,11 @@ LINE, PIECE = 1 << 24, 1 << 19
 def find_core() -> str:
     """The program that ROKSNAEP_CORE names, else the one beside the command, else the one that was built."""
     top = Path(__file__).resolve().parent.parent
-    named = os.environ.get("ROKSNAEP_CORE")
-    for place in [named] if named else [top / "bin/roksnaep-core", top / "crates/roksnaep_core/out/roksnaep_core"]:
-        if os.access(place, os.X_OK):
-            return str(place)
-    raise ValueError(f"there is no core: {named or 'none beside the command, none built, none named by ROKSNAEP_CORE'}")
+    beside, built = top / "bin/roksnaep-core", top / "crates/roksnaep_core/out/roksnaep_core"
+    place = os.environ.get("ROKSNAEP_CORE") or str(beside if beside.exists() else built)
+    if not os.access(place, os.X_OK):
+        raise ValueError(f"there is no core at {place}: make core builds one, and ROKSNAEP_CORE may name one")
+    return place
 
 
 class Core:
@@ -51,6 +50,5 @@ class Core:
     def end(self) -> int:
         """The status of a core that has ended, or ends since its host is gone."""
         self.output.close()
-        with contextlib.suppress(BrokenPipeError):
-            self.input.close()
-        return self.process.wait()
+        self.process.communicate()  # ends its input, and waits
+        return self.process.returncode

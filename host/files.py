@@ -1,10 +1,8 @@
 """Files: keys and what they verify (by `openssl`), credentials, and the image layout that is written."""
-import argparse
 import base64
 import json
 import os
 import re
-import shutil
 import subprocess
 import tempfile
 from pathlib import Path
@@ -15,16 +13,14 @@ FORMS = ("{}", "https://{}", "https://{}/", "https://{}/v1/", "https://{}/v2/", 
 
 
 def openssl(*words: str) -> tuple[bool, bytes]:
-    if not shutil.which("openssl"):
-        raise argparse.ArgumentTypeError("openssl is not on the path")
     ran = subprocess.run(["openssl", *words], stdin=subprocess.DEVNULL, capture_output=True, check=False)
     return ran.returncode == 0, ran.stdout
 
 
-def public_key(path: str) -> bytes:
-    if not openssl("pkey", "-pubin", "-in", path, "-noout")[0]:
-        raise argparse.ArgumentTypeError(f"{path} is no public key (PEM)")
-    return Path(path).read_bytes()
+def public_key(path: Path) -> bytes:
+    if not openssl("pkey", "-pubin", "-in", str(path), "-noout")[0]:
+        raise ValueError(f"{path} is no public key (PEM)")
+    return path.read_bytes()
 
 
 def verifies(key: bytes, message: bytes, signature: bytes) -> bool:
@@ -58,8 +54,8 @@ class Layout:
         self.target, self.manifest = target, dict[str, str | int]()
         if target.exists() and (not target.is_dir() or any(target.iterdir())):
             raise OSError(f"{target} is there already, and is not replaced")
-        target.parent.mkdir(parents=True, exist_ok=True)
-        self.folder = Path(tempfile.mkdtemp(prefix=f".{target.name}-", dir=target.parent))
+        self.folder = target.parent / f".{target.name}-{os.urandom(6).hex()}"
+        self.folder.mkdir(parents=True)
 
     def write(self, name: str, pieces: Iterable[bytes]) -> int:
         path = self.folder / name
@@ -85,6 +81,4 @@ class Layout:
         index = {"schemaVersion": 2, "manifests": [self.manifest | {"annotations": notes}]}
         self.write("oci-layout", [b'{"imageLayoutVersion":"1.0.0"}'])
         self.write("index.json", [json.dumps(index).encode()])
-        os.umask(mask := os.umask(0))
-        self.folder.chmod(0o777 & ~mask)
         self.folder.rename(self.target)

@@ -6,7 +6,6 @@ import re
 import ssl
 import sys
 import time
-from typing import Callable
 
 from host.core import PIECE, Frame
 
@@ -20,12 +19,6 @@ LOOPBACK = re.compile(r"(localhost|127(\.\d{1,3}){3}|\[::1\])(:\d+)?")
 def is_loopback(place: str) -> bool:
     """Whether a host, with a port or not, is this machine."""
     return LOOPBACK.fullmatch(place) is not None
-
-
-def header_value(value: str) -> str | dict[str, str]:
-    """A header's value: a text, or bytes where it is none."""
-    text = value.isascii() and all(c >= " " or c == "\t" for c in value)
-    return value if text else {"base64": base64.b64encode(value.encode("latin-1")).decode()}
 
 
 class Network:
@@ -86,6 +79,9 @@ class Network:
         return connection.getresponse()
 
     def answered(self, frame: Frame) -> tuple[Frame, bytes]:
+        self.url, self.size, self.began = frame["url"], 0, time.monotonic()
+        if "/v2/" in self.url:  # else a redirect of a blob may lead here
+            self.blob = self.url.rpartition("/blobs/")[2][:19] if "/blobs/" in self.url else ""
         where, target = self.target(self.url)
         self.check_credentials(target, frame["headers"])
         with contextlib.suppress(OSError, http.client.HTTPException):
@@ -103,11 +99,10 @@ class Network:
         self.statuses[self.url] = self.answer.status
         realm = REALM.search(self.answer.getheader("www-authenticate", "")) if target == "/v2/" else None
         self.realm = realm[1].lower() + (realm[2] or "/") if realm else ""
-        headers = [[name, header_value(value)] for name, value in self.answer.getheaders()]
-        if sum(len(name) + len(str(value)) for name, value in headers) > HEADERS:
-            raise ValueError("the headers of the answer are too long")
-        if not all(FIELD.fullmatch(f"{name}:{value}") for name, value in self.answer.getheaders()):
-            raise ValueError("a header of the answer does not read")
+        fields = self.answer.getheaders()
+        if len(str(fields)) > HEADERS or not all(FIELD.fullmatch(f"{name}:{value}") for name, value in fields):
+            raise ValueError("a header of the answer does not read, or they are too long")
+        headers = [[name, value if value.isascii() else {"base64": base64.b64encode(value.encode("latin-1")).decode()}] for name, value in fields]
         return {"frame": "answer", "status": self.answer.status, "headers": headers}, b""
 
     def take(self) -> tuple[Frame, bytes]:
@@ -117,10 +112,10 @@ class Network:
         self.show(len(data))
         return ({"frame": "piece", "bytes": len(data)} if data else {"frame": "end"}), data
 
-    def guarded(self, work: Callable[[], tuple[Frame, bytes]]) -> tuple[Frame, bytes]:
-        """What the work gives; where it fails, the connection is given up."""
+    def reply(self, frame: Frame) -> tuple[Frame, bytes]:
+        """The answer to a request, or the next piece of its body; where that fails, the connection is given up."""
         try:
-            return work()
+            return self.answered(frame) if frame["frame"] == "request" else self.take()
         except (OSError, http.client.HTTPException, ValueError) as error:
             self.failure = f"{self.url}: {str(error) or type(error).__name__}"
             self.answer = None
@@ -128,19 +123,9 @@ class Network:
                 self.connection.close()
             return {"frame": "failed"}, b""
 
-    def send(self, frame: Frame) -> tuple[Frame, bytes]:
-        self.url, self.size, self.began = frame["url"], 0, time.monotonic()
-        if "/v2/" in self.url:  # else a redirect of a blob may lead here
-            self.blob = self.url.rpartition("/blobs/")[2][:19] if "/blobs/" in self.url else ""
-        return self.guarded(lambda: self.answered(frame))
-
-    def piece(self) -> tuple[Frame, bytes]:
-        return self.guarded(self.take)
-
     def show(self, size: int) -> None:
         """Tells on a terminal how much of a blob has come, and how fast."""
         self.size += size
         if self.blob and sys.stderr.isatty():
             rate = self.size / 1e6 / max(time.monotonic() - self.began, 1e-6)
-            line = f"\r{self.blob} {self.size / 1e6:9.1f} MB {rate:7.1f} MB/s"
-            print(line, end="" if size else "\n", file=sys.stderr, flush=True)
+            print(f"\r{self.blob} {self.size / 1e6:9.1f} MB {rate:7.1f} MB/s", end="" if size else "\n", file=sys.stderr, flush=True)

@@ -47,7 +47,7 @@ class Refusals:
     def unsigned(self, digest: str, lines: list[list[str]]) -> tuple[str, str]:
         """Why no signature stands for the digest: of what was found, else of what could not be read, else nothing was there."""
         if count := sum(words[0] == "collected" for words in lines):
-            return f"of {count} signatures of {digest} none is by a key given, with the annotations asked", KEYS
+            return f"no signature of {digest} is by a key given, with the annotations asked ({count} found)", KEYS
         for words in lines:
             if words[1] == "Layer":
                 return f"the signature {words[3]} of {digest} is refused as {' '.join(words[4:])}", KEYS
@@ -60,8 +60,6 @@ class Refusals:
     def sentence(self, reference: str, report: str) -> str:
         lines = [[json.loads(word) if word[0] == '"' else word for word in WORD.findall(line)] for line in report.splitlines()]
         name, *kept = lines[0][1:]
-        if name == "Unsatisfied":
-            what, advice = self.unsigned(kept[0], lines[1:])
-        else:
-            what, advice = self.answer(kept[1:] if name in ("RegistryFetchManifestError", "RegistryPullError") else [name, *kept])
+        cause = kept[1:] if name in ("RegistryFetchManifestError", "RegistryPullError") else [name, *kept]
+        what, advice = self.unsigned(kept[0], lines[1:]) if name == "Unsatisfied" else self.answer(cause)
         return f"{reference} is refused: {what}; {advice}"

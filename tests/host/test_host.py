@@ -392,9 +392,9 @@ class Parts(WithFolder):
         for told, realm in (('Bearer realm="https://a.io/token",service="x"', "https://a.io/token"), ("Bearer service=x, realm=https://A.io", "https://a.io/"), ('Bearer realm="https://a.io/t?x=y"', "https://a.io/t"), ("Basic realm=x", ""), ("", "")):
             with registry(_v2_=lambda h, told=told: h.answer(401, b"", [("WWW-Authenticate", told)])) as (place, _):
                 network = Network(place, True, [], 5, None)
-                network.send({"method": "GET", "url": f"http://{place}/v2/", "headers": []})
+                network.reply({"frame": "request", "method": "GET", "url": f"http://{place}/v2/", "headers": []})
                 self.assertEqual(network.realm, realm)
-                network.send({"method": "GET", "url": f"http://{place}/v2/app/manifests/v1", "headers": []})
+                network.reply({"frame": "request", "method": "GET", "url": f"http://{place}/v2/app/manifests/v1", "headers": []})
                 self.assertEqual(network.realm, "")
 
     def test_signatures(self):
@@ -446,7 +446,7 @@ class Parts(WithFolder):
             (f'refused Unsatisfied "{D}"\n', f"no signature of {D} is found, under its tag or among its referrers; sign it"),
             (f'refused Unsatisfied "{D}"\n{tag}', f"no signature of {D} is found, under its tag"),
             (f'refused Unsatisfied "{D}"\n{tag.replace(U, U + "0")}', f"no signature of {D} is found: {U}0 is answered with the status 500"),
-            (f'refused Unsatisfied "{D}"\ncollected sha256:b\n', f"of 1 signatures of {D} none is by a key given"),
+            (f'refused Unsatisfied "{D}"\ncollected sha256:b\n', f"no signature of {D} is by a key given, with the annotations asked (1 found); sign it"),
             (f'refused Unsatisfied "{D}"\nskipped Layer Tag "sha256:b" BadLogSignature\n', f"the signature sha256:b of {D} is refused as BadLogSignature"),
             (f'refused Unsatisfied "{D}"\nskipped Source Tag Refused RegistryPullManifestError "r.io/app:sha256-a.sig" TransportFault\n', f"no signature of {D} is found: the connection failed (why)"),
             (f'refused RegistryFetchManifestError "{S}" RegistryError 1 "{U}"\n', f"{U} is answered with the status 404; see whether name and tag are right"),
