@@ -1,11 +1,18 @@
 -- Frames that go out, one after another.
-use Rattle.std.proofs.Common.{◌≡◌, Bool, List, [], ◌∷◌, ◌++◌, length, suc, ◌≤◌, refl, subst, sym, codes, arith}
+use Rattle.std.proofs.Common.{◌≡◌, ℕ, Bool, List, [], ◌∷◌, ◌++◌, length, suc, ◌≤◌, append_assoc, refl, subst, sym, codes, arith}
+use Rattle.json_values.specs.Tray.{Tray, Adds}
+use Rattle.json_values.proofs.Sinks.{adds_more}
 use Rattle.oci_manifests.specs.declared.blob.ImageLayer.{ImageLayer}
 use Rattle.oci_manifests.specs.declared.descriptor.OciDescriptor.{OciDescriptor}
 use Rattle.cosign_chain.specs.declared.image.VerifiedImage.{VerifiedImage}
 use Rattle.live_host.specs.Heads.{item_head}
 use Rattle.live_host.specs.Items.{Sent, WereTold, blobs_sent, config_sent, image_sent, index_sent, layers_sent, manifest_sent, pulled_sent}
 use Rattle.live_host.specs.Wire.{Wire, Tells}
+
+-- a line, and then the bytes behind it
+pub told_behind : (line bytes : List ℕ) (old between end : Tray) → Adds (line ++ 10 ∷ []) old between → Adds bytes between end → Adds (line ++ 10 ∷ bytes) old end
+told_behind line bytes old between end first second =
+    subst (λ text. Adds text old end) (append_assoc line (10 ∷ []) bytes) (adds_more (line ++ 10 ∷ []) bytes old between end first second)
 
 pub told_both : (xs ys : List Sent) (a b c : Wire) → WereTold xs a b → WereTold ys b c → WereTold (xs ++ ys) a c
 told_both [] ys a b c first second = subst (λ w. WereTold ys w c) (sym first) second

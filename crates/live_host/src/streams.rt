@@ -1,11 +1,14 @@
 // The two streams between a program and its host, and frames over them that are no requests.
-ghost use Rattle.std.specs.Prelude.{◌≡◌, false, IfOk, IfErr, OnOk};
+ghost use Rattle.std.specs.Prelude.{◌≡◌, false, IfOk, IfErr, OnOk, IsErrOf};
 ghost use Rattle.serde_json.specs.Written.{has_float};
+ghost use Rattle.json_values.specs.Counts.{Rose};
+ghost use Rattle.json_values.specs.Tray.{Adds};
+ghost use Rattle.live_frames.specs.Frame.{frame_text};
 ghost use Rattle.live_host.specs.HostErrors.{HostCause};
 ghost use Rattle.live_host.specs.Wire.{wire, Hears, Tells};
 
 use json_tables::ReadError;
-use json_values::{Copied, Json, Sink, SinkError};
+use json_values::{Copied, Json, Sink, SinkError, put_all};
 use live_frames::{FrameError, read_frame, write_frame};
 use pull_edge::Source;
 use std::alloc::{AllocError, AllocFailed, Global};
@@ -71,6 +74,23 @@ pub struct Streams<S, K> {
     pub sink: K,
 }
 
+// Puts the line, and then the bytes as they stand, of which no copy is made.
+fn put_frame<K: Sink>(
+    alloc: Global,
+    sink: &mut K,
+    head: &Json,
+    bytes: &[u8],
+) -> Result<(), SinkError>
+    requires plain { has_float head.now ≡ false }
+    ensures whole { OnOk result (Adds (frame_text head.now bytes.now) (K.state sink.old) (K.state sink.new)) }
+    ensures fault { IsErrOf result SinkError.Failed
+        → Rose (K.state sink.old).faults (K.state sink.new).faults }
+{
+    write_frame(alloc, sink, head, &[])?;
+    put_all(sink, bytes)?;
+    Ok(())
+}
+
 /// Sends a frame: its line, and the bytes behind it.
 pub fn tell<S: Source, K: Sink>(
     alloc: Global,
@@ -83,7 +103,7 @@ pub fn tell<S: Source, K: Sink>(
         (wire S.state K.state streams.old) (wire S.state K.state streams.new)) }
     ensures cause { IfErr result (λ e. HostCause e (wire S.state K.state streams.new)) }
 {
-    match write_frame(alloc, &mut streams.sink, head, bytes) {
+    match put_frame(alloc, &mut streams.sink, head, bytes) {
         Ok(()) => Ok(()),
         Err(SinkError::Failed) => Err(HostError::Unwritten),
         Err(SinkError::WantOfMemory) => Err(HostError::WantOfMemory),
