@@ -1,4 +1,4 @@
-.PHONY: test run try program rows claims gate wrong-bodies bench allocations hostile
+.PHONY: test run try program core live host rows claims gate wrong-bodies bench allocations hostile
 
 # Proves every crate, tries the wrong bodies that must be refused, runs the tests, the stored runs and the recorded cases.
 test:
@@ -17,6 +17,18 @@ try:
 # Builds the program, which has to answer the image of the stored case.
 program:
 	cd crates/pull_program && rt run -- pull < stdin > /dev/null
+
+# Builds roksnaep-core, which bin/roksnaep asks.
+core:
+	cd crates/roksnaep_core && rt run < stdin > /dev/null
+
+# Pulls from a real registry on this machine, and sees what is refused: it needs docker-registry, openssl and skopeo.
+live: core host
+	tests/live --bench
+
+# Tests the host alone, over a core that believes everything.
+host:
+	tests/host/test_host.py
 
 # Runs it over the recorded cases.
 rows: program
@@ -51,7 +63,8 @@ bench: program
 allocations: program
 	tests/allocations
 
-# Runs it over registries that answer badly, and decides each chain a second time from the recorded bytes.
-hostile: program
+# Runs both programs over registries and hosts that answer badly, and decides each chain a second time from the recorded bytes.
+hostile: program core
 	python3 tests/chains.py
 	tests/hostile
+	tests/frames

@@ -1,0 +1,4 @@
+pub mod Asking
+pub mod Hearing
+pub mod Named
+pub mod Telling

@@ -1,0 +1,20 @@
+use Rattle.live_host.specs.Wire.{wire}
+use Rattle.live_host.proofs.Telling.{none_left, none_named, one_less, told_layer}
+use Rattle.live_host.proofs.items.give_layers.Goals as goal
+
+pub loop-descriptor-init : goal.loop-descriptor-init
+loop-descriptor-init g c = λ end h. h
+
+pub loop-descriptor-preserved : goal.loop-descriptor-preserved
+loop-descriptor-preserved g c = λ end h. c.loop-descriptor.invariant end
+    (told_layer c.loop-descriptor.named.now c.in-Some-Some.more.now c.loop-descriptor.rest.now c.in-Some-Some.others.now c.in-Some-Some.descriptor.now c.in-Some-Some.layer.now _ (wire g.S.Source.state g.K.Sink.state c.give.new.streams) end
+    c.in-Some-Some.ensures.cases.0 c.in-Some-Some.ensures'.cases.0 c.in_ok-give.ensures.told h)
+
+pub loop-descriptor-smaller : goal.loop-descriptor-smaller
+loop-descriptor-smaller g c = one_less c.loop-descriptor.rest.now c.in-Some-Some.others.now c.in-Some-Some.layer.now c.in-Some-Some.ensures'.cases.0
+
+pub returns-in_default-clause-told : goal.returns-in_default-clause-told
+returns-in_default-clause-told g c = c.loop-descriptor.invariant _ (none_left c.loop-descriptor.named.now c.loop-descriptor.rest.now _ c.in_default.ensures'.cases)
+
+pub returns-in_default-2-clause-told : goal.returns-in_default-2-clause-told
+returns-in_default-2-clause-told g c = c.loop-descriptor.invariant _ (none_named c.loop-descriptor.named.now c.loop-descriptor.rest.now _ c.in_default.ensures.cases)

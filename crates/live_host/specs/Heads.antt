@@ -1,0 +1,61 @@
+-- The frames that go out, each by its line.
+use Rattle.std.specs.Prelude.{ℕ, ℤ, List, [], ◌∷◌, Some, codes}
+use Rattle.base64.specs.Engines.{standard}
+use Rattle.base64.specs.GeneralPurpose.{encode_of}
+use Rattle.json_writing.specs.Fields.{Field, fields}
+use Rattle.serde_json.specs.Data.{Data, string, number, unsigned}
+use Rattle.serde_json.specs.Find.{of_integer}
+
+-- bytes in padded standard base64 (RFC 4648, 4)
+abbrev pub base64_text : List ℕ → List ℕ
+base64_text bytes = encode_of standard bytes
+
+abbrev pub text_field : List ℕ → List ℕ → Field
+text_field name text = (name, Some (string text))
+
+abbrev pub count_field : List ℕ → ℕ → Field
+count_field name n = (name, Some (number (unsigned n)))
+
+abbrev pub begin_head : Data
+begin_head = fields (text_field (codes "frame") (codes "begin") ∷ count_field (codes "version") 1 ∷ [])
+
+-- whether this key makes the signature valid for the bytes behind the line
+abbrev pub verify_head : List ℕ → List ℕ → ℕ → Data
+verify_head key signature count =
+    fields (text_field (codes "frame") (codes "verify")
+    ∷ text_field (codes "key") (base64_text key)
+    ∷ text_field (codes "signature") (base64_text signature)
+    ∷ count_field (codes "bytes") count
+    ∷ [])
+
+-- what is vouched of a certificate at a time, in seconds since 1970
+abbrev pub judge_head : List ℕ → ℤ → Data
+judge_head certificate time =
+    fields (text_field (codes "frame") (codes "judge")
+    ∷ text_field (codes "certificate") (base64_text certificate)
+    ∷ (codes "integrated_time", Some (number (of_integer time)))
+    ∷ [])
+
+-- bytes of an image, behind the line: the frame's name, their kind, their media type and their digest
+abbrev pub item_head : List ℕ → List ℕ → List ℕ → List ℕ → ℕ → Data
+item_head frame kind media_type digest count =
+    fields (text_field (codes "frame") frame
+    ∷ text_field (codes "kind") kind
+    ∷ text_field (codes "media_type") media_type
+    ∷ text_field (codes "digest") digest
+    ∷ count_field (codes "bytes") count
+    ∷ [])
+
+-- the digest that was answered, that of the manifest, and that of the signature layer's content
+abbrev pub pulled_head : List ℕ → List ℕ → List ℕ → Data
+pulled_head digest manifest signature =
+    fields (text_field (codes "frame") (codes "pulled")
+    ∷ text_field (codes "digest") digest
+    ∷ text_field (codes "manifest") manifest
+    ∷ text_field (codes "signature") signature
+    ∷ [])
+
+-- the lines of a refusal
+abbrev pub refused_head : List ℕ → Data
+refused_head report =
+    fields (text_field (codes "frame") (codes "refused") ∷ text_field (codes "report") report ∷ [])

@@ -1,0 +1,33 @@
+-- Why the host did not take or give a frame.
+use Rattle.std.specs.Prelude.{◌≡◌, ◌⊎◌, None}
+use Rattle.serde_json.specs.Data.{Data}
+use Rattle.json_values.specs.Counts.{Rose}
+use Rattle.json_tables.specs.declared.error.ReadError.{ReadError}
+use Rattle.json_tables.specs.declared.error.ReadError.TheVariants as read
+use Rattle.live_host.specs.Questions.{verified_of, answer_of}
+use Rattle.live_host.specs.Wire.{Wire, Hears, HearsNone}
+use Rattle.live_host.specs.declared.streams.HostError.{HostError}
+use Rattle.live_host.specs.declared.streams.HostError.TheVariants as host
+
+-- a frame that does not read is the host's fault
+abbrev pub host_error : ReadError → HostError
+host_error read.WantOfMemory = host.WantOfMemory
+host_error _ = host.Broken
+
+-- a frame came in that answers no question
+abbrev pub HearsOther : Wire → Wire → Type 0
+HearsOther old new = (d : Data) × Hears d old new × ((verified_of d ≡ None) ⊎ (answer_of d ≡ None))
+
+-- at the end no frame came in, or one that answers no question
+abbrev pub IsBroken : Wire → Type 0
+IsBroken new = (old : Wire) × (HearsNone old new ⊎ HearsOther old new)
+
+-- at the end the output failed
+abbrev pub IsUnwritten : Wire → Type 0
+IsUnwritten new = (old : Wire) × Rose old.tray.faults new.tray.faults
+
+-- why, as the streams are then
+abbrev pub HostCause : HostError → Wire → Type 0
+HostCause host.Broken wire = IsBroken wire
+HostCause host.Unwritten wire = IsUnwritten wire
+HostCause host.WantOfMemory wire = Unit {0}

@@ -1,0 +1,73 @@
+-- The frames that an image goes out as.
+use Rattle.std.specs.Prelude.{◌≡◌, ℕ, Bool, true, false, List, [], ◌∷◌, ◌++◌, length, Option, Some, None, codes, unwrap_or}
+use Rattle.serde_json.specs.Data.{Data}
+use Rattle.json_values.specs.JsonText.{plain_json_of}
+use Rattle.json_tables.specs.Reading.{◌>>=◌, text_at}
+use Rattle.oci_manifests.specs.declared.blob.ImageLayer.{ImageLayer}
+use Rattle.oci_manifests.specs.declared.descriptor.OciDescriptor.{OciDescriptor}
+use Rattle.cosign_chain.specs.declared.image.VerifiedImage.{VerifiedImage}
+use Rattle.live_host.specs.Heads.{item_head, pulled_head}
+use Rattle.live_host.specs.Wire.{Wire, Tells}
+
+-- a frame by its line and the bytes behind it
+abbrev pub Sent : Type 0
+Sent = Data × List ℕ
+
+-- these frames went out, one after another
+abbrev pub WereTold : List Sent → Wire → Wire → Type 0
+WereTold [] old new = old ≡ new
+WereTold (frame ∷ more) old new = (between : Wire) × Tells frame.0 frame.1 old between × WereTold more between new
+
+-- bytes of an image with their kind, their media type and their digest
+abbrev pub item : List ℕ → List ℕ → List ℕ → List ℕ → List ℕ → Sent
+item frame kind media_type digest bytes = (item_head frame kind media_type digest (length bytes), bytes)
+
+-- the media type that a document says of itself, or the usual one
+abbrev pub media_type_of : List ℕ → List ℕ → List ℕ
+media_type_of usual bytes = unwrap_or (plain_json_of bytes >>= text_at (codes "mediaType" ∷ [])) usual
+
+abbrev pub index_type : List ℕ
+index_type = codes "application/vnd.oci.image.index.v1+json"
+
+abbrev pub manifest_type : List ℕ
+manifest_type = codes "application/vnd.oci.image.manifest.v1+json"
+
+-- the name of a document's frame
+abbrev pub codes_document : List ℕ
+codes_document = codes "document"
+
+-- a document under its digest
+abbrev pub document : List ℕ → List ℕ → List ℕ → List ℕ → Sent
+document kind usual digest bytes = item (codes "document") kind (media_type_of usual bytes) digest bytes
+
+-- the index, where one led to the manifest
+abbrev pub index_sent : VerifiedImage → Option (List ℕ) → List Sent
+index_sent v None = []
+index_sent v (Some list) = document (codes "index") index_type list v.first ∷ []
+
+abbrev pub manifest_sent : VerifiedImage → Sent
+manifest_sent v = document (codes "manifest") manifest_type v.manifest_digest v.manifest_bytes
+
+abbrev pub config_sent : VerifiedImage → Sent
+config_sent v = item (codes "blob") (codes "config") v.config.media_type v.manifest.config.digest v.config.content
+
+-- each layer under the digest of its descriptor
+abbrev pub layers_sent : List OciDescriptor → List ImageLayer → List Sent
+layers_sent (x ∷ xs) (layer ∷ layers) =
+    item (codes "blob") (codes "layer") layer.media_type x.digest layer.content ∷ layers_sent xs layers
+layers_sent [] layers = []
+layers_sent xs [] = []
+
+-- where blobs are wanted
+abbrev pub blobs_sent : Bool → VerifiedImage → List Sent
+blobs_sent true v = layers_sent v.manifest.layers v.layers
+blobs_sent false v = []
+
+-- the end of an image
+abbrev pub pulled_sent : VerifiedImage → Sent
+pulled_sent v = (pulled_head v.digest v.manifest_digest v.signature.oci_digest, [])
+
+-- the documents, the configuration, the layers, and the end
+abbrev pub image_sent : Bool → VerifiedImage → List Sent
+image_sent blobs v =
+    index_sent v v.list_digest ++ manifest_sent v ∷ config_sent v ∷ (blobs_sent blobs v ++ pulled_sent v ∷ [])

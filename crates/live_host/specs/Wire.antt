@@ -1,0 +1,41 @@
+-- What stands between the program and its host: the bytes that come in, and those that go out.
+use Rattle.std.specs.Prelude.{◌≡◌, ℕ, List, [], Option, Some}
+use Rattle.serde_json.specs.Data.{Data}
+use Rattle.json_values.specs.Tray.{Tray, Adds}
+use Rattle.pull_edge.specs.Source.{Spring, Takes}
+use Rattle.live_host.specs.declared.streams.Streams.{Streams}
+use Rattle.live_frames.specs.Frame.{IsFrame, frame_text}
+use Rattle.live_frames.specs.Reading.{Stops}
+use Rattle.live_frames.specs.declared.reading.FrameError.{FrameError}
+use Rattle.live_frames.specs.declared.reading.FrameError.TheVariants.{WantOfMemory}
+
+pub record Wire : Type 0 where
+  pub spring : Spring
+  pub tray : Tray
+
+-- what two streams show, where sources and sinks show this
+abbrev pub wire : {S K : Type 0} → (S → Spring) → (K → Tray) → Streams S K → Wire
+wire spring tray streams = record { spring = spring streams.source; tray = tray streams.sink }
+
+-- this frame went out, and nothing came in
+abbrev pub Tells : Data → List ℕ → Wire → Wire → Type 0
+Tells head bytes old new = Adds (frame_text head bytes) old.tray new.tray × (new.spring ≡ old.spring)
+
+-- a frame without bytes came in, and nothing went out
+abbrev pub Hears : Data → Wire → Wire → Type 0
+Hears head old new = (text : List ℕ) × Takes text old.spring new.spring
+    × IsFrame 0 (record { head = head; bytes = [] }) text × (new.tray ≡ old.tray)
+
+-- what came in is no frame without bytes: the source failed or ended, or the line does not read
+abbrev pub HearsNone : Wire → Wire → Type 0
+HearsNone old new = (e : FrameError) × (text : List ℕ) × Takes text old.spring new.spring
+    × Stops 0 e text old.spring new.spring × (e ≡ WantOfMemory → ⊥)
+
+-- this frame went out, and then a frame came in that reads as this
+pub record Asks {X : Type 0} (head : Data) (bytes : List ℕ) (reads : Data → Option X) (x : X) (old new : Wire)
+    : Type 0 where
+  pub between : Wire
+  pub told : Tells head bytes old between
+  pub answer : Data
+  pub heard : Hears answer between new
+  pub is_read : reads answer ≡ Some x

@@ -1,0 +1,86 @@
+// What goes out of an image, piece by piece.
+ghost use Rattle.std.specs.Prelude.{◌≡◌, IfErr, OnOk, length};
+ghost use Rattle.live_host.specs.Heads.{item_head as head_of_item};
+ghost use Rattle.live_host.specs.HostErrors.{HostCause};
+ghost use Rattle.live_host.specs.Wire.{wire, Tells};
+ghost use Rattle.live_host.specs.Items.{WereTold, media_type_of, layers_sent, codes_document};
+
+use crate::heads::item_head;
+use crate::media_type::media_type_of;
+use crate::streams::{HostError, Streams, tell};
+use json_values::{Blob, Sink, Text};
+use oci_manifests::{ImageLayer, OciDescriptor};
+use pull_edge::Source;
+use std::alloc::Global;
+
+/// Sends bytes of an image under their digest.
+pub(crate) fn give<S: Source, K: Sink>(
+    alloc: Global,
+    streams: &mut Streams<S, K>,
+    frame: &str,
+    kind: &str,
+    media_type: &Text,
+    digest: &Text,
+    bytes: &Blob,
+) -> Result<(), HostError>
+    ensures told { OnOk result (Tells
+        (head_of_item frame.now kind.now media_type.now digest.now (length bytes.now)) bytes.now
+        (wire S.state K.state streams.old) (wire S.state K.state streams.new)) }
+    ensures cause { IfErr result (λ e. HostCause e (wire S.state K.state streams.new)) }
+{
+    let head = item_head(alloc, frame, kind, media_type, digest, bytes)?;
+    tell(alloc, streams, &head, bytes.as_slice())?;
+    Ok(())
+}
+
+/// Sends a document under its digest, with the media type that it says of itself, or the usual one.
+pub(crate) fn give_document<S: Source, K: Sink>(
+    alloc: Global,
+    streams: &mut Streams<S, K>,
+    kind: &str,
+    usual: &str,
+    digest: &Text,
+    bytes: &Blob,
+) -> Result<(), HostError>
+    ensures told { OnOk result (Tells
+        (head_of_item codes_document kind.now (media_type_of usual.now bytes.now) digest.now (length bytes.now))
+        bytes.now (wire S.state K.state streams.old) (wire S.state K.state streams.new)) }
+    ensures cause { IfErr result (λ e. HostCause e (wire S.state K.state streams.new)) }
+{
+    let media_type = media_type_of(alloc, usual, bytes.as_slice())?;
+    give(alloc, streams, "document", kind, &media_type, digest, bytes)?;
+    Ok(())
+}
+
+/// Sends each layer under the digest of its descriptor.
+pub(crate) fn give_layers<S: Source, K: Sink>(
+    alloc: Global,
+    streams: &mut Streams<S, K>,
+    descriptors: &[OciDescriptor],
+    layers: &[ImageLayer],
+) -> Result<(), HostError>
+    ensures told { OnOk result
+        (WereTold (layers_sent descriptors.now layers.now) (wire S.state K.state streams.old)
+        (wire S.state K.state streams.new)) }
+    ensures cause { IfErr result (λ e. HostCause e (wire S.state K.state streams.new)) }
+{
+    let mut named = descriptors;
+    let mut rest = layers;
+    while let (Some((descriptor, more)), Some((layer, others))) = (
+        named.split_first(),
+        rest.split_first(),
+    ) {
+        give(
+            alloc,
+            streams,
+            "blob",
+            "layer",
+            &layer.media_type,
+            &descriptor.digest,
+            &layer.content,
+        )?;
+        named = more;
+        rest = others;
+    }
+    Ok(())
+}

@@ -1,0 +1,22 @@
+//! What a program says to its host beside requests, and what the host answers: settings, questions about signatures
+//! and certificates, and an image as it goes out.
+#![tactic(auto)]
+
+mod answers;
+mod everyone;
+mod heads;
+mod image;
+mod items;
+mod log_text;
+mod media_type;
+mod names;
+mod questions;
+mod streams;
+
+pub use answers::{Answered, Answers, CertificateAnswer, SignatureAnswer};
+pub use everyone::Everyone;
+pub use heads::{begin_head, item_head, judge_head, pulled_head, refused_head, verify_head};
+pub use image::give_image;
+pub use names::is_frame;
+pub use questions::ask_layers;
+pub use streams::{HostError, Streams, hear, tell};

@@ -1,0 +1,130 @@
+// The two streams between a program and its host, and frames over them that are no requests.
+ghost use Rattle.std.specs.Prelude.{◌≡◌, false, IfOk, IfErr, OnOk, IsErrOf};
+ghost use Rattle.serde_json.specs.Written.{has_float};
+ghost use Rattle.json_values.specs.Counts.{Rose};
+ghost use Rattle.json_values.specs.Tray.{Adds};
+ghost use Rattle.live_frames.specs.Frame.{frame_text};
+ghost use Rattle.live_host.specs.HostErrors.{HostCause};
+ghost use Rattle.live_host.specs.Wire.{wire, Hears, Tells};
+
+use json_tables::ReadError;
+use json_values::{Copied, Json, Sink, SinkError, put_all};
+use live_frames::{FrameError, read_frame, write_frame};
+use pull_edge::Source;
+use std::alloc::{AllocError, AllocFailed, Global};
+use thiserror::Error;
+
+/// Why the host did not take or give a frame.
+#[derive(Clone, Copy, Debug, PartialEq, Eq, Error)]
+pub enum HostError {
+    /// The host's stream failed, ended, or gave what does not read.
+    #[error("the host broke off, or answered what does not read: look at its own message")]
+    Broken,
+    /// The output failed.
+    #[error("the output could not be written: see whether the host still runs")]
+    Unwritten,
+    /// The allocator had no memory.
+    #[error("out of memory: free some and try again")]
+    WantOfMemory,
+}
+
+impl Copied for HostError {
+    fn copy(&self, _alloc: Global) -> Result<HostError, AllocError> {
+        Ok(*self)
+    }
+}
+
+impl From<AllocError> for HostError {
+    ghost use Rattle.live_host.specs.declared.streams.HostError.TheVariants.{WantOfMemory};
+
+    ghost from_gives = { λ _ e. e ≡ WantOfMemory };
+
+    fn from(_error: AllocError) -> HostError {
+        HostError::WantOfMemory
+    }
+}
+
+impl<T: Drop> From<AllocFailed<T>> for HostError {
+    ghost use Rattle.live_host.specs.declared.streams.HostError.TheVariants.{WantOfMemory};
+
+    ghost from_gives = { λ _ e. e ≡ WantOfMemory };
+
+    fn from(_error: AllocFailed<T>) -> HostError {
+        HostError::WantOfMemory
+    }
+}
+
+impl From<ReadError> for HostError {
+    ghost use Rattle.live_host.specs.HostErrors.{host_error};
+
+    ghost from_gives = { λ error host. host ≡ host_error error };
+
+    fn from(error: ReadError) -> HostError {
+        match error {
+            ReadError::WantOfMemory => HostError::WantOfMemory,
+            _ => HostError::Broken,
+        }
+    }
+}
+
+/// The bytes that come in of a host, and those that go out to it.
+#[derive(Drop)]
+pub struct Streams<S, K> {
+    pub source: S,
+    pub sink: K,
+}
+
+// Puts the line, and then the bytes as they stand, of which no copy is made.
+fn put_frame<K: Sink>(
+    alloc: Global,
+    sink: &mut K,
+    head: &Json,
+    bytes: &[u8],
+) -> Result<(), SinkError>
+    requires plain { has_float head.now ≡ false }
+    ensures whole { OnOk result (Adds (frame_text head.now bytes.now) (K.state sink.old) (K.state sink.new)) }
+    ensures fault { IsErrOf result SinkError.Failed
+        → Rose (K.state sink.old).faults (K.state sink.new).faults }
+{
+    write_frame(alloc, sink, head, &[])?;
+    put_all(sink, bytes)?;
+    Ok(())
+}
+
+/// Sends a frame: its line, and the bytes behind it.
+pub fn tell<S: Source, K: Sink>(
+    alloc: Global,
+    streams: &mut Streams<S, K>,
+    head: &Json,
+    bytes: &[u8],
+) -> Result<(), HostError>
+    requires plain { has_float head.now ≡ false }
+    ensures told { OnOk result (Tells head.now bytes.now
+        (wire S.state K.state streams.old) (wire S.state K.state streams.new)) }
+    ensures cause { IfErr result (λ e. HostCause e (wire S.state K.state streams.new)) }
+{
+    match put_frame(alloc, &mut streams.sink, head, bytes) {
+        Ok(()) => Ok(()),
+        Err(SinkError::Failed) => Err(HostError::Unwritten),
+        Err(SinkError::WantOfMemory) => Err(HostError::WantOfMemory),
+    }
+}
+
+/// The next frame, which has no bytes behind it: the object of its line.
+pub fn hear<S: Source, K: Sink>(
+    alloc: Global,
+    streams: &mut Streams<S, K>,
+) -> Result<Json, HostError>
+    ensures heard { IfOk result (λ head. Hears head
+        (wire S.state K.state streams.old) (wire S.state K.state streams.new)) }
+    ensures cause { IfErr result (λ e. HostCause e (wire S.state K.state streams.new)) }
+{
+    match read_frame(alloc, &mut streams.source, 0) {
+        Ok(frame) => Ok(frame.head),
+        Err(FrameError::WantOfMemory) => Err(HostError::WantOfMemory),
+        Err(FrameError::SourceFault) => Err(HostError::Broken),
+        Err(FrameError::Ended) => Err(HostError::Broken),
+        Err(FrameError::TooLong) => Err(HostError::Broken),
+        Err(FrameError::NoFrame) => Err(HostError::Broken),
+    }
+}

@@ -1,0 +1,92 @@
+-- The search and the pull of a live pull, and what they ask by the frames that go out.
+use Rattle.std.specs.Prelude.{◌≡◌, ℕ, false, List, [], Option, Some, None, Result, Ok, Err, codes}
+use Rattle.oci_auth.specs.Memory.{fresh as nothing_kept}
+use Rattle.oci_names.specs.declared.reference.Reference.{Reference}
+use Rattle.oci_transport.specs.declared.message.Exchange.{Exchange}
+use Rattle.oci_protocol.specs.Proto.{Proto}
+use Rattle.oci_protocol.specs.Runs.{Runs}
+use Rattle.engine_requests.specs.Contexts.{Context, within}
+use Rattle.engine_requests.specs.declared.settings.Settings.{Settings}
+use Rattle.sig_registry.specs.Clients.{Kept, Row, none_kept}
+use Rattle.sig_registry.specs.declared.error.SigstoreError.{SigstoreError}
+use Rattle.cosign_layers.specs.Standing.{Meaning, meaning}
+use Rattle.cosign_layers.specs.Trust.{Trust, trust}
+use Rattle.cosign_layers.specs.declared.layer.SignatureLayer.{SignatureLayer}
+use Rattle.cosign_layers.specs.declared.policy.PullPolicy.{PullPolicy}
+use Rattle.cosign_chain.specs.declared.image.VerifiedImage.{VerifiedImage}
+use Rattle.cosign_client.specs.Search.{searched}
+use Rattle.cosign_client.specs.Verified.{Whole, verified}
+use Rattle.cosign_client.specs.declared.found.TrustedLayers.{TrustedLayers}
+use Rattle.live_link.specs.State.{Held}
+use Rattle.live_link.specs.declared.stage.Breach.{Breach}
+use Rattle.live_host.specs.Answers.{valid_by, vouched_by}
+use Rattle.live_host.specs.Everyone.{everyone}
+use Rattle.live_host.specs.Wire.{Wire}
+use Rattle.live_host.specs.declared.answers.Answers.{Answers}
+use Rattle.pull_case.specs.Policy.{constraints_by}
+use Rattle.pull_live.specs.declared.settings.LiveSettings.{LiveSettings}
+
+-- the limit of a body that is held, or the usual one
+abbrev pub limit_by : Option ℕ → ℕ
+limit_by None = 4294967295
+limit_by (Some limit) = limit
+
+-- the settings of the client
+abbrev pub client_settings : LiveSettings → Settings
+client_settings settings = record {
+  protocol = settings.protocol;
+  user_agent = codes "oci-client/0.18.0";
+  max_body_bytes = limit_by settings.limit;
+  platform_resolver = settings.platform;
+}
+
+abbrev pub context_of : LiveSettings → Context
+context_of settings = within (client_settings settings) settings.moment
+
+-- a client that keeps answers, and none yet
+abbrev pub fresh : Kept
+fresh = (nothing_kept 60, Some (none_kept None))
+
+-- the policy; no box of a caller stands in it
+abbrev pub policy_of : LiveSettings → PullPolicy ⊥ (λ v. ⊥)
+policy_of settings = record { keys = settings.keys; constraints = constraints_by settings.constraints }
+
+-- whom the host's answers make us trust
+abbrev pub trust_of : LiveSettings → Answers → Trust
+trust_of settings answers = trust (valid_by answers) (vouched_by answers) settings.log_keys
+
+abbrev pub meaning_of : LiveSettings → Answers → Meaning ⊥ (λ v. ⊥)
+meaning_of settings answers = meaning (policy_of settings) (λ box layer. false) (trust_of settings answers)
+
+-- the search for all layers that a signature may make stand
+abbrev pub search_row : LiveSettings → Reference → Row TrustedLayers
+search_row settings image = searched (everyone settings.log_keys) (context_of settings) image settings.auth
+
+-- the pull under the host's answers
+abbrev pub pull_row : LiveSettings → Answers → Reference → Whole VerifiedImage
+pull_row settings answers image =
+    verified (meaning_of settings answers) (context_of settings) image settings.auth settings.accepted
+
+-- What went out and came in are the frames of these exchanges, where the streams tell their bytes.
+abbrev pub Carries : List Exchange → Wire → Wire → Type 0
+Carries c old new = (taken left : List ℕ) → old.tray.taken ≡ Some taken → old.spring.left ≡ Some left
+    → (breach : Option Breach) × ∥ Held taken left new.tray new.spring breach c ∥₁
+
+-- a whole run of this row, by the frames that went out and came in
+pub record Transfer {A : Type 0} (row : Proto Kept A) (old new : Wire) (k l : Kept) (a : A) : Type 0 where
+  pub conversation : List Exchange
+  pub faults : ℕ
+  pub runs : Runs row k 0 conversation faults l a
+  pub carried : Carries conversation old new
+
+-- the layers that a search found, none where it was refused
+abbrev pub collected_of : Result TrustedLayers SigstoreError → List SignatureLayer
+collected_of (Ok found) = found.collected
+collected_of (Err e) = []
+
+-- these layers were found
+pub record Collects (row : Row TrustedLayers) (old new : Wire) (k l : Kept) (layers : List SignatureLayer)
+    : Type 0 where
+  pub answer : Result TrustedLayers SigstoreError
+  pub transfer : Transfer row old new k l answer
+  pub are : layers ≡ collected_of answer

@@ -1,0 +1,34 @@
+-- What the conversations of a live pull show.
+use Rattle.std.specs.Prelude.{ℕ, List, Some, Result, Ok, Err}
+use Rattle.oci_names.specs.declared.reference.Reference.{Reference}
+use Rattle.oci_auth.specs.declared.auth.RegistryAuth.{RegistryAuth}
+use Rattle.oci_transport.specs.declared.message.Exchange.{Exchange}
+use Rattle.engine_requests.specs.Contexts.{Context}
+use Rattle.engine_laws.specs.Confined.{Within}
+use Rattle.engine_laws.specs.Held.{pulling}
+use Rattle.sig_registry.specs.Clients.{Kept}
+use Rattle.cosign_layers.specs.Standing.{Meaning}
+use Rattle.cosign_chain.specs.Chain.{Chain}
+use Rattle.cosign_chain.specs.declared.image.VerifiedImage.{VerifiedImage}
+use Rattle.cosign_client.specs.Causes.{PullCause}
+use Rattle.cosign_client.specs.Points.{point}
+use Rattle.cosign_client.specs.Sound.{Backed}
+use Rattle.cosign_client.specs.declared.refusal.PullRefusal.{PullRefusal}
+use Rattle.live_host.specs.Wire.{Wire}
+use Rattle.pull_live.specs.Pulls.{Carries}
+
+-- what went out and came in are the frames of exchanges of which this is so
+abbrev pub Shown : (List Exchange → Type 0) → Wire → Wire → Type 0
+Shown P old new = (c : List Exchange) × Carries c old new × P c
+
+-- credentials and tokens went to the image's registry and to the realm that it names
+abbrev pub Confined : Context → Reference → RegistryAuth → Kept → Kept → Wire → Wire → Type 0
+Confined s image a k l old new = Shown (λ c. Within (pulling k.0 s image (Some a)) s.settings l.0 c) old new
+
+-- an image has its chain and comes of its conversation; a refusal has its cause there
+abbrev pub Founded : {V : Type 0} {H : V → Type 0} → Meaning V H → Context → Reference → RegistryAuth → List (List ℕ)
+    → Kept → Kept → Result VerifiedImage PullRefusal → Wire → Wire → Type 0
+Founded meaning s image a accepted k l (Ok v) old new =
+    Chain meaning image accepted s.settings.platform_resolver v × Shown (λ c. Backed k s image a c v) old new
+Founded meaning s image a accepted k l (Err e) old new =
+    (n : ℕ) × Shown (λ c. PullCause meaning s image a accepted (point k 0) c (point l n) e) old new

@@ -1,0 +1,21 @@
+-- The statuses that a live pull ends with.
+use Rattle.std.specs.Prelude.{ℕ}
+use Rattle.live_host.specs.declared.streams.HostError.{HostError}
+use Rattle.live_host.specs.declared.streams.HostError.TheVariants as host
+use Rattle.pull_live.specs.declared.status.Status.{Status}
+use Rattle.pull_live.specs.declared.status.Status.TheVariants as status
+
+-- the number of a status
+abbrev pub code_of : Status → ℕ
+code_of status.Pulled = 0
+code_of status.Refused = 1
+code_of status.UnreadableSettings = 3
+code_of status.HostBroken = 4
+code_of status.SinkFault = 5
+code_of status.WantOfMemory = 6
+
+-- the status where the host did not take or give a frame
+abbrev pub status_of : HostError → Status
+status_of host.Broken = status.HostBroken
+status_of host.Unwritten = status.SinkFault
+status_of host.WantOfMemory = status.WantOfMemory

@@ -1,0 +1,54 @@
+-- What a pull asks for, whatever a policy's boxes mean.
+use Rattle.std.specs.Prelude.{◌≡◌, ℕ, false, List, Result, Ok, Err}
+use Rattle.std.specs.FinMap.{FinMap}
+use Rattle.json_values.specs.Places.{by_bytes}
+use Rattle.engine_requests.specs.Contexts.{within}
+use Rattle.engine_requests.specs.declared.settings.Settings.{Settings}
+use Rattle.sig_registry.specs.Clients.{Kept}
+use Rattle.sig_registry.specs.Errors.{is_memory as of_memory}
+use Rattle.sig_settings.specs.Auths.{registry_auth}
+use Rattle.sig_registry.specs.Direct.{reference_in}
+use Rattle.sig_registry.specs.declared.error.SigstoreError.{SigstoreError}
+use Rattle.cosign_layers.specs.Standing.{Owns, meaning}
+use Rattle.cosign_layers.specs.Trust.{trust}
+use Rattle.cosign_chain.specs.declared.image.VerifiedImage.{VerifiedImage}
+use Rattle.cosign_client.specs.Refusal.{is_memory}
+use Rattle.cosign_client.specs.Verified.{Whole, verified}
+use Rattle.cosign_client.specs.declared.found.TrustedLayers.{TrustedLayers}
+use Rattle.cosign_client.specs.declared.refusal.PullRefusal.{PullRefusal}
+use Rattle.live_host.specs.Answers.{valid_by, vouched_by}
+use Rattle.live_host.specs.Wire.{Wire}
+use Rattle.live_host.specs.declared.answers.Answers.{Answers}
+use Rattle.pull_live.specs.Pulls.{Transfer}
+use Rattle.pull_live.specs.Shows.{Confined, Founded}
+use Rattle.pull_live.specs.declared.pulls.Terms.{Terms}
+
+-- the pull that these terms ask for, under the host's answers, by a client of these settings that knows these logs
+abbrev pub row_for : {V : Type 0} {H : V → Type 0}
+    → Owns V H → Terms V H → Answers → FinMap by_bytes (List ℕ) → Settings → Whole VerifiedImage
+row_for own terms answers log_keys settings =
+    verified (meaning terms.policy own (trust (valid_by answers) (vouched_by answers) log_keys))
+    (within settings terms.moment) (reference_in terms.image) (registry_auth terms.auth) terms.accepted
+
+-- memory was not wanting in a search
+abbrev pub IsWhole : Result TrustedLayers SigstoreError → Type 0
+IsWhole (Ok found) = Unit {0}
+IsWhole (Err e) = of_memory e ≡ false
+
+-- a pull was made whole, unless memory was wanting
+abbrev pub PulledBy : Whole VerifiedImage → Wire → Wire → Kept → Kept → Result VerifiedImage PullRefusal → Type 0
+PulledBy row old new k l (Ok v) = Transfer row old new k l (Ok v)
+PulledBy row old new k l (Err e) = is_memory e ≡ false → Transfer row old new k l (Err e)
+
+-- credentials go where they may
+abbrev pub TermsConfined : {V : Type 0} {H : V → Type 0} → Terms V H → Settings → Kept → Kept → Wire → Wire → Type 0
+TermsConfined terms settings =
+    Confined (within settings terms.moment) (reference_in terms.image) (registry_auth terms.auth)
+
+-- what the pull that these terms ask for shows: its image is founded or its refusal has its cause, and it is confined
+abbrev pub PullShows : {V : Type 0} {H : V → Type 0} → Owns V H → Terms V H → Answers → FinMap by_bytes (List ℕ)
+    → Settings → Kept → Kept → Result VerifiedImage PullRefusal → Wire → Wire → Type 0
+PullShows own terms answers log_keys settings k l r old new =
+    Founded (meaning terms.policy own (trust (valid_by answers) (vouched_by answers) log_keys))
+    (within settings terms.moment) (reference_in terms.image) (registry_auth terms.auth) terms.accepted k l r old new
+    × TermsConfined terms settings k l old new

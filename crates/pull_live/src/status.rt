@@ -1,0 +1,63 @@
+// The statuses that a live pull ends with.
+ghost use Rattle.std.specs.Prelude.{◌≡◌};
+ghost use Rattle.pull_live.specs.Status.{code_of};
+
+use live_host::HostError;
+use std::alloc::AllocError;
+
+/// How a live pull ended.
+#[derive(Clone, Copy, Debug, PartialEq, Eq)]
+pub enum Status {
+    /// The image was pulled, and went out.
+    Pulled,
+    /// The pull was refused, and the refusal went out.
+    Refused,
+    /// The settings do not read.
+    UnreadableSettings,
+    /// The host's stream failed, ended, or gave what does not read.
+    HostBroken,
+    /// The output failed.
+    SinkFault,
+    /// Memory was wanting.
+    WantOfMemory,
+}
+
+impl Status {
+    /// The number with which the process ends.
+    pub fn code(self) -> u8
+        ensures { result ≡ code_of self }
+    {
+        match self {
+            Status::Pulled => 0,
+            Status::Refused => 1,
+            Status::UnreadableSettings => 3,
+            Status::HostBroken => 4,
+            Status::SinkFault => 5,
+            Status::WantOfMemory => 6,
+        }
+    }
+}
+
+impl From<HostError> for Status {
+    ghost use Rattle.pull_live.specs.Status.{status_of};
+
+    ghost from_gives = { λ error status. status ≡ status_of error };
+
+    fn from(error: HostError) -> Status {
+        match error {
+            HostError::Broken => Status::HostBroken,
+            HostError::Unwritten => Status::SinkFault,
+            HostError::WantOfMemory => Status::WantOfMemory,
+        }
+    }
+}
+
+impl From<AllocError> for Status {
+    ghost use Rattle.pull_live.specs.declared.status.Status.TheVariants.{WantOfMemory};
+
+    ghost from_gives = { λ _ status. status ≡ WantOfMemory };
+
+    fn from(_error: AllocError) -> Status {
+        Status::WantOfMemory
+    }
+}

@@ -1,0 +1,32 @@
+//! The program: `run` of `pull_live` over standard input and output.
+#![tactic(auto)]
+
+pub use live_host::Streams;
+pub use pull_edge::{StdSink, StdSource};
+pub use pull_live::{Ended, Status, run};
+use std::process::ExitCode;
+
+// What a status other than 0 and 1 means, and what to do.
+fn advice(status: u8) -> &'static str {
+    match status {
+        3 => "the settings do not read: see docs/HOST.md for their members",
+        4 => "the host's stream failed, or a frame of it does not read: see docs/HOST.md",
+        5 => "the output could not be written: see whether the host still runs",
+        6 => "out of memory",
+        _ => "",
+    }
+}
+
+fn main(rt: HostRuntime) -> ExitCode {
+    let streams = Streams {
+        source: StdSource::new(rt.stdin()),
+        sink: StdSink::new(rt.stdout()),
+    };
+    let ended = run(rt.alloc(), streams);
+    let status = ended.status.code();
+    if status > 1 {
+        // The status says it too, so nothing is lost where the line cannot be written.
+        let _ = eprintln!(rt; "{}", advice(status));
+    }
+    ExitCode::from(status)
+}

@@ -1,0 +1,1 @@
+"""The host of `roksnaep-core`: connections, signature arithmetic, the clock and files. What is pulled the core decides."""
