@@ -81,7 +81,7 @@ abbrev pub Finished : Whole VerifiedImage → Showing → Bool → Kept → Wire
     → Type 0
 Finished row Shows blobs k old new r =
     (pulled : Wire) × (l : Kept) × Transfer row old pulled k l r × Shows k l r old pulled
-        × OutcomeTold blobs r pulled new
+    × OutcomeTold blobs r pulled new
 
 -- the search that these terms ask for
 abbrev pub searched_by : {V : Type 0} {H : V → Type 0}
