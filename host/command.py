@@ -124,10 +124,9 @@ def run(core: Core, option: argparse.Namespace, first: Frame, layout: Layout | N
             sentence = Refusals(network.statuses, network.failure).sentence(option.reference, end["report"])
             tell(option, "refused", sentence, end)
             return 1
-        outcome = "pulled" if layout else "verified"
         if layout:
             layout.finish(option.reference, end["digest"])
-        place = f" to {layout.target}" if layout else ""
+        outcome, place = ("pulled", f" to {layout.target}") if layout else ("verified", "")
         tell(option, outcome, f"{option.reference} is {outcome}{place}: {end['digest']}, signed by {end['signature']}", end)
         return 0
     except (BrokenPipeError, LookupError, TypeError, ValueError):
@@ -150,14 +149,15 @@ def main(words: list[str]) -> int:
     for number in (signal.SIGINT, signal.SIGTERM, signal.SIGALRM):
         signal.signal(number, stop)
     signal.alarm(option.deadline)
-    with contextlib.ExitStack() as after:
-        try:
+    try:
+        with contextlib.ExitStack() as after:
             first, layout = settings(option), None
             if option.word == "pull":
                 layout = Layout(option.out or Path(re.split("[:@]", option.reference.rpartition("/")[2])[0]))
                 after.callback(shutil.rmtree, layout.folder, ignore_errors=True)
             core = Core(find_core())
             after.callback(core.process.kill)
-            return run(core, option, first, layout)
-        except (OSError, ValueError) as error:
-            usage.error(str(error))
+            status = run(core, option, first, layout)
+        return status
+    except (OSError, ValueError) as error:
+        usage.error(str(error))

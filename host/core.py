@@ -30,7 +30,8 @@ class Core:
 
     def read(self) -> Frame:
         """The next frame; ValueError where the core ended."""
-        return json.loads(self.output.readline(LINE + 1))
+        frame: Frame = json.loads(self.output.readline(LINE + 1))
+        return frame
 
     def body(self, frame: Frame) -> Iterator[bytes]:
         """The bytes behind a frame, in pieces."""

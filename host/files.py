@@ -41,7 +41,7 @@ def kept_credentials(registry: str) -> tuple[str, str] | None:
     try:
         entries = json.loads(path.read_text()).get("auths", {}) if path.exists() else {}
         found = (entries[name].get("auth") for host in hosts for form in FORMS if (name := form.format(host)) in entries)
-        user, colon, password = base64.b64decode(next(found, None) or "").decode().partition(":")
+        user, colon, password = base64.b64decode(next(found, "") or "").decode().partition(":")
     except (ValueError, AttributeError) as error:
         raise OSError(f"{path} does not read: {error}") from None
     return (user, password) if colon else None
