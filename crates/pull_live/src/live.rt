@@ -19,7 +19,7 @@ use live_host::{Answers, HostError, Streams, ask_layers, begin_head, give_image,
 use pull_case::case_policy;
 use pull_edge::Source;
 use sig_registry::Auth;
-use std::alloc::{AllocError, Global};
+use std::alloc::Global;
 
 /// How a live pull ended, and the streams as they are then.
 #[derive(Drop)]
@@ -33,27 +33,6 @@ pub struct Ended<S, K> {
 struct Prepared {
     client: Client,
     terms: Terms,
-}
-
-fn prepare(alloc: Global, settings: LiveSettings) -> Result<Prepared, AllocError>
-    requires { IsReady settings }
-    ensures { IfOk result (Prepares settings) }
-{
-    let terms = Terms {
-        moment: settings.moment,
-        image: image_in(alloc, settings.reference.as_str())?,
-        auth: Auth::from_registry(alloc, &settings.auth)?,
-        accepted: settings.accepted,
-        policy: case_policy(alloc, settings.keys, settings.constraints.as_slice())?,
-    };
-    let client = fresh_client(
-        alloc,
-        settings.protocol,
-        settings.limit,
-        settings.platform,
-        settings.log_keys,
-    )?;
-    Ok(Prepared { client, terms })
 }
 
 // What a frame says, where it is settings.
@@ -216,13 +195,32 @@ fn serve<S: Source, K: Sink>(
         result.status (wire S.state K.state result.streams) }
 {
     let blobs = settings.blobs;
-    match prepare(alloc, settings) {
-        Ok(prepared) => {
-            let mut prepared = prepared;
-            converse(alloc, streams, &mut prepared, blobs)
-        }
-        Err(_) => end_with(Status::WantOfMemory, streams),
-    }
+    let image = match image_in(alloc, settings.reference.as_str()) {
+        Ok(image) => image,
+        Err(_) => return end_with(Status::WantOfMemory, streams),
+    };
+    let auth = match Auth::from_registry(alloc, &settings.auth) {
+        Ok(auth) => auth,
+        Err(_) => return end_with(Status::WantOfMemory, streams),
+    };
+    let policy = match case_policy(alloc, settings.keys, settings.constraints.as_slice()) {
+        Ok(policy) => policy,
+        Err(_) => return end_with(Status::WantOfMemory, streams),
+    };
+    let (limit, log_keys) = (settings.limit, settings.log_keys);
+    let client = match fresh_client(alloc, settings.protocol, limit, settings.platform, log_keys) {
+        Ok(client) => client,
+        Err(_) => return end_with(Status::WantOfMemory, streams),
+    };
+    let terms = Terms {
+        moment: settings.moment,
+        image,
+        auth,
+        accepted: settings.accepted,
+        policy,
+    };
+    let mut prepared = Prepared { client, terms };
+    converse(alloc, streams, &mut prepared, blobs)
 }
 
 /// Pulls an image with a host, which makes the connections and the arithmetic of signatures, and has the clock: reads
