@@ -1,9 +1,10 @@
 // Pulls over a shelf that fails.
-use cosign_client::{ClientBuilder, PullRefusal, VerifiedImage};
+use cosign_client::{Client, ClientBuilder, PullRefusal, VerifiedImage};
 use cosign_layers::{PullPolicy, TableJudge, TableVerifier};
-use json_values::{Copied, List, Text};
+use json_values::{Blob, Copied, List, Text};
 use oci_link::{FaultyShelf, Shelf};
 use oci_transport::Transport;
+use pull_report::write_outcome;
 use sig_registry::{Auth, ClientConfig, ClientProtocol, OciReference};
 use std::alloc::{AllocError, Global};
 
@@ -20,12 +21,50 @@ pub struct Terms {
     pub moment: u64,
 }
 
-/// What a pull came to.
+/// What a pull came to: how many requests and faults, and its outcome as a report has it.
 #[derive(Drop)]
 pub struct Pulled {
     pub requests: u64,
     pub faults: u64,
-    pub outcome: Result<VerifiedImage, PullRefusal>,
+    pub lines: Blob,
+}
+
+fn fresh_client(alloc: Global) -> Result<Client, AllocError> {
+    let mut config = ClientConfig::default();
+    config.protocol = ClientProtocol::Http;
+    ClientBuilder::new()
+        .with_oci_client_config(config)
+        .build(alloc)
+}
+
+fn lines_of(
+    alloc: Global,
+    outcome: &Result<VerifiedImage, PullRefusal>,
+) -> Result<Blob, AllocError> {
+    let mut lines = Blob::empty(alloc);
+    write_outcome(alloc, &mut lines, outcome)?;
+    Ok(lines)
+}
+
+// The outcome of a pull over this transport.
+fn outcome_over(
+    alloc: Global,
+    terms: &Terms,
+    transport: &mut FaultyShelf,
+) -> Result<Blob, AllocError> {
+    let mut client = fresh_client(alloc)?;
+    let outcome = client.verified_pull(
+        alloc,
+        transport,
+        terms.moment,
+        &terms.image,
+        &terms.auth,
+        terms.accepted.as_slice(),
+        &terms.policy,
+        &terms.verifier,
+        &terms.judge,
+    );
+    lines_of(alloc, &outcome)
 }
 
 /// Pulls by a fresh client over the shelf, which fails at these numbers of sends and of calls for a piece. None where
@@ -41,25 +80,10 @@ pub fn pull_over(
         return Ok(None);
     }
     let mut transport = FaultyShelf::new(alloc, shelf, sends, pieces);
-    let mut config = ClientConfig::default();
-    config.protocol = ClientProtocol::Http;
-    let mut client = ClientBuilder::new()
-        .with_oci_client_config(config)
-        .build(alloc)?;
-    let outcome = client.verified_pull(
-        alloc,
-        &mut transport,
-        terms.moment,
-        &terms.image,
-        &terms.auth,
-        terms.accepted.as_slice(),
-        &terms.policy,
-        &terms.verifier,
-        &terms.judge,
-    );
+    let lines = outcome_over(alloc, terms, &mut transport)?;
     Ok(Some(Pulled {
         requests: transport.conversation().as_slice().len() as u64,
         faults: transport.faults(),
-        outcome,
+        lines,
     }))
 }

@@ -4,7 +4,7 @@ use cosign_layers::TableVerifier;
 use json_values::{Blob, List, write_decimal};
 use oci_link::Shelf;
 use pull_case::{Case, Registry, case_policy};
-use pull_report::{text_line, write_outcome};
+use pull_report::text_line;
 use sig_registry::{Auth, OciReference};
 use std::alloc::{AllocError, Global};
 
@@ -34,7 +34,7 @@ fn number_line(alloc: Global, out: &mut Blob, label: &str, number: u64) -> Resul
 
 fn write_pulled(alloc: Global, out: &mut Blob, pulled: &Pulled) -> Result<(), AllocError> {
     number_line(alloc, out, "requests", pulled.requests)?;
-    write_outcome(alloc, out, &pulled.outcome)
+    out.append(pulled.lines.as_slice())
 }
 
 fn one(alloc: Global, number: u64) -> Result<List<u64>, AllocError> {
@@ -76,6 +76,13 @@ fn write_pieces(alloc: Global, out: &mut Blob, terms: &Terms) -> Result<(), Allo
     Ok(())
 }
 
+fn tables_over(alloc: Global, terms: &Terms) -> Result<Blob, AllocError> {
+    let mut out = Blob::empty(alloc);
+    write_sends(alloc, &mut out, terms)?;
+    write_pieces(alloc, &mut out, terms)?;
+    Ok(out)
+}
+
 /// Both tables, where the case's registry is in memory. They are of the case's first moment.
 pub fn write_tables(alloc: Global, case: Case) -> Result<Option<Blob>, AllocError> {
     let image = image_in(alloc, case.reference.as_str())?;
@@ -97,8 +104,6 @@ pub fn write_tables(alloc: Global, case: Case) -> Result<Option<Blob>, AllocErro
         shelf,
         moment,
     };
-    let mut out = Blob::empty(alloc);
-    write_sends(alloc, &mut out, &terms)?;
-    write_pieces(alloc, &mut out, &terms)?;
-    Ok(Some(out))
+    let tables = tables_over(alloc, &terms)?;
+    Ok(Some(tables))
 }
