@@ -2,6 +2,7 @@
 use crate::pulls::{Pulled, Terms, pull_over};
 use cosign_layers::TableVerifier;
 use json_values::{Blob, List, write_decimal};
+use oci_link::Shelf;
 use pull_case::{Case, Registry, case_policy};
 use pull_report::{text_line, write_outcome};
 use sig_registry::{Auth, OciReference};
@@ -10,9 +11,16 @@ use std::alloc::{AllocError, Global};
 /// How many pieces may fail, one a pull, before the table ends anyway.
 const MOST_PIECES: u64 = 1000;
 
+fn shelf_of(registry: Registry) -> Option<Shelf> {
+    match registry {
+        Registry::Shelf(shelf) => Some(shelf),
+        Registry::Answers(_answers) => None,
+    }
+}
+
 // What a case asks for, where its registry is a shelf.
 fn terms_of(alloc: Global, case: Case) -> Result<Option<Terms>, AllocError> {
-    let Registry::Shelf(shelf) = case.registry else {
+    let Some(shelf) = shelf_of(case.registry) else {
         return Ok(None);
     };
     let Ok(image) = OciReference::parse(alloc, case.reference.as_str()) else {
