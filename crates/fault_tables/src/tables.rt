@@ -11,6 +11,7 @@ use std::alloc::{AllocError, Global};
 /// How many pieces may fail, one a pull, before the table ends anyway.
 const MOST_PIECES: u64 = 1000;
 
+// The registry in memory of a case that has one.
 fn shelf_of(registry: Registry) -> Option<Shelf> {
     match registry {
         Registry::Shelf(shelf) => Some(shelf),
@@ -18,26 +19,12 @@ fn shelf_of(registry: Registry) -> Option<Shelf> {
     }
 }
 
-// What a case asks for, where its registry is a shelf.
-fn terms_of(alloc: Global, case: Case) -> Result<Option<Terms>, AllocError> {
-    let Some(shelf) = shelf_of(case.registry) else {
-        return Ok(None);
-    };
-    let Ok(image) = OciReference::parse(alloc, case.reference.as_str()) else {
-        return Err(AllocError);
-    };
-    Ok(Some(Terms {
-        image,
-        auth: Auth::from_registry(alloc, &case.auth)?,
-        accepted: case.accepted,
-        policy: case_policy(alloc, case.keys, case.constraints.as_slice())?,
-        verifier: TableVerifier {
-            rows: case.signatures,
-        },
-        judge: case.vouched,
-        shelf,
-        moment: case.moments.as_slice().first().copied().unwrap_or(0),
-    }))
+// A case that was read has a reference that reads.
+fn image_in(alloc: Global, text: &str) -> Result<OciReference, AllocError> {
+    match OciReference::parse(alloc, text) {
+        Ok(image) => Ok(image),
+        Err(_refusal) => Err(AllocError),
+    }
 }
 
 fn number_line(alloc: Global, out: &mut Blob, label: &str, number: u64) -> Result<(), AllocError> {
@@ -89,10 +76,26 @@ fn write_pieces(alloc: Global, out: &mut Blob, terms: &Terms) -> Result<(), Allo
     Ok(())
 }
 
-/// Both tables, where the case's registry is a shelf.
+/// Both tables, where the case's registry is in memory. They are of the case's first moment.
 pub fn write_tables(alloc: Global, case: Case) -> Result<Option<Blob>, AllocError> {
-    let Some(terms) = terms_of(alloc, case)? else {
+    let image = image_in(alloc, case.reference.as_str())?;
+    let auth = Auth::from_registry(alloc, &case.auth)?;
+    let policy = case_policy(alloc, case.keys, case.constraints.as_slice())?;
+    let moment = case.moments.as_slice().first().copied().unwrap_or(0);
+    let Some(shelf) = shelf_of(case.registry) else {
         return Ok(None);
+    };
+    let terms = Terms {
+        image,
+        auth,
+        accepted: case.accepted,
+        policy,
+        verifier: TableVerifier {
+            rows: case.signatures,
+        },
+        judge: case.vouched,
+        shelf,
+        moment,
     };
     let mut out = Blob::empty(alloc);
     write_sends(alloc, &mut out, &terms)?;

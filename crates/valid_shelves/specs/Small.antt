@@ -67,8 +67,8 @@ abbrev pub shelf_of : List ℕ → List ℕ → Packed → Packed → Shelf
 shelf_of repository tag image signing = record {
   repository = repository;
   tags = map.insert
-    (map.insert map.empty tag (sha256 image.bytes))
-    (signature_tag (sha256 image.bytes)) (sha256 signing.bytes);
+      (map.insert map.empty tag (sha256 image.bytes))
+      (signature_tag (sha256 image.bytes)) (sha256 signing.bytes);
   documents = documents_of image signing;
   blobs = blobs_of image signing;
   referrers = map.empty;
