@@ -1,0 +1,99 @@
+-- How the generated image is pulled: by a new client that asks for it by its tag, and holds it to one key.
+use Rattle.std.specs.Prelude.{ℕ, false, List, [], ◌∷◌, Some, None, codes, ◌≤◌, Result, IfErr}
+use Rattle.std.specs.FinMap as map
+use Rattle.oci_names.specs.declared.reference.Reference.{Reference}
+use Rattle.oci_auth.specs.Memory.{fresh as nothing_kept}
+use Rattle.oci_auth.specs.declared.auth.RegistryAuth.TheVariants.{Anonymous}
+use Rattle.oci_protocol.specs.Runs.{Meets, Told}
+use Rattle.oci_transport.specs.Link.{Link}
+use Rattle.engine_requests.specs.Contexts.{Context, within}
+use Rattle.engine_requests.specs.declared.settings.ClientProtocol.TheVariants.{Http}
+use Rattle.engine_requests.specs.declared.settings.Settings.{Settings}
+use Rattle.sig_registry.specs.Clients.{Kept}
+use Rattle.cosign_layers.specs.Standing.{Meaning, Owns, meaning}
+use Rattle.cosign_layers.specs.Trust.{Trust, trust}
+use Rattle.cosign_layers.specs.Verifier.{valid_in}
+use Rattle.cosign_layers.specs.declared.constraint.Constraint.{Constraint}
+use Rattle.cosign_layers.specs.declared.constraint.Constraint.TheVariants.{Annotations}
+use Rattle.cosign_layers.specs.declared.policy.PullPolicy.{PullPolicy}
+use Rattle.cosign_layers.specs.declared.verifier.SignedRow.{SignedRow}
+use Rattle.cosign_chain.specs.declared.image.VerifiedImage.{VerifiedImage}
+use Rattle.cosign_client.specs.Causes.{PullCause}
+use Rattle.cosign_client.specs.Points.{point}
+use Rattle.cosign_client.specs.Refusal.{is_memory}
+use Rattle.cosign_client.specs.Verified.{Whole, verified}
+use Rattle.cosign_client.specs.declared.refusal.PullRefusal.{PullRefusal}
+use Rattle.generated_image.specs.Shelf.{payload_of}
+use Rattle.generated_image.specs.Texts.{sha256_text, layer_type}
+
+-- ---- the client, and what it is asked for
+
+abbrev pub generated_settings : Settings
+generated_settings = record {
+  protocol = Http;
+  user_agent = codes "oci-client/0.18.0";
+  max_body_bytes = 4294967295;
+  platform_resolver = None;
+}
+
+abbrev pub generated_context : Context
+generated_context = within generated_settings 100
+
+-- a client that keeps nothing yet, and no answers
+abbrev pub fresh : Kept
+fresh = (nothing_kept 60, None)
+
+abbrev pub generated_reference : Reference
+generated_reference = record {
+  registry = codes "localhost:5000";
+  mirror = None;
+  repository = codes "gen";
+  tag = Some (codes "v1");
+  digest = None;
+}
+
+abbrev pub generated_types : List (List ℕ)
+generated_types = layer_type ∷ []
+
+-- ---- the policy
+
+-- each layer will do
+abbrev pub any_layer : {V : Type 0} {H : V → Type 0} → Constraint V H
+any_layer = Annotations (record { annotations = map.empty })
+
+-- one key, and that constraint
+abbrev pub generated_policy : {V : Type 0} {H : V → Type 0} → PullPolicy V H
+generated_policy = record { keys = codes "k1" ∷ []; constraints = any_layer ∷ [] }
+
+-- the signature of the payload of the image with so many layers
+abbrev pub signed_row : ℕ → SignedRow
+signed_row n = record { key = codes "k1"; message = sha256_text (payload_of n); signature = codes "sig1" }
+
+-- that signature is valid and no other; no certificate is vouched for, and no log is known
+abbrev pub generated_trust : ℕ → Trust
+generated_trust n = trust (valid_in (record { rows = signed_row n ∷ [] })) (λ evidence. None) map.empty
+
+-- whatever a box of a caller accepts: none stands in the policy
+abbrev pub meaning_with : {V : Type 0} {H : V → Type 0} → Owns V H → ℕ → Meaning V H
+meaning_with own n = meaning generated_policy own (generated_trust n)
+
+abbrev pub generated_meaning : ℕ → Meaning ⊥ (λ v. ⊥)
+generated_meaning n = meaning_with (λ box layer. false) n
+
+-- ---- the pull
+
+abbrev pub generated_row : ℕ → Whole VerifiedImage
+generated_row n = verified (generated_meaning n) generated_context generated_reference Anonymous generated_types
+
+-- a run of it by a client that was new
+abbrev pub PullsGenerated : ℕ → Link → Link → Result VerifiedImage PullRefusal → Type 0
+PullsGenerated n old new result = (kept : Kept) × Meets is_memory (generated_row n) old new fresh kept result
+
+-- a refusal has its cause in the exchanges, from such a client to what it came to keep
+abbrev pub IsCaused : ℕ → Link → Link → Result VerifiedImage PullRefusal → Type 0
+IsCaused n old new result = (kept : Kept) × IfErr result (λ e. Told
+    (λ c. PullCause (generated_meaning n) generated_context generated_reference Anonymous generated_types
+    (point fresh old.faults) c (point kept new.faults) e) old new)
+
+abbrev pub IsCount : ℕ → Type 0
+IsCount n = (1 ≤ n) × (n ≤ 1000)

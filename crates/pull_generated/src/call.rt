@@ -1,0 +1,67 @@
+// The pull of the generated image.
+ghost use Rattle.std.specs.Prelude.{◌≡◌, None, IfOk, IfErr};
+ghost use Rattle.oci_auth.specs.declared.auth.RegistryAuth.TheVariants.{Anonymous};
+ghost use Rattle.oci_protocol.specs.Runs.{Told};
+ghost use Rattle.cosign_chain.specs.Chain.{Chain};
+ghost use Rattle.cosign_chain.specs.Links.{Links};
+ghost use Rattle.cosign_client.specs.Refusal.{FaultCounted, NoSinkFault};
+ghost use Rattle.cosign_client.specs.Shelves.{AnswersFrom, OkOrMemory};
+ghost use Rattle.cosign_client.specs.Sound.{Backed};
+ghost use Rattle.generated_image.specs.Shelf.{generated_shelf, HasTwoDigests};
+ghost use Rattle.pull_generated.specs.Generated.{generated_context, fresh, generated_reference};
+ghost use Rattle.pull_generated.specs.Generated.{generated_types, generated_meaning, PullsGenerated, IsCaused, IsCount};
+
+use crate::terms::{fresh_client, terms_for};
+use cosign_client::{PullRefusal, VerifiedImage};
+use cosign_layers::NoCertificates;
+use oci_transport::Transport;
+use sig_registry::Auth;
+use std::alloc::Global;
+
+// The same, by what it is a run of, and where it is answered.
+fn pulled<T: Transport>(
+    alloc: Global,
+    layers: u32,
+    transport: &mut T,
+) -> Result<VerifiedImage, PullRefusal>
+    ensures run { PullsGenerated layers (T.state transport.old) (T.state transport.new) result }
+    ensures completes { IsCount layers → HasTwoDigests layers
+        → AnswersFrom (generated_shelf layers) (T.state transport.old) → OkOrMemory result }
+{
+    let terms = terms_for(alloc, layers)?;
+    let mut client = fresh_client(alloc)?;
+    client.verified_pull(
+        alloc,
+        transport,
+        100,
+        &terms.image,
+        &Auth::Anonymous,
+        terms.accepted.as_slice(),
+        &terms.policy,
+        &terms.verifier,
+        &NoCertificates,
+    )
+}
+
+/// Pulls the generated image with so many layers over this transport, by a new client: `localhost:5000/gen:v1` over
+/// `http` with no credentials, at the moment 100. A layer has to be signed under one key, `k1`, by the one signature
+/// that is valid: the one that the image's shelf has.
+pub fn pull_generated<T: Transport>(
+    alloc: Global,
+    layers: u32,
+    transport: &mut T,
+) -> Result<VerifiedImage, PullRefusal>
+    ensures run { PullsGenerated layers (T.state transport.old) (T.state transport.new) result }
+    ensures completes { IsCount layers → HasTwoDigests layers
+        → AnswersFrom (generated_shelf layers) (T.state transport.old) → OkOrMemory result }
+    ensures chain { IfOk result (λ v. Chain (generated_meaning layers) generated_reference generated_types None v) }
+    ensures backed { IfOk result (λ v. Told
+        (λ c. Backed fresh generated_context generated_reference Anonymous c v)
+        (T.state transport.old) (T.state transport.new)) }
+    ensures links { IfOk result (λ v. Links generated_reference generated_types v) }
+    ensures causes { IsCaused layers (T.state transport.old) (T.state transport.new) result }
+    ensures fault { FaultCounted (T.state transport.old) (T.state transport.new) result }
+    ensures no_sink { NoSinkFault result }
+{
+    pulled(alloc, layers, transport)
+}
