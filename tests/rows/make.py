@@ -994,6 +994,20 @@ def canonical_texts():
     canon("input_that_is_no_json", '{"a":1', [], 3)
 
 
+def generated():
+    def gen(title, count, lines, status=0):
+        write(f"generated/{title}", "", lines, status, args=["gen"] + count)
+
+    for title, count in [("one_layer", 1), ("three_layers", 3), ("a_hundred_layers", 100), ("a_thousand_layers", 1000)]:
+        image = manifest("{}", [descriptor(LAYER, f"layer {i}\n" * 1000) for i in range(count)])
+        gen(title, [str(count)], [f"requests {19 + 2 * count}", f"layers {count}", f"ok {digest(image)}"])
+    others = {"no_layer": "0", "a_layer_too_many": "1001", "a_zero_in_front": "03", "a_sign": "+3", "a_word": "three", "an_empty_count": "", "a_long_count": "9" * 30}
+    for title, count in others.items():
+        gen(title, [count], [], 2)
+    gen("no_count", [], [], 2)
+    gen("two_counts", ["3", "3"], [], 2)
+
+
 TABLES = {
     "pulls": pulls,
     "shelves": shelves,
@@ -1011,6 +1025,7 @@ TABLES = {
     "faults": faults,
     "input": inputs,
     "canon": canonical_texts,
+    "generated": generated,
 }
 
 if __name__ == "__main__":

@@ -22,7 +22,7 @@ fn arguments<R: Env + Alloc>(rt: &R, alloc: Global) -> io::Result<List<Text>> {
 fn advice(status: u8) -> &'static str {
     match status {
         2 =>
-            "usage: pull_program pull < CASE, pull_program canon < JSON, or pull_program check < INPUT",
+            "usage: pull_program with pull < CASE, canon < JSON, check < INPUT, or gen N with N from 1 to 1000",
         3 =>
             "the input is not a case (see crates/pull_case/README.md for its members), no chain, or not JSON",
         4 => "the input could not be read",

@@ -18,7 +18,7 @@ use Rattle.pull_run.specs.Task.{task_by, task_of}
 use Rattle.pull_run.specs.Word.{word_of}
 use Rattle.pull_run.proofs.Answering.{answers_all}
 use Rattle.pull_run.proofs.Inputs.{input_is}
-use Rattle.pull_run.proofs.Statuses.{past_all}
+use Rattle.pull_run.proofs.Statuses.{past_all, reads_word}
 
 -- what was read is the case
 same_case : (case other : Case) (told : List ℕ) (old new : Spring) → old.left ≡ Some told → case_in told ≡ Some case → IsRead case_in other old new → other ≡ case
@@ -46,5 +46,5 @@ complete_ends status.TooLong case told old new before after is short reads has h
 
 pub says_complete : (words : List (List ℕ)) (code : ℕ) (old new : Spring) (before after : Tray) → Says words code old new before after → EndsComplete words code old new before after
 says_complete words code old new before after says told case word_is left short reads has =
-    let h : SaysTask (task_of Pull) says.0 old new before after = rw word_is at says.2 in
+    let h : SaysTask (task_of Pull) says.0 old new before after = rw (reads_word words Pull word_is) at says.2 in
     rw says.1 (complete_ends says.0 case told old new before after left short reads has h)

@@ -1,5 +1,6 @@
 pub mod Answering
 pub mod Cases
+pub mod Commands
 pub mod Completing
 pub mod Inputs
 pub mod Rounding

@@ -1,6 +1,6 @@
 -- With which status an input ends, by what the statuses say.
 use Rattle.std.specs.Io.KnownBytes.{Consumes}
-use Rattle.std.proofs.Common.{◌≡◌, ◌≤◌, ◌<◌, inl, inr, ℕ, List, [], Option, Some, None, Err, length, refl, sym, ap, ◌∙◌, arith}
+use Rattle.std.proofs.Common.{◌≡◌, ◌≤◌, ◌<◌, inl, inr, ℕ, List, [], ◌∷◌, Option, Some, None, Err, length, option_map, refl, sym, ap, ◌∙◌, arith}
 use Rattle.std.specs.Prelude.{◌↔◌}
 use Rattle.json_values.specs.Tray.{Tray}
 use Rattle.pull_edge.specs.Source.{Spring}
@@ -12,7 +12,11 @@ use Rattle.pull_run.specs.declared.status.Status.TheVariants as status
 use Rattle.pull_run.specs.declared.word.Word.{Word}
 use Rattle.pull_run.specs.Input.{input_limit, IsInput, IsRead, ReadsInput}
 use Rattle.pull_run.specs.Output.{Puts}
-use Rattle.pull_run.specs.Program.{SaysTask, SaysWord, Says, EndsWith, EndsUnread, EndsLong, EndsPast}
+use Rattle.pull_run.specs.Command.{command_of}
+use Rattle.pull_run.specs.Gen.{Generated, SaysGenerated}
+use Rattle.pull_run.specs.declared.command.Command.{Command}
+use Rattle.pull_run.specs.declared.command.Command.TheVariants.{Reads, Generates}
+use Rattle.pull_run.specs.Program.{SaysTask, SaysCommand, Says, EndsWith, EndsUnread, EndsLong, EndsPast}
 use Rattle.pull_run.specs.Status.{code_of}
 use Rattle.pull_run.specs.Task.{Task, task_by, task_of}
 use Rattle.pull_run.specs.Word.{word_of}
@@ -104,22 +108,52 @@ not_usage task status.SinkFault old new before after h is = cc
 not_usage task status.WantOfMemory old new before after h is = cc
 not_usage task status.TooLong old new before after h is = cc
 
+-- a word that reads input is a command
+pub reads_word : (words : List (List ℕ)) (word : Word) → word_of words ≡ Some word → command_of words ≡ Some (Reads word)
+reads_word [] word is = absurd (cc is)
+reads_word (w ∷ []) word is = ap (option_map Reads) is
+reads_word (w ∷ c ∷ []) word is = absurd (cc is)
+reads_word (w ∷ c ∷ d ∷ ws) word is = absurd (cc is)
+
+generated_past : (n : ℕ) (s : Status) (old new : Spring) (before after : Tray) → SaysGenerated n s old new before after → EndsPast (code_of s) old new
+generated_past n status.Done old new before after h = within_past 0 old new (λ e. cc e) (rw h.0 ([], Consumes-none old.left, omega arith))
+generated_past n status.SinkFault old new before after h = within_past 5 old new (λ e. cc e) (rw h.0 ([], Consumes-none old.left, omega arith))
+generated_past n status.WantOfMemory old new before after h = within_past 6 old new (λ e. cc e) (rw h.0 ([], Consumes-none old.left, omega arith))
+generated_past n other old new before after h = absurd h
+
+generated_no_usage : (n : ℕ) (s : Status) (old new : Spring) (before after : Tray) → SaysGenerated n s old new before after → code_of s ≡ 2 → ⊥
+generated_no_usage n status.Usage old new before after h is = h
+generated_no_usage n status.Done old new before after h is = cc
+generated_no_usage n status.SinkFault old new before after h is = cc
+generated_no_usage n status.WantOfMemory old new before after h is = cc
+generated_no_usage n other old new before after h is = absurd h
+
+-- how the lines of a generated image went out
+pub puts_generated : (n : ℕ) (made : Report) (s : Status) (spring : Spring) (before after : Tray) → Generated n made → Puts s made before after → SaysGenerated n s spring spring before after
+puts_generated n made status.Done spring before after g h = (refl, (made, g, h.1), h.2)
+puts_generated n made status.Refused spring before after g h = absurd (cc (sym g.refused_is ∙ h.0))
+puts_generated n made status.SinkFault spring before after g h = (refl, (made, g, h.0), h.1)
+puts_generated n made status.WantOfMemory spring before after g h = (refl, inr ((made, g, h.0), h.1))
+puts_generated n made other spring before after g h = absurd h
+
 pub says_unread : (words : List (List ℕ)) (code : ℕ) (old new : Spring) (before after : Tray) → Says words code old new before after → EndsUnread words code old new
 says_unread words code old new before after says word told word_is left short none =
-    let h : SaysTask (task_of word) says.0 old new before after = rw word_is at says.2 in rw says.1 (unread_ends (task_of word) says.0 told old new before after left short none h)
+    let h : SaysTask (task_of word) says.0 old new before after = rw (reads_word words word word_is) at says.2 in rw says.1 (unread_ends (task_of word) says.0 told old new before after left short none h)
 
 pub says_long : (words : List (List ℕ)) (code : ℕ) (old new : Spring) (before after : Tray) → Says words code old new before after → EndsLong words code old new
 says_long words code old new before after says word told word_is left long =
-    let h : SaysTask (task_of word) says.0 old new before after = rw word_is at says.2 in rw says.1 (long_ends (task_of word) says.0 told old new before after left long h)
+    let h : SaysTask (task_of word) says.0 old new before after = rw (reads_word words word word_is) at says.2 in rw says.1 (long_ends (task_of word) says.0 told old new before after left long h)
 
 pub says_past : (words : List (List ℕ)) (code : ℕ) (old new : Spring) (before after : Tray) → Says words code old new before after → EndsPast code old new
-says_past words code old new before after says = rw says.1 (by_word (word_of words) says.0 says.2) where
-  by_word : (word : Option Word) (s : Status) → SaysWord word s old new before after → EndsPast (code_of s) old new
-  by_word (Some word) s h = task_past (task_of word) s old new before after h
-  by_word None s h = within_past (code_of s) old new (λ e. cc (sym (ap code_of h.0) ∙ e)) (rw h.1 ([], Consumes-none old.left, omega arith))
+says_past words code old new before after says = rw says.1 (by_command (command_of words) says.0 says.2) where
+  by_command : (command : Option Command) (s : Status) → SaysCommand command s old new before after → EndsPast (code_of s) old new
+  by_command (Some (Reads word)) s h = task_past (task_of word) s old new before after h
+  by_command (Some (Generates layers)) s h = generated_past layers s old new before after h
+  by_command None s h = within_past (code_of s) old new (λ e. cc (sym (ap code_of h.0) ∙ e)) (rw h.1 ([], Consumes-none old.left, omega arith))
 
-pub says_usage : (words : List (List ℕ)) (code : ℕ) (old new : Spring) (before after : Tray) → Says words code old new before after → word_of words ≡ None ↔ code ≡ 2
-says_usage words code old new before after says = by_word (word_of words) says.0 says.1 says.2 where
-  by_word : (word : Option Word) (s : Status) → code ≡ code_of s → SaysWord word s old new before after → word ≡ None ↔ code ≡ 2
-  by_word None s is h = ((λ none. is ∙ ap code_of h.0), (λ two. refl))
-  by_word (Some word) s is h = ((λ none. absurd (cc none)), (λ two. absurd (not_usage (task_of word) s old new before after h (sym is ∙ two))))
+pub says_usage : (words : List (List ℕ)) (code : ℕ) (old new : Spring) (before after : Tray) → Says words code old new before after → command_of words ≡ None ↔ code ≡ 2
+says_usage words code old new before after says = by_command (command_of words) says.0 says.1 says.2 where
+  by_command : (command : Option Command) (s : Status) → code ≡ code_of s → SaysCommand command s old new before after → command ≡ None ↔ code ≡ 2
+  by_command None s is h = ((λ none. is ∙ ap code_of h.0), (λ two. refl))
+  by_command (Some (Reads word)) s is h = ((λ none. absurd (cc none)), (λ two. absurd (not_usage (task_of word) s old new before after h (sym is ∙ two))))
+  by_command (Some (Generates layers)) s is h = ((λ none. absurd (cc none)), (λ two. absurd (generated_no_usage layers s old new before after h (sym is ∙ two))))

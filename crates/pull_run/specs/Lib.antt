@@ -1,6 +1,8 @@
 pub mod Canon
 pub mod Check
+pub mod Command
 pub mod Complete
+pub mod Gen
 pub mod Input
 pub mod Output
 pub mod Program

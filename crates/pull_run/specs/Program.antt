@@ -5,10 +5,14 @@ use Rattle.json_values.specs.Tray.{Tray, Adds, AddsPart}
 use Rattle.pull_edge.specs.Source.{Spring}
 use Rattle.pull_edge.specs.Reading.{TakesWithin}
 use Rattle.pull_edge.specs.declared.reading.ReadRefusal.TheVariants as read
+use Rattle.pull_run.specs.Command.{command_of}
+use Rattle.pull_run.specs.Gen.{SaysGenerated}
 use Rattle.pull_run.specs.Input.{input_limit, IsCut, IsOther, IsRead}
 use Rattle.pull_run.specs.Status.{code_of}
 use Rattle.pull_run.specs.Task.{Task, task_of}
 use Rattle.pull_run.specs.Word.{word_of}
+use Rattle.pull_run.specs.declared.command.Command.{Command}
+use Rattle.pull_run.specs.declared.command.Command.TheVariants.{Reads, Generates}
 use Rattle.pull_run.specs.declared.report.Report.{Report}
 use Rattle.pull_run.specs.declared.status.Status.{Status}
 use Rattle.pull_run.specs.declared.status.Status.TheVariants as status
@@ -49,14 +53,15 @@ SaysTask task status.WantOfMemory old new before after =
 SaysTask task status.TooLong old new before after = IsCut read.TooLong old new × (after ≡ before)
 
 -- what a status says; where the words are no form that the program takes, nothing was read or written
-abbrev pub SaysWord : Option Word → Status → Spring → Spring → Tray → Tray → Type 0
-SaysWord (Some word) s old new before after = SaysTask (task_of word) s old new before after
-SaysWord None s old new before after = (s ≡ status.Usage) × (new ≡ old) × (after ≡ before)
+abbrev pub SaysCommand : Option Command → Status → Spring → Spring → Tray → Tray → Type 0
+SaysCommand (Some (Reads word)) s old new before after = SaysTask (task_of word) s old new before after
+SaysCommand (Some (Generates layers)) s old new before after = SaysGenerated layers s old new before after
+SaysCommand None s old new before after = (s ≡ status.Usage) × (new ≡ old) × (after ≡ before)
 
 -- what the program did with these words
 abbrev pub Says : List (List ℕ) → ℕ → Spring → Spring → Tray → Tray → Type 0
 Says words code old new before after =
-    (s : Status) × (code ≡ code_of s) × SaysWord (word_of words) s old new before after
+    (s : Status) × (code ≡ code_of s) × SaysCommand (command_of words) s old new before after
 
 -- with this status, unless memory was wanting or the source failed
 abbrev pub EndsWith : ℕ → ℕ → Spring → Spring → Type 0

@@ -4,6 +4,8 @@
 
 mod canon;
 mod check;
+mod command;
+mod generated;
 mod input;
 mod program;
 mod pulls;
@@ -14,6 +16,7 @@ mod word;
 
 pub use canon::canon_line;
 pub use check::check_chain;
+pub use command::{Command, command_of};
 pub use program::run;
 pub use pulls::pull_case;
 pub use report::Report;

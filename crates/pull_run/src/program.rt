@@ -1,15 +1,17 @@
 // From the words and the input to the status.
 ghost use Rattle.std.specs.Prelude.{◌≡◌, ◌↔◌, None};
 ghost use Rattle.pull_run.specs.Complete.{EndsComplete};
-ghost use Rattle.pull_run.specs.Program.{SaysTask, SaysWord, Says, EndsUnread, EndsLong, EndsPast};
-ghost use Rattle.pull_run.specs.Task.{task_by};
-ghost use Rattle.pull_run.specs.Word.{word_of};
+ghost use Rattle.pull_run.specs.Program.{SaysTask, SaysCommand, Says, EndsUnread, EndsLong, EndsPast};
+ghost use Rattle.pull_run.specs.Task.{task_by, task_of};
+ghost use Rattle.pull_run.specs.Command.{command_of, CountsWell};
 
+use crate::command::{Command, command_of};
+use crate::generated::serve_generated;
 use crate::input::read_input;
 use crate::report::deliver;
 use crate::status::Status;
 use crate::task::Task;
-use crate::word::{Word, word_of};
+use crate::word::Word;
 use json_values::{Json, Sink, Text};
 use pull_case::Case;
 use pull_chain::ChainInput;
@@ -31,19 +33,30 @@ fn serve<T: Task + Drop, S: Source, K: Sink>(alloc: Global, source: &mut S, sink
     }
 }
 
-fn serve_word<S: Source, K: Sink>(
-    alloc: Global,
-    word: Option<Word>,
-    source: &mut S,
-    sink: &mut K,
-) -> Status
-    ensures { SaysWord word result
+fn serve_word<S: Source, K: Sink>(alloc: Global, word: Word, source: &mut S, sink: &mut K) -> Status
+    ensures { SaysTask (task_of word) result
         (S.state source.old) (S.state source.new) (K.state sink.old) (K.state sink.new) }
 {
     match word {
-        Some(Word::Pull) => serve::<Case, S, K>(alloc, source, sink),
-        Some(Word::Canon) => serve::<Json, S, K>(alloc, source, sink),
-        Some(Word::Check) => serve::<ChainInput, S, K>(alloc, source, sink),
+        Word::Pull => serve::<Case, S, K>(alloc, source, sink),
+        Word::Canon => serve::<Json, S, K>(alloc, source, sink),
+        Word::Check => serve::<ChainInput, S, K>(alloc, source, sink),
+    }
+}
+
+fn serve_command<S: Source, K: Sink>(
+    alloc: Global,
+    command: Option<Command>,
+    source: &mut S,
+    sink: &mut K,
+) -> Status
+    requires { CountsWell command }
+    ensures { SaysCommand command result
+        (S.state source.old) (S.state source.new) (K.state sink.old) (K.state sink.new) }
+{
+    match command {
+        Some(Command::Reads(word)) => serve_word(alloc, word, source, sink),
+        Some(Command::Generates(layers)) => serve_generated(alloc, layers, sink),
         None => Status::Usage,
     }
 }
@@ -52,12 +65,12 @@ fn serve_word<S: Source, K: Sink>(
 pub fn run<S: Source, K: Sink>(alloc: Global, words: &[Text], source: &mut S, sink: &mut K) -> u8
     ensures says { Says words.now result
         (S.state source.old) (S.state source.new) (K.state sink.old) (K.state sink.new) }
-    ensures usage { word_of words.now ≡ None ↔ result ≡ 2 }
+    ensures usage { command_of words.now ≡ None ↔ result ≡ 2 }
     ensures unread { EndsUnread words.now result (S.state source.old) (S.state source.new) }
     ensures long { EndsLong words.now result (S.state source.old) (S.state source.new) }
     ensures past { EndsPast result (S.state source.old) (S.state source.new) }
     ensures completes { EndsComplete words.now result
         (S.state source.old) (S.state source.new) (K.state sink.old) (K.state sink.new) }
 {
-    serve_word(alloc, word_of(words), source, sink).code()
+    serve_command(alloc, command_of(words), source, sink).code()
 }

@@ -1,0 +1,58 @@
+// The pull of the generated image over its shelf.
+ghost use Rattle.std.specs.Prelude.{◌≡◌, IfOk};
+ghost use Rattle.pull_edge.specs.Source.{Spring};
+ghost use Rattle.pull_generated.specs.Generated.{IsCount};
+ghost use Rattle.pull_run.specs.Gen.{generated_lines, Generated, SaysGenerated};
+
+use crate::report::{Report, deliver};
+use crate::status::Status;
+use cosign_client::VerifiedImage;
+use json_values::{Blob, Sink, write_decimal};
+use oci_link::ShelfTransport;
+use pull_generated::{generated_shelf, pull_generated};
+use pull_report::text_line;
+use std::alloc::{AllocError, Global};
+
+// The lines of an image that so many requests gave.
+fn lines(alloc: Global, requests: usize, image: &VerifiedImage) -> Result<Blob, AllocError>
+    ensures { IfOk result (λ bytes. bytes ≡ generated_lines requests image.now) }
+{
+    let count = write_decimal(alloc, requests as u64)?;
+    let layers = write_decimal(alloc, image.layers.as_slice().len() as u64)?;
+    let mut bytes = Blob::empty(alloc);
+    text_line(&mut bytes, "requests", count.as_str())?;
+    text_line(&mut bytes, "layers", layers.as_str())?;
+    text_line(&mut bytes, "ok", image.digest.as_str())?;
+    Ok(bytes)
+}
+
+// Pulls the image with so many layers over a new transport of its shelf. Only memory may be wanting: the shelf has all.
+fn generated(alloc: Global, layers: u32) -> Result<Report, AllocError>
+    requires { IsCount layers }
+    ensures { IfOk result (Generated layers) }
+{
+    let shelf = generated_shelf(alloc, layers)?;
+    let mut transport = ShelfTransport::new(alloc, shelf);
+    let image = match pull_generated(alloc, layers, &mut transport) {
+        Ok(image) => image,
+        Err(refusal) if refusal.is_memory() => return Err(AllocError),
+        Err(_) => unreachable!(),
+    };
+    let requests = transport.conversation().as_slice().len();
+    let bytes = lines(alloc, requests, &image)?;
+    Ok(Report {
+        bytes,
+        refused: false,
+    })
+}
+
+/// Writes what the pull of the image with so many layers gives.
+pub(crate) fn serve_generated<K: Sink>(alloc: Global, layers: u32, sink: &mut K) -> Status
+    requires { IsCount layers }
+    ensures { (spring : Spring) → SaysGenerated layers result spring spring (K.state sink.old) (K.state sink.new) }
+{
+    match generated(alloc, layers) {
+        Ok(report) => deliver(sink, &report),
+        Err(_) => Status::WantOfMemory,
+    }
+}
