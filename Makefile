@@ -58,6 +58,7 @@ bench: program
 	python3 bench/caching.py
 	python3 bench/bundles.py
 	python3 bench/streams.py
+	python3 bench/generated.py
 
 # Makes each allocation of the stored run fail in turn.
 allocations: program

@@ -11,7 +11,7 @@ use Rattle.pull_run.specs.declared.word.Word.{Word}
 use Rattle.pull_run.specs.declared.word.Word.TheVariants.{Pull}
 use Rattle.pull_run.specs.Complete.{HasImage, EndsDone, EndsComplete}
 use Rattle.pull_run.specs.Input.{input_limit, IsRead}
-use Rattle.pull_run.specs.Program.{SaysTask, SaysWord, Says}
+use Rattle.pull_run.specs.Program.{SaysTask, Says}
 use Rattle.pull_run.specs.Pulls.{Talk, all_answered, ReportsCase}
 use Rattle.pull_run.specs.Status.{code_of}
 use Rattle.pull_run.specs.Task.{task_by, task_of}

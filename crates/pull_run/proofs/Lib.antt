@@ -2,6 +2,7 @@ pub mod Answering
 pub mod Cases
 pub mod Commands
 pub mod Completing
+pub mod Generating
 pub mod Inputs
 pub mod Rounding
 pub mod Statuses

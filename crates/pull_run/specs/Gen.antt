@@ -1,5 +1,5 @@
 -- What `gen` gives: the lines of a pull of the generated image over its shelf.
-use Rattle.std.specs.Prelude.{◌≡◌, ◌⊎◌, ℕ, false, List, [], ◌∷◌, ◌++◌, Some, Ok, codes, decimal, length}
+use Rattle.std.specs.Prelude.{◌≡◌, ◌⊎◌, ℕ, false, List, [], ◌∷◌, ◌++◌, Some, Result, Ok, Err, codes, decimal, length}
 use Rattle.json_values.specs.Counts.{Rose, Stays}
 use Rattle.json_values.specs.Tray.{Tray, Adds, AddsPart}
 use Rattle.oci_transport.specs.Link.{Link}
@@ -7,6 +7,7 @@ use Rattle.oci_transport.specs.declared.message.Exchange.{Exchange}
 use Rattle.oci_link.specs.State.{answering}
 use Rattle.pull_edge.specs.Source.{Spring}
 use Rattle.cosign_chain.specs.declared.image.VerifiedImage.{VerifiedImage}
+use Rattle.cosign_client.specs.declared.refusal.PullRefusal.{PullRefusal}
 use Rattle.generated_image.specs.Shelf.{generated_shelf}
 use Rattle.pull_generated.specs.Generated.{PullsGenerated}
 use Rattle.pull_report.specs.Words.{line}
@@ -20,6 +21,12 @@ generated_lines requests image =
     line (codes "requests" ∷ decimal requests ∷ [])
     ++ line (codes "layers" ∷ decimal (length image.layers) ∷ [])
     ++ line (codes "ok" ∷ image.digest ∷ [])
+
+-- what is written of a pull, and that nothing is where it gave no image
+abbrev pub WritesGenerated : ℕ → Result VerifiedImage PullRefusal → Report → Type 0
+WritesGenerated requests (Ok image) made =
+    (made.bytes ≡ generated_lines requests image) × (made.refused ≡ false)
+WritesGenerated requests (Err refusal) made = ⊥
 
 -- A new transport of the generated shelf answered the pull of this image, whose lines these are.
 pub record Generated (n : ℕ) (made : Report) : Type 0 where

@@ -1,12 +1,13 @@
 // The pull of the generated image over its shelf.
 ghost use Rattle.std.specs.Prelude.{◌≡◌, IfOk};
+ghost use Rattle.cosign_client.specs.Shelves.{OkOrMemory};
 ghost use Rattle.pull_edge.specs.Source.{Spring};
 ghost use Rattle.pull_generated.specs.Generated.{IsCount};
-ghost use Rattle.pull_run.specs.Gen.{generated_lines, Generated, SaysGenerated};
+ghost use Rattle.pull_run.specs.Gen.{generated_lines, WritesGenerated, Generated, SaysGenerated};
 
 use crate::report::{Report, deliver};
 use crate::status::Status;
-use cosign_client::VerifiedImage;
+use cosign_client::{PullRefusal, VerifiedImage};
 use json_values::{Blob, Sink, write_decimal};
 use oci_link::ShelfTransport;
 use pull_generated::{generated_shelf, pull_generated};
@@ -26,24 +27,38 @@ fn lines(alloc: Global, requests: usize, image: &VerifiedImage) -> Result<Blob, 
     Ok(bytes)
 }
 
-// Pulls the image with so many layers over a new transport of its shelf. Only memory may be wanting: the shelf has all.
+// What is written of the pull, which only memory may have cut off.
+fn written(
+    alloc: Global,
+    requests: usize,
+    outcome: &Result<VerifiedImage, PullRefusal>,
+) -> Result<Report, AllocError>
+    requires { OkOrMemory outcome.now }
+    ensures { IfOk result (WritesGenerated requests outcome.now) }
+{
+    match outcome {
+        Ok(image) => {
+            let bytes = lines(alloc, requests, image)?;
+            Ok(Report {
+                bytes,
+                refused: false,
+            })
+        }
+        Err(refusal) if refusal.is_memory() => Err(AllocError),
+        Err(_) => unreachable!(),
+    }
+}
+
+// Pulls the image with so many layers over a new transport of its shelf, which has all.
 fn generated(alloc: Global, layers: u32) -> Result<Report, AllocError>
     requires { IsCount layers }
     ensures { IfOk result (Generated layers) }
 {
     let shelf = generated_shelf(alloc, layers)?;
     let mut transport = ShelfTransport::new(alloc, shelf);
-    let image = match pull_generated(alloc, layers, &mut transport) {
-        Ok(image) => image,
-        Err(refusal) if refusal.is_memory() => return Err(AllocError),
-        Err(_) => unreachable!(),
-    };
+    let outcome = pull_generated(alloc, layers, &mut transport);
     let requests = transport.conversation().as_slice().len();
-    let bytes = lines(alloc, requests, &image)?;
-    Ok(Report {
-        bytes,
-        refused: false,
-    })
+    written(alloc, requests, &outcome)
 }
 
 /// Writes what the pull of the image with so many layers gives.
