@@ -15,7 +15,7 @@ sys.dont_write_bytecode = True
 
 HERE = os.path.dirname(os.path.abspath(__file__))
 PROGRAM = os.path.join(HERE, "../crates/pull_program/out/pull_program")
-MEGABYTES = 24
+MEGABYTES = (24, 48)
 RUNS = 5
 
 
@@ -50,8 +50,8 @@ def measured(words, path):
     return min(times), memory, written
 
 
-def main():
-    stdin, lines = large_case(MEGABYTES << 20)
+def report(size):
+    stdin, lines = large_case(size << 20)
     with tempfile.NamedTemporaryFile("w") as case:
         case.write(stdin)
         case.flush()
@@ -59,9 +59,14 @@ def main():
         hashed, _, _ = measured(["sha256sum"], case.name)
     if written.decode() != "".join(f"{line}\n" for line in lines):
         raise SystemExit("the report is not the one that the case asks for")
-    print(f"a case of {len(stdin)} bytes with one layer of {MEGABYTES} MiB")
+    print(f"a case of {len(stdin)} bytes with one layer of {size} MiB")
     print(f"time: {pulled / hashed:.1f} times that of sha256sum over the case")
     print(f"memory: {memory / len(stdin):.2f} bytes held at once for each byte of the case")
+
+
+def main():
+    for size in MEGABYTES:
+        report(size)
 
 
 if __name__ == "__main__":

@@ -125,8 +125,9 @@ def listing(named):
     return [f"GET {BASE}"] + requests(f"referrers/{named}", "manifests/" + named.replace(":", "-"))
 
 
-def search(signatures, layers, image=IMAGE):
+def search(signatures, layers, image=None):
     """The answers and the requests of the search: the digest, the signatures' manifest twice, its blobs, and referrers."""
+    image = image or IMAGE
     tag = digest(image).replace(":", "-") + ".sig"
     answers = [TOKEN, answer(None, digest(image))] + served(signatures) * 2 + served("{}")
     paths = [("HEAD", "manifests/v1"), f"manifests/{tag}", f"manifests/{tag}", "blobs/" + digest("{}")]
