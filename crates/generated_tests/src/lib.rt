@@ -1,0 +1,5 @@
+//! Tests of the pull of the generated image.
+#![tactic(auto)]
+
+#[cfg(test)]
+mod pulls;
