@@ -1,5 +1,0 @@
-//! Tests of the pull of the generated image.
-#![tactic(auto)]
-
-#[cfg(test)]
-mod pulls;
