@@ -1,5 +1,12 @@
 .PHONY: test run try program core live host rows claims gate wrong-bodies bench allocations hostile
 
+# A program is built, which proves it, where it is not there yet or is older than a file that it is made of: `make test` leaves all of them.
+SOURCES := $(wildcard crates/*/src/*.rt crates/*/specs/*.antt) $(shell find crates/*/proofs -name '*.antt')
+PROGRAM := crates/pull_program/out/pull_program
+CORE := crates/roksnaep_core/out/roksnaep_core
+DOCUMENTS := crates/docs_bench/out/docs_bench
+STREAM := crates/stream_bench/out/stream_bench
+
 # Proves every crate, tries the wrong bodies that must be refused, runs the tests, the stored runs and the recorded cases.
 test:
 	rt ci
@@ -7,20 +14,30 @@ test:
 	tests/claims
 
 # Proves the program, pulls the image of the stored case, and shows the report.
-run:
-	cd crates/pull_program && rt run -- pull < stdin
+run: $(PROGRAM)
+	$(PROGRAM) pull < crates/pull_program/stdin
 
 # The same without any proof: a first look.
 try:
 	cd crates/pull_program && rt try -- pull < stdin
 
 # Builds the program, which has to answer the image of the stored case.
-program:
+program: $(PROGRAM)
+
+$(PROGRAM): $(SOURCES)
 	cd crates/pull_program && rt run -- pull < stdin > /dev/null
 
 # Builds roksnaep-core, which bin/roksnaep asks.
-core:
+core: $(CORE)
+
+$(CORE): $(SOURCES)
 	cd crates/roksnaep_core && rt run < stdin > /dev/null
+
+$(DOCUMENTS): $(SOURCES)
+	cd crates/docs_bench && rt run -- documents < stdin > /dev/null
+
+$(STREAM): $(SOURCES)
+	cd crates/stream_bench && xargs rt run -- < args > /dev/null
 
 # Pulls from a real registry on this machine, and sees what is refused: it needs docker-registry, openssl and skopeo.
 live: core host
@@ -47,9 +64,7 @@ wrong-bodies:
 	tests/wrong-bodies $(CRATES)
 
 # Measures ratios within one run.
-bench: program
-	cd crates/docs_bench && rt run -- documents < stdin > /dev/null
-	cd crates/stream_bench && xargs rt run -- < args
+bench: program $(DOCUMENTS) $(STREAM)
 	python3 bench/run.py
 	python3 bench/canon.py
 	python3 bench/documents.py

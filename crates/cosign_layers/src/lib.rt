@@ -26,7 +26,7 @@ pub use envelope::signed_text;
 pub use judge::{NoCertificates, Offline, TableJudge, VouchedRow};
 pub use laws::log_texts_are_canonical;
 pub use layer::{LayerKind, SignatureLayer, SimpleSigning};
-pub use log_entry::LogEntryBundle;
+pub use log_entry::{LogEntryBundle, log_text};
 pub use policy::{LogKeys, PullPolicy};
 pub use read::{read_bundle_layer, read_payload_layer};
 pub use rejection::{LayerPart, LayerRejection};

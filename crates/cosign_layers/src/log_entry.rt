@@ -121,7 +121,7 @@ pub(crate) fn bundle_entry(
 
 /// The canonical text of what a log signs of an entry (RFC 8785): an object with its body, its time, its log's id and
 /// its index.
-pub(crate) fn log_text(alloc: Global, entry: &LogEntryBundle) -> Result<Text, AllocError>
+pub fn log_text(alloc: Global, entry: &LogEntryBundle) -> Result<Text, AllocError>
     ensures { IfOk result (λ text. text ≡ log_text entry.now) }
 {
     let mut text = Text::new(alloc, "{\"body\":")?;

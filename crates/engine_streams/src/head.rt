@@ -54,8 +54,9 @@ fn is_decimal(text: &[u8]) -> bool
     all_digits(text)
 }
 
+/// The number that decimal digits write, below 2 ^ 64.
 #[tactic(auto, using(crate::proofs::Decimals::not_utf8, crate::proofs::Decimals::not_decimal, crate::proofs::Decimals::decimal_read))]
-fn decimal_of(text: &[u8]) -> Option<u64>
+pub fn decimal_of(text: &[u8]) -> Option<u64>
     ensures { result ≡ decimal_of text.now }
 {
     if !is_decimal(text) {

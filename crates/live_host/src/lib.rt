@@ -7,7 +7,6 @@ mod everyone;
 mod heads;
 mod image;
 mod items;
-mod log_text;
 mod media_type;
 mod names;
 mod questions;

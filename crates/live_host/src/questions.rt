@@ -10,10 +10,11 @@ ghost use Rattle.live_host.specs.Wire.{wire, Asks};
 
 use crate::answers::{Answered, Answers, CertificateAnswer, SignatureAnswer};
 use crate::heads::{judge_head, verify_head};
-use crate::log_text::log_text;
 use crate::names::is_frame;
 use crate::streams::{HostError, Streams, hear, tell};
-use cosign_layers::{Evidence, LogEntryBundle, LogKeys, SignatureLayer, Vouched, signed_text};
+use cosign_layers::{
+    Evidence, LogEntryBundle, LogKeys, SignatureLayer, Vouched, log_text, signed_text,
+};
 use json_tables::{ReadError, decode_base64, only, optional, required, required_base64};
 use json_values::{Blob, Copied, List, Sink, Text};
 use pull_edge::Source;

@@ -68,6 +68,6 @@ pub fn read_body<T: Transport>(
         if more as u64 > limit - body.as_slice().len() as u64 {
             return Err(BodyError::BodyTooLong);
         }
-        body.append(piece.as_slice())?;
+        body = body.join(piece)?;
     }
 }

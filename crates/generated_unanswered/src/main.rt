@@ -1,0 +1,37 @@
+//! Pulls the generated image with three layers over a script without answers, and writes the report: its two requests,
+//! and the refusal.
+//!
+//! It ends with 5 where the report could not be written, and with 6 where memory was wanting.
+#![tactic(auto)]
+
+use json_values::{Blob, List, put_all};
+use oci_transport::Script;
+use pull_edge::StdSink;
+use pull_generated::pull_generated;
+use pull_report::write_report;
+use std::alloc::{AllocError, Global};
+use std::process::ExitCode;
+
+fn report(alloc: Global) -> Result<Blob, AllocError> {
+    let mut script = Script::new(alloc, List::new(alloc));
+    let outcome = pull_generated(alloc, 3, &mut script);
+    let mut bytes = Blob::empty(alloc);
+    write_report(
+        alloc,
+        &mut bytes,
+        100,
+        script.conversation().as_slice(),
+        &outcome,
+    )?;
+    Ok(bytes)
+}
+
+fn main(rt: HostRuntime) -> ExitCode {
+    let Ok(bytes) = report(rt.alloc()) else {
+        return ExitCode::from(6);
+    };
+    if put_all(&mut StdSink::new(rt.stdout()), bytes.as_slice()).is_err() {
+        return ExitCode::from(5);
+    }
+    ExitCode::from(0)
+}
