@@ -14,6 +14,7 @@ pub mod First
 pub mod Images
 pub mod LayerTexts
 pub mod Leads
+pub mod Meanings
 pub mod Reading
 pub mod ReferrerRows
 pub mod Refusals

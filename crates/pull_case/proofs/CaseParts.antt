@@ -42,7 +42,7 @@ ok_by_test : {A E : Type 0} (r : Result A E) → is_ok r ≡ true → IsOk r
 ok_by_test (Ok x) e = refl
 ok_by_test (Err x) e = e
 
-reads_as_reference : (o : Option Data) (text : List ℕ) → (o >>= reference_text_of) ≡ Some text → IsOk (reference_of text)
+pub reads_as_reference : (o : Option Data) (text : List ℕ) → (o >>= reference_text_of) ≡ Some text → IsOk (reference_of text)
 unfolding reference_text_of
 reads_as_reference None text e = cc
 reads_as_reference (Some d) text e = ok_by_test (reference_of text) (passed (λ t. is_ok (reference_of t)) (text_of d) text e)
@@ -76,7 +76,7 @@ unfolding registry_of
 registry_leads d r e = one_leads (get (codes "answers") d) (get (codes "shelf") d) r e
 
 -- what holds of each value behind what was read holds where that is there
-through : {A B : Type 0} (P : B → Type 0) (o : Option A) (k : A → Option B) → ((a : A) → o ≡ Some a → IfSome (k a) P)
+pub through : {A B : Type 0} (P : B → Type 0) (o : Option A) (k : A → Option B) → ((a : A) → o ≡ Some a → IfSome (k a) P)
     → IfSome (o >>= k) P
 through P None k h = tt
 through P (Some a) k h = h a refl

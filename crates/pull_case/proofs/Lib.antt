@@ -3,3 +3,4 @@ pub mod AnswerParts
 pub mod CaseParts
 pub mod Full
 pub mod Quieting
+pub mod Written

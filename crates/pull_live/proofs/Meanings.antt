@@ -26,7 +26,7 @@ use Rattle.live_host.specs.Wire.{Wire}
 use Rattle.pull_case.specs.Policy.{constraints_by}
 use Rattle.pull_case.specs.declared.constraint.WrittenConstraint.{WrittenConstraint}
 use Rattle.pull_live.specs.Shows.{Founded}
-use Rattle.pull_live.proofs.Policies.{accepts_same, no_item_same, stands_same}
+use Rattle.pull_case.proofs.Written.{accepts_same, no_item_same, stands_same}
 
 abbrev policy_by : {V : Type 0} {H : V → Type 0} → List (List ℕ) → List WrittenConstraint → PullPolicy V H
 policy_by keys written = record { keys = keys; constraints = constraints_by written }

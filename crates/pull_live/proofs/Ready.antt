@@ -1,41 +1,20 @@
 -- What holds of all settings: their reference reads as one.
-use Rattle.std.proofs.Common.{◌≡◌, List, ℕ, Bool, true, if◌then◌else◌, Option, Some, None, Result, Ok, Err, IfSome, IsOk, is_ok, refl, subst, codes}
+use Rattle.std.proofs.Common.{◌≡◌, Option, Some, None, IfSome, subst, codes}
 use Rattle.std.specs.FinMap.{empty}
 use Rattle.serde_json.specs.Data.{Data}
 use Rattle.serde_json.specs.Find.{get}
-use Rattle.json_tables.specs.Reading.{◌>>=◌, text_of, u64_of, bool_of, list_of, required, optional, at_name, only}
-use Rattle.oci_names.specs.References.{reference_of}
+use Rattle.json_tables.specs.Reading.{text_of, u64_of, bool_of, list_of, required, optional, at_name, only}
 use Rattle.oci_auth.specs.declared.auth.RegistryAuth.TheVariants.{Anonymous}
 use Rattle.engine_requests.specs.declared.settings.ClientProtocol.TheVariants.{Https}
 use Rattle.pull_case.specs.Auth.{auth_of}
 use Rattle.pull_case.specs.Case.{reference_text_of, protocol_of}
 use Rattle.pull_case.specs.Constraint.{constraint_of}
-use Rattle.pull_case.specs.Members.{passing, unless_absent, number_of}
+use Rattle.pull_case.specs.Members.{unless_absent, number_of}
 use Rattle.pull_case.specs.Platform.{platform_of}
+use Rattle.pull_case.proofs.CaseParts.{reads_as_reference, through}
 use Rattle.live_host.specs.Names.{frame_named}
 use Rattle.pull_live.specs.Settings.{IsReady, keys_of, log_keys_of, members, settings_of}
 use Rattle.pull_live.specs.declared.settings.LiveSettings.{LiveSettings}
-
-passed_here : {A : Type 0} (test : A → Bool) (b : Bool) (x a : A) → test x ≡ b → (if b then Some x else None) ≡ Some a → test a ≡ true
-passed_here test true x a p q = cc
-passed_here test b x a p q = cc
-
-passed : {A : Type 0} (test : A → Bool) (o : Option A) (a : A) → (o >>= passing test) ≡ Some a → test a ≡ true
-passed test None a e = cc
-passed test (Some x) a e = passed_here test (test x) x a refl e
-
-ok_by_test : {A E : Type 0} (r : Result A E) → is_ok r ≡ true → IsOk r
-ok_by_test (Ok x) e = refl
-ok_by_test (Err x) e = e
-
-reads_as_reference : (o : Option Data) (text : List ℕ) → (o >>= reference_text_of) ≡ Some text → IsOk (reference_of text)
-unfolding reference_text_of
-reads_as_reference None text e = cc
-reads_as_reference (Some d) text e = ok_by_test (reference_of text) (passed (λ t. is_ok (reference_of t)) (text_of d) text e)
-
-through : {A B : Type 0} (P : B → Type 0) (o : Option A) (k : A → Option B) → ((a : A) → o ≡ Some a → IfSome (k a) P) → IfSome (o >>= k) P
-through P None k h = tt
-through P (Some a) k h = h a refl
 
 abbrev HasRead : Data → LiveSettings → Type 0
 HasRead d settings = required reference_text_of (codes "reference") d ≡ Some settings.reference

@@ -1,8 +1,7 @@
 -- The pulls of a case.
-use Rattle.std.proofs.Common.{◌≡◌, ℕ, Bool, false, ◌&&◌, List, [], ◌∷◌, Result, Ok, Err, refl, sym, ap, ◌∙◌, subst}
+use Rattle.std.proofs.Common.{◌≡◌, ℕ, false, List, [], ◌∷◌, Result, Ok, Err, refl, ap, ◌∙◌, subst}
 use mathlib.Core.Path.{fun_ext}
 use Rattle.std.specs.Prelude.{IfOk}
-use Rattle.std.specs.List.{list_all}
 use Rattle.std.specs.declared.alloc.Global.{Global}
 use Rattle.std.specs.declared.dyn_box.DynBox.{DynBox}
 use Rattle.oci_names.specs.declared.reference.Reference.{Reference}
@@ -11,27 +10,18 @@ use Rattle.oci_auth.specs.declared.auth.RegistryAuth.{RegistryAuth}
 use Rattle.engine_requests.specs.Contexts.{within}
 use Rattle.oci_transport.specs.declared.message.Exchange.{Exchange}
 use Rattle.sig_registry.specs.Clients.{Kept, Client}
-use Rattle.cosign_layers.specs.Constraint.{has_no_item, accepts}
-use Rattle.cosign_layers.specs.Standing.{Meaning, Owns, meaning, is_signed, stands}
-use Rattle.cosign_layers.specs.Trust.{Trust, Valid}
+use Rattle.cosign_layers.specs.Standing.{Owns, meaning}
 use Rattle.cosign_layers.specs.Verifier.{valid_in}
-use Rattle.pull_case.specs.declared.constraint.WrittenConstraint.{WrittenConstraint}
-use Rattle.pull_case.specs.declared.constraint.WrittenConstraint.TheVariants.{Annotations, Email, Url}
 use Rattle.cosign_layers.specs.declared.layer.SignatureLayer.{SignatureLayer}
 use Rattle.cosign_layers.specs.declared.policy.PullPolicy.{PullPolicy}
-use Rattle.oci_protocol.specs.Proto.{Done, ◌>>=◌, ◌>>◌}
 use Rattle.cosign_chain.specs.declared.image.VerifiedImage.{VerifiedImage}
-use Rattle.cosign_client.specs.Image.{image_row}
-use Rattle.cosign_client.specs.References.{digest_reference}
-use Rattle.cosign_client.specs.Search.{searched}
 use Rattle.cosign_client.specs.Sound.{Sound}
-use Rattle.cosign_client.specs.Verified.{Whole, constrained, is_unconstrained, readable, part_of, stands_by, standing_by, verified_image, after_search, verified}
 use Rattle.cosign_client.specs.declared.refusal.PullRefusal.{PullRefusal}
 use Rattle.cosign_client.proofs.Images.{Seen}
 use Rattle.cosign_client.proofs.Chains.{verified_seen}
-use Rattle.engine_requests.specs.Contexts.{Context}
-use Rattle.std.specs.Prelude.{find}
-use Rattle.pull_case.specs.Policy.{constraint_by, constraints_by, policy_of, meaning_of, trust_of}
+use Rattle.cosign_client.proofs.Meanings.{verified_same}
+use Rattle.pull_case.specs.Policy.{constraints_by, meaning_of, trust_of}
+use Rattle.pull_case.proofs.Written.{no_item_same, stands_same}
 use Rattle.pull_case.specs.declared.case.Case.{Case}
 use Rattle.pull_run.specs.declared.report.Report.{Report}
 use Rattle.oci_auth.specs.Memory.{fresh as nothing_kept}
@@ -46,55 +36,17 @@ use Rattle.sig_registry.specs.Direct.{reference_in}
 use Rattle.json_values.specs.Places.{by_bytes}
 use Rattle.std.specs.FinMap.{FinMap}
 
-no_item_same : (V W : Type 0) (H : V → Type 0) (I : W → Type 0) (verifiers : List WrittenConstraint) → has_no_item (constraints_by {V = V} {H = H} verifiers) ≡ has_no_item (constraints_by {V = W} {H = I} verifiers)
-no_item_same V W H I [] = refl
-no_item_same V W H I (v ∷ verifiers) = refl
-
-module _ (V W : Type 0) (H : V → Type 0) (I : W → Type 0) (own : Owns V H) (other : Owns W I) (layer : SignatureLayer) where
-  -- what is written accepts whatever a box means
-  accepts_same : (c : WrittenConstraint) → accepts {V = V} {H = H} own (constraint_by c) layer ≡ accepts {V = W} {H = I} other (constraint_by c) layer
-  accepts_same (Annotations asked) = refl
-  accepts_same (Email asked) = refl
-  accepts_same (Url asked) = refl
-
-  all_same : (written : List WrittenConstraint)
-      → list_all (λ c. accepts {V = V} {H = H} own c layer) (constraints_by written) ≡ list_all (λ c. accepts {V = W} {H = I} other c layer) (constraints_by written)
-  all_same [] = refl
-  all_same (c ∷ written) =
-      ap (λ (b : Bool). b && list_all (λ c. accepts {V = V} {H = H} own c layer) (constraints_by written)) (accepts_same c)
-      ∙ ap (λ (b : Bool). accepts {V = W} {H = I} other (constraint_by c) layer && b) (all_same written)
-
-stands_same : (V W : Type 0) (H : V → Type 0) (I : W → Type 0) (own : Owns V H) (other : Owns W I) (keys : List (List ℕ)) (verifiers : List WrittenConstraint) (valid : Valid) (layer : SignatureLayer)
-    → stands {V = V} {H = H} valid (record { keys = keys; constraints = constraints_by verifiers }) own layer ≡ stands {V = W} {H = I} valid (record { keys = keys; constraints = constraints_by verifiers }) other layer
-unfolding stands
-stands_same V W H I own other keys verifiers valid layer = ap (λ (b : Bool). is_signed {V = V} {H = H} valid (record { keys = keys; constraints = constraints_by verifiers }) layer && b) (all_same V W H I own other layer verifiers)
-
 policy_is : {V : Type 0} {H : V → Type 0} (policy : PullPolicy V H) (case : Case) → policy.keys ≡ case.keys → policy.constraints ≡ constraints_by case.constraints → policy ≡ record { keys = case.keys; constraints = constraints_by case.constraints }
 policy_is policy case keys constraints = rw (← keys, ← constraints) refl
-
--- a pull by whether there is no constraint, by what stands, and by who is trusted
-by_parts : Context → Reference → RegistryAuth → List (List ℕ) → Bool → (SignatureLayer → Bool) → Trust → Whole VerifiedImage
-by_parts s image a accepted none fits trusted = do
-  Done (constrained none)
-  Done (readable image)
-  found ← part_of (searched trusted s image a)
-  stood ← Done (standing_by found (find fits found.collected))
-  pulled ← part_of (image_row s image (digest_reference image stood.digest) a accepted)
-  Done (Ok (verified_image stood pulled))
-
-is_by_parts : {V : Type 0} {H : V → Type 0} (m : Meaning V H) (s : Context) (image : Reference) (a : RegistryAuth) (accepted : List (List ℕ)) → verified m s image a accepted ≡ by_parts s image a accepted (is_unconstrained m.policy) (stands_by m) m.trust
-unfolding verified after_search by_parts
-is_by_parts m s image a accepted = refl
 
 -- the row of a policy that a case gives is the case's
 row_same : {V : Type 0} {H : V → Type 0} (policy : PullPolicy V H) (own : Owns V H) (case : Case) (image : Reference) → policy ≡ record { keys = case.keys; constraints = constraints_by case.constraints }
     → row_by (meaning policy own (trust_of case)) (settings_of case) image case.auth case.accepted ≡ row_of case image
 row_same {V} {H} policy own case image is =
     ap (λ (p : PullPolicy V H). row_by (meaning p own (trust_of case)) (settings_of case) image case.auth case.accepted) is
-    ∙ fun_ext (λ moment. is_by_parts (meaning (record { keys = case.keys; constraints = constraints_by case.constraints }) own (trust_of case)) (within (settings_of case) moment) image case.auth case.accepted
-    ∙ ap (λ (b : Bool). by_parts (within (settings_of case) moment) image case.auth case.accepted b (stands_by (meaning (record { keys = case.keys; constraints = constraints_by case.constraints }) own (trust_of case))) (trust_of case)) (no_item_same V ⊥ H (λ v. ⊥) case.constraints)
-    ∙ ap (λ (f : SignatureLayer → Bool). by_parts (within (settings_of case) moment) image case.auth case.accepted (is_unconstrained (policy_of case)) f (trust_of case)) (fun_ext (λ layer. stands_same V ⊥ H (λ v. ⊥) own (λ box layer. false) case.keys case.constraints (valid_in (record { rows = case.signatures })) layer))
-    ∙ sym (is_by_parts (meaning_of case) (within (settings_of case) moment) image case.auth case.accepted))
+    ∙ fun_ext (λ moment. verified_same (meaning (record { keys = case.keys; constraints = constraints_by case.constraints }) own (trust_of case)) (meaning_of case) (within (settings_of case) moment) image case.auth case.accepted
+    (no_item_same V ⊥ H (λ v. ⊥) case.constraints)
+    (λ layer. stands_same V ⊥ H (λ v. ⊥) own (λ box layer. false) case.keys case.constraints (valid_in (record { rows = case.signatures })) layer) refl)
 
 sound_result : (case : Case) (image : Reference) (k : Kept) (moment m n : ℕ) (c : List Exchange) (r : Result VerifiedImage PullRefusal) → Seen (Sound k (within (settings_of case) moment) (meaning_of case) image case.auth case.accepted) m c n r → SoundResult case image k moment c r
 sound_result case image k moment m n c (Ok v) h = h
