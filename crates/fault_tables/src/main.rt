@@ -21,7 +21,7 @@ const MOST_BYTES: u64 = 67108864;
 
 fn tables_of(alloc: Global, case: Option<Case>) -> Result<Option<Blob>, AllocError> {
     match case {
-        Some(case) => write_tables(alloc, case),
+        Some(case) => write_tables(alloc, &case),
         None => Ok(None),
     }
 }

@@ -1,24 +1,23 @@
 // Pulls over a shelf that fails.
 use cosign_client::{Client, ClientBuilder, PullRefusal, VerifiedImage};
-use cosign_layers::{PullPolicy, TableJudge, TableVerifier};
-use json_values::{Blob, Copied, List, Text};
+use cosign_layers::{PullPolicy, TableVerifier};
+use json_values::{Blob, Copied, List};
 use oci_link::{FaultyShelf, Shelf};
 use oci_transport::Transport;
-use pull_report::write_outcome;
+use pull_case::Case;
+use pull_report::{let_go, write_outcome};
 use sig_registry::{Auth, ClientConfig, ClientProtocol, OciReference};
 use std::alloc::{AllocError, Global};
 
 /// What each pull asks for, and over which shelf.
 #[derive(Drop)]
-pub struct Terms {
+pub struct Terms<'a> {
+    pub case: &'a Case,
+    pub shelf: &'a Shelf,
     pub image: OciReference,
     pub auth: Auth,
-    pub accepted: List<Text>,
     pub policy: PullPolicy,
     pub verifier: TableVerifier,
-    pub judge: TableJudge,
-    pub shelf: Shelf,
-    pub moment: u64,
 }
 
 /// What a pull came to: how many requests and faults, and its outcome as a report has it.
@@ -49,29 +48,32 @@ fn lines_of(
 // The outcome of a pull over this transport.
 fn outcome_over(
     alloc: Global,
-    terms: &Terms,
+    terms: &Terms<'_>,
     transport: &mut FaultyShelf,
 ) -> Result<Blob, AllocError> {
     let mut client = fresh_client(alloc)?;
+    let moment = terms.case.moments.as_slice().first().copied();
     let outcome = client.verified_pull(
         alloc,
         transport,
-        terms.moment,
+        moment.unwrap_or(0),
         &terms.image,
         &terms.auth,
-        terms.accepted.as_slice(),
+        terms.case.accepted.as_slice(),
         &terms.policy,
         &terms.verifier,
-        &terms.judge,
+        &terms.case.vouched,
     );
-    lines_of(alloc, &outcome)
+    let lines = lines_of(alloc, &outcome);
+    let_go(outcome);
+    lines
 }
 
 /// Pulls by a fresh client over the shelf, which fails at these numbers of sends and of calls for a piece. None where
 /// the redirects of the shelf do not lead.
 pub fn pull_over(
     alloc: Global,
-    terms: &Terms,
+    terms: &Terms<'_>,
     sends: List<u64>,
     pieces: List<u64>,
 ) -> Result<Option<Pulled>, AllocError> {

@@ -1,7 +1,7 @@
 // What each pull came to, line by line.
 use crate::pulls::{Pulled, Terms, pull_over};
 use cosign_layers::TableVerifier;
-use json_values::{Blob, List, write_decimal};
+use json_values::{Blob, Copied, List, write_decimal};
 use oci_link::Shelf;
 use pull_case::{Case, Registry, case_policy};
 use pull_report::text_line;
@@ -10,14 +10,6 @@ use std::alloc::{AllocError, Global};
 
 /// How many pieces may fail, one a pull, before the table ends anyway.
 const MOST_PIECES: u64 = 1000;
-
-// The registry in memory of a case that has one.
-fn shelf_of(registry: Registry) -> Option<Shelf> {
-    match registry {
-        Registry::Shelf(shelf) => Some(shelf),
-        Registry::Answers(_answers) => None,
-    }
-}
 
 // A case that was read has a reference that reads.
 fn image_in(alloc: Global, text: &str) -> Result<OciReference, AllocError> {
@@ -44,7 +36,7 @@ fn one(alloc: Global, number: u64) -> Result<List<u64>, AllocError> {
 }
 
 // A pull for each send that fails, of as many as a pull without faults makes.
-fn write_sends(alloc: Global, out: &mut Blob, terms: &Terms) -> Result<(), AllocError> {
+fn write_sends(alloc: Global, out: &mut Blob, terms: &Terms<'_>) -> Result<(), AllocError> {
     let Some(whole) = pull_over(alloc, terms, List::new(alloc), List::new(alloc))? else {
         return Ok(());
     };
@@ -61,7 +53,7 @@ fn write_sends(alloc: Global, out: &mut Blob, terms: &Terms) -> Result<(), Alloc
 }
 
 // A pull for each piece that fails, until one meets no fault.
-fn write_pieces(alloc: Global, out: &mut Blob, terms: &Terms) -> Result<(), AllocError> {
+fn write_pieces(alloc: Global, out: &mut Blob, terms: &Terms<'_>) -> Result<(), AllocError> {
     for number in 0..MOST_PIECES {
         let pieces = one(alloc, number)?;
         let Some(pulled) = pull_over(alloc, terms, List::new(alloc), pieces)? else {
@@ -76,34 +68,35 @@ fn write_pieces(alloc: Global, out: &mut Blob, terms: &Terms) -> Result<(), Allo
     Ok(())
 }
 
-fn tables_over(alloc: Global, terms: &Terms) -> Result<Blob, AllocError> {
+fn tables_over(alloc: Global, terms: &Terms<'_>) -> Result<Blob, AllocError> {
     let mut out = Blob::empty(alloc);
     write_sends(alloc, &mut out, terms)?;
     write_pieces(alloc, &mut out, terms)?;
     Ok(out)
 }
 
-/// Both tables, where the case's registry is in memory. They are of the case's first moment.
-pub fn write_tables(alloc: Global, case: Case) -> Result<Option<Blob>, AllocError> {
+fn tables_of(alloc: Global, case: &Case, shelf: &Shelf) -> Result<Blob, AllocError> {
     let image = image_in(alloc, case.reference.as_str())?;
     let auth = Auth::from_registry(alloc, &case.auth)?;
-    let policy = case_policy(alloc, case.keys, case.constraints.as_slice())?;
-    let moment = case.moments.as_slice().first().copied().unwrap_or(0);
-    let Some(shelf) = shelf_of(case.registry) else {
-        return Ok(None);
+    let verifier = TableVerifier {
+        rows: case.signatures.copy(alloc)?,
     };
+    let policy = case_policy(alloc, case.keys.copy(alloc)?, case.constraints.as_slice())?;
     let terms = Terms {
+        case,
+        shelf,
         image,
         auth,
-        accepted: case.accepted,
         policy,
-        verifier: TableVerifier {
-            rows: case.signatures,
-        },
-        judge: case.vouched,
-        shelf,
-        moment,
+        verifier,
     };
-    let tables = tables_over(alloc, &terms)?;
-    Ok(Some(tables))
+    tables_over(alloc, &terms)
+}
+
+/// Both tables, where the case's registry is in memory. They are of the case's first moment.
+pub fn write_tables(alloc: Global, case: &Case) -> Result<Option<Blob>, AllocError> {
+    match &case.registry {
+        Registry::Shelf(shelf) => Ok(Some(tables_of(alloc, case, shelf)?)),
+        Registry::Answers(_) => Ok(None),
+    }
 }

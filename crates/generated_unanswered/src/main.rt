@@ -8,7 +8,7 @@ use json_values::{Blob, List, put_all};
 use oci_transport::Script;
 use pull_edge::StdSink;
 use pull_generated::pull_generated;
-use pull_report::write_report;
+use pull_report::{let_go, write_report};
 use std::alloc::{AllocError, Global};
 use std::process::ExitCode;
 
@@ -16,13 +16,10 @@ fn report(alloc: Global) -> Result<Blob, AllocError> {
     let mut script = Script::new(alloc, List::new(alloc));
     let outcome = pull_generated(alloc, 3, &mut script);
     let mut bytes = Blob::empty(alloc);
-    write_report(
-        alloc,
-        &mut bytes,
-        100,
-        script.conversation().as_slice(),
-        &outcome,
-    )?;
+    let conversation = script.conversation().as_slice();
+    let written = write_report(alloc, &mut bytes, 100, conversation, &outcome);
+    let_go(outcome);
+    written?;
     Ok(bytes)
 }
 

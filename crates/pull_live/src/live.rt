@@ -7,7 +7,7 @@ ghost use Rattle.pull_live.specs.Parts.{Prepares, BeginCause, ReadsSettings, Del
 ghost use Rattle.pull_live.specs.Settings.{IsReady};
 ghost use Rattle.pull_live.specs.Terms.{row_for, PullShows, TermsConfined};
 
-use crate::client::{fresh_client, image_in};
+use crate::client::{fresh_client, prepare};
 use crate::pulls::{Terms, pull, search};
 use crate::refusal::give_refusal;
 use crate::settings::{LiveSettings, read_settings};
@@ -18,7 +18,7 @@ use json_values::{Json, Sink};
 use live_host::{Answers, HostError, Streams, ask_layers, begin_head, give_image, hear, tell};
 use pull_case::case_policy;
 use pull_edge::Source;
-use sig_registry::Auth;
+use pull_report::let_go;
 use std::alloc::Global;
 
 /// How a live pull ended, and the streams as they are then.
@@ -140,6 +140,7 @@ fn finish<S: Source, K: Sink>(
         answers,
     );
     let status = deliver(alloc, &mut streams, blobs, &outcome);
+    let_go(outcome);
     Ended { status, streams }
 }
 
@@ -194,33 +195,31 @@ fn serve<S: Source, K: Sink>(
         (wire S.state K.state streams) (wire S.state K.state result.streams))
         result.status (wire S.state K.state result.streams) }
 {
-    let blobs = settings.blobs;
-    let image = match image_in(alloc, settings.reference.as_str()) {
-        Ok(image) => image,
+    let made = match prepare(alloc, &settings) {
+        Ok(made) => made,
         Err(_) => return end_with(Status::WantOfMemory, streams),
     };
-    let auth = match Auth::from_registry(alloc, &settings.auth) {
-        Ok(auth) => auth,
-        Err(_) => return end_with(Status::WantOfMemory, streams),
-    };
-    let policy = match case_policy(alloc, settings.keys, settings.constraints.as_slice()) {
+    let policy = match case_policy(alloc, made.keys, settings.constraints.as_slice()) {
         Ok(policy) => policy,
-        Err(_) => return end_with(Status::WantOfMemory, streams),
-    };
-    let (limit, log_keys) = (settings.limit, settings.log_keys);
-    let client = match fresh_client(alloc, settings.protocol, limit, settings.platform, log_keys) {
-        Ok(client) => client,
         Err(_) => return end_with(Status::WantOfMemory, streams),
     };
     let terms = Terms {
         moment: settings.moment,
-        image,
-        auth,
+        image: made.image,
+        auth: made.auth,
         accepted: settings.accepted,
         policy,
     };
+    let client = fresh_client(
+        alloc,
+        made.config,
+        settings.protocol,
+        settings.limit,
+        settings.platform,
+        settings.log_keys,
+    );
     let mut prepared = Prepared { client, terms };
-    converse(alloc, streams, &mut prepared, blobs)
+    converse(alloc, streams, &mut prepared, settings.blobs)
 }
 
 /// Pulls an image with a host, which makes the connections and the arithmetic of signatures, and has the clock: reads

@@ -11,7 +11,7 @@ use cosign_client::{PullRefusal, VerifiedImage};
 use json_values::{Blob, Sink, write_decimal};
 use oci_link::ShelfTransport;
 use pull_generated::{generated_shelf, pull_generated};
-use pull_report::text_line;
+use pull_report::{let_go, text_line};
 use std::alloc::{AllocError, Global};
 
 // The lines of an image that so many requests gave.
@@ -58,7 +58,9 @@ fn generated(alloc: Global, layers: u32) -> Result<Report, AllocError>
     let mut transport = ShelfTransport::new(alloc, shelf);
     let outcome = pull_generated(alloc, layers, &mut transport);
     let requests = transport.conversation().as_slice().len();
-    written(alloc, requests, &outcome)
+    let report = written(alloc, requests, &outcome);
+    let_go(outcome);
+    report
 }
 
 /// Writes what the pull of the image with so many layers gives.

@@ -2,7 +2,8 @@
 ghost use Rattle.std.specs.Prelude.{◌≡◌, ◌++◌, ◌||◌, false, not, Ok, IsOk, IfOk, IfSome, OnOk};
 ghost use Rattle.oci_names.specs.References.{reference_of};
 ghost use Rattle.sig_registry.specs.Direct.{reference_in};
-ghost use Rattle.oci_engine.specs.Clients.{settings_of};
+ghost use Rattle.sig_settings.specs.Auths.{registry_auth};
+ghost use Rattle.oci_engine.specs.Clients.{default_config, settings_of};
 ghost use Rattle.cosign_client.specs.Builder.{fresh_state};
 ghost use Rattle.cosign_client.specs.State.{client_state};
 ghost use Rattle.pull_case.specs.Case.{case_in, IsReady};
@@ -16,12 +17,12 @@ use crate::report::Report;
 use crate::task::Task;
 use cosign_client::{Client, PullRefusal, VerifiedImage};
 use cosign_layers::{LogKeys, PullPolicy, TableJudge, TableVerifier};
-use json_values::{Blob, List, Text};
+use json_values::{Blob, Copied, List, Text};
 use oci_engine::{ClientConfig, ClientProtocol};
 use oci_platforms::PlatformResolver;
 use oci_transport::Exchange;
 use pull_case::{Case, Registry, Replay, case_policy, read_case};
-use pull_report::write_report;
+use pull_report::{let_go, write_report};
 use sig_registry::{
     Auth, OciCachingClient, OciClient, OciReference, RegistryClient, SigstoreError,
 };
@@ -100,7 +101,9 @@ fn pull_at(
         &terms.judge,
     );
     let conversation = replay.conversation().as_slice();
-    add_report(alloc, report, moment, &conversation[before..], &outcome)
+    let added = add_report(alloc, report, moment, &conversation[before..], &outcome);
+    let_go(outcome);
+    added
 }
 
 // One pull at each moment, in turn, over what this registry answers.
@@ -129,19 +132,20 @@ fn pull_each(
 
 // What a case says of a client's settings, all else as usual.
 fn config(
-    alloc: Global,
+    usual: ClientConfig,
     protocol: ClientProtocol,
     limit: Option<u64>,
     platform: Option<PlatformResolver>,
-) -> Result<ClientConfig, AllocError>
-    ensures settings { IfOk result (λ config. settings_of config ≡ settings_by protocol limit platform) }
-    ensures expiration { IfOk result (λ config. config.default_token_expiration_secs ≡ 60) }
+) -> ClientConfig
+    requires { usual ≡ default_config }
+    ensures settings { settings_of result ≡ settings_by protocol limit platform }
+    ensures expiration { result.default_token_expiration_secs ≡ 60 }
 {
-    let mut config = ClientConfig::default(alloc)?;
+    let mut config = usual;
     config.protocol = protocol;
     config.max_body_bytes = limit.unwrap_or(config.max_body_bytes);
     config.platform_resolver = platform;
-    Ok(config)
+    config
 }
 
 // A client that knows these logs, keeps nothing yet, and will keep answers or not.
@@ -178,6 +182,30 @@ fn image_in(alloc: Global, text: &str) -> Result<OciReference, AllocError>
     }
 }
 
+// What is made of a case before its parts are moved, so that nothing can fail between them.
+#[derive(Drop)]
+struct Prepared {
+    image: OciReference,
+    auth: Auth,
+    keys: List<Blob>,
+    config: ClientConfig,
+}
+
+fn prepare(alloc: Global, case: &Case) -> Result<Prepared, AllocError>
+    requires { IsOk (reference_of case.now.reference) }
+    ensures image { IfOk result (λ prepared. reference_of case.now.reference ≡ Ok (reference_in prepared.image)) }
+    ensures auth { IfOk result (λ prepared. registry_auth prepared.auth ≡ case.now.auth) }
+    ensures keys { IfOk result (λ prepared. prepared.keys ≡ case.now.keys) }
+    ensures config { IfOk result (λ prepared. prepared.config ≡ default_config) }
+{
+    Ok(Prepared {
+        image: image_in(alloc, case.reference.as_str())?,
+        auth: Auth::from_registry(alloc, &case.auth)?,
+        keys: case.keys.copy(alloc)?,
+        config: ClientConfig::default(alloc)?,
+    })
+}
+
 impl Task for Case {
     ghost reads = { case_in };
 
@@ -202,17 +230,24 @@ pub fn pull_case(alloc: Global, case: Case) -> Result<Report, AllocError>
     requires { IsReady case }
     ensures { IfOk result (ReportsCase case) }
 {
+    let Prepared {
+        image,
+        auth,
+        keys,
+        config: usual,
+    } = prepare(alloc, &case)?;
+    let policy = case_policy(alloc, keys, case.constraints.as_slice())?;
     let terms = Terms {
-        image: image_in(alloc, case.reference.as_str())?,
-        auth: Auth::from_registry(alloc, &case.auth)?,
+        image,
+        auth,
         accepted: case.accepted,
-        policy: case_policy(alloc, case.keys, case.constraints.as_slice())?,
+        policy,
         verifier: TableVerifier {
             rows: case.signatures,
         },
         judge: case.vouched,
     };
-    let config = config(alloc, case.protocol, case.limit, case.platform)?;
+    let config = config(usual, case.protocol, case.limit, case.platform);
     let mut client = fresh_client(alloc, config, case.caching, case.log_keys);
     pull_each(
         alloc,

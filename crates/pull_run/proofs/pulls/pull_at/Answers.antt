@@ -11,9 +11,9 @@ pub slice_bounds-add_report-start : goal.slice_bounds-add_report-start
 slice_bounds-add_report-start g c = rw (c.as_slice-before.ensures, c.as_slice-conversation.ensures) (no_shorter c.verified_pull-outcome.result _ _ c.conversation.ensures.told c.conversation-2.ensures.told c.verified_pull-outcome.ensures.run)
 
 pub returns-clause-round : goal.returns-clause-round
-returns-clause-round g c = from_ok c.add_report.result c.add_report.ensures.bytes c.add_report.ensures.refused c.add_report.ensures.whole (λ bytes refused whole. told_round
+returns-clause-round g c = from_ok c.add_report-added.result c.add_report-added.ensures.bytes c.add_report-added.ensures.refused c.add_report-added.ensures.whole (λ bytes refused whole. told_round
     {row = row_for (λ b. (goal.VerificationConstraint-dyn g (b.vtable, b.value)).accepts b.value) c.args.terms.now (client_state c.args.client.now).settings c.args.client.now.rekor_pub_keys}
-    {moment = c.args.moment} {mid = state_of c.args.replay.now} {new = state_of c.verified_pull-outcome.new.transport} {k = (client_state c.args.client.now).kept} {l = (client_state c.verified_pull-outcome.new.self).kept} {before = c.args.report.now} {after = c.add_report.new.report}
+    {moment = c.args.moment} {mid = state_of c.args.replay.now} {new = state_of c.verified_pull-outcome.new.transport} {k = (client_state c.args.client.now).kept} {l = (client_state c.verified_pull-outcome.new.self).kept} {before = c.args.report.now} {after = c.add_report-added.new.report}
     c.verified_pull-outcome.result c.conversation.result.now c.conversation-2.result.now c.conversation.ensures.told c.conversation-2.ensures.told whole (rw c.as_slice.ensures at c.verified_pull-outcome.ensures.run) (rw (c.as_slice-before.ensures, c.as_slice-conversation.ensures) at bytes) refused)
 
 pub returns-clause-settings : goal.returns-clause-settings
@@ -23,4 +23,4 @@ pub returns-clause-log_keys : goal.returns-clause-log_keys
 returns-clause-log_keys g c = c.verified_pull-outcome.ensures.keys
 
 pub returns-clause-calm : goal.returns-clause-calm
-returns-clause-calm g c = always c.add_report.result (told_is_calm c.verified_pull-outcome.new.transport c.conversation-2.result.now c.conversation-2.ensures.told c.conversation-2.ensures.calm)
+returns-clause-calm g c = always c.add_report-added.result (told_is_calm c.verified_pull-outcome.new.transport c.conversation-2.result.now c.conversation-2.ensures.told c.conversation-2.ensures.calm)
