@@ -396,6 +396,8 @@ class Parts(WithFolder):
                 self.assertEqual(network.realm, realm)
                 network.reply({"frame": "request", "method": "GET", "url": f"http://{place}/v2/app/manifests/v1", "headers": []})
                 self.assertEqual(network.realm, "")
+                for connection in network.connections.values():
+                    connection.close()
 
     def test_signatures(self):
         message, file = b"the signed text", self.folder / "message"

@@ -230,16 +230,11 @@ pub fn pull_case(alloc: Global, case: Case) -> Result<Report, AllocError>
     requires { IsReady case }
     ensures { IfOk result (ReportsCase case) }
 {
-    let Prepared {
-        image,
-        auth,
-        keys,
-        config: usual,
-    } = prepare(alloc, &case)?;
-    let policy = case_policy(alloc, keys, case.constraints.as_slice())?;
+    let made = prepare(alloc, &case)?;
+    let policy = case_policy(alloc, made.keys, case.constraints.as_slice())?;
     let terms = Terms {
-        image,
-        auth,
+        image: made.image,
+        auth: made.auth,
         accepted: case.accepted,
         policy,
         verifier: TableVerifier {
@@ -247,7 +242,7 @@ pub fn pull_case(alloc: Global, case: Case) -> Result<Report, AllocError>
         },
         judge: case.vouched,
     };
-    let config = config(usual, case.protocol, case.limit, case.platform);
+    let config = config(made.config, case.protocol, case.limit, case.platform);
     let mut client = fresh_client(alloc, config, case.caching, case.log_keys);
     pull_each(
         alloc,
