@@ -8,7 +8,6 @@ import os
 import subprocess
 import sys
 import tempfile
-import time
 
 # Nothing is left beside the recorded cases.
 sys.dont_write_bytecode = True
@@ -36,17 +35,14 @@ def large_case(size):
 
 def measured(words, path):
     """The least time of some runs in seconds, the most memory of one in bytes, and what was written."""
-    times, memory = [], 0
+    times, memory, written = [], 0, b""
     for _ in range(RUNS):
-        with open(path, "rb") as stdin:
-            begun = time.monotonic()
-            process = subprocess.Popen(words, stdin=stdin, stdout=subprocess.PIPE)
-            written = process.stdout.read()
-            _, status, usage = os.wait4(process.pid, 0)
-        times.append(time.monotonic() - begun)
-        memory = max(memory, usage.ru_maxrss * 1024)
-        if status != 0:
-            raise SystemExit(f"{words[0]} ended with {status}")
+        run = subprocess.run([sys.executable, os.path.join(HERE, "held.py"), path, *words], capture_output=True, check=True)
+        seconds, held, status = run.stderr.split()[-3:]
+        if int(status) != 0:
+            raise SystemExit(f"{words[0]} ended with {int(status)}")
+        times.append(float(seconds))
+        memory, written = max(memory, int(held)), run.stdout
     return min(times), memory, written
 
 

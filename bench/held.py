@@ -1,0 +1,23 @@
+#!/usr/bin/env python3
+"""Runs a program once, and tells how long it took and how much memory it held.
+
+    held.py STDIN WORD ..      what the program writes goes out; the last line on standard error is `SECONDS BYTES STATUS`
+
+It stands alone so that it is small: the memory that a process is said to have held is at least what its parent held when it was made.
+"""
+import os
+import subprocess
+import sys
+import time
+
+
+def main():
+    with open(sys.argv[1], "rb") as stdin:
+        begun = time.monotonic()
+        process = subprocess.Popen(sys.argv[2:], stdin=stdin)
+        _, status, usage = os.wait4(process.pid, 0)
+    print(f"{time.monotonic() - begun} {usage.ru_maxrss * 1024} {os.waitstatus_to_exitcode(status)}", file=sys.stderr)
+
+
+if __name__ == "__main__":
+    main()
