@@ -14,12 +14,12 @@ use Rattle.oci_protocol.proofs.Parts.{Parts, Runs-parts, Runs-done}
 use Rattle.engine_requests.specs.declared.settings.Settings.{Settings}
 use Rattle.engine_requests.specs.Contexts.{within}
 use Rattle.engine_requests.specs.Sources.{Layer}
-use Rattle.sig_registry.specs.declared.error.SigstoreError.{SigstoreError}
-use Rattle.sig_registry.specs.Errors.{is_memory}
-use Rattle.sig_registry.specs.Clients.{Kept, Plain, Row, Client, Made}
-use Rattle.sig_registry.specs.Caching.{Cache, known, keeping, known_or, recalled, cached}
-use Rattle.sig_registry.specs.Calls.{digests, manifests, images, referrers, digest_made, manifest_made, image_made, referrers_made, document_made, blob_made, digest_call, manifest_call, image_call, referrers_call, document_call, blob_call}
-use Rattle.sig_registry.specs.Log.{Call, DigestCall, ManifestCall, ImageCall, ReferrersCall, image_called, kind_called, key_called, answering, answered, call_made, Place, place_of, IsRun, IsBacked}
+use Rattle.sig_calls.specs.declared.error.SigstoreError.{SigstoreError}
+use Rattle.sig_calls.specs.Errors.{is_memory}
+use Rattle.sig_calls.specs.Clients.{Kept, Plain, Row, Client, Made}
+use Rattle.sig_calls.specs.Caching.{Cache, known, keeping, known_or, recalled, cached}
+use Rattle.sig_calls.specs.Calls.{digests, manifests, images, referrers, digest_made, manifest_made, image_made, referrers_made, document_made, blob_made, digest_call, manifest_call, image_call, referrers_call, document_call, blob_call}
+use Rattle.sig_calls.specs.Log.{Call, DigestCall, ManifestCall, ImageCall, ReferrersCall, image_called, kind_called, key_called, answering, answered, call_made, Place, place_of, IsRun, IsBacked}
 use Rattle.sig_registry.proofs.Logs.{IsCache, logged}
 use Rattle.sig_registry.proofs.Facts.{digests_kept, manifests_kept, images_kept, referrers_kept}
 use Rattle.cache_laws.specs.Growth.{Grown, Grows}

@@ -9,8 +9,8 @@ use Rattle.oci_protocol.proofs.Lifting.{Runs-unlifted}
 use Rattle.oci_protocol.proofs.Parts.{Runs-parts, Runs-done}
 use Rattle.engine_requests.specs.declared.settings.Settings.{Settings}
 use Rattle.sig_answers.specs.declared.answers.Answers.{Answers}
-use Rattle.sig_registry.specs.Clients.{Kept}
-use Rattle.sig_registry.specs.Log.{Place, IsRun, IsBacked}
+use Rattle.sig_calls.specs.Clients.{Kept}
+use Rattle.sig_calls.specs.Log.{Place, IsRun, IsBacked}
 use Rattle.cache_laws.specs.Growth.{Grown, Grows}
 
 pub as_it_was : (s : Settings) (k l : Kept) (log : List Place) → k.1 ≡ l.1 → IsRun s log → IsBacked s k.1 log → Grown s l.1 log

@@ -16,16 +16,16 @@ use Rattle.engine_requests.specs.Contexts.{within}
 use Rattle.engine_requests.specs.Requests.{manifest_types}
 use Rattle.engine_requests.specs.Sources.{described}
 use Rattle.engine_requests.specs.Index.{entry_reference}
-use Rattle.engine_pull.specs.Images.{layer_of}
-use Rattle.sig_registry.specs.declared.error.SigstoreError.{SigstoreError}
-use Rattle.sig_registry.specs.Clients.{Row}
-use Rattle.sig_registry.specs.Calls.{digest_call, manifest_call, image_call, referrers_call, document_call, blob_call}
+use Rattle.engine_rows.specs.Images.{layer_of}
+use Rattle.sig_calls.specs.declared.error.SigstoreError.{SigstoreError}
+use Rattle.sig_calls.specs.Clients.{Row}
+use Rattle.sig_calls.specs.Calls.{digest_call, manifest_call, image_call, referrers_call, document_call, blob_call}
 use Rattle.cosign_layers.specs.Trust.{Trust}
 use Rattle.cosign_layers.specs.Standing.{Meaning}
-use Rattle.cosign_client.specs.References.{tag_reference, digest_reference}
-use Rattle.cosign_client.specs.Search.{payload_type, bundle_type, tag_layers, tag_by, tag_source, referrer_by, referrer_row, referrers_row, listed_row, referrers_source, searched}
-use Rattle.cosign_client.specs.Image.{layers_row, blobs_row, entry_call, entry_row, manifest_row, after_document, image_row}
-use Rattle.cosign_client.specs.Verified.{part_of, after_standing, after_search, verified}
+use Rattle.cosign_rows.specs.References.{tag_reference, digest_reference}
+use Rattle.cosign_rows.specs.Search.{payload_type, bundle_type, tag_layers, tag_by, tag_source, referrer_by, referrer_row, referrers_row, listed_row, referrers_source, searched}
+use Rattle.cosign_rows.specs.Image.{layers_row, blobs_row, entry_call, entry_row, manifest_row, after_document, image_row}
+use Rattle.cosign_rows.specs.Verified.{part_of, after_standing, after_search, verified}
 use Rattle.cache_laws.specs.Growth.{Grows}
 use Rattle.cache_laws.proofs.Growing.{grows_done, grows_bind, grows_next}
 use Rattle.cache_laws.proofs.Calls.{digest_grows, manifest_grows, image_grows, referrers_grow, document_grows, blob_grows}

@@ -5,8 +5,8 @@ use Rattle.oci_protocol.specs.Proto.{Proto}
 use Rattle.oci_protocol.specs.Runs.{Runs}
 use Rattle.engine_requests.specs.declared.settings.Settings.{Settings}
 use Rattle.sig_answers.specs.declared.answers.Answers.{Answers}
-use Rattle.sig_registry.specs.Clients.{Kept}
-use Rattle.sig_registry.specs.Log.{Place, IsRun, IsBacked}
+use Rattle.sig_calls.specs.Clients.{Kept}
+use Rattle.sig_calls.specs.Log.{Place, IsRun, IsBacked}
 
 -- the log with these calls more is a run, and what is kept now is backed by it
 pub record Grown (s : Settings) (kept : Option Answers) (log : List Place) : Type 0 where

@@ -5,8 +5,7 @@ use Rattle.json_values.specs.Places.{by_bytes}
 use Rattle.oci_auth.specs.Memory.{fresh}
 use Rattle.oci_engine.specs.Clients.{settings_of}
 use Rattle.oci_engine.specs.declared.config.ClientConfig.{ClientConfig as OciConfig}
-use Rattle.sig_answers.specs.declared.answers.Answers.{Answers}
-use Rattle.sig_registry.specs.Clients.{Client as Shown, none_kept}
+use Rattle.sig_calls.specs.Clients.{Client as Shown, no_answers}
 use Rattle.sig_registry.specs.Config.{oci_config}
 use Rattle.sig_registry.specs.declared.config.ClientConfig.{ClientConfig}
 use Rattle.cosign_layers.specs.Constraint.{has_no_item}
@@ -30,11 +29,7 @@ keys_of b = unwrap_or b.rekor_pub_keys empty
 abbrev pub keys_or : Keys → Keys → Keys
 keys_or given kept = if has_no_item (entries given) then kept else given
 
--- no answers yet, where answers are kept
-abbrev pub no_answers : Bool → Option Answers
-no_answers true = Some (none_kept None)
-no_answers false = None
-
+-- a client of this configuration that keeps nothing yet
 abbrev pub fresh_state : OciConfig → Bool → Shown
 fresh_state config caching = record {
   settings = settings_of config;

@@ -1,5 +1,6 @@
 -- What a client shows: its settings, what it keeps between its calls, and whom it trusts.
-use Rattle.sig_registry.specs.Clients.{Client as Shown, state_of}
+use Rattle.sig_calls.specs.Clients.{Client as Shown}
+use Rattle.sig_registry.specs.States.{state_of}
 use Rattle.cosign_layers.specs.Trust.{Trust, Valid, Vouching, trust}
 use Rattle.cosign_client.specs.declared.client.Client.{Client}
 

@@ -1,7 +1,7 @@
 //! What a client is built of.
 ghost use Rattle.std.specs.Prelude.{◌≡◌, true, false, IfOk};
 ghost use Rattle.std.specs.FinMap as map;
-ghost use Rattle.sig_registry.specs.Clients.{state_of};
+ghost use Rattle.sig_registry.specs.States.{state_of};
 ghost use Rattle.sig_registry.specs.Config.{default_config};
 ghost use Rattle.cosign_client.specs.Builder.{config_of, caches, keys_of, keys_or, fresh_state, fresh_client};
 ghost use Rattle.cosign_client.specs.State.{client_state};

@@ -35,10 +35,10 @@ use Rattle.engine_requests.specs.Addresses.{blob_text, url_read}
 use Rattle.engine_requests.specs.Requests.{manifest_types}
 use Rattle.engine_requests.specs.Answers.{is_success}
 use Rattle.engine_requests.specs.Blobs.{digest_expected, given_expected, pouring, plan_by, planned, plan_in, plan_of, compared, given_compared, both_compared}
-use Rattle.engine_steps.specs.Rows.{prepared}
-use Rattle.engine_steps.specs.Blobs.{Destination, IntoSink, IntoMemory, reading_into, reading_by, blob_reading, unread_by, read_by, blob_reply}
-use Rattle.engine_steps.specs.Offers.{tried}
-use Rattle.engine_pull.specs.Pulls.{blob_to}
+use Rattle.engine_rows.specs.Rows.{prepared}
+use Rattle.engine_rows.specs.Blobs.{Destination, IntoSink, IntoMemory, reading_into, reading_by, blob_reading, unread_by, read_by, blob_reply}
+use Rattle.engine_rows.specs.Offers.{tried}
+use Rattle.engine_rows.specs.Pulls.{blob_to}
 use Rattle.engine_laws.specs.Answered.{LedTo, Body, LastBody}
 use Rattle.engine_laws.proofs.PreparedRequests.{into_ok, Prepared, prepared_shows}
 use Rattle.engine_laws.proofs.DocumentAnswers.{led_of, body_after, body_led}

@@ -40,10 +40,10 @@ use Rattle.engine_requests.specs.declared.sources.Place.{Place}
 use Rattle.engine_requests.specs.declared.sources.Place.TheVariants.{Web, Unfit}
 use Rattle.engine_requests.specs.Answers.{is_success, or_digest_error, header_digest}
 use Rattle.engine_requests.specs.Blobs.{digest_expected, given_expected, pouring, plan_by, planned, plan_of, compared, given_compared}
-use Rattle.engine_steps.specs.Rows.{prepared}
-use Rattle.engine_steps.specs.Blobs.{Destination, IntoSink, IntoMemory, reading_by, blob_reading, unread_by, read_by, blob_reply}
-use Rattle.engine_steps.specs.Offers.{tried}
-use Rattle.engine_pull.specs.Pulls.{blob_to}
+use Rattle.engine_rows.specs.Rows.{prepared}
+use Rattle.engine_rows.specs.Blobs.{Destination, IntoSink, IntoMemory, reading_by, blob_reading, unread_by, read_by, blob_reply}
+use Rattle.engine_rows.specs.Offers.{tried}
+use Rattle.engine_rows.specs.Pulls.{blob_to}
 use Rattle.engine_laws.specs.Causes.{UnfitUrl, BlobUrl, SinkMayFail, LastAnswer, Claimed, DigestCause, AnswerCause, AskedDigest}
 use Rattle.engine_laws.proofs.EarlyCauses.{Loose, LooseBlob}
 use Rattle.engine_laws.proofs.PreparedRequests.{accepts_of, Prepared}

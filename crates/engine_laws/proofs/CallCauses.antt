@@ -19,15 +19,15 @@ use Rattle.engine_requests.specs.declared.error.OciDistributionError.{OciDistrib
 use Rattle.engine_requests.specs.declared.error.OciDistributionError.TheVariants as refusal
 use Rattle.engine_requests.specs.Errors.{is_memory}
 use Rattle.engine_requests.specs.Requests.{manifest_types}
-use Rattle.engine_steps.specs.Rows.{Row}
-use Rattle.engine_steps.specs.Blobs.{Spills}
-use Rattle.engine_pull.specs.Pulls.{fetch_manifest_digest, pull_manifest_raw, pull_manifest, blob_to, pull_blob}
-use Rattle.engine_pull.specs.Images.{pull}
-use Rattle.engine_pull.specs.Manifests.{pull_image_manifest_and_list_digest, pull_image_manifest, pull_manifest_and_config_and_list_digest, pull_manifest_and_config}
+use Rattle.engine_rows.specs.Rows.{Row}
+use Rattle.engine_rows.specs.Blobs.{Spills}
+use Rattle.engine_rows.specs.Pulls.{fetch_manifest_digest, pull_manifest_raw, pull_manifest, blob_to, pull_blob}
+use Rattle.engine_rows.specs.Images.{pull}
+use Rattle.engine_rows.specs.Manifests.{pull_image_manifest_and_list_digest, pull_image_manifest, pull_manifest_and_config_and_list_digest, pull_manifest_and_config}
 use Rattle.oci_manifests.specs.declared.manifest.OciImageManifest.{OciImageManifest}
-use Rattle.engine_pull.specs.declared.image.ImageData.{ImageData}
+use Rattle.engine_rows.specs.declared.image.ImageData.{ImageData}
 use Rattle.engine_laws.specs.Held.{Entry, pulling}
-use Rattle.engine_steps.specs.Blobs.{Destination, IntoSink}
+use Rattle.engine_rows.specs.Blobs.{Destination, IntoSink}
 use Rattle.engine_laws.specs.Causes.{ManifestUrl, BlobUrl, LastFailed, AnswerCause, DocumentCause, BadHeader, Cause, OwnDigest, BlobCause, FoundCause, ConfigCause, ImageCause}
 use Rattle.engine_laws.proofs.EarlyCauses.{Loose, LooseBlob}
 use Rattle.engine_laws.proofs.DocumentCauses.{Accepted, raw_causes}

@@ -22,12 +22,12 @@ use Rattle.engine_requests.specs.Requests.{manifest_types}
 use Rattle.engine_requests.specs.declared.error.OciDistributionError.{OciDistributionError}
 use Rattle.engine_requests.specs.Errors.{is_memory}
 use Rattle.engine_requests.specs.declared.settings.Settings.{Settings}
-use Rattle.engine_steps.specs.Rows.{Row, store, token_step, kept_text, token_given}
-use Rattle.engine_steps.specs.Blobs.{Destination, IntoSink, Spills}
-use Rattle.engine_pull.specs.Pulls.{fetch_manifest_digest, pull_manifest_raw, pull_manifest, blob_to, pull_blob}
-use Rattle.engine_pull.specs.Manifests.{pull_image_manifest_and_list_digest, pull_image_manifest, pull_manifest_and_config_and_list_digest, pull_manifest_and_config}
-use Rattle.engine_pull.specs.Images.{pull}
-use Rattle.engine_pull.specs.declared.image.ImageData.{ImageData}
+use Rattle.engine_rows.specs.Rows.{Row, store, token_step, kept_text, token_given}
+use Rattle.engine_rows.specs.Blobs.{Destination, IntoSink, Spills}
+use Rattle.engine_rows.specs.Pulls.{fetch_manifest_digest, pull_manifest_raw, pull_manifest, blob_to, pull_blob}
+use Rattle.engine_rows.specs.Manifests.{pull_image_manifest_and_list_digest, pull_image_manifest, pull_manifest_and_config_and_list_digest, pull_manifest_and_config}
+use Rattle.engine_rows.specs.Images.{pull}
+use Rattle.engine_rows.specs.declared.image.ImageData.{ImageData}
 use Rattle.engine_laws.specs.Confined.{Confined, Within}
 use Rattle.engine_laws.specs.Held.{Entry, pulling, asking}
 use Rattle.engine_laws.proofs.KeptTokens.{Keeps, keeps_first, keeps_more, keeps_kept}

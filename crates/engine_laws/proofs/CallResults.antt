@@ -14,8 +14,8 @@ use Rattle.engine_requests.specs.Contexts.{Context}
 use Rattle.engine_requests.specs.Sources.{Layer}
 use Rattle.engine_requests.specs.declared.error.OciDistributionError.{OciDistributionError}
 use Rattle.engine_requests.specs.Errors.{is_memory}
-use Rattle.engine_steps.specs.Blobs.{Destination, IntoSink, Spills}
-use Rattle.engine_pull.specs.Pulls.{fetch_manifest_digest, pull_manifest_raw, blob_to, pull_blob}
+use Rattle.engine_rows.specs.Blobs.{Destination, IntoSink, Spills}
+use Rattle.engine_rows.specs.Pulls.{fetch_manifest_digest, pull_manifest_raw, blob_to, pull_blob}
 use Rattle.engine_laws.specs.Answered.{Answered, Body, LastBody, Document, TookBlob}
 use Rattle.engine_laws.proofs.DocumentAnswers.{raw_shows}
 use Rattle.engine_laws.proofs.DigestAnswers.{digest_shows}

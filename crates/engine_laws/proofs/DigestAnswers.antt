@@ -27,10 +27,10 @@ use Rattle.engine_requests.specs.declared.error.OciDistributionError.TheVariants
 use Rattle.engine_requests.specs.Addresses.{manifest_text, url_read}
 use Rattle.engine_requests.specs.Requests.{manifest_types}
 use Rattle.engine_requests.specs.Answers.{accepted, header_digest, agreed, fits_reference}
-use Rattle.engine_steps.specs.declared.asking.Named.{Named}
-use Rattle.engine_steps.specs.declared.asking.Named.TheVariants as named
-use Rattle.engine_steps.specs.Rows.{store, reading_named, named_reading, unread_named, read_named, named_reply, named_after, prepared}
-use Rattle.engine_pull.specs.Pulls.{document, digest_by, fetch_manifest_digest}
+use Rattle.engine_rows.specs.declared.named.Named.{Named}
+use Rattle.engine_rows.specs.declared.named.Named.TheVariants as named
+use Rattle.engine_rows.specs.Rows.{store, reading_named, named_reading, unread_named, read_named, named_reply, named_after, prepared}
+use Rattle.engine_rows.specs.Pulls.{document, digest_by, fetch_manifest_digest}
 use Rattle.engine_laws.specs.Answered.{NoneAsks, LedTo, FirstAsked, ByHeader, ByDocument, Answered as Digest}
 use Rattle.engine_laws.proofs.PreparedRequests.{asks_of, quiet_store, Prepared, prepared_shows}
 use Rattle.engine_laws.proofs.DocumentAnswers.{led_of, first_asked, first_later, accepted_is, digest_ok, names_of, Found, document_shows, url_is}

@@ -25,10 +25,10 @@ use Rattle.engine_requests.specs.declared.error.OciDistributionError.TheVariants
 use Rattle.engine_requests.specs.Addresses.{manifest_text, url_read}
 use Rattle.engine_requests.specs.Requests.{manifest_types}
 use Rattle.engine_requests.specs.Answers.{accepted, header_digest, agreed, fits_reference}
-use Rattle.engine_steps.specs.declared.asking.Named.{Named}
-use Rattle.engine_steps.specs.declared.asking.Named.TheVariants as named
-use Rattle.engine_steps.specs.Rows.{store, reading_named, named_reading, unread_named, read_named, named_reply, named_after, prepared}
-use Rattle.engine_pull.specs.Pulls.{document, digest_by, fetch_manifest_digest}
+use Rattle.engine_rows.specs.declared.named.Named.{Named}
+use Rattle.engine_rows.specs.declared.named.Named.TheVariants as named
+use Rattle.engine_rows.specs.Rows.{store, reading_named, named_reading, unread_named, read_named, named_reply, named_after, prepared}
+use Rattle.engine_rows.specs.Pulls.{document, digest_by, fetch_manifest_digest}
 use Rattle.engine_laws.specs.Causes.{ManifestUrl, LastAnswer, AnswerCause, OwnDigest}
 use Rattle.engine_laws.proofs.PreparedRequests.{accepts_of, Prepared}
 use Rattle.engine_laws.proofs.DigestErrors.{digest_err, agreed_cause}

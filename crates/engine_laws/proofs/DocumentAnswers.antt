@@ -33,8 +33,8 @@ use Rattle.engine_requests.specs.declared.error.OciDistributionError.TheVariants
 use Rattle.engine_requests.specs.Errors.{◌>>=◌ as ◌into◌}
 use Rattle.engine_requests.specs.Addresses.{manifest_text, url_or, url_read}
 use Rattle.engine_requests.specs.Answers.{accepted, refused_answer, or_digest_error, header_digest, body_digest, answer_digest, document_in}
-use Rattle.engine_steps.specs.Rows.{store, whole, whole_reply, prepared}
-use Rattle.engine_pull.specs.Pulls.{manifest_document, document, pull_manifest_raw}
+use Rattle.engine_rows.specs.Rows.{store, whole, whole_reply, prepared}
+use Rattle.engine_rows.specs.Pulls.{manifest_document, document, pull_manifest_raw}
 use Rattle.engine_laws.specs.Answered.{Asks, NoneAsks, LedTo, FirstAsked, Body, Document}
 use Rattle.engine_laws.proofs.PreparedRequests.{asks_of, into_ok, none_more, quiet_store, Prepared, prepared_shows}
 

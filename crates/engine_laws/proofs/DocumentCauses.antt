@@ -32,8 +32,8 @@ use Rattle.engine_requests.specs.declared.error.OciDistributionError.TheVariants
 use Rattle.engine_requests.specs.Errors.{◌>>=◌ as ◌into◌}
 use Rattle.engine_requests.specs.Addresses.{manifest_text, url_read}
 use Rattle.engine_requests.specs.Answers.{is_success, is_client_error, envelope_in, by_envelope, refused_answer, accepted, header_digest, body_digest, answer_digest, document_in}
-use Rattle.engine_steps.specs.Rows.{Row, store, whole, whole_reply, prepared}
-use Rattle.engine_pull.specs.Pulls.{document, manifest_document, pull_manifest_raw}
+use Rattle.engine_rows.specs.Rows.{Row, store, whole, whole_reply, prepared}
+use Rattle.engine_rows.specs.Pulls.{document, manifest_document, pull_manifest_raw}
 use Rattle.engine_laws.specs.Causes.{ManifestUrl, LastAsked, LastAnswer, LastFailed, LastTooLong, IsClientError, DigestCause, AnswerCause, ByLast, OwnDigest}
 use Rattle.engine_laws.proofs.EarlyCauses.{Loose}
 use Rattle.engine_laws.proofs.PreparedRequests.{accepts_of, Prepared}

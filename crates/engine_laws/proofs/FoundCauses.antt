@@ -21,8 +21,8 @@ use Rattle.engine_requests.specs.declared.error.OciDistributionError.TheVariants
 use Rattle.engine_requests.specs.Documents.{document_read}
 use Rattle.engine_requests.specs.Index.{entry_named, entry_found, entry_manifest, entry_reference}
 use Rattle.engine_requests.specs.Requests.{manifest_types}
-use Rattle.engine_pull.specs.Manifests.{pull_entry, manifest_by, pull_image_manifest_and_list_digest, pull_image_manifest}
-use Rattle.engine_pull.specs.Pulls.{pull_manifest}
+use Rattle.engine_rows.specs.Manifests.{pull_entry, manifest_by, pull_image_manifest_and_list_digest, pull_image_manifest}
+use Rattle.engine_rows.specs.Pulls.{pull_manifest}
 use Rattle.engine_laws.specs.Causes.{ManifestUrl, DocumentCause, OwnDigest, IndexRead, LastIsIndex, EntryDigest, FoundDigest, FoundUrl, FoundCause, ManifestRead}
 use Rattle.engine_laws.proofs.EarlyCauses.{AnyValue, Loose}
 use Rattle.engine_laws.proofs.DocumentAnswers.{body_before}

@@ -38,15 +38,15 @@ use Rattle.engine_requests.specs.Requests.{manifest_types, request_of}
 use Rattle.engine_requests.specs.Sources.{Layer, described, places_of, asked_at}
 use Rattle.engine_requests.specs.declared.sources.Place.{Place}
 use Rattle.engine_requests.specs.declared.sources.Place.TheVariants.{Web, Unfit}
-use Rattle.engine_steps.specs.declared.asking.Named.{Named}
-use Rattle.engine_steps.specs.declared.asking.Named.TheVariants as named
-use Rattle.engine_steps.specs.Rows.{Row, store, whole_reply, whole, named_reading, unread_named, read_named, named_reply, named_after, prepared}
-use Rattle.engine_steps.specs.Blobs.{Destination, IntoMemory, blob_reading, unread_by, read_by, blob_reply, attempt}
-use Rattle.engine_steps.specs.Offers.{offer_reading, offer_reply, offer, tried}
-use Rattle.engine_pull.specs.Pulls.{document, digest_by, manifest_document, pull_manifest_raw, fetch_manifest_digest, pull_manifest, blob_to, held_blob}
+use Rattle.engine_rows.specs.declared.named.Named.{Named}
+use Rattle.engine_rows.specs.declared.named.Named.TheVariants as named
+use Rattle.engine_rows.specs.Rows.{Row, store, whole_reply, whole, named_reading, unread_named, read_named, named_reply, named_after, prepared}
+use Rattle.engine_rows.specs.Blobs.{Destination, IntoMemory, blob_reading, unread_by, read_by, blob_reply, attempt}
+use Rattle.engine_rows.specs.Offers.{offer_reading, offer_reply, offer, tried}
+use Rattle.engine_rows.specs.Pulls.{document, digest_by, manifest_document, pull_manifest_raw, fetch_manifest_digest, pull_manifest, blob_to, held_blob}
 use Rattle.engine_requests.specs.Index.{entry_found, entry_manifest, entry_reference, config_text}
-use Rattle.engine_pull.specs.Manifests.{pull_entry, manifest_by, pull_image_manifest_and_list_digest, pull_image_manifest, pull_manifest_and_config_and_list_digest, pull_manifest_and_config}
-use Rattle.engine_pull.specs.Images.{layers_accepted, layer_of, pull_layers, pull}
+use Rattle.engine_rows.specs.Manifests.{pull_entry, manifest_by, pull_image_manifest_and_list_digest, pull_image_manifest, pull_manifest_and_config_and_list_digest, pull_manifest_and_config}
+use Rattle.engine_rows.specs.Images.{layers_accepted, layer_of, pull_layers, pull}
 use Rattle.oci_manifests.specs.declared.document.OciManifest.{OciManifest}
 use Rattle.oci_manifests.specs.declared.document.OciManifest.TheVariants.{Image, ImageIndex}
 use Rattle.engine_laws.proofs.PlainRefusals.{Plain, into_plain, refused_plain, accepted_plain, digest_plain, found_plain, read_document_plain, meant_plain, entry_plain, config_plain, layers_plain}

@@ -20,12 +20,12 @@ use Rattle.engine_requests.specs.declared.error.OciDistributionError.TheVariants
 use Rattle.engine_requests.specs.Index.{config_text}
 use Rattle.engine_requests.specs.Requests.{manifest_types}
 use Rattle.engine_requests.specs.Sources.{described}
-use Rattle.engine_steps.specs.Blobs.{IntoMemory}
-use Rattle.engine_steps.specs.Rows.{Row}
-use Rattle.engine_pull.specs.Pulls.{held_blob}
-use Rattle.engine_pull.specs.Manifests.{pull_image_manifest_and_list_digest, pull_manifest_and_config_and_list_digest, pull_manifest_and_config}
-use Rattle.engine_pull.specs.Images.{is_accepted, all_accepted, layers_accepted, layer_of, config_of, pull_layers, pull}
-use Rattle.engine_pull.specs.declared.image.ImageData.{ImageData}
+use Rattle.engine_rows.specs.Blobs.{IntoMemory}
+use Rattle.engine_rows.specs.Rows.{Row}
+use Rattle.engine_rows.specs.Pulls.{held_blob}
+use Rattle.engine_rows.specs.Manifests.{pull_image_manifest_and_list_digest, pull_manifest_and_config_and_list_digest, pull_manifest_and_config}
+use Rattle.engine_rows.specs.Images.{is_accepted, all_accepted, layers_accepted, layer_of, config_of, pull_layers, pull}
+use Rattle.engine_rows.specs.declared.image.ImageData.{ImageData}
 use Rattle.engine_laws.specs.Answered.{LastBody}
 use Rattle.engine_laws.specs.Causes.{BlobUrl, ImageUrl, FoundUrl, FoundDigest, AnswerCause, DocumentCause, AskedDigest, ManifestRead, ReadDescriptor, ImageDigest, IndexCause, ConfigCause, ImageCause}
 use Rattle.engine_laws.proofs.EarlyCauses.{AnyValue, Loose, LooseBlob}

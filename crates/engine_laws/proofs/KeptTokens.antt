@@ -18,7 +18,7 @@ use Rattle.oci_auth.specs.declared.kept.KeptToken.{KeptToken}
 use Rattle.oci_auth.specs.declared.memory.Memory.{Memory}
 use Rattle.oci_auth.specs.declared.token_type.RegistryTokenType.{RegistryTokenType}
 use Rattle.oci_auth.proofs.Places.{is_kept, same_key, under_itself}
-use Rattle.engine_steps.specs.Rows.{with_kept}
+use Rattle.engine_rows.specs.Rows.{with_kept}
 use Rattle.engine_laws.specs.Confined.{KeptOrAdded, KeptWell, StoredOrHanded, StoredWell}
 use Rattle.engine_laws.specs.Held.{Entry, IsAuth, GivenIn, IsHeld}
 

@@ -24,7 +24,7 @@ use Rattle.engine_requests.specs.declared.error.OciDistributionError.TheVariants
 use Rattle.engine_requests.specs.Errors.{◌>>◌ as ◌before◌}
 use Rattle.engine_requests.specs.Requests.{manifest_types}
 use Rattle.engine_requests.specs.Documents.{plain_of, type_checked, version_checked, versioned_in, or_unread, reads_twice, tables_read, document_read}
-use Rattle.engine_pull.specs.Pulls.{pull_manifest_raw, pull_manifest}
+use Rattle.engine_rows.specs.Pulls.{pull_manifest_raw, pull_manifest}
 use Rattle.engine_laws.specs.Causes.{ManifestUrl, Claimed, DigestCause, AnswerCause, IsNoDocument, DocumentCause, ByLast, OwnDigest}
 use Rattle.engine_laws.proofs.EarlyCauses.{Loose}
 use Rattle.engine_laws.proofs.DocumentCauses.{cause_later, last_later, Accepted, OwnCause, raw_causes}

@@ -14,9 +14,9 @@ use Rattle.engine_requests.specs.declared.error.OciDistributionError.{OciDistrib
 use Rattle.engine_requests.specs.declared.sources.Place.{Place}
 use Rattle.engine_requests.specs.Answers.{is_error}
 use Rattle.engine_requests.specs.Sources.{asked_at}
-use Rattle.engine_steps.specs.Blobs.{Destination, blob_reading, blob_reply, attempt}
-use Rattle.engine_steps.specs.Offers.{offer_reading, offer_reply, offer, tried}
-use Rattle.engine_steps.specs.Rows.{Row}
+use Rattle.engine_rows.specs.Blobs.{Destination, blob_reading, blob_reply, attempt}
+use Rattle.engine_rows.specs.Offers.{offer_reading, offer_reply, offer, tried}
+use Rattle.engine_rows.specs.Rows.{Row}
 
 -- ---- the reply to an offer: it is passed over, or it is one to an attempt
 

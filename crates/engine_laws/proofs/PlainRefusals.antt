@@ -18,7 +18,7 @@ use Rattle.engine_requests.specs.declared.error.OciDistributionError.TheVariants
 use Rattle.engine_requests.specs.Answers.{is_success, is_client_error, envelope_in, by_envelope, refused_answer, accepted, or_digest_error, header_digest, answer_digest, document_in}
 use Rattle.engine_requests.specs.Documents.{plain_of, type_checked, version_checked, versioned_in, or_unread, reads_twice, tables_read, document_read}
 use Rattle.engine_requests.specs.Index.{entry_named, entry_found, entry_manifest, config_text}
-use Rattle.engine_pull.specs.Images.{is_accepted, all_accepted, layers_accepted}
+use Rattle.engine_rows.specs.Images.{is_accepted, all_accepted, layers_accepted}
 use Rattle.oci_platforms.specs.Promise.{lists, resolved}
 use Rattle.oci_platforms.specs.declared.promise.ResolverPromise.{ResolverPromise}
 use Rattle.oci_manifests.specs.declared.index_entry.ImageIndexEntry.{ImageIndexEntry}

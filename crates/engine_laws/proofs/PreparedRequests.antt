@@ -40,7 +40,7 @@ use Rattle.engine_requests.specs.Tokens.{wanted, realm_url, realm_request, token
 use Rattle.engine_requests.specs.declared.tokens.Wanted.{Wanted}
 use Rattle.engine_requests.specs.declared.tokens.Wanted.TheVariants as wants
 use Rattle.engine_requests.specs.declared.error.OciDistributionError.{OciDistributionError}
-use Rattle.engine_steps.specs.Rows.{whole_reply, whole, head_reply, head_after, recalled, store, realm_asked, fetched, registry_asked, token_step, with_kept, passed_over, taken, token_asked, kept_or_asked, token_by, token_for, goes_to, token_where, authorized, prepared}
+use Rattle.engine_rows.specs.Rows.{whole_reply, whole, head_reply, head_after, recalled, store, realm_asked, fetched, registry_asked, token_step, with_kept, passed_over, taken, token_asked, kept_or_asked, token_by, token_for, goes_to, token_where, authorized, prepared}
 use Rattle.engine_laws.specs.Answered.{Asks, NoneAsks}
 
 -- ---- what a request lists

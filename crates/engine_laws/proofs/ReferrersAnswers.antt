@@ -16,9 +16,9 @@ use Rattle.engine_requests.specs.declared.answers.Got.{Got}
 use Rattle.engine_requests.specs.declared.settings.Settings.{Settings}
 use Rattle.engine_requests.specs.declared.error.OciDistributionError.{OciDistributionError}
 use Rattle.engine_requests.specs.Referrers.{referrers_text, referrers_url, with_artifact_type}
-use Rattle.engine_steps.specs.Rows.{whole, prepared}
-use Rattle.engine_pull.specs.Pulls.{document, manifest_document, manifest_asked}
-use Rattle.engine_pull.specs.Referrers.{referrers_asked}
+use Rattle.engine_rows.specs.Rows.{whole, prepared}
+use Rattle.engine_rows.specs.Pulls.{document, manifest_document, manifest_asked}
+use Rattle.engine_rows.specs.Referrers.{referrers_asked}
 use Rattle.engine_laws.specs.Causes.{ManifestUrl, LastAnswer, AnswerCause, OwnDigest}
 use Rattle.engine_laws.specs.Referrers.{ListUrl, ListAnswer}
 use Rattle.engine_laws.proofs.DocumentCauses.{Accepted, OwnCause, answer_later, cause_later, last_later, into_err, url_cause, early_shown, whole_causes, document_causes}

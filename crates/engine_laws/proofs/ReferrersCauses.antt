@@ -32,8 +32,8 @@ use Rattle.engine_requests.specs.Answers.{is_success, is_client_error, envelope_
 use Rattle.engine_requests.specs.Documents.{plain_of, or_unread, reads_twice, tables_read}
 use Rattle.engine_requests.specs.Requests.{manifest_types}
 use Rattle.engine_requests.specs.Referrers.{digest_given, index_in, index_read, referrers_in, referrers_tag, fallback_reference, no_referrers, is_absent, tag_index, tagged_index}
-use Rattle.engine_pull.specs.Pulls.{manifest_asked}
-use Rattle.engine_pull.specs.Referrers.{referrers_asked, referrers_tagged, referrers_by, pull_referrers}
+use Rattle.engine_rows.specs.Pulls.{manifest_asked}
+use Rattle.engine_rows.specs.Referrers.{referrers_asked, referrers_tagged, referrers_by, pull_referrers}
 use Rattle.engine_laws.specs.Causes.{Cause, AnswerCause, DocumentCause, LastAnswer, LastFailed, BadHeader, OwnDigest, ManifestUrl}
 use Rattle.engine_laws.specs.Held.{Entry, pulling}
 use Rattle.engine_laws.specs.Referrers.{AfterMissing, ListUrl, IsNoIndex, ListAnswer, TagAnswer, ListCause, TagCause, ReferrersCause}

@@ -23,9 +23,9 @@ use Rattle.engine_requests.specs.declared.error.OciDistributionError.{OciDistrib
 use Rattle.engine_requests.specs.Errors.{is_memory}
 use Rattle.engine_requests.specs.declared.settings.Settings.{Settings}
 use Rattle.engine_requests.specs.Referrers.{digest_given, referrers_url, referrers_in, fallback_reference, tagged_index}
-use Rattle.engine_steps.specs.Rows.{Row, prepared, token_given}
-use Rattle.engine_pull.specs.Pulls.{manifest_document, manifest_asked}
-use Rattle.engine_pull.specs.Referrers.{referrers_asked, referrers_tagged, referrers_by, pull_referrers}
+use Rattle.engine_rows.specs.Rows.{Row, prepared, token_given}
+use Rattle.engine_rows.specs.Pulls.{manifest_document, manifest_asked}
+use Rattle.engine_rows.specs.Referrers.{referrers_asked, referrers_tagged, referrers_by, pull_referrers}
 use Rattle.engine_laws.specs.Confined.{Confined, AllConfined, Within}
 use Rattle.engine_laws.specs.Held.{Entry, pulling}
 use Rattle.engine_laws.specs.Referrers.{for_tag, WithinReferrers}

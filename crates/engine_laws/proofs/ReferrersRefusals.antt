@@ -15,8 +15,8 @@ use Rattle.engine_requests.specs.Referrers.{digest_given, referrers_text, referr
 use Rattle.engine_requests.specs.Requests.{manifest_types}
 use Rattle.engine_requests.specs.declared.error.OciDistributionError.{OciDistributionError}
 use Rattle.engine_requests.specs.declared.error.OciDistributionError.TheVariants as refusal
-use Rattle.engine_steps.specs.Rows.{Row, whole, prepared}
-use Rattle.engine_pull.specs.Referrers.{referrers_asked, referrers_by, pull_referrers}
+use Rattle.engine_rows.specs.Rows.{Row, whole, prepared}
+use Rattle.engine_rows.specs.Referrers.{referrers_asked, referrers_by, pull_referrers}
 use Rattle.engine_laws.specs.Causes.{IsEarly, HasBadHeader}
 use Rattle.engine_laws.proofs.ExactRefusals.{Only, after_refusal, handed_on, early_on, prepared_bad}
 

@@ -17,8 +17,8 @@ use Rattle.engine_requests.specs.declared.error.GenericCause.TheVariants.{Header
 use Rattle.engine_requests.specs.declared.error.OciDistributionError.{OciDistributionError}
 use Rattle.engine_requests.specs.declared.error.OciDistributionError.TheVariants as refusal
 use Rattle.engine_requests.specs.Referrers.{digest_given, referrers_in, fallback_reference}
-use Rattle.engine_steps.specs.Rows.{Row}
-use Rattle.engine_pull.specs.Referrers.{referrers_asked, referrers_tagged, referrers_by, pull_referrers}
+use Rattle.engine_rows.specs.Rows.{Row}
+use Rattle.engine_rows.specs.Referrers.{referrers_asked, referrers_tagged, referrers_by, pull_referrers}
 use Rattle.engine_laws.specs.Confined.{ToRegistry, ToRealm, MayCarry}
 use Rattle.engine_laws.specs.Held.{pulling}
 use Rattle.engine_laws.proofs.Confining.{each_more}

@@ -40,7 +40,7 @@ use Rattle.engine_requests.specs.Errors.{◌>>=◌ as ◌into◌}
 use Rattle.engine_requests.specs.Addresses.{url_or, url_read, base_text, registry_text}
 use Rattle.engine_requests.specs.Requests.{with_header, with_accept, with_token, headers_of, request_of, bare_request}
 use Rattle.engine_requests.specs.Tokens.{wanted, realm_request, token_read}
-use Rattle.engine_steps.specs.Rows.{Row, store, whole_reply, whole, head_reply, head_after, realm_asked, fetched, registry_asked, token_step, passed_over, taken, token_asked, kept_or_asked, token_by, token_for, goes_to, token_where, authorized, prepared}
+use Rattle.engine_rows.specs.Rows.{Row, store, whole_reply, whole, head_reply, head_after, realm_asked, fetched, registry_asked, token_step, passed_over, taken, token_asked, kept_or_asked, token_by, token_for, goes_to, token_where, authorized, prepared}
 use Rattle.engine_laws.proofs.PlainRefusals.{IsPlain, Plain}
 use Rattle.oci_transport.specs.Urls.{targets}
 use Rattle.oci_transport.specs.declared.message.Answer.{Answer}

@@ -39,9 +39,9 @@ use Rattle.engine_requests.specs.Errors.{is_memory}
 use Rattle.engine_requests.specs.Documents.{document_read}
 use Rattle.engine_requests.specs.Sources.{Layer, described, place_of}
 use Rattle.engine_requests.specs.declared.sources.Place.TheVariants.{Unfit}
-use Rattle.engine_steps.specs.Blobs.{Destination, IntoSink, IntoMemory}
+use Rattle.engine_rows.specs.Blobs.{Destination, IntoSink, IntoMemory}
 use Rattle.engine_requests.specs.Index.{entry_reference}
-use Rattle.engine_pull.specs.Images.{is_accepted}
+use Rattle.engine_rows.specs.Images.{is_accepted}
 use Rattle.engine_laws.specs.Answered.{Body, LastBody}
 use Rattle.engine_laws.specs.Held.{Entry, IsHeld}
 

@@ -1,4 +1,1 @@
-pub mod Layers
-pub mod NoSink
-pub mod Tagged
-pub mod Trying
+pub mod Parted

@@ -1,139 +1,23 @@
 // Whole images.
-ghost use Rattle.std.specs.Prelude.{◌≡◌, IfOk};
 ghost use Rattle.oci_auth.specs.declared.memory.Memory.{Memory};
 ghost use Rattle.oci_protocol.specs.Runs.{Meets};
 ghost use Rattle.engine_requests.specs.Contexts.{context_of};
-ghost use Rattle.engine_requests.specs.Errors.{is_memory, Says};
-ghost use Rattle.engine_pull.specs.Images.{image_manifest, is_accepted, all_accepted};
-ghost use Rattle.engine_pull.specs.Images.{layers_accepted, layer_of, config_of, pull_layers, pull};
+ghost use Rattle.engine_requests.specs.Errors.{is_memory};
+ghost use Rattle.engine_pull.specs.Parts.{Parts, LeadsTo};
+ghost use Rattle.engine_rows.specs.Images.{pull_layers, pull};
+ghost use Rattle.engine_rows.specs.Rows.{Row};
+ghost use Rattle.engine_rows.specs.declared.image.ImageData.{ImageData as ImageOf};
 
-use crate::blobs::pulled_blob;
 use crate::manifests::pull_image_manifest_and_list_digest;
+use engine_blobs::pulled_blob;
 use engine_requests::{AsLayerDescriptor, Call, OciDistributionError};
-use json_values::{Blob, Copied, List, Text, copied, copy_all, row};
+use engine_rows::{ImageData, config_of, layer_of, layers_accepted};
+use json_values::{List, Text};
 use oci_auth::{Memory, RegistryAuth};
 use oci_manifests::blob::Config;
-use oci_manifests::{ImageLayer, OciDescriptor, OciImageManifest, OciManifest};
+use oci_manifests::{ImageLayer, OciDescriptor, OciImageManifest};
 use oci_transport::Transport;
-use std::alloc::{AllocError, Global};
-
-/// What a pull of an image answers.
-#[derive(Drop)]
-pub struct ImageData {
-    /// In the manifest's order.
-    pub layers: List<ImageLayer>,
-    /// The digest of the manifest.
-    pub digest: Option<Text>,
-    pub config: Config,
-    pub manifest: Option<OciImageManifest>,
-}
-
-impl Copied for ImageData {
-    fn copy(&self, alloc: Global) -> Result<ImageData, AllocError> {
-        copied!(
-            alloc,
-            self,
-            ImageData {
-                layers,
-                digest,
-                config,
-                manifest
-            }
-        )
-    }
-}
-
-/// The manifest of an image, where no index is taken.
-pub fn image_manifest(document: OciManifest) -> Result<OciImageManifest, OciDistributionError>
-    ensures { Says result (image_manifest document) }
-{
-    match document {
-        OciManifest::Image(manifest) => Ok(manifest),
-        OciManifest::ImageIndex(_) => {
-            Err(OciDistributionError::ImageIndexParsingNoPlatformResolverError)
-        }
-    }
-}
-
-fn is_accepted(accepted: &[Text], kind: &str) -> bool
-    ensures { result ≡ is_accepted accepted.now kind.now }
-{
-    for allowed in accepted {
-        if allowed.as_str() == kind {
-            return true;
-        }
-    }
-    false
-}
-
-/// There is a layer, and the media type of each is accepted.
-pub fn layers_accepted(
-    alloc: Global,
-    accepted: &[Text],
-    layers: &[OciDescriptor],
-) -> Result<(), OciDistributionError>
-    ensures { Says result (layers_accepted accepted.now layers.now) }
-{
-    if layers.is_empty() {
-        return Err(OciDistributionError::PullNoLayersError);
-    }
-    all_accepted(alloc, accepted, layers)?;
-    Ok(())
-}
-
-fn all_accepted(
-    alloc: Global,
-    accepted: &[Text],
-    layers: &[OciDescriptor],
-) -> Result<(), OciDistributionError>
-    ensures { Says result (all_accepted accepted.now layers.now) }
-{
-    for layer in layers {
-        if !is_accepted(accepted, layer.media_type.as_str()) {
-            let kind = layer.media_type.copy(alloc)?;
-            return Err(OciDistributionError::IncompatibleLayerMediaTypeError(kind));
-        }
-    }
-    Ok(())
-}
-
-/// A descriptor's blob as a layer.
-pub fn layer_of(
-    alloc: Global,
-    descriptor: &OciDescriptor,
-    content: Blob,
-) -> Result<ImageLayer, AllocError>
-    ensures { IfOk result (λ layer. layer ≡ layer_of descriptor.now content) }
-{
-    let row![media_type, annotations] = copy_all(
-        alloc,
-        row![&descriptor.media_type, &descriptor.annotations],
-    )?;
-    Ok(ImageLayer {
-        content,
-        media_type,
-        annotations,
-    })
-}
-
-/// A manifest's configuration.
-pub fn config_of(
-    alloc: Global,
-    manifest: &OciImageManifest,
-    content: Blob,
-) -> Result<Config, AllocError>
-    ensures { IfOk result (λ config. config ≡ config_of manifest.now content) }
-{
-    let row![media_type, annotations] = copy_all(
-        alloc,
-        row![&manifest.config.media_type, &manifest.annotations],
-    )?;
-    Ok(Config {
-        content,
-        media_type,
-        annotations,
-    })
-}
+use std::alloc::Global;
 
 // Each descriptor's blob, behind the layers that are there.
 fn pull_layers<T: Transport>(
@@ -156,6 +40,34 @@ fn pull_layers<T: Transport>(
     Ok(layers)
 }
 
+// The configuration and the layers that a manifest leads to. The manifest is lent, so that it is let go in one place.
+fn pull_parts<T: Transport>(
+    alloc: Global,
+    transport: &mut T,
+    memory: &mut Memory,
+    call: &Call,
+    accepted: &[Text],
+    manifest: &OciImageManifest,
+) -> Result<(Config, List<ImageLayer>), OciDistributionError>
+    ensures { (next : Parts → Row ImageOf)
+        → LeadsTo (context_of call.now) call.now.image.now accepted.now manifest.now
+        (T.state transport.old) (T.state transport.new) memory.old memory.new result next }
+{
+    let blob = manifest.config.as_layer_descriptor();
+    let content = pulled_blob(alloc, transport, memory, call, &blob)?;
+    let config = config_of(alloc, manifest, content)?;
+    layers_accepted(alloc, accepted, manifest.layers.as_slice())?;
+    let layers = pull_layers(
+        alloc,
+        transport,
+        memory,
+        call,
+        manifest.layers.as_slice(),
+        List::new(alloc),
+    )?;
+    Ok((config, layers))
+}
+
 /// An image whose layers are of these media types.
 pub fn pull<T: Transport>(
     alloc: Global,
@@ -170,22 +82,13 @@ pub fn pull<T: Transport>(
 {
     let found = pull_image_manifest_and_list_digest(alloc, transport, memory, call, auth)?;
     let (manifest, digest, _) = found;
-    let blob = manifest.config.as_layer_descriptor();
-    let content = pulled_blob(alloc, transport, memory, call, &blob)?;
-    let config = config_of(alloc, &manifest, content)?;
-    layers_accepted(alloc, accepted, manifest.layers.as_slice())?;
-    let layers = pull_layers(
-        alloc,
-        transport,
-        memory,
-        call,
-        manifest.layers.as_slice(),
-        List::new(alloc),
-    )?;
-    Ok(ImageData {
-        layers,
-        digest: Some(digest),
-        config,
-        manifest: Some(manifest),
-    })
+    match pull_parts(alloc, transport, memory, call, accepted, &manifest) {
+        Ok((config, layers)) => Ok(ImageData {
+            layers,
+            digest: Some(digest),
+            config,
+            manifest: Some(manifest),
+        }),
+        Err(error) => Err(error),
+    }
 }

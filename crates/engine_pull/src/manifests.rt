@@ -4,12 +4,12 @@ ghost use Rattle.oci_manifests.specs.declared.document.OciManifest.TheVariants.{
 ghost use Rattle.oci_protocol.specs.Runs.{Meets};
 ghost use Rattle.engine_requests.specs.Contexts.{context_of};
 ghost use Rattle.engine_requests.specs.Errors.{is_memory};
-ghost use Rattle.engine_pull.specs.Manifests.{pull_entry, manifest_by, pull_image_manifest};
-ghost use Rattle.engine_pull.specs.Manifests.{pull_image_manifest_and_list_digest, pull_manifest_and_config};
-ghost use Rattle.engine_pull.specs.Manifests.{pull_manifest_and_config_and_list_digest};
+ghost use Rattle.engine_rows.specs.Manifests.{pull_entry, manifest_by, pull_image_manifest};
+ghost use Rattle.engine_rows.specs.Manifests.{pull_image_manifest_and_list_digest, pull_manifest_and_config};
+ghost use Rattle.engine_rows.specs.Manifests.{pull_manifest_and_config_and_list_digest};
 
-use crate::blobs::pulled_blob;
-use crate::documents::pull_manifest;
+use engine_blobs::pulled_blob;
+use engine_documents::pull_manifest;
 use engine_requests::{
     AsLayerDescriptor, Call, OciDistributionError, config_text, entry_found, entry_manifest,
     entry_reference,

@@ -36,9 +36,9 @@ use Rattle.engine_requests.specs.Answers.{refused_answer, is_success, is_error, 
 use Rattle.oci_digests.specs.Checks.{header_digest as digest_in, and_then as digest_and_then}
 use Rattle.oci_transport.specs.Headers.{first_of, digest_header}
 use Rattle.engine_requests.specs.Blobs.{digest_expected, given_expected, pouring, plan_by, planned, plan_of, compared, given_compared, both_compared, given_algorithm}
-use Rattle.engine_steps.specs.Rows.{Row}
-use Rattle.engine_steps.specs.Blobs.{Destination, IntoSink, IntoMemory, reading_into, reading_by, blob_reading, unread_by, read_by, blob_reply, attempt, IsFrontOfLast, IsFront, filled, Spills}
-use Rattle.engine_steps.specs.Offers.{offer_reading, offer_reply, offer, Takes, Offered, OfferedInto}
+use Rattle.engine_rows.specs.Rows.{Row}
+use Rattle.engine_rows.specs.Blobs.{Destination, IntoSink, IntoMemory, reading_into, reading_by, blob_reading, unread_by, read_by, blob_reply, attempt, IsFrontOfLast, IsFront, filled, Spills}
+use Rattle.engine_rows.specs.Offers.{offer_reading, offer_reply, offer, Takes, Offered, OfferedInto}
 use Rattle.engine_steps.proofs.Exits.{said, and_then}
 
 -- what a call told, where it met a protocol

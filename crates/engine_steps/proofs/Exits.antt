@@ -1,5 +1,5 @@
 -- The exits of a function, as steps of its row.
-use Rattle.std.proofs.Common.{◌≡◌, ℕ, List, Result, Ok, Err, Some, None, refl, Bool, true, false}
+use Rattle.std.proofs.Common.{◌≡◌, ℕ, List, Option, Result, Ok, Err, Some, None, refl, ◌∙◌, Bool, true, false}
 use Rattle.std.specs.Prelude.{MatchBool}
 use Rattle.std.specs.Result.{IsErrAnd}
 use Rattle.std.proofs.lemmas.Result.{err_from_is_err_and}
@@ -11,7 +11,7 @@ use Rattle.engine_requests.specs.declared.error.OciDistributionError.{OciDistrib
 use Rattle.engine_requests.specs.declared.error.OciDistributionError.TheVariants as refusal
 use Rattle.oci_auth.specs.declared.memory.Memory.{Memory}
 use Rattle.engine_requests.specs.Errors.{is_memory, Says}
-use Rattle.engine_steps.specs.Rows.{Row, recalled as recall, keep, passed_over, store, with_kept, taken, shown_text, kept_text}
+use Rattle.engine_rows.specs.Rows.{Row, recalled as recall, keep, passed_over, store, with_kept, taken, shown_text, kept_text}
 use Rattle.oci_auth.specs.declared.auth.RegistryAuth.{RegistryAuth}
 use Rattle.oci_names.specs.declared.reference.Reference.{Reference}
 use Rattle.oci_names.specs.References.{resolved_registry}
@@ -85,6 +85,28 @@ passed e link k h = by_cause e h where
   by_cause : (e : OciDistributionError) → is_memory e ≡ false → Meets is_memory (Done (passed_over e)) link link k k (Ok None)
   by_cause refusal.WantOfMemory h = absurd (cc h)
   by_cause _ h = done
+
+memory_ends : (e : OciDistributionError) → is_memory e ≡ true → passed_over e ≡ Err refusal.WantOfMemory
+memory_ends refusal.WantOfMemory h = refl
+memory_ends e h = by_cause e h where
+  by_cause : (e : OciDistributionError) → is_memory e ≡ true → passed_over e ≡ Err refusal.WantOfMemory
+  by_cause refusal.WantOfMemory h = refl
+  by_cause _ h = absurd (cc h)
+
+passes : (e : OciDistributionError) → is_memory e ≡ false → passed_over e ≡ Ok None
+passes refusal.WantOfMemory h = absurd (cc h)
+passes e h = by_cause e h where
+  by_cause : (e : OciDistributionError) → is_memory e ≡ false → passed_over e ≡ Ok None
+  by_cause refusal.WantOfMemory h = absurd (cc h)
+  by_cause _ h = refl
+
+-- a step whose refusal is passed over, unless memory was wanting
+pub passed_met : {p : Row (Option RegistryTokenType)} (moment : ℕ) (key : Key) (e : OciDistributionError) {old new : Link} {k l : Memory} {r : Result (Option RegistryTokenType) OciDistributionError}
+    → r ≡ passed_over e → Meets is_memory p old new k l (Err e) → Meets is_memory (bind p (taken moment key)) old new k l r
+passed_met {p} moment key e {old} {new} {k} {l} {r} is met = by_test (is_memory e) refl where
+  by_test : (b : Bool) → is_memory e ≡ b → Meets is_memory (bind p (taken moment key)) old new k l r
+  by_test true h = rw (is ∙ memory_ends e h) (caught_memory (taken moment key) h met)
+  by_test false h = rw (is ∙ passes e h) (caught_refusal (taken moment key) h met (passed e new l h))
 
 -- a token is kept and used
 pub keeps_token : (moment : ℕ) (key : Key) (token : RegistryTokenType) (link : Link) (k : Memory) {tokens : TokenCache} → tokens ≡ with_token k.tokens key token moment → Meets is_memory (taken moment key (Ok (Some token))) link link k (record k { tokens = tokens }) (Ok (Some token))

@@ -14,7 +14,7 @@ use Rattle.oci_protocol.proofs.Following.{reached_headed, reached_answered, reac
 use Rattle.engine_requests.specs.declared.error.OciDistributionError.TheVariants as refusal
 use Rattle.oci_auth.specs.declared.memory.Memory.{Memory}
 use Rattle.engine_requests.specs.Errors.{is_memory}
-use Rattle.engine_steps.specs.Rows.{whole, whole_reply, head_after, head_reply}
+use Rattle.engine_rows.specs.Rows.{whole, whole_reply, head_after, head_reply}
 use Rattle.engine_steps.specs.Untaken.{Untaken}
 
 within : (limit : ℕ) (head : AnswerHead) → limit_of (read_within limit head) ≡ Some limit

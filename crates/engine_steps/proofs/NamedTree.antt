@@ -18,9 +18,9 @@ use Rattle.engine_requests.specs.declared.error.OciDistributionError.{OciDistrib
 use Rattle.engine_requests.specs.declared.error.OciDistributionError.TheVariants as refusal
 use Rattle.engine_requests.specs.Errors.{is_memory, Says}
 use Rattle.engine_requests.specs.Answers.{header_digest}
-use Rattle.engine_steps.specs.declared.asking.Named.{Named}
-use Rattle.engine_steps.specs.declared.asking.Named.TheVariants.{ByHeader}
-use Rattle.engine_steps.specs.Rows.{named_after, named_reading, reading_named, unread_named, read_named, named_reply}
+use Rattle.engine_rows.specs.declared.named.Named.{Named}
+use Rattle.engine_rows.specs.declared.named.Named.TheVariants.{ByHeader}
+use Rattle.engine_rows.specs.Rows.{named_after, named_reading, reading_named, unread_named, read_named, named_reply}
 use Rattle.engine_steps.proofs.Exits.{said}
 
 -- the header names no digest, or one that is refused

@@ -1,4 +1,1 @@
-pub mod Blobs
-pub mod Offers
-pub mod Rows
 pub mod Untaken

@@ -3,8 +3,8 @@ use Rattle.std.specs.Prelude.{◌≡◌, List, [], ◌∷◌, ◌++◌, ℕ, Som
 use Rattle.oci_transport.specs.Link.{Link, answer_of}
 use Rattle.oci_transport.specs.declared.message.AnswerHead.{AnswerHead}
 use Rattle.oci_transport.specs.declared.message.Exchange.{Exchange}
-use Rattle.engine_steps.specs.declared.asking.Named.{Named}
-use Rattle.engine_steps.specs.declared.asking.Named.TheVariants.{ByHeader, Unnamed}
+use Rattle.engine_rows.specs.declared.named.Named.{Named}
+use Rattle.engine_rows.specs.declared.named.Named.TheVariants.{ByHeader, Unnamed}
 
 -- where exchanges are told, the last one was answered with this head, and its whole body is left
 pub record Untaken (head : AnswerHead) (old new : Link) : Type 0 where

@@ -4,21 +4,15 @@ ghost use Rattle.oci_auth.specs.declared.memory.Memory.{Memory};
 ghost use Rattle.oci_transport.specs.Link.{answer_of};
 ghost use Rattle.oci_protocol.specs.Runs.{Meets};
 ghost use Rattle.engine_requests.specs.Errors.{is_memory};
-ghost use Rattle.engine_steps.specs.Rows.{whole, head_after, named_after};
+ghost use Rattle.engine_rows.specs.Rows.{whole, head_after, named_after};
 ghost use Rattle.engine_steps.specs.Untaken.{Untaken, UntakenUnnamed};
 
 use engine_requests::{Got, OciDistributionError, header_digest};
-use json_values::{Blob, Text};
+use engine_rows::Named;
+use json_values::{Blob, Copied};
 use oci_protocol::{Reached, reach};
 use oci_transport::{Answer, AnswerHead, BodyError, LinkError, Request, Transport, read_body};
-use std::alloc::Global;
-
-/// Whether an answer's header names a digest; where it does, the whole answer.
-#[derive(Drop)]
-pub enum Named {
-    ByHeader(Text, Got),
-    Unnamed,
-}
+use std::alloc::{AllocError, Global};
 
 // The last answer, with its body.
 pub(crate) fn with_body(reached: Reached, body: Blob) -> Got
@@ -35,6 +29,25 @@ pub(crate) fn with_body(reached: Reached, body: Blob) -> Got
             body,
         },
     }
+}
+
+// The same of an answer that is still of use, where a copy of its head can be made.
+pub(crate) fn got_of(alloc: Global, reached: &Reached, body: Blob) -> Result<Got, AllocError>
+    ensures { IfOk result (λ got. got ≡ record {
+      url = reached.now.request.url;
+      answer = answer_of reached.now.head body;
+    }) }
+{
+    let url = reached.request.url.copy(alloc)?;
+    let headers = reached.head.headers.copy(alloc)?;
+    Ok(Got {
+        url,
+        answer: Answer {
+            status: reached.head.status,
+            headers,
+            body,
+        },
+    })
 }
 
 /// The whole last answer to a request that may be followed so often.

@@ -1,17 +1,18 @@
 // One request for a blob.
 ghost use Rattle.std.specs.Prelude.{ℕ, List};
 ghost use Rattle.oci_auth.specs.declared.memory.Memory.{Memory};
-ghost use Rattle.oci_transport.specs.Link.{Link};
 ghost use Rattle.oci_transport.specs.declared.message.Request.{Request as Asked};
 ghost use Rattle.oci_protocol.specs.Follow.{Reaches};
 ghost use Rattle.oci_protocol.specs.Runs.{Meets};
-ghost use Rattle.engine_requests.specs.Errors.{is_memory, Says};
+ghost use Rattle.oci_transport.specs.Link.{Link, answer_of};
+ghost use Rattle.engine_requests.specs.Answers.{refused_answer};
+ghost use Rattle.engine_requests.specs.Errors.{is_memory, Says, SaysError};
 ghost use Rattle.engine_requests.specs.Blobs.{both_compared};
-ghost use Rattle.engine_steps.specs.Blobs.{IntoSink, IntoMemory, attempt, Spills};
-ghost use Rattle.engine_steps.specs.Offers.{Takes, Offered, OfferedInto, offer};
-ghost use Rattle.engine_steps.specs.Rows.{Row};
+ghost use Rattle.engine_rows.specs.Blobs.{IntoSink, IntoMemory, attempt, Spills};
+ghost use Rattle.engine_rows.specs.Offers.{Takes, Offered, OfferedInto, offer};
+ghost use Rattle.engine_rows.specs.Rows.{Row};
 
-use crate::asking::with_body;
+use crate::asking::got_of;
 use engine_requests::{
     Expected, OciDistributionError, Plan, both_compared, digesters, is_error, plan_of,
     refused_answer,
@@ -19,7 +20,18 @@ use engine_requests::{
 use json_values::{Blob, Sink};
 use oci_protocol::{PourError, Reached, pour, reach};
 use oci_transport::{BodyError, LinkError, Request, Transport, read_body};
-use std::alloc::Global;
+use std::alloc::{AllocError, Global};
+
+// Why the answer that was reached is refused, with its body.
+fn refusal_of(alloc: Global, reached: &Reached, body: Blob) -> OciDistributionError
+    ensures { SaysError result
+        (refused_answer reached.now.request.url (answer_of reached.now.head body)) }
+{
+    match got_of(alloc, reached, body) {
+        Ok(got) => refused_answer(alloc, got),
+        Err(AllocError) => OciDistributionError::WantOfMemory,
+    }
+}
 
 // Puts the body of the answer that was reached, as its plan says.
 #[tactic(none)]
@@ -28,19 +40,19 @@ fn put_reached<T: Transport, K: Sink>(
     transport: &mut T,
     limit: u64,
     digest: &str,
-    reached: Reached,
+    reached: &Reached,
     out: &mut K,
 ) -> Result<(), OciDistributionError>
     ensures { (old : Link) (request : Asked) (k : Memory) (p : Row (List ℕ))
-        → Reaches 10 request reached.head reached.request old (T.state transport.old)
-        → Takes IntoSink limit digest.now request reached.head p
+        → Reaches 10 request reached.now.head reached.now.request old (T.state transport.old)
+        → Takes IntoSink limit digest.now request reached.now.head p
         → Spills p old (T.state transport.new) k k (K.state out.old) (K.state out.new) result }
 {
     let plan = plan_of(alloc, digest, &reached.head)?;
     match plan {
         Plan::Refuse(error) => Err(OciDistributionError::DigestError(error)),
         Plan::Judge => match read_body(alloc, transport, limit) {
-            Ok(body) => Err(refused_answer(alloc, with_body(reached, body))),
+            Ok(body) => Err(refusal_of(alloc, reached, body)),
             Err(BodyError::TransportFault) => Err(OciDistributionError::TransportFault),
             Err(BodyError::BodyTooLong) => Err(OciDistributionError::BodyTooLong),
             Err(BodyError::WantOfMemory) => Err(OciDistributionError::WantOfMemory),
@@ -81,7 +93,7 @@ pub fn attempt<T: Transport, K: Sink>(
         Err(LinkError::Failed) => return Err(OciDistributionError::TransportFault),
         Err(LinkError::WantOfMemory) => return Err(OciDistributionError::WantOfMemory),
     };
-    put_reached(alloc, transport, limit, digest, reached, out)?;
+    put_reached(alloc, transport, limit, digest, &reached, out)?;
     Ok(())
 }
 
@@ -108,7 +120,7 @@ pub fn offer<T: Transport, K: Sink>(
     if is_error(reached.head.status) {
         return Ok(false);
     }
-    put_reached(alloc, transport, limit, digest, reached, out)?;
+    put_reached(alloc, transport, limit, digest, &reached, out)?;
     Ok(true)
 }
 
@@ -133,18 +145,18 @@ fn held_reached<T: Transport>(
     transport: &mut T,
     limit: u64,
     digest: &str,
-    reached: Reached,
+    reached: &Reached,
 ) -> Result<Blob, OciDistributionError>
     ensures { (old : Link) (request : Asked) (k : Memory) (p : Row (List ℕ))
-        → Reaches 10 request reached.head reached.request old (T.state transport.old)
-        → Takes IntoMemory limit digest.now request reached.head p
+        → Reaches 10 request reached.now.head reached.now.request old (T.state transport.old)
+        → Takes IntoMemory limit digest.now request reached.now.head p
         → Meets is_memory p old (T.state transport.new) k k result }
 {
     let plan = plan_of(alloc, digest, &reached.head)?;
     match plan {
         Plan::Refuse(error) => Err(OciDistributionError::DigestError(error)),
         Plan::Judge => match read_body(alloc, transport, limit) {
-            Ok(body) => Err(refused_answer(alloc, with_body(reached, body))),
+            Ok(body) => Err(refusal_of(alloc, reached, body)),
             Err(BodyError::TransportFault) => Err(OciDistributionError::TransportFault),
             Err(BodyError::BodyTooLong) => Err(OciDistributionError::BodyTooLong),
             Err(BodyError::WantOfMemory) => Err(OciDistributionError::WantOfMemory),
@@ -178,7 +190,7 @@ pub fn held<T: Transport>(
         Err(LinkError::Failed) => return Err(OciDistributionError::TransportFault),
         Err(LinkError::WantOfMemory) => return Err(OciDistributionError::WantOfMemory),
     };
-    let body = held_reached(alloc, transport, limit, digest, reached)?;
+    let body = held_reached(alloc, transport, limit, digest, &reached)?;
     Ok(body)
 }
 
@@ -203,6 +215,6 @@ pub fn held_offer<T: Transport>(
     if is_error(reached.head.status) {
         return Ok(None);
     }
-    let body = held_reached(alloc, transport, limit, digest, reached)?;
+    let body = held_reached(alloc, transport, limit, digest, &reached)?;
     Ok(Some(body))
 }

@@ -4,7 +4,7 @@ ghost use Rattle.oci_auth.specs.Caches.{key_of};
 ghost use Rattle.oci_protocol.specs.Runs.{Meets};
 ghost use Rattle.engine_requests.specs.Contexts.{context_of};
 ghost use Rattle.engine_requests.specs.Errors.{is_memory};
-ghost use Rattle.engine_steps.specs.Rows.{shown_text, kept_text, token_given};
+ghost use Rattle.engine_rows.specs.Rows.{shown_text, kept_text, token_given};
 
 use crate::tokens::token_step;
 use engine_requests::{Call, OciDistributionError};

@@ -6,7 +6,7 @@ mod blobs;
 mod given;
 mod tokens;
 
-pub use asking::{Named, named_after, whole};
+pub use asking::{named_after, whole};
 pub use blobs::{attempt, held, held_offer, offer};
 pub use given::token_given;
 pub use tokens::{Target, prepared};

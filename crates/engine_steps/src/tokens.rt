@@ -6,8 +6,8 @@ ghost use Rattle.oci_transport.specs.Urls.{request_url};
 ghost use Rattle.oci_protocol.specs.Runs.{Meets};
 ghost use Rattle.engine_requests.specs.Contexts.{context_of};
 ghost use Rattle.engine_requests.specs.Errors.{is_memory};
-ghost use Rattle.engine_steps.specs.Rows.{realm_asked, registry_asked, token_step, token_asked};
-ghost use Rattle.engine_steps.specs.Rows.{token_for, authorized, goes_to, prepared};
+ghost use Rattle.engine_rows.specs.Rows.{realm_asked, fetched, registry_asked, token_step, passed_over};
+ghost use Rattle.engine_rows.specs.Rows.{token_asked, token_for, authorized, goes_to, prepared};
 
 use crate::asking::{head_after, whole};
 use engine_requests::{
@@ -43,6 +43,33 @@ fn realm_asked<T: Transport>(
     Ok(token)
 }
 
+// What the registry wants is got.
+#[tactic(none)]
+fn fetched<T: Transport>(
+    alloc: Global,
+    transport: &mut T,
+    call: &Call,
+    auth: &RegistryAuth,
+    op: RegistryOperation,
+    wanted: Wanted,
+) -> Result<Option<RegistryTokenType>, OciDistributionError>
+    ensures { (k : Memory) → Meets is_memory
+        (fetched call.now.settings.now call.now.image.now auth.now op wanted)
+        (T.state transport.old) (T.state transport.new) k k result }
+{
+    match wanted {
+        Wanted::Nothing => Ok(None),
+        Wanted::Credentials => {
+            let token = auth.own_token(alloc)?;
+            Ok(token)
+        }
+        Wanted::Token(challenge) => {
+            let token = realm_asked(alloc, transport, call, auth, op, challenge)?;
+            Ok(token)
+        }
+    }
+}
+
 // The registry is asked what it wants.
 #[tactic(none)]
 fn registry_asked<T: Transport>(
@@ -59,17 +86,9 @@ fn registry_asked<T: Transport>(
     let url = base_url(alloc, call.settings, call.image)?;
     let request = request_of(alloc, call.settings, Method::Get, &url, None, &None)?;
     let head = head_after(alloc, transport, 0, &request)?;
-    match read_challenge(alloc, &head)? {
-        Wanted::Nothing => Ok(None),
-        Wanted::Credentials => {
-            let token = auth.own_token(alloc)?;
-            Ok(token)
-        }
-        Wanted::Token(challenge) => {
-            let token = realm_asked(alloc, transport, call, auth, op, challenge)?;
-            Ok(token)
-        }
-    }
+    let wanted = read_challenge(alloc, &head)?;
+    let token = fetched(alloc, transport, call, auth, op, wanted)?;
+    Ok(token)
 }
 
 /// The token that the registry of an image is shown: credentials' own token without a request, or else the one that the
@@ -121,13 +140,20 @@ fn token_asked<T: Transport>(
             Ok(Some(token))
         }
         Ok(None) => Ok(None),
-        Err(error) => {
-            if error.is_memory() {
-                return Err(OciDistributionError::WantOfMemory);
-            }
-            Ok(None)
-        }
+        Err(error) => passed_over(error),
     }
+}
+
+// A refusal other than want of memory gives no token.
+fn passed_over(
+    error: OciDistributionError,
+) -> Result<Option<RegistryTokenType>, OciDistributionError>
+    ensures { result ≡ passed_over error }
+{
+    if error.is_memory() {
+        return Err(OciDistributionError::WantOfMemory);
+    }
+    Ok(None)
 }
 
 // Only where credentials are stored for the registry.

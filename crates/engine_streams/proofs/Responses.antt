@@ -11,7 +11,7 @@ use Rattle.engine_requests.specs.Contexts.{Context}
 use Rattle.engine_requests.specs.Errors.{is_memory}
 use Rattle.engine_requests.specs.Sources.{Layer}
 use Rattle.engine_requests.specs.declared.error.OciDistributionError.{OciDistributionError}
-use Rattle.engine_steps.specs.Rows.{Row}
+use Rattle.engine_rows.specs.Rows.{Row}
 use Rattle.engine_steps.proofs.Exits.{and_then, done}
 use Rattle.engine_streams.specs.Rows.{opened, by_digests, blob_stream_partial, opening_in, response_of, response_in, IsLeft}
 use Rattle.engine_streams.specs.Streams.{opening_of}

@@ -14,7 +14,7 @@ use Rattle.engine_requests.specs.declared.settings.Settings.{Settings}
 use Rattle.engine_requests.specs.declared.sources.Place.{Place}
 use Rattle.engine_requests.specs.Errors.{is_memory, Says}
 use Rattle.engine_requests.specs.Sources.{place_of, with_place, places_of}
-use Rattle.engine_steps.specs.Rows.{Row}
+use Rattle.engine_rows.specs.Rows.{Row}
 use Rattle.engine_steps.proofs.Attempts.{meets_told}
 use Rattle.engine_steps.proofs.Exits.{and_then, refused, said, done}
 use Rattle.engine_streams.specs.Rows.{asked, offered, ranged_at, tried, IsLeft}

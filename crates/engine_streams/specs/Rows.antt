@@ -21,7 +21,7 @@ use Rattle.engine_requests.specs.declared.error.OciDistributionError.{OciDistrib
 use Rattle.engine_requests.specs.declared.error.OciDistributionError.TheVariants as refusal
 use Rattle.engine_requests.specs.declared.settings.Settings.{Settings}
 use Rattle.engine_requests.specs.declared.sources.Place.{Place}
-use Rattle.engine_steps.specs.Rows.{Row, prepared}
+use Rattle.engine_rows.specs.Rows.{Row, prepared}
 use Rattle.engine_steps.specs.Untaken.{Untaken}
 use Rattle.engine_streams.specs.Heads.{opening, is_streamed}
 use Rattle.engine_streams.specs.Ranges.{range_text, onward, with_range}

@@ -9,6 +9,9 @@
 mod pulls;
 mod tables;
 
+ghost use Rattle.std.specs.Prelude.{IfSome};
+ghost use Rattle.pull_case.specs.Case.{IsReady};
+
 use json_values::{Blob, put_all};
 use pull_case::{Case, read_case};
 use pull_edge::{StdSink, StdSource, read_all};
@@ -19,7 +22,9 @@ use tables::write_tables;
 /// How many bytes a case may have.
 const MOST_BYTES: u64 = 67108864;
 
-fn tables_of(alloc: Global, case: Option<Case>) -> Result<Option<Blob>, AllocError> {
+fn tables_of(alloc: Global, case: Option<Case>) -> Result<Option<Blob>, AllocError>
+    requires { IfSome case IsReady }
+{
     match case {
         Some(case) => write_tables(alloc, &case),
         None => Ok(None),

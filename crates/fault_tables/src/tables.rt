@@ -1,23 +1,18 @@
 // What each pull came to, line by line.
+ghost use Rattle.pull_case.specs.Case.{IsReady};
+
 use crate::pulls::{Pulled, Terms, pull_over};
-use cosign_layers::TableVerifier;
+use cosign_layers::{PullPolicy, TableVerifier};
 use json_values::{Blob, Copied, List, write_decimal};
 use oci_link::Shelf;
-use pull_case::{Case, Registry, case_policy};
+use pull_case::{Case, Registry, constraints_from};
 use pull_report::text_line;
-use sig_registry::{Auth, OciReference};
+use pull_setup::image_in;
+use sig_registry::Auth;
 use std::alloc::{AllocError, Global};
 
 /// How many pieces may fail, one a pull, before the table ends anyway.
 const MOST_PIECES: u64 = 1000;
-
-// A case that was read has a reference that reads.
-fn image_in(alloc: Global, text: &str) -> Result<OciReference, AllocError> {
-    match OciReference::parse(alloc, text) {
-        Ok(image) => Ok(image),
-        Err(_refusal) => Err(AllocError),
-    }
-}
 
 fn number_line(alloc: Global, out: &mut Blob, label: &str, number: u64) -> Result<(), AllocError> {
     let digits = write_decimal(alloc, number)?;
@@ -75,13 +70,18 @@ fn tables_over(alloc: Global, terms: &Terms<'_>) -> Result<Blob, AllocError> {
     Ok(out)
 }
 
-fn tables_of(alloc: Global, case: &Case, shelf: &Shelf) -> Result<Blob, AllocError> {
+fn tables_of(alloc: Global, case: &Case, shelf: &Shelf) -> Result<Blob, AllocError>
+    requires { IsReady case.now }
+{
     let image = image_in(alloc, case.reference.as_str())?;
     let auth = Auth::from_registry(alloc, &case.auth)?;
     let verifier = TableVerifier {
         rows: case.signatures.copy(alloc)?,
     };
-    let policy = case_policy(alloc, case.keys.copy(alloc)?, case.constraints.as_slice())?;
+    let policy = PullPolicy {
+        keys: case.keys.copy(alloc)?,
+        constraints: constraints_from(alloc, case.constraints.as_slice())?,
+    };
     let terms = Terms {
         case,
         shelf,
@@ -94,7 +94,9 @@ fn tables_of(alloc: Global, case: &Case, shelf: &Shelf) -> Result<Blob, AllocErr
 }
 
 /// Both tables, where the case's registry is in memory. They are of the case's first moment.
-pub fn write_tables(alloc: Global, case: &Case) -> Result<Option<Blob>, AllocError> {
+pub fn write_tables(alloc: Global, case: &Case) -> Result<Option<Blob>, AllocError>
+    requires { IsReady case.now }
+{
     match &case.registry {
         Registry::Shelf(shelf) => Ok(Some(tables_of(alloc, case, shelf)?)),
         Registry::Answers(_) => Ok(None),

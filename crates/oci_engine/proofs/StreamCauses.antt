@@ -35,7 +35,7 @@ use Rattle.engine_requests.specs.declared.error.OciDistributionError.TheVariants
 use Rattle.engine_requests.specs.declared.settings.Settings.{Settings}
 use Rattle.engine_requests.specs.declared.sources.Place.{Place}
 use Rattle.engine_requests.specs.declared.sources.Place.TheVariants.{Web, Unfit}
-use Rattle.engine_steps.specs.Rows.{Row, prepared}
+use Rattle.engine_rows.specs.Rows.{Row, prepared}
 use Rattle.engine_laws.specs.Causes.{UnfitUrl, BlobUrl, BadHeader, LastAnswer, AnswerCause, AskedDigest, Claimed}
 use Rattle.engine_laws.specs.Held.{Entry, pulling}
 use Rattle.engine_laws.proofs.BlobCauses.{OfUrls, places_are, each_more, unfit_as, unfit_is, made_accepts, not_expected}

@@ -31,7 +31,7 @@ use Rattle.engine_requests.specs.declared.error.OciDistributionError.TheVariants
 use Rattle.engine_requests.specs.declared.settings.Settings.{Settings}
 use Rattle.engine_requests.specs.declared.sources.Place.{Place}
 use Rattle.engine_requests.specs.declared.sources.Place.TheVariants.{Web, Unfit}
-use Rattle.engine_steps.specs.Rows.{Row, authorized, prepared}
+use Rattle.engine_rows.specs.Rows.{Row, authorized, prepared}
 use Rattle.engine_laws.specs.Confined.{ToRegistry, Each}
 use Rattle.engine_laws.specs.Held.{Entry, pulling}
 use Rattle.engine_laws.proofs.Confining.{SentValue, Sent, each_more}

@@ -20,7 +20,7 @@ use Rattle.engine_requests.specs.Sources.{Layer, places_of}
 use Rattle.engine_requests.specs.declared.error.GenericCause.TheVariants.{RangeOverflow}
 use Rattle.engine_requests.specs.declared.error.OciDistributionError.{OciDistributionError}
 use Rattle.engine_requests.specs.declared.error.OciDistributionError.TheVariants as refusal
-use Rattle.engine_steps.specs.Rows.{Row, prepared}
+use Rattle.engine_rows.specs.Rows.{Row, prepared}
 use Rattle.engine_laws.specs.Causes.{IsEarly, HasBadHeader, IsRefusedAs}
 use Rattle.engine_laws.proofs.ExactRefusals.{Only, after_refusal, handed_on, no_url, url_first, early_on, prepared_bad, met_only, met_early}
 use Rattle.engine_streams.specs.Ranges.{onward_text, text_to, text_by, range_text, with_range}

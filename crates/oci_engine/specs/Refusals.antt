@@ -14,7 +14,7 @@ use Rattle.oci_names.specs.References.{digest_of}
 use Rattle.engine_requests.specs.declared.error.GenericCause.TheVariants.{NoDigest}
 use Rattle.engine_requests.specs.declared.error.OciDistributionError.{OciDistributionError}
 use Rattle.engine_requests.specs.declared.error.OciDistributionError.TheVariants as refusal
-use Rattle.engine_steps.specs.Blobs.{Destination}
+use Rattle.engine_rows.specs.Blobs.{Destination}
 use Rattle.oci_engine.specs.declared.client.Client.{Client}
 use Rattle.engine_laws.specs.Held.{pulling}
 use Rattle.engine_laws.specs.Referrers.{ReferrersCause}

@@ -5,7 +5,7 @@ ghost use Rattle.oci_protocol.specs.Runs.{Meets};
 ghost use Rattle.engine_requests.specs.Errors.{is_memory};
 ghost use Rattle.engine_requests.specs.Referrers.{referrers_text};
 ghost use Rattle.engine_requests.specs.Requests.{manifest_types};
-ghost use Rattle.engine_pull.specs.Referrers.{pull_referrers};
+ghost use Rattle.engine_rows.specs.Referrers.{pull_referrers};
 ghost use Rattle.engine_laws.specs.Causes.{HasBadHeader, IsEarly};
 ghost use Rattle.oci_engine.specs.Confinement.{StaysWithTag};
 ghost use Rattle.oci_engine.specs.Refusals.{RefusedFor, FaultCounted, UrlRefused, at_moment};

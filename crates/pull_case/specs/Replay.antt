@@ -1,5 +1,5 @@
 -- What a replay of a case's registry shows.
-use Rattle.std.specs.Prelude.{◌≡◌, IsTrue, List, Some}
+use Rattle.std.specs.Prelude.{◌≡◌, IsTrue, List, Some, None}
 use Rattle.oci_transport.specs.Calm.{calm}
 use Rattle.oci_transport.specs.Link.{Link, Answering}
 use Rattle.oci_transport.specs.Playback as recorded
@@ -20,6 +20,16 @@ state_of (Shelf t) = quiet_state_of t
 abbrev pub answering_of : Replay → Answering
 answering_of (Script s) = recorded.answering (script.answers_of s)
 answering_of (Shelf t) = shelf.answering (shelf.shelf_of t.transport)
+
+-- the next request gets no answer: its send is recorded as one that fails, or the records have ended
+abbrev pub IsUnanswered : Replay → Type 0
+IsUnanswered (Script s) = script.next_answer s ≡ None
+IsUnanswered (Shelf t) = ⊥
+
+-- a fault is recorded before the next piece, and was not met yet
+abbrev pub FaultIsNext : Replay → Type 0
+FaultIsNext (Script s) = script.stop_of s ≡ Some (script.given_of s)
+FaultIsNext (Shelf t) = ⊥
 
 -- it failed only where what it answers by may fail
 abbrev pub IsCalm : Replay → Type 0

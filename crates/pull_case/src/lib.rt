@@ -21,6 +21,6 @@ pub use constraint::WrittenConstraint;
 pub use entries::{Entries, Entry, OrUsual, Usual};
 pub use members::ReferenceText;
 pub use platform::Platform;
-pub use policy::case_policy;
+pub use policy::constraints_from;
 pub use registry::Registry;
 pub use replay::Replay;

@@ -3,24 +3,22 @@ ghost use Rattle.std.specs.Prelude.{◌≡◌, IfOk};
 ghost use Rattle.pull_case.specs.Policy.{constraint_by, constraints_by};
 
 use crate::constraint::WrittenConstraint;
-use cosign_layers::{Constraint, PullPolicy};
-use json_values::{Blob, Copied, List};
+use cosign_layers::Constraint;
+use json_values::{Copied, List};
 use std::alloc::{AllocError, Global};
 
-/// The policy of these keys and these constraints, in order.
-pub fn case_policy(
+/// The constraints that are written, in order.
+pub fn constraints_from(
     alloc: Global,
-    keys: List<Blob>,
     written: &[WrittenConstraint],
-) -> Result<PullPolicy, AllocError>
-    ensures keys { IfOk result (λ policy. policy.keys ≡ keys) }
-    ensures constraints { IfOk result (λ policy. policy.constraints ≡ constraints_by written.now) }
+) -> Result<List<Constraint>, AllocError>
+    ensures { IfOk result (λ constraints. constraints ≡ constraints_by written.now) }
 {
     let mut constraints = List::new(alloc);
     for constraint in written {
         constraints.push(constraint_from(alloc, constraint)?)?;
     }
-    Ok(PullPolicy { keys, constraints })
+    Ok(constraints)
 }
 
 // The constraint that is written.

@@ -41,13 +41,30 @@ impl QuietShelf {
 }
 
 impl Transport for QuietShelf {
-    ghost state = { λ t. state_of t.transport };
+    ghost use Rattle.std.specs.Prelude.{◌≤◌, IfOk, IsErrOf};
+    ghost use Rattle.oci_transport.specs.Link.{Answers, AddsAtMost, Takes, Steady};
+    ghost use Rattle.pull_case.specs.Replay.{quiet_state_of};
 
-    fn send(&mut self, alloc: Global, request: &Request) -> Result<AnswerHead, LinkError> {
+    ghost state = { quiet_state_of };
+
+    fn send(&mut self, alloc: Global, request: &Request) -> Result<AnswerHead, LinkError>
+        ensures count { (quiet_state_of self.old).faults ≤ (quiet_state_of self.new).faults }
+        ensures answered { IfOk result (λ head.
+            Answers request.now head (quiet_state_of self.old) (quiet_state_of self.new)) }
+        ensures never_fails { IsErrOf result LinkError.Failed → ⊥ }
+        ensures memory { IsErrOf result LinkError.WantOfMemory
+            → AddsAtMost request.now (quiet_state_of self.old) (quiet_state_of self.new) }
+    {
         self.transport.send(alloc, request)
     }
 
-    fn piece(&mut self, alloc: Global) -> Result<Blob, LinkError> {
+    fn piece(&mut self, alloc: Global) -> Result<Blob, LinkError>
+        ensures told { (quiet_state_of self.new).told ≡ (quiet_state_of self.old).told }
+        ensures steady { Steady (quiet_state_of self.old) (quiet_state_of self.new) }
+        ensures count { (quiet_state_of self.old).faults ≤ (quiet_state_of self.new).faults }
+        ensures taken { IfOk result (λ piece. Takes piece (quiet_state_of self.old) (quiet_state_of self.new)) }
+        ensures never_fails { IsErrOf result LinkError.Failed → ⊥ }
+    {
         self.transport.piece(alloc)
     }
 

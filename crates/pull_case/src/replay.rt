@@ -47,18 +47,44 @@ impl Replay {
 }
 
 impl Transport for Replay {
-    ghost use Rattle.pull_case.specs.Replay.{state_of};
+    ghost use Rattle.std.specs.Prelude.{◌≤◌, IfOk, OnOk, IsErrOf};
+    ghost use Rattle.json_values.specs.Counts.{Rose};
+    ghost use Rattle.oci_transport.specs.Link.{Answers, AddsUnanswered, AddsAtMost, LeavesRest, Takes, Steady};
+    ghost use Rattle.pull_case.specs.Replay.{state_of, IsUnanswered, FaultIsNext};
 
     ghost state = { state_of };
 
-    fn send(&mut self, alloc: Global, request: &Request) -> Result<AnswerHead, LinkError> {
+    fn send(&mut self, alloc: Global, request: &Request) -> Result<AnswerHead, LinkError>
+        ensures count { (state_of self.old).faults ≤ (state_of self.new).faults }
+        ensures answered { IfOk result (λ head.
+            Answers request.now head (state_of self.old) (state_of self.new)) }
+        ensures unanswered { IsErrOf result LinkError.Failed
+            → AddsUnanswered request.now (state_of self.old) (state_of self.new) }
+        ensures nothing { IsErrOf result LinkError.Failed
+            → LeavesRest [] (state_of self.old) (state_of self.new) }
+        ensures fault { IsErrOf result LinkError.Failed
+            → Rose (state_of self.old).faults (state_of self.new).faults }
+        ensures memory { IsErrOf result LinkError.WantOfMemory
+            → AddsAtMost request.now (state_of self.old) (state_of self.new) }
+        ensures fails { IsErrOf result LinkError.Failed → IsUnanswered self.old }
+        ensures serves { OnOk result (IsUnanswered self.old → ⊥) }
+    {
         match self {
             Replay::Script(script) => script.send(alloc, request),
             Replay::Shelf(shelf) => shelf.send(alloc, request),
         }
     }
 
-    fn piece(&mut self, alloc: Global) -> Result<Blob, LinkError> {
+    fn piece(&mut self, alloc: Global) -> Result<Blob, LinkError>
+        ensures told { (state_of self.new).told ≡ (state_of self.old).told }
+        ensures steady { Steady (state_of self.old) (state_of self.new) }
+        ensures count { (state_of self.old).faults ≤ (state_of self.new).faults }
+        ensures taken { IfOk result (λ piece. Takes piece (state_of self.old) (state_of self.new)) }
+        ensures fault { IsErrOf result LinkError.Failed
+            → Rose (state_of self.old).faults (state_of self.new).faults }
+        ensures met { IsErrOf result LinkError.Failed → FaultIsNext self.old }
+        ensures passed { OnOk result (FaultIsNext self.old → ⊥) }
+    {
         match self {
             Replay::Script(script) => script.piece(alloc),
             Replay::Shelf(shelf) => shelf.piece(alloc),

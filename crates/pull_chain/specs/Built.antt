@@ -8,7 +8,7 @@ use Rattle.oci_manifests.specs.Manifest.{manifest_of}
 use Rattle.oci_manifests.specs.declared.blob.ImageLayer.{ImageLayer}
 use Rattle.oci_manifests.specs.declared.descriptor.OciDescriptor.{OciDescriptor}
 use Rattle.oci_manifests.specs.declared.manifest.OciImageManifest.{OciImageManifest}
-use Rattle.engine_pull.specs.Images.{layer_of, config_of}
+use Rattle.engine_rows.specs.Images.{layer_of, config_of}
 use Rattle.cosign_layers.specs.Checks.{Input}
 use Rattle.cosign_layers.specs.Read.{Gives}
 use Rattle.cosign_layers.specs.Trust.{Trust}

@@ -1,6 +1,6 @@
 -- The parts of an image that its manifest and its signature layer are not among.
 use Rattle.oci_manifests.specs.declared.manifest.OciImageManifest.{OciImageManifest}
-use Rattle.engine_pull.specs.Images.{config_of}
+use Rattle.engine_rows.specs.Images.{config_of}
 use Rattle.cosign_layers.specs.declared.layer.SignatureLayer.{SignatureLayer}
 use Rattle.cosign_chain.specs.declared.image.VerifiedImage.{VerifiedImage}
 use Rattle.pull_chain.specs.Built.{manifest_bytes, manifest_digest, list_digest, layers_of}

@@ -11,7 +11,7 @@ use cosign_layers::{
     LayerKind, LayerRejection, LogKeys, Offline, SignatureLayer, SignatureVerifier,
     read_bundle_layer, read_payload_layer,
 };
-use engine_pull::{config_of, layer_of};
+use engine_rows::{config_of, layer_of};
 use json_tables::read_plain;
 use json_values::{Blob, Copied, List, Text, copy_all, row};
 use oci_digests::sha256_digest;

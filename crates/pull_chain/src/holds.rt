@@ -11,11 +11,11 @@ ghost use Rattle.pull_chain.specs.Holds.{Holds, HoldsUnder};
 use crate::built::image_of;
 use crate::input::{ChainInput, WrittenChain};
 use cosign_chain::check_chain;
-use cosign_layers::{LogKeys, PullPolicy, TableJudge, TableVerifier};
+use cosign_layers::{Constraint, LogKeys, PullPolicy, TableJudge, TableVerifier};
 use json_values::{List, Text};
 use oci_names::{ParseError, Reference};
 use oci_platforms::{PlatformResolver, ResolverPromise};
-use pull_case::case_policy;
+use pull_case::{Case, constraints_from};
 use std::alloc::{AllocError, Global};
 
 // What a chain is held to.
@@ -77,23 +77,47 @@ fn holds_under(alloc: Global, terms: &Terms, chain: &WrittenChain) -> Result<boo
     )
 }
 
+fn terms_in(case: Case, image: Reference, constraints: List<Constraint>) -> Terms
+    ensures { result ≡ record {
+      image = image;
+      accepted = case.accepted;
+      platform = case.platform;
+      policy = record { keys = case.keys; constraints = constraints };
+      log_keys = case.log_keys;
+      verifier = record { rows = case.signatures };
+      judge = case.vouched;
+    } }
+{
+    Terms {
+        image,
+        accepted: case.accepted,
+        platform: case.platform,
+        policy: PullPolicy {
+            keys: case.keys,
+            constraints,
+        },
+        log_keys: case.log_keys,
+        verifier: TableVerifier {
+            rows: case.signatures,
+        },
+        judge: case.vouched,
+    }
+}
+
+// Lets both go where nothing else is known, so that each of their many parts is let go once.
+fn let_go(_terms: Terms, _chain: WrittenChain) {}
+
 /// Whether the chain that is written holds: whether an image can be built of it, of which `check_chain` answers true
 /// under the policy, the tables, the keys of logs, the accepted media types and the platform of the case.
 pub fn chain_holds(alloc: Global, input: ChainInput) -> Result<bool, AllocError>
     requires { IsReady input.case }
     ensures { IfOk result (λ holds. IsTrue holds ↔ Holds input) }
 {
-    let case = input.case;
-    let terms = Terms {
-        image: image_in(alloc, case.reference.as_str())?,
-        policy: case_policy(alloc, case.keys, case.constraints.as_slice())?,
-        accepted: case.accepted,
-        platform: case.platform,
-        log_keys: case.log_keys,
-        verifier: TableVerifier {
-            rows: case.signatures,
-        },
-        judge: case.vouched,
-    };
-    holds_under(alloc, &terms, &input.chain)
+    let image = image_in(alloc, input.case.reference.as_str())?;
+    let constraints = constraints_from(alloc, input.case.constraints.as_slice())?;
+    let ChainInput { case, chain } = input;
+    let terms = terms_in(case, image, constraints);
+    let held = holds_under(alloc, &terms, &chain);
+    let_go(terms, chain);
+    held
 }

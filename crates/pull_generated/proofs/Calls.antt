@@ -11,19 +11,19 @@ use Rattle.oci_transport.specs.Link.{Link}
 use Rattle.engine_requests.specs.Contexts.{within}
 use Rattle.oci_link.specs.declared.shelf.Shelf.{Shelf}
 use Rattle.shelf_laws.proofs.Tokens.{fresh_settled}
-use Rattle.sig_registry.specs.Clients.{Kept, Client}
+use Rattle.sig_calls.specs.Clients.{Kept, Client}
 use Rattle.cosign_layers.specs.Standing.{Owns, meaning, stands}
 use Rattle.cosign_layers.specs.Trust.{trust}
 use Rattle.cosign_layers.specs.Verifier.{valid_in}
 use Rattle.cosign_layers.specs.declared.policy.PullPolicy.{PullPolicy}
 use Rattle.cosign_layers.specs.declared.verifier.TableVerifier.{TableVerifier}
 use Rattle.cosign_chain.specs.declared.image.VerifiedImage.{VerifiedImage}
-use Rattle.cosign_client.specs.Refusal.{is_memory}
-use Rattle.cosign_client.specs.Settled.{IsSettled}
-use Rattle.cosign_client.specs.Shelves.{AnswersFrom, OkOrMemory, ValidShelf}
-use Rattle.cosign_client.specs.Verified.{after_search, verified}
-use Rattle.cosign_client.specs.declared.refusal.PullRefusal.{PullRefusal}
-use Rattle.cosign_client.specs.declared.refusal.PullRefusal.TheVariants as refusal
+use Rattle.cosign_rows.specs.Refusal.{is_memory}
+use Rattle.cosign_rows.specs.Settled.{IsSettled}
+use Rattle.cosign_rows.specs.Shelves.{AnswersFrom, OkOrMemory, ValidShelf}
+use Rattle.cosign_rows.specs.Verified.{after_search, verified}
+use Rattle.cosign_rows.specs.declared.refusal.PullRefusal.{PullRefusal}
+use Rattle.cosign_rows.specs.declared.refusal.PullRefusal.TheVariants as refusal
 use Rattle.generated_image.specs.Shelf.{generated_shelf, HasTwoDigests}
 use Rattle.pull_generated.specs.Generated.{generated_settings, generated_context, fresh, generated_reference, generated_types, any_layer, generated_policy, signed_row, meaning_with, generated_row, PullsGenerated, IsCount}
 use Rattle.pull_generated.proofs.Valid.{valid}

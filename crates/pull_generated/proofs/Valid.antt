@@ -29,7 +29,7 @@ use Rattle.oci_manifests.specs.declared.blob.ImageLayer.{ImageLayer}
 use Rattle.oci_manifests.specs.declared.descriptor.OciDescriptor.{OciDescriptor}
 use Rattle.oci_transport.specs.Urls.{request_url}
 use Rattle.oci_link.specs.Leads.{entry_leads, redirects_lead}
-use Rattle.engine_pull.specs.Images.{layer_of}
+use Rattle.engine_rows.specs.Images.{layer_of}
 use Rattle.shelf_laws.specs.Home.{IsWrittenPlainly, front_of}
 use Rattle.shelf_laws.specs.Shelves.{layer_on, layers_on}
 use Rattle.shelf_laws.proofs.DigestTags.{dashed_text}
@@ -39,9 +39,9 @@ use Rattle.cosign_layers.specs.Standing.{Meaning, Owns, StandsFor, Supports, Sig
 use Rattle.cosign_layers.specs.declared.constraint.Constraint.{Constraint}
 use Rattle.cosign_layers.specs.declared.layer.SignatureLayer.{SignatureLayer}
 use Rattle.cosign_layers.proofs.Layers.{gives}
-use Rattle.cosign_client.specs.Part.{named_layer, read_layer}
-use Rattle.cosign_client.specs.References.{signature_tag}
-use Rattle.cosign_client.specs.Shelves.{IsAsked, ReadsStanding, SignedByTag, ValidShelf, read_on, digest_on}
+use Rattle.cosign_rows.specs.Part.{named_layer, read_layer}
+use Rattle.cosign_rows.specs.References.{signature_tag}
+use Rattle.cosign_rows.specs.Shelves.{IsAsked, ReadsStanding, SignedByTag, ValidShelf, read_on, digest_on}
 use Rattle.generated_image.specs.Shelf.{tag_for, payload_of, generated_shelf, HasTwoDigests}
 use Rattle.generated_image.specs.Texts.{sha256_text, image_text, payload_type, signatures_text}
 use Rattle.generated_image.proofs.Layer.{input_of, layer_for, layer_is, spells}

@@ -9,7 +9,7 @@ use Rattle.oci_transport.specs.Link.{Link}
 use Rattle.engine_requests.specs.Contexts.{Context, within}
 use Rattle.engine_requests.specs.declared.settings.ClientProtocol.TheVariants.{Http}
 use Rattle.engine_requests.specs.declared.settings.Settings.{Settings}
-use Rattle.sig_registry.specs.Clients.{Kept}
+use Rattle.sig_calls.specs.Clients.{Kept}
 use Rattle.cosign_layers.specs.Standing.{Meaning, Owns, meaning}
 use Rattle.cosign_layers.specs.Trust.{Trust, trust}
 use Rattle.cosign_layers.specs.Verifier.{valid_in}
@@ -18,11 +18,11 @@ use Rattle.cosign_layers.specs.declared.constraint.Constraint.TheVariants.{Annot
 use Rattle.cosign_layers.specs.declared.policy.PullPolicy.{PullPolicy}
 use Rattle.cosign_layers.specs.declared.verifier.SignedRow.{SignedRow}
 use Rattle.cosign_chain.specs.declared.image.VerifiedImage.{VerifiedImage}
-use Rattle.cosign_client.specs.Causes.{PullCause}
-use Rattle.cosign_client.specs.Points.{point}
-use Rattle.cosign_client.specs.Refusal.{is_memory}
-use Rattle.cosign_client.specs.Verified.{Whole, verified}
-use Rattle.cosign_client.specs.declared.refusal.PullRefusal.{PullRefusal}
+use Rattle.cosign_rows.specs.Causes.{PullCause}
+use Rattle.cosign_rows.specs.Points.{point}
+use Rattle.cosign_rows.specs.Refusal.{is_memory}
+use Rattle.cosign_rows.specs.Verified.{Whole, verified}
+use Rattle.cosign_rows.specs.declared.refusal.PullRefusal.{PullRefusal}
 use Rattle.generated_image.specs.Shelf.{payload_of}
 use Rattle.generated_image.specs.Texts.{sha256_text, layer_type}
 

@@ -4,9 +4,9 @@ ghost use Rattle.oci_auth.specs.declared.auth.RegistryAuth.TheVariants.{Anonymou
 ghost use Rattle.oci_protocol.specs.Runs.{Told};
 ghost use Rattle.cosign_chain.specs.Chain.{Chain};
 ghost use Rattle.cosign_chain.specs.Links.{Links};
-ghost use Rattle.cosign_client.specs.Refusal.{FaultCounted, NoSinkFault};
-ghost use Rattle.cosign_client.specs.Shelves.{AnswersFrom, OkOrMemory};
-ghost use Rattle.cosign_client.specs.Sound.{Backed};
+ghost use Rattle.cosign_rows.specs.Refusal.{FaultCounted, NoSinkFault};
+ghost use Rattle.cosign_rows.specs.Shelves.{AnswersFrom, OkOrMemory};
+ghost use Rattle.cosign_rows.specs.Sound.{Backed};
 ghost use Rattle.generated_image.specs.Shelf.{generated_shelf, HasTwoDigests};
 ghost use Rattle.pull_generated.specs.Generated.{generated_context, fresh, generated_reference};
 ghost use Rattle.pull_generated.specs.Generated.{generated_types, generated_meaning, PullsGenerated, IsCaused, IsCount};

@@ -10,20 +10,20 @@ use Rattle.oci_protocol.specs.Runs.{Runs, Performs, Meets, Told}
 use Rattle.oci_names.specs.declared.reference.Reference.{Reference}
 use Rattle.oci_auth.specs.declared.auth.RegistryAuth.{RegistryAuth}
 use Rattle.engine_requests.specs.Contexts.{Context}
-use Rattle.sig_registry.specs.Clients.{Kept, Row}
-use Rattle.sig_registry.specs.Errors.{is_memory as of_memory}
-use Rattle.sig_registry.specs.declared.error.SigstoreError.{SigstoreError}
+use Rattle.sig_calls.specs.Clients.{Kept, Row}
+use Rattle.sig_calls.specs.Errors.{is_memory as of_memory}
+use Rattle.sig_calls.specs.declared.error.SigstoreError.{SigstoreError}
 use Rattle.cosign_layers.specs.Standing.{Meaning}
 use Rattle.cosign_layers.specs.declared.layer.SignatureLayer.{SignatureLayer}
 use Rattle.cosign_chain.specs.Chain.{Chain}
 use Rattle.cosign_chain.specs.declared.image.VerifiedImage.{VerifiedImage}
-use Rattle.cosign_client.specs.Causes.{PullCause}
-use Rattle.cosign_client.specs.Points.{point}
-use Rattle.cosign_client.specs.Refusal.{is_memory}
-use Rattle.cosign_client.specs.Sound.{Backed}
-use Rattle.cosign_client.specs.Verified.{Whole}
-use Rattle.cosign_client.specs.declared.found.TrustedLayers.{TrustedLayers}
-use Rattle.cosign_client.specs.declared.refusal.PullRefusal.{PullRefusal}
+use Rattle.cosign_rows.specs.Causes.{PullCause}
+use Rattle.cosign_rows.specs.Points.{point}
+use Rattle.cosign_rows.specs.Refusal.{is_memory}
+use Rattle.cosign_rows.specs.Sound.{Backed}
+use Rattle.cosign_rows.specs.Verified.{Whole}
+use Rattle.cosign_rows.specs.declared.found.TrustedLayers.{TrustedLayers}
+use Rattle.cosign_rows.specs.declared.refusal.PullRefusal.{PullRefusal}
 use Rattle.live_link.specs.State.{Held, opening, told_from}
 use Rattle.live_link.specs.declared.stage.Breach.{Breach}
 use Rattle.live_host.specs.Wire.{Wire}

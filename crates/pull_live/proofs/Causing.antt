@@ -3,7 +3,7 @@ use Rattle.std.proofs.Common.{◌≡◌, Bool, [], Result, Ok, Err, IsErr, sym, 
 use Rattle.std.specs.Prelude.{IfErr, IsErrAnd}
 use Rattle.serde_json.specs.Data.{Data}
 use Rattle.cosign_chain.specs.declared.image.VerifiedImage.{VerifiedImage}
-use Rattle.cosign_client.specs.declared.refusal.PullRefusal.{PullRefusal}
+use Rattle.cosign_rows.specs.declared.refusal.PullRefusal.{PullRefusal}
 use Rattle.live_host.specs.Heads.{begin_head}
 use Rattle.live_host.specs.HostErrors.{HostCause}
 use Rattle.live_host.specs.Wire.{Wire, Hears, Tells}

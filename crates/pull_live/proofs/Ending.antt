@@ -1,18 +1,29 @@
 -- How the parts of a live pull come together.
-use Rattle.std.proofs.Common.{◌≡◌, ℕ, Bool, false, List, Result, Ok, Err, refl, ap, subst}
+use Rattle.std.proofs.Common.{◌≡◌, ℕ, Bool, true, false, List, Result, Ok, Err, refl, sym, ap, ◌∙◌, subst}
 use Rattle.std.specs.FinMap.{FinMap}
 use Rattle.json_values.specs.Places.{by_bytes}
 use Rattle.engine_requests.specs.declared.settings.Settings.{Settings}
-use Rattle.sig_registry.specs.Clients.{Client as Shown, Kept, Row}
-use Rattle.sig_registry.specs.Direct.{reference_in}
+use Rattle.sig_calls.specs.Clients.{Client as Shown, Kept, Row}
+use Rattle.sig_calls.specs.Direct.{reference_in}
+use Rattle.sig_calls.specs.declared.reference.OciReference.{OciReference}
+use Rattle.sig_settings.specs.Auths.{registry_auth}
+use Rattle.oci_names.specs.References.{reference_of}
+use Rattle.oci_engine.specs.Clients.{default_config}
+use Rattle.cosign_client.specs.Builder.{fresh_state}
+use Rattle.cosign_layers.specs.declared.constraint.Constraint.{Constraint}
+use Rattle.pull_case.specs.Policy.{constraints_by}
+use Rattle.pull_setup.specs.Clients.{config_by}
+use Rattle.pull_setup.specs.declared.asked.Asked.{Asked}
+use Rattle.pull_live.specs.Opening.{client_in, Opens}
+use Rattle.pull_live.specs.declared.opening.Opened.{Opened}
 use Rattle.cosign_layers.specs.Standing.{Owns, meaning}
 use Rattle.cosign_layers.specs.declared.layer.SignatureLayer.{SignatureLayer}
 use Rattle.cosign_layers.specs.declared.policy.PullPolicy.{PullPolicy}
 use Rattle.cosign_chain.specs.declared.image.VerifiedImage.{VerifiedImage}
 use Rattle.cosign_client.specs.State.{client_state}
-use Rattle.cosign_client.specs.Verified.{Whole}
-use Rattle.cosign_client.specs.declared.found.TrustedLayers.{TrustedLayers}
-use Rattle.cosign_client.specs.declared.refusal.PullRefusal.{PullRefusal}
+use Rattle.cosign_rows.specs.Verified.{Whole}
+use Rattle.cosign_rows.specs.declared.found.TrustedLayers.{TrustedLayers}
+use Rattle.cosign_rows.specs.declared.refusal.PullRefusal.{PullRefusal}
 use Rattle.live_host.specs.Questions.{WereAsked}
 use Rattle.live_host.specs.Wire.{Wire}
 use Rattle.live_host.specs.declared.answers.Answers.{Answers}
@@ -78,6 +89,33 @@ shows_are {V} {H} own settings p answers k l r old new (reads, auth, accepted, m
 stays_is : {V : Type 0} {H : V → Type 0} (settings : LiveSettings) (p : Prepared V H) (k l : Kept) (old new : Wire) → Prepares settings p
     → TermsConfined p.terms (client_state p.client).settings k l old new → Confined (context_of settings) (reference_in p.terms.image) settings.auth k l old new
 stays_is settings p k l old new (reads, auth, accepted, moment, keys, constraints, client, logs) stays = rw (client, moment, auth) at stays
+
+-- a client and what it is asked, of settings that were opened
+abbrev pub prepared_in : {V : Type 0} {H : V → Type 0} → Opened → List (Constraint V H) → Prepared V H
+prepared_in o constraints = record {
+  client = o.client;
+  terms = record {
+    moment = o.moment;
+    image = o.image;
+    auth = o.auth;
+    accepted = o.accepted;
+    policy = record { keys = o.keys; constraints = constraints };
+  };
+}
+
+pub prepares_opened : {V : Type 0} {H : V → Type 0} (asked : Asked) (settings : LiveSettings) (o : Opened) (constraints : List (Constraint V H))
+    → asked.usual ≡ default_config → Opens asked settings o → reference_of settings.reference ≡ Ok (reference_in asked.image) → registry_auth asked.auth ≡ settings.auth
+    → constraints ≡ constraints_by settings.constraints → Prepares settings (prepared_in o constraints)
+prepares_opened asked settings o constraints usual opens reads auth written = (
+  reads ∙ ap (λ (image : OciReference). Ok (reference_in image)) (sym opens.image),
+  ap registry_auth opens.auth ∙ auth,
+  opens.accepted,
+  opens.moment,
+  opens.keys,
+  written,
+  opens.client ∙ ap (λ u. fresh_state (config_by u (client_in settings)) true) usual,
+  opens.log_keys,
+)
 
 -- all of it, by the settings
 pub live : {V : Type 0} {H : V → Type 0} (own : Owns V H) (settings : LiveSettings) (p : Prepared V H) (old new : Wire) (r : Result VerifiedImage PullRefusal) → Prepares settings p

@@ -9,7 +9,7 @@ use Rattle.oci_auth.specs.declared.auth.RegistryAuth.{RegistryAuth}
 use Rattle.oci_platforms.specs.declared.promise.ResolverPromise.{ResolverPromise}
 use Rattle.oci_transport.specs.declared.message.Exchange.{Exchange}
 use Rattle.engine_requests.specs.Contexts.{Context}
-use Rattle.sig_registry.specs.Clients.{Kept}
+use Rattle.sig_calls.specs.Clients.{Kept}
 use Rattle.cosign_layers.specs.Constraint.{accepts}
 use Rattle.cosign_layers.specs.Standing.{Owns, StandsFor, meaning}
 use Rattle.cosign_layers.specs.Trust.{Trust}
@@ -17,11 +17,11 @@ use Rattle.cosign_layers.specs.declared.layer.SignatureLayer.{SignatureLayer}
 use Rattle.cosign_layers.specs.declared.policy.PullPolicy.{PullPolicy}
 use Rattle.cosign_chain.specs.Chain.{Chain}
 use Rattle.cosign_chain.specs.declared.image.VerifiedImage.{VerifiedImage}
-use Rattle.cosign_client.specs.Causes.{PullCause}
-use Rattle.cosign_client.specs.Points.{Point}
-use Rattle.cosign_client.specs.Verified.{stands_by}
-use Rattle.cosign_client.specs.declared.refusal.PullRefusal.{PullRefusal}
-use Rattle.cosign_client.specs.declared.refusal.PullRefusal.TheVariants as refusal
+use Rattle.cosign_rows.specs.Causes.{PullCause}
+use Rattle.cosign_rows.specs.Points.{Point}
+use Rattle.cosign_rows.specs.Verified.{stands_by}
+use Rattle.cosign_rows.specs.declared.refusal.PullRefusal.{PullRefusal}
+use Rattle.cosign_rows.specs.declared.refusal.PullRefusal.TheVariants as refusal
 use Rattle.live_host.specs.Wire.{Wire}
 use Rattle.pull_case.specs.Policy.{constraints_by}
 use Rattle.pull_case.specs.declared.constraint.WrittenConstraint.{WrittenConstraint}

@@ -3,8 +3,8 @@ use Rattle.std.proofs.Common.{◌≡◌, false, refl, ap, ◌∙◌}
 use Rattle.oci_names.specs.declared.reference.Reference.{Reference}
 use Rattle.cosign_layers.specs.Standing.{Owns, meaning}
 use Rattle.cosign_layers.specs.declared.policy.PullPolicy.{PullPolicy}
-use Rattle.cosign_client.specs.Verified.{verified}
-use Rattle.cosign_client.proofs.Meanings.{verified_same}
+use Rattle.cosign_rows.specs.Verified.{verified}
+use Rattle.cosign_laws.proofs.Meanings.{verified_same}
 use Rattle.pull_case.specs.Policy.{constraints_by}
 use Rattle.pull_case.proofs.Written.{no_item_same, stands_same}
 use Rattle.live_host.specs.declared.answers.Answers.{Answers}

@@ -1,4 +1,5 @@
 pub mod Live
+pub mod Opening
 pub mod Parts
 pub mod Pulls
 pub mod Refusals

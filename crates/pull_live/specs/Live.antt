@@ -1,19 +1,20 @@
 -- A live pull: the settings, the search, the host's answers, the pull, and what goes out.
-use Rattle.std.specs.Prelude.{◌≡◌, false, List, [], None, Result, Ok, Err}
+use Rattle.std.specs.Prelude.{◌≡◌, true, false, List, [], None, Result, Ok, Err}
 use Rattle.serde_json.specs.Data.{Data}
 use Rattle.oci_names.specs.References.{reference_of}
 use Rattle.oci_names.specs.declared.reference.Reference.{Reference}
-use Rattle.sig_registry.specs.Clients.{Kept}
+use Rattle.sig_calls.specs.Clients.{Kept}
 use Rattle.cosign_layers.specs.declared.layer.SignatureLayer.{SignatureLayer}
 use Rattle.cosign_chain.specs.declared.image.VerifiedImage.{VerifiedImage}
-use Rattle.cosign_client.specs.Refusal.{is_memory}
-use Rattle.cosign_client.specs.declared.refusal.PullRefusal.{PullRefusal}
+use Rattle.cosign_rows.specs.Refusal.{is_memory}
+use Rattle.cosign_rows.specs.declared.refusal.PullRefusal.{PullRefusal}
 use Rattle.live_host.specs.HostErrors.{IsBroken, IsUnwritten}
 use Rattle.live_host.specs.Heads.{begin_head}
 use Rattle.live_host.specs.Questions.{WereAsked}
 use Rattle.live_host.specs.Wire.{Wire, Asks, Tells, Hears}
 use Rattle.live_host.specs.declared.answers.Answers.{Answers}
-use Rattle.pull_live.specs.Pulls.{Collects, Transfer, context_of, fresh, meaning_of, search_row, pull_row}
+use Rattle.pull_setup.specs.Clients.{fresh}
+use Rattle.pull_live.specs.Pulls.{Collects, Transfer, context_of, meaning_of, search_row, pull_row}
 use Rattle.pull_live.specs.Refusals.{OutcomeTold}
 use Rattle.pull_live.specs.Settings.{settings_of}
 use Rattle.pull_live.specs.Shows.{Confined, Founded}
@@ -30,8 +31,8 @@ pub record Live (settings : LiveSettings) (r : Result VerifiedImage PullRefusal)
   pub searched : Wire
   pub kept : Kept
   pub layers : List SignatureLayer
-  pub search : Collects (search_row settings image) old searched fresh kept layers
-  pub search_confined : Confined (context_of settings) image settings.auth fresh kept old searched
+  pub search : Collects (search_row settings image) old searched (fresh true) kept layers
+  pub search_confined : Confined (context_of settings) image settings.auth (fresh true) kept old searched
   pub asked : Wire
   pub answers : Answers
   pub questions : WereAsked answers.list searched asked

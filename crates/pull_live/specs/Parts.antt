@@ -1,22 +1,22 @@
 -- The parts of a live pull.
-use Rattle.std.specs.Prelude.{◌≡◌, ℕ, Bool, false, List, Some, None, Result, Ok, Err}
+use Rattle.std.specs.Prelude.{◌≡◌, ℕ, Bool, true, false, List, Some, None, Result, Ok, Err}
 use Rattle.std.specs.FinMap.{FinMap}
 use Rattle.serde_json.specs.Data.{Data}
 use Rattle.json_values.specs.Places.{by_bytes}
 use Rattle.oci_names.specs.References.{reference_of}
 use Rattle.engine_requests.specs.Contexts.{within}
 use Rattle.engine_requests.specs.declared.settings.Settings.{Settings}
-use Rattle.sig_registry.specs.Clients.{Kept, Row}
+use Rattle.sig_calls.specs.Clients.{Kept, Row}
 use Rattle.sig_settings.specs.Auths.{registry_auth}
-use Rattle.sig_registry.specs.Direct.{reference_in}
+use Rattle.sig_calls.specs.Direct.{reference_in}
 use Rattle.cosign_layers.specs.declared.layer.SignatureLayer.{SignatureLayer}
 use Rattle.cosign_chain.specs.declared.image.VerifiedImage.{VerifiedImage}
-use Rattle.cosign_client.specs.Refusal.{is_memory}
-use Rattle.cosign_client.specs.Search.{searched}
+use Rattle.cosign_rows.specs.Refusal.{is_memory}
+use Rattle.cosign_rows.specs.Search.{searched}
 use Rattle.cosign_client.specs.State.{client_state}
-use Rattle.cosign_client.specs.Verified.{Whole}
-use Rattle.cosign_client.specs.declared.found.TrustedLayers.{TrustedLayers}
-use Rattle.cosign_client.specs.declared.refusal.PullRefusal.{PullRefusal}
+use Rattle.cosign_rows.specs.Verified.{Whole}
+use Rattle.cosign_rows.specs.declared.found.TrustedLayers.{TrustedLayers}
+use Rattle.cosign_rows.specs.declared.refusal.PullRefusal.{PullRefusal}
 use Rattle.live_host.specs.Everyone.{everyone}
 use Rattle.live_host.specs.HostErrors.{IsBroken, IsUnwritten}
 use Rattle.live_host.specs.Questions.{WereAsked}
@@ -24,7 +24,8 @@ use Rattle.live_host.specs.Wire.{Wire}
 use Rattle.live_host.specs.declared.answers.Answers.{Answers}
 use Rattle.pull_case.specs.Policy.{constraints_by}
 use Rattle.pull_live.specs.Live.{NoSettings}
-use Rattle.pull_live.specs.Pulls.{Collects, Transfer, client_settings, fresh}
+use Rattle.pull_setup.specs.Clients.{fresh}
+use Rattle.pull_live.specs.Pulls.{Collects, Transfer, client_settings}
 use Rattle.pull_live.specs.Refusals.{OutcomeTold}
 use Rattle.pull_live.specs.Settings.{settings_of}
 use Rattle.pull_live.specs.declared.live.Prepared.{Prepared}
@@ -42,7 +43,7 @@ Prepares settings p =
     × (p.terms.moment ≡ settings.moment)
     × (p.terms.policy.keys ≡ settings.keys)
     × (p.terms.policy.constraints ≡ constraints_by settings.constraints)
-    × (client_state p.client ≡ record { settings = client_settings settings; kept = fresh })
+    × (client_state p.client ≡ record { settings = client_settings settings; kept = fresh true })
     × (p.client.rekor_pub_keys ≡ settings.log_keys)
 
 -- what a frame reads as

@@ -1,22 +1,21 @@
 -- The search and the pull of a live pull, and what they ask by the frames that go out.
 use Rattle.std.specs.Prelude.{◌≡◌, ℕ, false, List, [], Option, Some, None, Result, Ok, Err, codes}
-use Rattle.oci_auth.specs.Memory.{fresh as nothing_kept}
 use Rattle.oci_names.specs.declared.reference.Reference.{Reference}
 use Rattle.oci_transport.specs.declared.message.Exchange.{Exchange}
 use Rattle.oci_protocol.specs.Proto.{Proto}
 use Rattle.oci_protocol.specs.Runs.{Runs}
 use Rattle.engine_requests.specs.Contexts.{Context, within}
 use Rattle.engine_requests.specs.declared.settings.Settings.{Settings}
-use Rattle.sig_registry.specs.Clients.{Kept, Row, none_kept}
-use Rattle.sig_registry.specs.declared.error.SigstoreError.{SigstoreError}
+use Rattle.sig_calls.specs.Clients.{Kept, Row, none_kept}
+use Rattle.sig_calls.specs.declared.error.SigstoreError.{SigstoreError}
 use Rattle.cosign_layers.specs.Standing.{Meaning, meaning}
 use Rattle.cosign_layers.specs.Trust.{Trust, trust}
 use Rattle.cosign_layers.specs.declared.layer.SignatureLayer.{SignatureLayer}
 use Rattle.cosign_layers.specs.declared.policy.PullPolicy.{PullPolicy}
 use Rattle.cosign_chain.specs.declared.image.VerifiedImage.{VerifiedImage}
-use Rattle.cosign_client.specs.Search.{searched}
-use Rattle.cosign_client.specs.Verified.{Whole, verified}
-use Rattle.cosign_client.specs.declared.found.TrustedLayers.{TrustedLayers}
+use Rattle.cosign_rows.specs.Search.{searched}
+use Rattle.cosign_rows.specs.Verified.{Whole, verified}
+use Rattle.cosign_rows.specs.declared.found.TrustedLayers.{TrustedLayers}
 use Rattle.live_link.specs.State.{Held}
 use Rattle.live_link.specs.declared.stage.Breach.{Breach}
 use Rattle.live_host.specs.Answers.{valid_by, vouched_by}
@@ -24,28 +23,15 @@ use Rattle.live_host.specs.Everyone.{everyone}
 use Rattle.live_host.specs.Wire.{Wire}
 use Rattle.live_host.specs.declared.answers.Answers.{Answers}
 use Rattle.pull_case.specs.Policy.{constraints_by}
+use Rattle.pull_setup.specs.Clients.{settings_by}
 use Rattle.pull_live.specs.declared.settings.LiveSettings.{LiveSettings}
-
--- the limit of a body that is held, or the usual one
-abbrev pub limit_by : Option ℕ → ℕ
-limit_by None = 4294967295
-limit_by (Some limit) = limit
 
 -- the settings of the client
 abbrev pub client_settings : LiveSettings → Settings
-client_settings settings = record {
-  protocol = settings.protocol;
-  user_agent = codes "oci-client/0.18.0";
-  max_body_bytes = limit_by settings.limit;
-  platform_resolver = settings.platform;
-}
+client_settings settings = settings_by settings.protocol settings.limit settings.platform
 
 abbrev pub context_of : LiveSettings → Context
 context_of settings = within (client_settings settings) settings.moment
-
--- a client that keeps answers, and none yet
-abbrev pub fresh : Kept
-fresh = (nothing_kept 60, Some (none_kept None))
 
 -- the policy; no box of a caller stands in it
 abbrev pub policy_of : LiveSettings → PullPolicy ⊥ (λ v. ⊥)

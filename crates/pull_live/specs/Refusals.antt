@@ -2,7 +2,7 @@
 use Rattle.std.specs.Prelude.{◌≡◌, ◌⊎◌, ℕ, List, [], Bool, Result, Ok, Err}
 use Rattle.std.specs.Str.{IsUtf8}
 use Rattle.cosign_chain.specs.declared.image.VerifiedImage.{VerifiedImage}
-use Rattle.cosign_client.specs.declared.refusal.PullRefusal.{PullRefusal}
+use Rattle.cosign_rows.specs.declared.refusal.PullRefusal.{PullRefusal}
 use Rattle.pull_report.specs.Report.{refusal_lines}
 use Rattle.live_host.specs.Heads.{refused_head}
 use Rattle.live_host.specs.Items.{WereTold, image_sent}

@@ -6,14 +6,14 @@ use Rattle.oci_transport.specs.declared.message.Exchange.{Exchange}
 use Rattle.engine_requests.specs.Contexts.{Context}
 use Rattle.engine_laws.specs.Confined.{Within}
 use Rattle.engine_laws.specs.Held.{pulling}
-use Rattle.sig_registry.specs.Clients.{Kept}
+use Rattle.sig_calls.specs.Clients.{Kept}
 use Rattle.cosign_layers.specs.Standing.{Meaning}
 use Rattle.cosign_chain.specs.Chain.{Chain}
 use Rattle.cosign_chain.specs.declared.image.VerifiedImage.{VerifiedImage}
-use Rattle.cosign_client.specs.Causes.{PullCause}
-use Rattle.cosign_client.specs.Points.{point}
-use Rattle.cosign_client.specs.Sound.{Backed}
-use Rattle.cosign_client.specs.declared.refusal.PullRefusal.{PullRefusal}
+use Rattle.cosign_rows.specs.Causes.{PullCause}
+use Rattle.cosign_rows.specs.Points.{point}
+use Rattle.cosign_rows.specs.Sound.{Backed}
+use Rattle.cosign_rows.specs.declared.refusal.PullRefusal.{PullRefusal}
 use Rattle.live_host.specs.Wire.{Wire}
 use Rattle.pull_live.specs.Pulls.{Carries}
 

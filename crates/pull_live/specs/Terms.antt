@@ -4,18 +4,18 @@ use Rattle.std.specs.FinMap.{FinMap}
 use Rattle.json_values.specs.Places.{by_bytes}
 use Rattle.engine_requests.specs.Contexts.{within}
 use Rattle.engine_requests.specs.declared.settings.Settings.{Settings}
-use Rattle.sig_registry.specs.Clients.{Kept}
-use Rattle.sig_registry.specs.Errors.{is_memory as of_memory}
+use Rattle.sig_calls.specs.Clients.{Kept}
+use Rattle.sig_calls.specs.Errors.{is_memory as of_memory}
 use Rattle.sig_settings.specs.Auths.{registry_auth}
-use Rattle.sig_registry.specs.Direct.{reference_in}
-use Rattle.sig_registry.specs.declared.error.SigstoreError.{SigstoreError}
+use Rattle.sig_calls.specs.Direct.{reference_in}
+use Rattle.sig_calls.specs.declared.error.SigstoreError.{SigstoreError}
 use Rattle.cosign_layers.specs.Standing.{Owns, meaning}
 use Rattle.cosign_layers.specs.Trust.{trust}
 use Rattle.cosign_chain.specs.declared.image.VerifiedImage.{VerifiedImage}
-use Rattle.cosign_client.specs.Refusal.{is_memory}
-use Rattle.cosign_client.specs.Verified.{Whole, verified}
-use Rattle.cosign_client.specs.declared.found.TrustedLayers.{TrustedLayers}
-use Rattle.cosign_client.specs.declared.refusal.PullRefusal.{PullRefusal}
+use Rattle.cosign_rows.specs.Refusal.{is_memory}
+use Rattle.cosign_rows.specs.Verified.{Whole, verified}
+use Rattle.cosign_rows.specs.declared.found.TrustedLayers.{TrustedLayers}
+use Rattle.cosign_rows.specs.declared.refusal.PullRefusal.{PullRefusal}
 use Rattle.live_host.specs.Answers.{valid_by, vouched_by}
 use Rattle.live_host.specs.Wire.{Wire}
 use Rattle.live_host.specs.declared.answers.Answers.{Answers}

@@ -1,9 +1,9 @@
 //! A pull with a host that makes the connections and the arithmetic of signatures: what is asked, and what goes out.
 #![tactic(auto)]
 
-mod client;
 mod keys;
 mod live;
+mod opening;
 mod pulls;
 mod refusal;
 mod settings;

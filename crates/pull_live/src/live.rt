@@ -7,18 +7,20 @@ ghost use Rattle.pull_live.specs.Parts.{Prepares, BeginCause, ReadsSettings, Del
 ghost use Rattle.pull_live.specs.Settings.{IsReady};
 ghost use Rattle.pull_live.specs.Terms.{row_for, PullShows, TermsConfined};
 
-use crate::client::{fresh_client, prepare};
+use crate::opening::{Opened, open_settings};
 use crate::pulls::{Terms, pull, search};
 use crate::refusal::give_refusal;
 use crate::settings::{LiveSettings, read_settings};
 use crate::status::Status;
 use cosign_client::{Client, PullRefusal, VerifiedImage};
+use cosign_layers::PullPolicy;
 use json_tables::ReadError;
 use json_values::{Json, Sink};
 use live_host::{Answers, HostError, Streams, ask_layers, begin_head, give_image, hear, tell};
-use pull_case::case_policy;
+use pull_case::constraints_from;
 use pull_edge::Source;
 use pull_report::let_go;
+use pull_setup::ask_for;
 use std::alloc::Global;
 
 /// How a live pull ended, and the streams as they are then.
@@ -195,32 +197,38 @@ fn serve<S: Source, K: Sink>(
         (wire S.state K.state streams) (wire S.state K.state result.streams))
         result.status (wire S.state K.state result.streams) }
 {
-    let made = match prepare(alloc, &settings) {
-        Ok(made) => made,
+    let asked = match ask_for(alloc, settings.reference.as_str(), &settings.auth) {
+        Ok(asked) => asked,
         Err(_) => return end_with(Status::WantOfMemory, streams),
     };
-    let policy = match case_policy(alloc, made.keys, settings.constraints.as_slice()) {
-        Ok(policy) => policy,
+    let constraints = match constraints_from(alloc, settings.constraints.as_slice()) {
+        Ok(constraints) => constraints,
         Err(_) => return end_with(Status::WantOfMemory, streams),
     };
+    let Opened {
+        client,
+        moment,
+        image,
+        auth,
+        accepted,
+        keys,
+        blobs,
+    } = open_settings(alloc, asked, settings);
     let terms = Terms {
-        moment: settings.moment,
-        image: made.image,
-        auth: made.auth,
-        accepted: settings.accepted,
-        policy,
+        moment,
+        image,
+        auth,
+        accepted,
+        policy: PullPolicy { keys, constraints },
     };
-    let client = fresh_client(
-        alloc,
-        made.config,
-        settings.protocol,
-        settings.limit,
-        settings.platform,
-        settings.log_keys,
-    );
     let mut prepared = Prepared { client, terms };
-    converse(alloc, streams, &mut prepared, settings.blobs)
+    let ended = converse(alloc, streams, &mut prepared, blobs);
+    let_prepared_go(prepared);
+    ended
 }
+
+// Lets it go where nothing else is known, so that each of its many parts is let go once.
+fn let_prepared_go(_prepared: Prepared) {}
 
 /// Pulls an image with a host, which makes the connections and the arithmetic of signatures, and has the clock: reads
 /// the settings, searches signature layers, asks the host about them, pulls the image under its answers, and sends it,

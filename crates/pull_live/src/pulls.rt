@@ -1,10 +1,10 @@
 // The search and the pull, each by a transport of its own over the streams.
 ghost use Rattle.std.specs.Prelude.{◌≡◌, false, IfOk, IfErr};
 ghost use Rattle.engine_requests.specs.Contexts.{within};
-ghost use Rattle.sig_registry.specs.Direct.{reference_in};
+ghost use Rattle.sig_calls.specs.Direct.{reference_in};
 ghost use Rattle.sig_settings.specs.Auths.{registry_auth};
-ghost use Rattle.cosign_client.specs.Refusal.{is_memory};
-ghost use Rattle.cosign_client.specs.Search.{searched};
+ghost use Rattle.cosign_rows.specs.Refusal.{is_memory};
+ghost use Rattle.cosign_rows.specs.Search.{searched};
 ghost use Rattle.cosign_client.specs.State.{client_state};
 ghost use Rattle.live_host.specs.Everyone.{everyone};
 ghost use Rattle.live_host.specs.Wire.{wire};

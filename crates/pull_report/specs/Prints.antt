@@ -13,20 +13,20 @@ use Rattle.engine_requests.specs.declared.error.SpecViolation.{SpecViolation}
 use Rattle.engine_requests.specs.declared.error.SpecViolation.TheVariants as violation
 use Rattle.engine_requests.specs.declared.error.OciDistributionError.{OciDistributionError}
 use Rattle.engine_requests.specs.declared.error.OciDistributionError.TheVariants as distribution
-use Rattle.sig_registry.specs.declared.error.SigstoreError.{SigstoreError}
-use Rattle.sig_registry.specs.declared.error.SigstoreError.TheVariants as sigstore
+use Rattle.sig_calls.specs.declared.error.SigstoreError.{SigstoreError}
+use Rattle.sig_calls.specs.declared.error.SigstoreError.TheVariants as sigstore
 use Rattle.cosign_layers.specs.declared.rejection.LayerPart.{LayerPart}
 use Rattle.cosign_layers.specs.declared.rejection.LayerPart.TheVariants as part
 use Rattle.cosign_layers.specs.declared.rejection.LayerRejection.{LayerRejection}
 use Rattle.cosign_layers.specs.declared.rejection.LayerRejection.TheVariants as rejection
-use Rattle.cosign_client.specs.declared.found.SourceKind.{SourceKind}
-use Rattle.cosign_client.specs.declared.found.SourceKind.TheVariants as source
-use Rattle.cosign_client.specs.declared.found.SkipCause.{SkipCause}
-use Rattle.cosign_client.specs.declared.found.SkipCause.TheVariants as skip
-use Rattle.cosign_client.specs.declared.found.Skipped.{Skipped}
-use Rattle.cosign_client.specs.declared.found.Skipped.TheVariants as skipped
-use Rattle.cosign_client.specs.declared.refusal.PullRefusal.{PullRefusal}
-use Rattle.cosign_client.specs.declared.refusal.PullRefusal.TheVariants as pull
+use Rattle.cosign_rows.specs.declared.found.SourceKind.{SourceKind}
+use Rattle.cosign_rows.specs.declared.found.SourceKind.TheVariants as source
+use Rattle.cosign_rows.specs.declared.found.SkipCause.{SkipCause}
+use Rattle.cosign_rows.specs.declared.found.SkipCause.TheVariants as skip
+use Rattle.cosign_rows.specs.declared.found.Skipped.{Skipped}
+use Rattle.cosign_rows.specs.declared.found.Skipped.TheVariants as skipped
+use Rattle.cosign_rows.specs.declared.refusal.PullRefusal.{PullRefusal}
+use Rattle.cosign_rows.specs.declared.refusal.PullRefusal.TheVariants as pull
 use Rattle.pull_report.specs.Words.{spaced}
 
 abbrev pub bytes_print : List ℕ → List ℕ

@@ -5,10 +5,10 @@ use Rattle.oci_transport.specs.declared.message.Method.TheVariants.{Get, Head, P
 use Rattle.oci_transport.specs.declared.message.Exchange.{Exchange}
 use Rattle.oci_manifests.specs.declared.descriptor.OciDescriptor.{OciDescriptor}
 use Rattle.cosign_layers.specs.declared.layer.SignatureLayer.{SignatureLayer}
-use Rattle.cosign_client.specs.declared.found.Skipped.{Skipped}
+use Rattle.cosign_rows.specs.declared.found.Skipped.{Skipped}
 use Rattle.cosign_chain.specs.declared.image.VerifiedImage.{VerifiedImage}
-use Rattle.cosign_client.specs.declared.refusal.PullRefusal.{PullRefusal}
-use Rattle.cosign_client.specs.declared.refusal.PullRefusal.TheVariants.{Unsatisfied}
+use Rattle.cosign_rows.specs.declared.refusal.PullRefusal.{PullRefusal}
+use Rattle.cosign_rows.specs.declared.refusal.PullRefusal.TheVariants.{Unsatisfied}
 use Rattle.pull_report.specs.Words.{line}
 use Rattle.pull_report.specs.Prints.{skipped_print, refusal_print}
 

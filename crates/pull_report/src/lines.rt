@@ -4,8 +4,8 @@ ghost use Rattle.pull_report.specs.Words.{line};
 ghost use Rattle.pull_report.specs.Report.{method_name};
 
 use crate::printed::{Printed, print1, word};
-use cosign_client::Skipped;
 use cosign_layers::SignatureLayer;
+use cosign_rows::Skipped;
 use json_values::Blob;
 use oci_manifests::OciDescriptor;
 use oci_transport::{Exchange, Method};

@@ -1,6 +1,6 @@
 // The print of a pull's refusal.
 use crate::printed::{Printed, print1, print2, word};
-use cosign_client::PullRefusal;
+use cosign_rows::PullRefusal;
 use json_values::Blob;
 use std::alloc::{AllocError, Global};
 

@@ -3,7 +3,7 @@ use crate::printed::{Printed, print1, print2, print3, word};
 use engine_requests::{GenericCause, OciDistributionError, SpecViolation};
 use json_values::Blob;
 use oci_digests::DigestError;
-use sig_registry::SigstoreError;
+use sig_calls::SigstoreError;
 use std::alloc::{AllocError, Global};
 
 impl Printed for DigestError {

@@ -3,7 +3,8 @@ ghost use Rattle.std.specs.Prelude.{◌≡◌, ◌++◌, OnOk};
 ghost use Rattle.pull_report.specs.Report.{image_lines, search_lines, refusal_lines, outcome_lines, report};
 
 use crate::lines::{print_line, text_line, write_lines};
-use cosign_client::{PullRefusal, VerifiedImage};
+use cosign_chain::VerifiedImage;
+use cosign_rows::PullRefusal;
 use json_values::{Blob, write_decimal};
 use oci_transport::Exchange;
 use std::alloc::{AllocError, Global};

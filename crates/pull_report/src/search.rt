@@ -1,7 +1,7 @@
 // Prints of what a search for signatures passed over.
 use crate::printed::{Printed, print1, print2, print3, word};
-use cosign_client::{SkipCause, Skipped, SourceKind};
 use cosign_layers::{LayerPart, LayerRejection};
+use cosign_rows::{SkipCause, Skipped, SourceKind};
 use json_values::Blob;
 use std::alloc::{AllocError, Global};
 

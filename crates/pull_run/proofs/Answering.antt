@@ -13,19 +13,20 @@ use Rattle.oci_protocol.proofs.Laws.{Runs-count}
 use Rattle.oci_link.specs.State.{answering}
 use Rattle.oci_link.specs.declared.shelf.Shelf.{Shelf}
 use Rattle.shelf_laws.specs.Comes.{OrMemory}
-use Rattle.sig_registry.specs.Clients.{Kept}
+use Rattle.sig_calls.specs.Clients.{Kept}
 use Rattle.cosign_chain.specs.declared.image.VerifiedImage.{VerifiedImage}
-use Rattle.cosign_client.specs.Refusal.{is_memory}
-use Rattle.cosign_client.specs.Settled.{IsSettled}
-use Rattle.cosign_client.specs.Verified.{Whole}
-use Rattle.cosign_client.specs.declared.refusal.PullRefusal.{PullRefusal}
-use Rattle.cosign_client.proofs.ShelfCalls.{new_settled}
-use Rattle.cosign_client.proofs.ShelfPulls.{run_wide, run_settled}
+use Rattle.cosign_rows.specs.Refusal.{is_memory}
+use Rattle.cosign_rows.specs.Settled.{IsSettled}
+use Rattle.cosign_rows.specs.Verified.{Whole}
+use Rattle.cosign_rows.specs.declared.refusal.PullRefusal.{PullRefusal}
+use Rattle.cosign_laws.proofs.ShelfCalls.{new_settled}
+use Rattle.cosign_laws.proofs.ShelfPulls.{run_wide, run_settled}
 use Rattle.pull_case.specs.Policy.{meaning_of}
 use Rattle.pull_case.specs.Registry.{answering_by}
 use Rattle.pull_case.specs.declared.case.Case.{Case}
 use Rattle.pull_run.specs.Complete.{HasImage}
-use Rattle.pull_run.specs.Pulls.{Talk, joined, is_answered, all_answered, is_wanting, EachWhole, InTurn, settings_of, fresh, row_of, Pulled}
+use Rattle.pull_run.specs.Pulls.{Talk, joined, is_answered, all_answered, is_wanting, EachWhole, InTurn, settings_of, row_of, Pulled}
+use Rattle.pull_setup.specs.Clients.{fresh}
 
 -- ---- counts where nothing may fail
 

@@ -1,5 +1,5 @@
 -- The pulls of a case.
-use Rattle.std.proofs.Common.{◌≡◌, ℕ, Bool, false, List, [], ◌∷◌, Result, Ok, Err, refl, ap, ◌∙◌, subst}
+use Rattle.std.proofs.Common.{◌≡◌, ℕ, Bool, false, List, [], ◌∷◌, Result, Ok, Err, refl, sym, ap, ◌∙◌, subst}
 use mathlib.Core.Path.{fun_ext}
 use Rattle.std.specs.Prelude.{IfOk}
 use Rattle.std.specs.declared.alloc.Global.{Global}
@@ -9,30 +9,36 @@ use Rattle.oci_names.specs.References.{reference_of}
 use Rattle.oci_auth.specs.declared.auth.RegistryAuth.{RegistryAuth}
 use Rattle.engine_requests.specs.Contexts.{within}
 use Rattle.oci_transport.specs.declared.message.Exchange.{Exchange}
-use Rattle.sig_registry.specs.Clients.{Kept, Client}
+use Rattle.sig_calls.specs.Clients.{Kept, Client}
 use Rattle.cosign_layers.specs.Standing.{Owns, meaning}
 use Rattle.cosign_layers.specs.Verifier.{valid_in}
 use Rattle.cosign_layers.specs.declared.layer.SignatureLayer.{SignatureLayer}
 use Rattle.cosign_layers.specs.declared.policy.PullPolicy.{PullPolicy}
 use Rattle.cosign_chain.specs.declared.image.VerifiedImage.{VerifiedImage}
-use Rattle.cosign_client.specs.Sound.{Sound}
-use Rattle.cosign_client.specs.declared.refusal.PullRefusal.{PullRefusal}
-use Rattle.cosign_client.proofs.Images.{Seen}
-use Rattle.cosign_client.proofs.Chains.{verified_seen}
-use Rattle.cosign_client.proofs.Meanings.{verified_same}
+use Rattle.cosign_rows.specs.Sound.{Sound}
+use Rattle.cosign_rows.specs.declared.refusal.PullRefusal.{PullRefusal}
+use Rattle.cosign_laws.proofs.Images.{Seen}
+use Rattle.cosign_laws.proofs.Chains.{verified_seen}
+use Rattle.cosign_laws.proofs.Meanings.{verified_same}
 use Rattle.pull_case.specs.Policy.{constraints_by, meaning_of, trust_of}
 use Rattle.pull_case.proofs.Written.{no_item_same, stands_same}
 use Rattle.pull_case.specs.declared.case.Case.{Case}
 use Rattle.pull_run.specs.declared.report.Report.{Report}
-use Rattle.oci_auth.specs.Memory.{fresh as nothing_kept}
-use Rattle.oci_engine.specs.Clients.{settings_of as settings_in}
+use Rattle.oci_engine.specs.Clients.{default_config}
 use Rattle.oci_engine.specs.declared.config.ClientConfig.{ClientConfig}
-use Rattle.cosign_client.specs.Builder.{no_answers, fresh_state}
-use Rattle.pull_run.specs.Pulls.{Talk, InTurn, settings_by, settings_of, fresh, row_of, SoundResult, EachSound, ReportsCase}
+use Rattle.cosign_client.specs.Builder.{fresh_state}
+use Rattle.pull_setup.specs.Clients.{config_by, fresh}
+use Rattle.cosign_client.specs.State.{client_state}
+use Rattle.cosign_layers.specs.declared.constraint.Constraint.{Constraint}
+use Rattle.sig_calls.specs.declared.reference.OciReference.{OciReference}
+use Rattle.pull_setup.specs.declared.asked.Asked.{Asked}
+use Rattle.pull_run.specs.Opening.{client_in, Opens}
+use Rattle.pull_run.specs.declared.pulls.Opened.{Opened}
+use Rattle.pull_run.specs.Pulls.{Talk, InTurn, settings_of, row_of, SoundResult, EachSound, ReportsCase}
 use Rattle.pull_run.specs.Rounds.{row_by, row_for, Played}
 use Rattle.pull_run.specs.declared.pulls.Terms.{Terms}
 use Rattle.sig_settings.specs.Auths.{registry_auth}
-use Rattle.sig_registry.specs.Direct.{reference_in}
+use Rattle.sig_calls.specs.Direct.{reference_in}
 use Rattle.json_values.specs.Places.{by_bytes}
 use Rattle.std.specs.FinMap.{FinMap}
 
@@ -81,9 +87,19 @@ reports_case policy own case image l made reads keys constraints played =
     }
 
 -- the client of a case's settings keeps nothing yet
-pub fresh_as : {shown : Client} (config : ClientConfig) (case : Case) → shown ≡ fresh_state config case.caching → settings_in config ≡ settings_by case.protocol case.limit case.platform → config.default_token_expiration_secs ≡ 60
-    → shown ≡ record { settings = settings_of case; kept = fresh case.caching }
-fresh_as config case is settings secs = is ∙ (λ i. record { settings = settings i; kept = (nothing_kept (secs i), no_answers case.caching) })
+pub fresh_as : {shown : Client} (usual : ClientConfig) (case : Case) → usual ≡ default_config → shown ≡ fresh_state (config_by usual (client_in case)) case.caching → shown ≡ record { settings = settings_of case; kept = fresh case.caching }
+fresh_as usual case as_usual is = is ∙ ap (λ u. fresh_state (config_by u (client_in case)) case.caching) as_usual
+
+-- what the pulls of an opened case ask for, and what they are held to
+abbrev pub terms_in : {V : Type 0} {H : V → Type 0} → Opened → List (Constraint V H) → Terms V H
+terms_in o constraints = record {
+  image = o.image;
+  auth = o.auth;
+  accepted = o.accepted;
+  policy = record { keys = o.keys; constraints = constraints };
+  verifier = o.verifier;
+  judge = o.judge;
+}
 
 -- the same, of a client that was made fresh
 pub reports_fresh : {V : Type 0} {H : V → Type 0} (own : Owns V H) (case : Case) (terms : Terms V H) (client : Client) (log_keys : FinMap by_bytes (List ℕ)) (moments : List ℕ) (l : Kept) (made : Report)
@@ -95,6 +111,18 @@ pub reports_fresh : {V : Type 0} {H : V → Type 0} (own : Owns V H) (case : Cas
 reports_fresh own case terms client log_keys moments l made is logs_are moments_are auth_is accepted_are verifier_is judge_is reads keys constraints played =
     reports_case terms.policy own case (reference_in terms.image) l made reads keys constraints
     (rw (is, logs_are, moments_are, auth_is, accepted_are, verifier_is, judge_is) at played)
+
+-- the same, of a case that was opened
+pub reports_opened : {V : Type 0} {H : V → Type 0} (own : Owns V H) (case : Case) (asked : Asked) (o : Opened) (constraints : List (Constraint V H)) (moments : List ℕ) (l : Kept) (made : Report)
+    → asked.usual ≡ default_config → Opens asked case o → moments ≡ o.moments
+    → registry_auth asked.auth ≡ case.auth → reference_of case.reference ≡ Ok (reference_in asked.image) → constraints ≡ constraints_by case.constraints
+    → Played (row_for own (terms_in o constraints) (client_state o.client).settings o.client.rekor_pub_keys) o.registry moments (client_state o.client).kept l made → ReportsCase case made
+reports_opened own case asked o constraints moments l made usual opens moments_are auth_is reads constraints_are played =
+    reports_fresh own case (terms_in o constraints) (client_state o.client) o.client.rekor_pub_keys moments l made
+    (fresh_as asked.usual case usual opens.client) opens.log_keys (moments_are ∙ opens.moments)
+    (ap registry_auth opens.auth ∙ auth_is) opens.accepted opens.verifier opens.judge
+    (reads ∙ ap (λ (image : OciReference). Ok (reference_in image)) (sym opens.image)) opens.keys constraints_are
+    (subst (λ registry. Played (row_for own (terms_in o constraints) (client_state o.client).settings o.client.rekor_pub_keys) registry moments (client_state o.client).kept l made) opens.registry played)
 
 pub ok_weaker : {A E : Type 0} {P Q : A → Type 0} (r : Result A E) → ((a : A) → P a → Q a) → IfOk r P → IfOk r Q
 ok_weaker (Ok a) more h = more a h

@@ -15,11 +15,11 @@ use Rattle.pull_case.specs.declared.replay.Replay.TheVariants.{Script, Shelf}
 use Rattle.oci_transport.specs.declared.message.Exchange.{Exchange}
 use Rattle.oci_protocol.specs.Runs.{Runs, Performs, Breaks, Meets}
 use Rattle.oci_protocol.proofs.Extending.{Extends-more}
-use Rattle.sig_registry.specs.Clients.{Kept}
-use Rattle.cosign_client.specs.Refusal.{is_memory}
-use Rattle.cosign_client.specs.Verified.{Whole}
+use Rattle.sig_calls.specs.Clients.{Kept}
+use Rattle.cosign_rows.specs.Refusal.{is_memory}
+use Rattle.cosign_rows.specs.Verified.{Whole}
 use Rattle.cosign_chain.specs.declared.image.VerifiedImage.{VerifiedImage}
-use Rattle.cosign_client.specs.declared.refusal.PullRefusal.{PullRefusal}
+use Rattle.cosign_rows.specs.declared.refusal.PullRefusal.{PullRefusal}
 use Rattle.pull_report.specs.Report.{report}
 use Rattle.pull_run.specs.declared.report.Report.{Report}
 use Rattle.pull_run.specs.Pulls.{Talk, moment_of, joined, report_of, reports, is_answered, is_wanting, all_answered, InTurn, EachWhole}

@@ -6,7 +6,7 @@ use Rattle.pull_edge.specs.Source.{Spring}
 use Rattle.oci_link.specs.declared.shelf.Shelf.{Shelf}
 use Rattle.oci_names.specs.References.{reference_of}
 use Rattle.oci_names.specs.declared.reference.Reference.{Reference}
-use Rattle.cosign_client.specs.Shelves.{WideShelf}
+use Rattle.cosign_rows.specs.Shelves.{WideShelf}
 use Rattle.pull_case.specs.Case.{case_in}
 use Rattle.pull_case.specs.Policy.{meaning_of}
 use Rattle.pull_case.specs.declared.case.Case.{Case}

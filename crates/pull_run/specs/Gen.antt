@@ -7,7 +7,7 @@ use Rattle.oci_transport.specs.declared.message.Exchange.{Exchange}
 use Rattle.oci_link.specs.State.{answering}
 use Rattle.pull_edge.specs.Source.{Spring}
 use Rattle.cosign_chain.specs.declared.image.VerifiedImage.{VerifiedImage}
-use Rattle.cosign_client.specs.declared.refusal.PullRefusal.{PullRefusal}
+use Rattle.cosign_rows.specs.declared.refusal.PullRefusal.{PullRefusal}
 use Rattle.generated_image.specs.Shelf.{generated_shelf}
 use Rattle.pull_generated.specs.Generated.{PullsGenerated}
 use Rattle.pull_report.specs.Words.{line}

@@ -4,6 +4,7 @@ pub mod Command
 pub mod Complete
 pub mod Gen
 pub mod Input
+pub mod Opening
 pub mod Output
 pub mod Program
 pub mod Pulls

@@ -5,23 +5,20 @@ use Rattle.oci_transport.specs.Calm.{calm}
 use Rattle.oci_transport.specs.declared.message.Exchange.{Exchange}
 use Rattle.oci_names.specs.declared.reference.Reference.{Reference}
 use Rattle.oci_names.specs.References.{reference_of}
-use Rattle.oci_auth.specs.Memory.{fresh as nothing_kept}
 use Rattle.oci_protocol.specs.Runs.{Runs}
 use Rattle.engine_requests.specs.Contexts.{within}
-use Rattle.engine_requests.specs.declared.settings.ClientProtocol.{ClientProtocol}
 use Rattle.engine_requests.specs.declared.settings.Settings.{Settings}
-use Rattle.oci_platforms.specs.declared.promise.ResolverPromise.{ResolverPromise}
-use Rattle.sig_registry.specs.Clients.{Kept}
-use Rattle.cosign_client.specs.Builder.{no_answers}
-use Rattle.cosign_client.specs.Refusal.{is_memory}
-use Rattle.cosign_client.specs.Sound.{Sound}
-use Rattle.cosign_client.specs.Verified.{Whole, verified}
+use Rattle.sig_calls.specs.Clients.{Kept}
+use Rattle.cosign_rows.specs.Refusal.{is_memory}
+use Rattle.cosign_rows.specs.Sound.{Sound}
+use Rattle.cosign_rows.specs.Verified.{Whole, verified}
 use Rattle.cosign_chain.specs.declared.image.VerifiedImage.{VerifiedImage}
-use Rattle.cosign_client.specs.declared.refusal.PullRefusal.{PullRefusal}
+use Rattle.cosign_rows.specs.declared.refusal.PullRefusal.{PullRefusal}
 use Rattle.pull_case.specs.Policy.{meaning_of}
 use Rattle.pull_case.specs.Registry.{answering_by}
 use Rattle.pull_case.specs.declared.case.Case.{Case}
 use Rattle.pull_report.specs.Report.{report}
+use Rattle.pull_setup.specs.Clients.{settings_by, fresh}
 use Rattle.pull_run.specs.declared.report.Report.{Report}
 
 -- one pull: what the client kept before it, its moment, its conversation and its result
@@ -75,26 +72,8 @@ InTurn row k m (talk ∷ talks) l n =
     × Runs (row talk.moment) talk.before m talk.conversation count kept talk.result
     × InTurn row kept count talks l n
 
--- the limit of a body that is held, or the usual one
-abbrev pub limit_by : Option ℕ → ℕ
-limit_by None = 4294967295
-limit_by (Some limit) = limit
-
--- the settings of a client by its protocol, its limit and which image of an index it pulls, else the usual ones
-abbrev pub settings_by : ClientProtocol → Option ℕ → Option ResolverPromise → Settings
-settings_by protocol limit platform = record {
-  protocol = protocol;
-  user_agent = codes "oci-client/0.18.0";
-  max_body_bytes = limit_by limit;
-  platform_resolver = platform;
-}
-
 abbrev pub settings_of : Case → Settings
 settings_of case = settings_by case.protocol case.limit case.platform
-
--- a client that keeps nothing yet, and will keep answers or not
-abbrev pub fresh : Bool → Kept
-fresh caching = (nothing_kept 60, no_answers caching)
 
 -- the pull of a case's image at a moment
 abbrev pub row_of : Case → Reference → ℕ → Whole VerifiedImage

@@ -7,15 +7,15 @@ use Rattle.oci_names.specs.declared.reference.Reference.{Reference}
 use Rattle.oci_auth.specs.declared.auth.RegistryAuth.{RegistryAuth}
 use Rattle.engine_requests.specs.Contexts.{within}
 use Rattle.engine_requests.specs.declared.settings.Settings.{Settings}
-use Rattle.sig_registry.specs.Clients.{Kept}
+use Rattle.sig_calls.specs.Clients.{Kept}
 use Rattle.sig_settings.specs.Auths.{registry_auth}
-use Rattle.sig_registry.specs.Direct.{reference_in}
+use Rattle.sig_calls.specs.Direct.{reference_in}
 use Rattle.json_values.specs.Places.{by_bytes}
 use Rattle.cosign_layers.specs.Judge.{vouched_in}
 use Rattle.cosign_layers.specs.Standing.{Meaning, Owns, meaning}
 use Rattle.cosign_layers.specs.Trust.{trust}
 use Rattle.cosign_layers.specs.Verifier.{valid_in}
-use Rattle.cosign_client.specs.Verified.{Whole, verified}
+use Rattle.cosign_rows.specs.Verified.{Whole, verified}
 use Rattle.cosign_chain.specs.declared.image.VerifiedImage.{VerifiedImage}
 use Rattle.pull_case.specs.Registry.{answering_by}
 use Rattle.pull_case.specs.declared.registry.Registry.{Registry}

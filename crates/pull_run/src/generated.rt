@@ -1,6 +1,6 @@
 // The pull of the generated image over its shelf.
 ghost use Rattle.std.specs.Prelude.{◌≡◌, IfOk};
-ghost use Rattle.cosign_client.specs.Shelves.{OkOrMemory};
+ghost use Rattle.cosign_rows.specs.Shelves.{OkOrMemory};
 ghost use Rattle.pull_edge.specs.Source.{Spring};
 ghost use Rattle.pull_generated.specs.Generated.{IsCount};
 ghost use Rattle.pull_run.specs.Gen.{generated_lines, WritesGenerated, Generated, SaysGenerated};

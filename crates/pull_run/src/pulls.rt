@@ -1,31 +1,29 @@
 // The pulls of a case.
-ghost use Rattle.std.specs.Prelude.{◌≡◌, ◌++◌, ◌||◌, false, not, Ok, IsOk, IfOk, IfSome, OnOk};
+ghost use Rattle.std.specs.Prelude.{◌≡◌, ◌++◌, ◌||◌, false, not, Ok, IsOk, IsErr, IfOk, IfSome, OnOk};
+ghost use Rattle.oci_engine.specs.Clients.{default_config};
 ghost use Rattle.oci_names.specs.References.{reference_of};
-ghost use Rattle.sig_registry.specs.Direct.{reference_in};
+ghost use Rattle.sig_calls.specs.Direct.{reference_in};
 ghost use Rattle.sig_settings.specs.Auths.{registry_auth};
-ghost use Rattle.oci_engine.specs.Clients.{default_config, settings_of};
-ghost use Rattle.cosign_client.specs.Builder.{fresh_state};
+ghost use Rattle.pull_case.specs.Policy.{constraints_by};
 ghost use Rattle.cosign_client.specs.State.{client_state};
 ghost use Rattle.pull_case.specs.Case.{case_in, IsReady};
 ghost use Rattle.pull_case.specs.Registry.{Leads};
 ghost use Rattle.pull_case.specs.Replay.{IsCalm, state_of};
 ghost use Rattle.pull_report.specs.Report.{report as lines_of};
-ghost use Rattle.pull_run.specs.Pulls.{is_answered, is_wanting, settings_by, ReportsCase};
+ghost use Rattle.pull_run.specs.Opening.{Opens};
+ghost use Rattle.pull_run.specs.Pulls.{is_answered, is_wanting, ReportsCase};
 ghost use Rattle.pull_run.specs.Rounds.{row_for, Round, Played};
 
 use crate::report::Report;
 use crate::task::Task;
 use cosign_client::{Client, PullRefusal, VerifiedImage};
-use cosign_layers::{LogKeys, PullPolicy, TableJudge, TableVerifier};
-use json_values::{Blob, Copied, List, Text};
-use oci_engine::{ClientConfig, ClientProtocol};
-use oci_platforms::PlatformResolver;
+use cosign_layers::{Constraint, PullPolicy, TableJudge, TableVerifier};
+use json_values::{Blob, List, Text};
 use oci_transport::Exchange;
-use pull_case::{Case, Registry, Replay, case_policy, read_case};
+use pull_case::{Case, Registry, Replay, constraints_from, read_case};
 use pull_report::{let_go, write_report};
-use sig_registry::{
-    Auth, OciCachingClient, OciClient, OciReference, RegistryClient, SigstoreError,
-};
+use pull_setup::{Asked, WrittenClient, ask_for, client_by};
+use sig_registry::{Auth, OciReference};
 use std::alloc::{AllocError, Global};
 
 // Whether memory was wanting.
@@ -130,80 +128,44 @@ fn pull_each(
     Ok(report)
 }
 
-// What a case says of a client's settings, all else as usual.
-fn config(
-    usual: ClientConfig,
-    protocol: ClientProtocol,
-    limit: Option<u64>,
-    platform: Option<PlatformResolver>,
-) -> ClientConfig
-    requires { usual ≡ default_config }
-    ensures settings { settings_of result ≡ settings_by protocol limit platform }
-    ensures expiration { result.default_token_expiration_secs ≡ 60 }
-{
-    let mut config = usual;
-    config.protocol = protocol;
-    config.max_body_bytes = limit.unwrap_or(config.max_body_bytes);
-    config.platform_resolver = platform;
-    config
-}
-
-// A client that knows these logs, keeps nothing yet, and will keep answers or not.
-fn fresh_client(
-    alloc: Global,
-    config: ClientConfig,
-    caching: bool,
-    rekor_pub_keys: LogKeys,
-) -> Client
-    ensures state { client_state result ≡ fresh_state config caching }
-    ensures log_keys { result.rekor_pub_keys ≡ rekor_pub_keys }
-{
-    let client = oci_engine::Client::new(alloc, config);
-    let registry_client = if caching {
-        RegistryClient::Caching(OciCachingClient::new(alloc, client))
-    } else {
-        RegistryClient::Plain(OciClient::new(client))
-    };
-    Client {
-        registry_client,
-        rekor_pub_keys,
-    }
-}
-
-// The reference in a text that reads back as one.
-fn image_in(alloc: Global, text: &str) -> Result<OciReference, AllocError>
-    requires { IsOk (reference_of text.now) }
-    ensures { IfOk result (λ image. reference_of text.now ≡ Ok (reference_in image)) }
-{
-    match OciReference::parse(alloc, text) {
-        Ok(image) => Ok(image),
-        Err(SigstoreError::WantOfMemory) => Err(AllocError),
-        Err(_) => unreachable!(),
-    }
-}
-
-// What is made of a case before its parts are moved, so that nothing can fail between them.
+// A case whose client is made, with what its pulls are held to.
 #[derive(Drop)]
-struct Prepared {
+struct Opened {
+    client: Client,
     image: OciReference,
     auth: Auth,
+    accepted: List<Text>,
     keys: List<Blob>,
-    config: ClientConfig,
+    verifier: TableVerifier,
+    judge: TableJudge,
+    registry: Registry,
+    moments: List<u64>,
 }
 
-fn prepare(alloc: Global, case: &Case) -> Result<Prepared, AllocError>
-    requires { IsOk (reference_of case.now.reference) }
-    ensures image { IfOk result (λ prepared. reference_of case.now.reference ≡ Ok (reference_in prepared.image)) }
-    ensures auth { IfOk result (λ prepared. registry_auth prepared.auth ≡ case.now.auth) }
-    ensures keys { IfOk result (λ prepared. prepared.keys ≡ case.now.keys) }
-    ensures config { IfOk result (λ prepared. prepared.config ≡ default_config) }
+fn open_case(alloc: Global, asked: Asked, case: Case) -> Opened
+    ensures { Opens asked case result }
 {
-    Ok(Prepared {
-        image: image_in(alloc, case.reference.as_str())?,
-        auth: Auth::from_registry(alloc, &case.auth)?,
-        keys: case.keys.copy(alloc)?,
-        config: ClientConfig::default(alloc)?,
-    })
+    let Asked { image, auth, usual } = asked;
+    let written = WrittenClient {
+        protocol: case.protocol,
+        limit: case.limit,
+        platform: case.platform,
+        caching: case.caching,
+        log_keys: case.log_keys,
+    };
+    Opened {
+        client: client_by(alloc, usual, written),
+        image,
+        auth,
+        accepted: case.accepted,
+        keys: case.keys,
+        verifier: TableVerifier {
+            rows: case.signatures,
+        },
+        judge: case.vouched,
+        registry: case.registry,
+        moments: case.moments,
+    }
 }
 
 impl Task for Case {
@@ -225,30 +187,71 @@ impl Task for Case {
     }
 }
 
+// All of a case's pulls that memory is taken for before the first request.
+fn prepare(alloc: Global, case: &Case) -> Result<(Asked, List<Constraint>), AllocError>
+    requires { IsOk (reference_of case.now.reference) }
+    ensures image { IfOk result (λ made. reference_of case.now.reference ≡ Ok (reference_in made.0.image)) }
+    ensures auth { IfOk result (λ made. registry_auth made.0.auth ≡ case.now.auth) }
+    ensures usual { IfOk result (λ made. made.0.usual ≡ default_config) }
+    ensures constraints { IfOk result (λ made. made.1 ≡ constraints_by case.now.constraints) }
+{
+    let asked = ask_for(alloc, case.reference.as_str(), &case.auth)?;
+    let constraints = constraints_from(alloc, case.constraints.as_slice())?;
+    Ok((asked, constraints))
+}
+
+// The pulls of a case that was prepared so.
+fn make_pulls(
+    alloc: Global,
+    asked: Asked,
+    constraints: List<Constraint>,
+    case: Case,
+) -> Result<Report, AllocError>
+    requires { IsReady case }
+    ensures { asked.usual ≡ default_config → registry_auth asked.auth ≡ case.auth
+        → reference_of case.reference ≡ Ok (reference_in asked.image) → constraints ≡ constraints_by case.constraints
+        → IfOk result (ReportsCase case) }
+{
+    let Opened {
+        mut client,
+        image,
+        auth,
+        accepted,
+        keys,
+        verifier,
+        judge,
+        registry,
+        moments,
+    } = open_case(alloc, asked, case);
+    let terms = Terms {
+        image,
+        auth,
+        accepted,
+        policy: PullPolicy { keys, constraints },
+        verifier,
+        judge,
+    };
+    let report = pull_each(alloc, &mut client, registry, &terms, moments.as_slice());
+    let_both_go(client, terms);
+    report
+}
+
 /// Makes the pulls of a case over what its registry answers, and writes their report.
 pub fn pull_case(alloc: Global, case: Case) -> Result<Report, AllocError>
     requires { IsReady case }
     ensures { IfOk result (ReportsCase case) }
 {
-    let made = prepare(alloc, &case)?;
-    let policy = case_policy(alloc, made.keys, case.constraints.as_slice())?;
-    let terms = Terms {
-        image: made.image,
-        auth: made.auth,
-        accepted: case.accepted,
-        policy,
-        verifier: TableVerifier {
-            rows: case.signatures,
-        },
-        judge: case.vouched,
-    };
-    let config = config(made.config, case.protocol, case.limit, case.platform);
-    let mut client = fresh_client(alloc, config, case.caching, case.log_keys);
-    pull_each(
-        alloc,
-        &mut client,
-        case.registry,
-        &terms,
-        case.moments.as_slice(),
-    )
+    match prepare(alloc, &case) {
+        Ok((asked, constraints)) => make_pulls(alloc, asked, constraints, case),
+        Err(_) => without_memory(case),
+    }
 }
+
+fn without_memory(_case: Case) -> Result<Report, AllocError>
+    ensures { IsErr result }
+{
+    Err(AllocError)
+}
+
+// A function that lets a value go does nothing else, so that each of its many parts is let go where nothing is known.
+fn let_both_go(_client: Client, _terms: Terms) {}

@@ -48,12 +48,12 @@ use Rattle.engine_requests.specs.Errors.{◌>>=◌ as ◌into◌, ◌>>◌ as �
 use Rattle.engine_requests.specs.Requests.{manifest_types}
 use Rattle.engine_requests.specs.Sources.{Layer, places_of, asked_at}
 use Rattle.engine_requests.specs.declared.sources.Place.{Place}
-use Rattle.engine_steps.specs.declared.asking.Named.{Named}
-use Rattle.engine_steps.specs.declared.asking.Named.TheVariants.{ByHeader}
-use Rattle.engine_steps.specs.Rows.{Row, whole_reply, whole, reading_named, named_reading, read_named, named_reply, named_after}
-use Rattle.engine_steps.specs.Offers.{offer_reading, offer_reply, offer, tried}
-use Rattle.engine_steps.specs.Blobs.{IntoMemory, reading_by, blob_reading, read_by, blob_reply, attempt}
-use Rattle.engine_pull.specs.Pulls.{document, manifest_document, pull_manifest_raw, digest_by, fetch_manifest_digest, blob_to, held_blob}
+use Rattle.engine_rows.specs.declared.named.Named.{Named}
+use Rattle.engine_rows.specs.declared.named.Named.TheVariants.{ByHeader}
+use Rattle.engine_rows.specs.Rows.{Row, whole_reply, whole, reading_named, named_reading, read_named, named_reply, named_after}
+use Rattle.engine_rows.specs.Offers.{offer_reading, offer_reply, offer, tried}
+use Rattle.engine_rows.specs.Blobs.{IntoMemory, reading_by, blob_reading, read_by, blob_reply, attempt}
+use Rattle.engine_rows.specs.Pulls.{document, manifest_document, pull_manifest_raw, digest_by, fetch_manifest_digest, blob_to, held_blob}
 use Rattle.shelf_laws.specs.Comes.{Comes, Yields, Gives, IsHeld}
 use Rattle.shelf_laws.specs.Home.{front_of, Home, IsAt, CanBeShown, Settled}
 use Rattle.shelf_laws.specs.Shelves.{IsShort, HasDocument, HasBlob}

@@ -25,10 +25,10 @@ use Rattle.engine_requests.specs.Requests.{manifest_types}
 use Rattle.engine_requests.specs.Sources.{described}
 use Rattle.engine_requests.specs.declared.error.OciDistributionError.TheVariants as refusal
 use Rattle.engine_requests.specs.declared.settings.Settings.{Settings}
-use Rattle.engine_pull.specs.declared.image.ImageData.{ImageData}
-use Rattle.engine_pull.specs.Pulls.{pull_manifest, held_blob}
-use Rattle.engine_pull.specs.Manifests.{pull_entry, manifest_by, pull_image_manifest_and_list_digest}
-use Rattle.engine_pull.specs.Images.{is_accepted, all_accepted, layers_accepted, layer_of, config_of, pull_layers, pull}
+use Rattle.engine_rows.specs.declared.image.ImageData.{ImageData}
+use Rattle.engine_rows.specs.Pulls.{pull_manifest, held_blob}
+use Rattle.engine_rows.specs.Manifests.{pull_entry, manifest_by, pull_image_manifest_and_list_digest}
+use Rattle.engine_rows.specs.Images.{is_accepted, all_accepted, layers_accepted, layer_of, config_of, pull_layers, pull}
 use Rattle.shelf_laws.specs.Comes.{Gives}
 use Rattle.shelf_laws.specs.Home.{Home, IsAt, CanBeShown, Settled}
 use Rattle.shelf_laws.specs.Shelves.{IsShort, HasDocument, HasBlob, HasLayer, LeadsTo, ImageOn, layer_on, layers_on}

@@ -28,8 +28,8 @@ use Rattle.engine_requests.specs.Errors.{◌>>=◌ as ◌into◌}
 use Rattle.engine_requests.specs.Referrers.{digest_given, referrers_text, referrers_url, with_artifact_type, referrers_in, referrers_tag, fallback_reference, tagged_index}
 use Rattle.engine_requests.specs.Requests.{manifest_types}
 use Rattle.engine_requests.specs.declared.settings.Settings.{Settings}
-use Rattle.engine_pull.specs.Pulls.{manifest_asked}
-use Rattle.engine_pull.specs.Referrers.{referrers_asked, referrers_tagged, referrers_by, pull_referrers}
+use Rattle.engine_rows.specs.Pulls.{manifest_asked}
+use Rattle.engine_rows.specs.Referrers.{referrers_asked, referrers_tagged, referrers_by, pull_referrers}
 use Rattle.shelf_laws.specs.Comes.{Yields, Gives}
 use Rattle.shelf_laws.specs.Home.{front_of, Home, IsAt, CanBeShown, Settled}
 use Rattle.shelf_laws.specs.Shelves.{IsShort, TagLists, ListsBy, Lists}

@@ -34,15 +34,15 @@ use Rattle.engine_requests.specs.declared.answers.Got.{Got}
 use Rattle.engine_requests.specs.declared.error.OciDistributionError.{OciDistributionError}
 use Rattle.engine_requests.specs.declared.sources.Place.{Place}
 use Rattle.engine_requests.specs.declared.settings.Settings.{Settings}
-use Rattle.engine_steps.specs.declared.asking.Named.{Named}
-use Rattle.engine_steps.specs.declared.asking.Named.TheVariants.{ByHeader, Unnamed}
-use Rattle.engine_steps.specs.Rows.{Row, whole_reply, whole, reading_named, named_reading, named_reply, named_after, prepared}
-use Rattle.engine_steps.specs.Offers.{offer_reading, offer_reply, offer, tried}
-use Rattle.engine_steps.specs.Blobs.{IntoMemory, reading_by, blob_reading, blob_reply, attempt}
-use Rattle.engine_pull.specs.Pulls.{document, digest_by, fetch_manifest_digest, manifest_document, pull_manifest_raw, manifest_asked, pull_manifest, blob_to, held_blob}
-use Rattle.engine_pull.specs.Manifests.{pull_entry, manifest_by, pull_image_manifest_and_list_digest}
-use Rattle.engine_pull.specs.Referrers.{referrers_asked, referrers_tagged, pull_referrers}
-use Rattle.engine_pull.specs.Images.{layers_accepted, layer_of, pull_layers, pull}
+use Rattle.engine_rows.specs.declared.named.Named.{Named}
+use Rattle.engine_rows.specs.declared.named.Named.TheVariants.{ByHeader, Unnamed}
+use Rattle.engine_rows.specs.Rows.{Row, whole_reply, whole, reading_named, named_reading, named_reply, named_after, prepared}
+use Rattle.engine_rows.specs.Offers.{offer_reading, offer_reply, offer, tried}
+use Rattle.engine_rows.specs.Blobs.{IntoMemory, reading_by, blob_reading, blob_reply, attempt}
+use Rattle.engine_rows.specs.Pulls.{document, digest_by, fetch_manifest_digest, manifest_document, pull_manifest_raw, manifest_asked, pull_manifest, blob_to, held_blob}
+use Rattle.engine_rows.specs.Manifests.{pull_entry, manifest_by, pull_image_manifest_and_list_digest}
+use Rattle.engine_rows.specs.Referrers.{referrers_asked, referrers_tagged, pull_referrers}
+use Rattle.engine_rows.specs.Images.{layers_accepted, layer_of, pull_layers, pull}
 use Rattle.shelf_laws.specs.Comes.{IsHeld, Stays}
 use Rattle.shelf_laws.specs.Home.{Home, IsAt, CanBeShown, Settled}
 use Rattle.shelf_laws.proofs.Coming.{Gives-stays, Stays-done, Stays-bind, Stays-next, Stays-follow}

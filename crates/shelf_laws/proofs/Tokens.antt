@@ -38,7 +38,7 @@ use Rattle.engine_requests.specs.Addresses.{registry_text, base_text, url_read, 
 use Rattle.engine_requests.specs.Contexts.{Context}
 use Rattle.engine_requests.specs.Requests.{request_of}
 use Rattle.engine_requests.specs.Tokens.{wanted, wanted_in}
-use Rattle.engine_steps.specs.Rows.{Row, head_reply, head_after, store, fetched, registry_asked, token_step, with_kept, taken, token_asked, kept_or_asked, token_by, token_for, goes_to, token_where, authorized, prepared, kept_text, token_given}
+use Rattle.engine_rows.specs.Rows.{Row, head_reply, head_after, store, fetched, registry_asked, token_step, with_kept, taken, token_asked, kept_or_asked, token_by, token_for, goes_to, token_where, authorized, prepared, kept_text, token_given}
 use Rattle.shelf_laws.specs.Comes.{Comes, Yields, Gives}
 use Rattle.shelf_laws.specs.Home.{front_of, Home, IsAt, CanBeShown, shown_unasked, NoneBut, IsToken, Settled}
 use Rattle.shelf_laws.proofs.Coming.{Comes-follow, Gives-done, Gives-next, Gives-more, Gives-caught}

@@ -3,7 +3,7 @@ use Rattle.std.specs.Prelude.{ℕ, Bool, true, false, ◌&&◌, not, ◌-◌, na
 use Rattle.std.specs.Prelude.{List, [], ◌∷◌, ◌++◌, length, find, filter, Option, Some, None, option_and_then}
 use Rattle.oci_manifests.specs.declared.document.OciManifest.{OciManifest}
 use Rattle.oci_manifests.specs.declared.index.OciImageIndex.{OciImageIndex}
-use Rattle.engine_pull.specs.declared.image.ImageData.{ImageData}
+use Rattle.engine_rows.specs.declared.image.ImageData.{ImageData}
 use Rattle.sig_answers.specs.declared.answer.Answer.{Answer}
 use Rattle.sig_answers.specs.declared.answer.Answer.TheVariants.{Digest, Manifest, Image, Referrers}
 use Rattle.sig_answers.specs.declared.answers.Answers.{Answers}

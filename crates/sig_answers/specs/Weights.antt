@@ -14,7 +14,7 @@ use Rattle.oci_manifests.specs.declared.index.OciImageIndex.{OciImageIndex}
 use Rattle.oci_manifests.specs.declared.index_entry.ImageIndexEntry.{ImageIndexEntry}
 use Rattle.oci_manifests.specs.declared.manifest.OciImageManifest.{OciImageManifest}
 use Rattle.oci_manifests.specs.declared.platform.Platform.{Platform}
-use Rattle.engine_pull.specs.declared.image.ImageData.{ImageData}
+use Rattle.engine_rows.specs.declared.image.ImageData.{ImageData}
 use Rattle.sig_answers.specs.declared.answer.Answer.{Answer}
 use Rattle.sig_answers.specs.declared.answer.Answer.TheVariants.{Digest, Manifest, Image, Referrers}
 use Rattle.sig_answers.specs.declared.answers.Entry.{Entry}

@@ -2,7 +2,7 @@
 ghost use Rattle.std.specs.Prelude.{◌≡◌};
 ghost use Rattle.sig_answers.specs.Answers.{kind_of, same_kind};
 
-use engine_pull::ImageData;
+use engine_rows::ImageData;
 use json_values::{Copied, Text};
 use oci_manifests::{OciImageIndex, OciManifest};
 use std::alloc::{AllocError, Global};

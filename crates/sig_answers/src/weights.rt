@@ -4,7 +4,7 @@ ghost use Rattle.sig_answers.specs.Weights as weights;
 ghost use Rattle.sig_answers.specs.Weights.{counted, text_weight, optional_weight, list_weight, pair_weight};
 
 use crate::answer::Answer;
-use engine_pull::ImageData;
+use engine_rows::ImageData;
 use json_values::{Annotations, Blob, List, Text, row};
 use oci_manifests::blob::Config;
 use oci_manifests::{

@@ -12,11 +12,11 @@ use Rattle.oci_protocol.proofs.Laws.{Meets-next, Meets-refused, Meets-ok, Meets-
 use Rattle.oci_protocol.proofs.Lifting.{Meets-lifted}
 use Rattle.sig_answers.specs.Answers.{keep, entry}
 use Rattle.sig_answers.specs.declared.answers.Answers.{Answers}
-use Rattle.sig_registry.specs.declared.error.SigstoreError.{SigstoreError}
-use Rattle.sig_registry.specs.declared.error.SigstoreError.TheVariants as refusal
-use Rattle.sig_registry.specs.Errors.{is_memory}
-use Rattle.sig_registry.specs.Clients.{Kept, Plain, Row}
-use Rattle.sig_registry.specs.Caching.{Cache, known, keeping, known_or, recalled, cached}
+use Rattle.sig_calls.specs.declared.error.SigstoreError.{SigstoreError}
+use Rattle.sig_calls.specs.declared.error.SigstoreError.TheVariants as refusal
+use Rattle.sig_calls.specs.Errors.{is_memory}
+use Rattle.sig_calls.specs.Clients.{Kept, Plain, Row}
+use Rattle.sig_calls.specs.Caching.{Cache, known, keeping, known_or, recalled, cached}
 
 -- memory was wanting before anything was done
 pub absent : {A : Type 0} {p : Row A} {link : Link} {k : Kept} {r : Result A SigstoreError} → IsErrAnd r (λ e. e ≡ refusal.WantOfMemory) → Meets is_memory p link link k k r

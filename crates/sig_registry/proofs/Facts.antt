@@ -17,7 +17,7 @@ use Rattle.oci_protocol.proofs.Lifting.{Meets-lifted}
 use Rattle.engine_requests.specs.declared.settings.Settings.{Settings}
 use Rattle.engine_requests.specs.declared.error.OciDistributionError.{OciDistributionError}
 use Rattle.engine_requests.specs.Contexts.{within}
-use Rattle.engine_pull.specs.declared.image.ImageData.{ImageData}
+use Rattle.engine_rows.specs.declared.image.ImageData.{ImageData}
 use Rattle.engine_laws.specs.Confined.{Within}
 use Rattle.engine_laws.specs.Held.{pulling}
 use Rattle.engine_laws.specs.Referrers.{WithinReferrers}
@@ -26,13 +26,14 @@ use Rattle.sig_answers.specs.Answers.{keep, entry, kind_of, as_digest, as_manife
 use Rattle.sig_answers.specs.declared.answer.Answer.{Answer}
 use Rattle.sig_answers.specs.declared.answer.Answer.TheVariants.{Digest, Manifest, Image, Referrers}
 use Rattle.sig_answers.specs.declared.answers.Answers.{Answers}
-use Rattle.sig_registry.specs.declared.error.SigstoreError.{SigstoreError}
-use Rattle.sig_registry.specs.declared.error.SigstoreError.TheVariants as refusal
-use Rattle.sig_registry.specs.Errors.{is_memory, Says, registry_refusal, IsRefusedBy}
-use Rattle.sig_registry.specs.Clients.{Kept, Plain, Client, engine_state, Made, PlainlyMade, RefusalKeeps}
-use Rattle.sig_registry.specs.Caching.{Cache, known, cached, key_if}
-use Rattle.sig_registry.specs.Calls.{digests, manifests, images, referrers}
-use Rattle.sig_registry.specs.Log.{Call, image_called, kind_called, key_called, answering, call_made, Recalled, Logged}
+use Rattle.sig_calls.specs.declared.error.SigstoreError.{SigstoreError}
+use Rattle.sig_calls.specs.declared.error.SigstoreError.TheVariants as refusal
+use Rattle.sig_calls.specs.Errors.{is_memory, Says, registry_refusal, IsRefusedBy}
+use Rattle.sig_calls.specs.Clients.{Kept, Plain, Client, Made, RefusalKeeps}
+use Rattle.sig_registry.specs.States.{engine_state, PlainlyMade}
+use Rattle.sig_calls.specs.Caching.{Cache, known, cached, key_if}
+use Rattle.sig_calls.specs.Calls.{digests, manifests, images, referrers}
+use Rattle.sig_calls.specs.Log.{Call, image_called, kind_called, key_called, answering, call_made, Recalled, Logged}
 use Rattle.sig_registry.proofs.Cached as kept
 use Rattle.sig_registry.proofs.Logs.{IsCache, logged as logged_call}
 

@@ -21,18 +21,19 @@ use Rattle.oci_transport.specs.declared.message.Exchange.{Exchange}
 use Rattle.oci_engine.specs.declared.client.Client.{Client}
 use Rattle.oci_engine.specs.Refusals.{RefusedFor}
 use Rattle.engine_requests.specs.Errors.{is_memory as engine_is_memory}
-use Rattle.engine_steps.specs.Rows.{Row as Engine, token_given}
-use Rattle.engine_pull.specs.Referrers.{pull_referrers}
+use Rattle.engine_rows.specs.Rows.{Row as Engine, token_given}
+use Rattle.engine_rows.specs.Referrers.{pull_referrers}
 use Rattle.engine_laws.specs.Confined.{Within}
 use Rattle.engine_laws.specs.Held.{Entry, pulling}
 use Rattle.engine_laws.specs.Referrers.{WithinReferrers}
 use Rattle.engine_laws.proofs.ReferrersConfined.{given_referrers_confined}
-use Rattle.sig_registry.specs.declared.error.SigstoreError.{SigstoreError}
-use Rattle.sig_registry.specs.declared.error.SigstoreError.TheVariants as sigstore
-use Rattle.sig_registry.specs.declared.wording.Called.{Called}
-use Rattle.sig_registry.specs.Errors.{is_memory, refusal, worded, Says, IsRefusedBy, NoSinkFault}
+use Rattle.sig_calls.specs.declared.error.SigstoreError.{SigstoreError}
+use Rattle.sig_calls.specs.declared.error.SigstoreError.TheVariants as sigstore
+use Rattle.sig_calls.specs.declared.wording.Called.{Called}
+use Rattle.sig_calls.specs.Errors.{is_memory, refusal, worded, Says, IsRefusedBy, NoSinkFault}
 use Rattle.sig_registry.proofs.InWords.{worded_fault, worded_no_sink}
-use Rattle.sig_registry.specs.Clients.{Plain, PlainlyMade}
+use Rattle.sig_calls.specs.Clients.{Plain}
+use Rattle.sig_registry.specs.States.{PlainlyMade}
 
 -- a refusal that is the result of both
 result_is : {B : Type 0} (e : SigstoreError) (r : Result B SigstoreError) → IsErrAnd r (λ x. x ≡ e) → r ≡ Err e

@@ -14,15 +14,16 @@ use Rattle.engine_requests.specs.declared.error.OciDistributionError.{OciDistrib
 use Rattle.engine_requests.specs.declared.error.OciDistributionError.TheVariants as engine_refusal
 use Rattle.engine_requests.specs.Errors.{is_memory as engine_is_memory}
 use Rattle.oci_engine.specs.Refusals.{RefusedFor}
-use Rattle.sig_registry.specs.declared.wording.Called.TheVariants.{FetchManifest, Pull, PullManifest}
-use Rattle.engine_steps.specs.Rows.{Row as Engine}
+use Rattle.sig_calls.specs.declared.wording.Called.TheVariants.{FetchManifest, Pull, PullManifest}
+use Rattle.engine_rows.specs.Rows.{Row as Engine}
 use Rattle.oci_engine.specs.declared.client.Client.{Client}
-use Rattle.sig_registry.specs.declared.error.SigstoreError.{SigstoreError}
-use Rattle.sig_registry.specs.declared.error.SigstoreError.TheVariants as sigstore
-use Rattle.sig_registry.specs.declared.wording.Called.{Called}
-use Rattle.sig_registry.specs.Errors.{is_memory, refusal, worded, Says, registry_refusal, IsRefusedBy, NoSinkFault}
-use Rattle.sig_registry.specs.Clients.{Plain, PlainlyMade}
-use Rattle.sig_registry.specs.Calls.{in_words}
+use Rattle.sig_calls.specs.declared.error.SigstoreError.{SigstoreError}
+use Rattle.sig_calls.specs.declared.error.SigstoreError.TheVariants as sigstore
+use Rattle.sig_calls.specs.declared.wording.Called.{Called}
+use Rattle.sig_calls.specs.Errors.{is_memory, refusal, worded, Says, registry_refusal, IsRefusedBy, NoSinkFault}
+use Rattle.sig_calls.specs.Clients.{Plain}
+use Rattle.sig_registry.specs.States.{PlainlyMade}
+use Rattle.sig_calls.specs.Calls.{in_words}
 
 true_is_not_false : true ≡ false → ⊥
 true_is_not_false h = cc h

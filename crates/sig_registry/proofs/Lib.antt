@@ -3,4 +3,3 @@ pub mod Facts
 pub mod InTurn
 pub mod InWords
 pub mod Logs
-pub mod NoMirror

@@ -26,11 +26,11 @@ use Rattle.sig_answers.specs.declared.answer.Kind.TheVariants as kinds
 use Rattle.sig_answers.specs.declared.answers.Answers.{Answers}
 use Rattle.sig_answers.specs.declared.answers.Bounds.{Bounds}
 use Rattle.sig_answers.specs.declared.answers.Entry.{Entry}
-use Rattle.sig_registry.specs.declared.error.SigstoreError.{SigstoreError}
-use Rattle.sig_registry.specs.Errors.{is_memory}
-use Rattle.sig_registry.specs.Clients.{Kept, Plain, Row, Client, Made, RefusalKeeps}
-use Rattle.sig_registry.specs.Caching.{Cache, known, keeping, known_or, recalled, cached}
-use Rattle.sig_registry.specs.Log.{Call, DigestCall, ManifestCall, ImageCall, ReferrersCall, image_called, kind_called, key_called, answered, answering, call_made, Place, IsStep, AnyOf, IsOrigin, IsSource, HasSource, IsRun, EachBacked, IsBacked, place_of, IsLawful, Logged}
+use Rattle.sig_calls.specs.declared.error.SigstoreError.{SigstoreError}
+use Rattle.sig_calls.specs.Errors.{is_memory}
+use Rattle.sig_calls.specs.Clients.{Kept, Plain, Row, Client, Made, RefusalKeeps}
+use Rattle.sig_calls.specs.Caching.{Cache, known, keeping, known_or, recalled, cached}
+use Rattle.sig_calls.specs.Log.{Call, DigestCall, ManifestCall, ImageCall, ReferrersCall, image_called, kind_called, key_called, answered, answering, call_made, Place, IsStep, AnyOf, IsOrigin, IsSource, HasSource, IsRun, EachBacked, IsBacked, place_of, IsLawful, Logged}
 
 -- ---- kept answers
 

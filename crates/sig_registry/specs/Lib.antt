@@ -1,9 +1,3 @@
-pub mod Caching
-pub mod Calls
 pub mod Certificates
-pub mod Clients
 pub mod Config
-pub mod Confinement
-pub mod Direct
-pub mod Errors
-pub mod Log
+pub mod States

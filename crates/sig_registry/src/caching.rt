@@ -2,13 +2,6 @@
 use crate::calls::{
     blob_made, digest_made, document_made, image_made, manifest_made, referrers_made,
 };
-use crate::capabilities::ClientCapabilities;
-use crate::error::SigstoreError;
-use crate::keys::{image_key, list_key, manifest_key};
-use crate::known::{
-    keep_digest, keep_image, keep_manifest, keep_referrers, known_digest, known_image,
-    known_manifest, known_referrers,
-};
 use json_values::{Blob, Text};
 use oci_auth::RegistryAuth;
 use oci_engine::{Client, ImageData, PlatformResolver};
@@ -16,6 +9,11 @@ use oci_manifests::{OciDescriptor, OciImageIndex, OciManifest};
 use oci_names::Reference;
 use oci_transport::Transport;
 use sig_answers::{Answers, Bounds};
+use sig_calls::{ClientCapabilities, SigstoreError};
+use sig_known::{
+    image_key, keep_digest, keep_image, keep_manifest, keep_referrers, known_digest, known_image,
+    known_manifest, known_referrers, list_key, manifest_key,
+};
 use std::alloc::Global;
 
 /// A client that keeps answers between its calls. One that was kept at a moment is given again, with no request, to
@@ -30,8 +28,9 @@ pub struct OciCachingClient {
 impl OciCachingClient {
     ghost use Rattle.std.specs.Prelude.{◌≡◌, [], Some, None};
     ghost use Rattle.engine_requests.specs.declared.settings.Settings.{Settings};
-    ghost use Rattle.sig_registry.specs.Clients.{engine_state, caching_state, none_kept};
-    ghost use Rattle.sig_registry.specs.Log.{IsBacked};
+    ghost use Rattle.sig_calls.specs.Clients.{none_kept};
+    ghost use Rattle.sig_registry.specs.States.{engine_state, caching_state};
+    ghost use Rattle.sig_calls.specs.Log.{IsBacked};
 
     /// A client that keeps all answers.
     pub fn new(alloc: Global, client: Client) -> OciCachingClient
@@ -60,7 +59,7 @@ impl OciCachingClient {
 }
 
 impl ClientCapabilities for OciCachingClient {
-    ghost use Rattle.sig_registry.specs.Clients.{caching_state};
+    ghost use Rattle.sig_registry.specs.States.{caching_state};
 
     ghost state = { caching_state };
 

@@ -4,20 +4,19 @@ ghost use Rattle.engine_requests.specs.declared.settings.Settings.{Settings};
 ghost use Rattle.engine_requests.specs.Contexts.{within};
 ghost use Rattle.engine_requests.specs.Requests.{listed};
 ghost use Rattle.engine_requests.specs.Sources.{described};
-ghost use Rattle.sig_registry.specs.Calls.{digest_made, manifest_made, image_made, document_made, blob_made};
-ghost use Rattle.sig_registry.specs.Calls.{referrers_made};
-ghost use Rattle.sig_registry.specs.Clients.{PlainlyMade, engine_state};
-ghost use Rattle.sig_registry.specs.Confinement.{Stays, StaysWithTag};
-ghost use Rattle.sig_registry.specs.Errors.{FaultCounted, NoSinkFault};
+ghost use Rattle.sig_calls.specs.Calls.{digest_made, manifest_made, image_made, document_made, blob_made};
+ghost use Rattle.sig_calls.specs.Calls.{referrers_made};
+ghost use Rattle.sig_registry.specs.States.{PlainlyMade, engine_state};
+ghost use Rattle.sig_calls.specs.Confinement.{Stays, StaysWithTag};
+ghost use Rattle.sig_calls.specs.Errors.{FaultCounted, NoSinkFault};
 
-use crate::error::SigstoreError;
-use crate::wording::{Called, worded};
 use json_values::{Blob, Text};
 use oci_auth::{RegistryAuth, RegistryOperation};
 use oci_engine::{Client, ImageData};
 use oci_manifests::{OciDescriptor, OciImageIndex, OciManifest};
 use oci_names::Reference;
 use oci_transport::Transport;
+use sig_calls::{Called, SigstoreError, worded};
 use std::alloc::Global;
 
 /// The digest of the image's manifest or index.

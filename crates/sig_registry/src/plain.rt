@@ -2,14 +2,13 @@
 use crate::calls::{
     blob_made, digest_made, document_made, image_made, manifest_made, referrers_made,
 };
-use crate::capabilities::ClientCapabilities;
-use crate::error::SigstoreError;
 use json_values::{Blob, Text};
 use oci_auth::RegistryAuth;
 use oci_engine::{Client, ImageData, PlatformResolver};
 use oci_manifests::{OciDescriptor, OciImageIndex, OciManifest};
 use oci_names::Reference;
 use oci_transport::Transport;
+use sig_calls::{ClientCapabilities, SigstoreError};
 use std::alloc::Global;
 
 /// A client that keeps no answers between its calls.
@@ -20,7 +19,7 @@ pub struct OciClient {
 
 impl OciClient {
     ghost use Rattle.std.specs.Prelude.{◌≡◌, None};
-    ghost use Rattle.sig_registry.specs.Clients.{engine_state, plain_state};
+    ghost use Rattle.sig_registry.specs.States.{engine_state, plain_state};
 
     pub fn new(client: Client) -> OciClient
         ensures { plain_state result ≡ engine_state client None }
@@ -37,7 +36,7 @@ impl OciClient {
 }
 
 impl ClientCapabilities for OciClient {
-    ghost use Rattle.sig_registry.specs.Clients.{plain_state};
+    ghost use Rattle.sig_registry.specs.States.{plain_state};
 
     ghost state = { plain_state };
 

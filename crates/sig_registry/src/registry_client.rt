@@ -1,7 +1,5 @@
 // The clients of a registry that there are.
 use crate::caching::OciCachingClient;
-use crate::capabilities::ClientCapabilities;
-use crate::error::SigstoreError;
 use crate::plain::OciClient;
 use json_values::{Blob, Text};
 use oci_auth::RegistryAuth;
@@ -9,6 +7,7 @@ use oci_engine::{ImageData, PlatformResolver};
 use oci_manifests::{OciDescriptor, OciImageIndex, OciManifest};
 use oci_names::Reference;
 use oci_transport::Transport;
+use sig_calls::{ClientCapabilities, SigstoreError};
 use std::alloc::Global;
 
 /// A client of a registry, whatever it keeps between its calls.
@@ -22,7 +21,8 @@ pub enum RegistryClient {
 
 impl RegistryClient {
     ghost use Rattle.std.specs.Prelude.{◌≡◌};
-    ghost use Rattle.sig_registry.specs.Clients.{now_caching, state_of};
+    ghost use Rattle.sig_calls.specs.Clients.{now_caching};
+    ghost use Rattle.sig_registry.specs.States.{state_of};
 
     /// The same client, which keeps answers from now on. One that keeps them already is as it was.
     pub fn caching(self, alloc: Global) -> RegistryClient
@@ -39,7 +39,7 @@ impl RegistryClient {
 }
 
 impl ClientCapabilities for RegistryClient {
-    ghost use Rattle.sig_registry.specs.Clients.{state_of};
+    ghost use Rattle.sig_registry.specs.States.{state_of};
 
     ghost state = { state_of };
 

@@ -29,15 +29,15 @@ use Rattle.oci_link.specs.declared.shelf.Shelf.{Shelf}
 use Rattle.oci_link.specs.declared.shelf.ShelfDocument.{ShelfDocument}
 use Rattle.engine_requests.specs.Addresses.{manifest_name}
 use Rattle.engine_requests.specs.declared.settings.Settings.{Settings}
-use Rattle.engine_pull.specs.Images.{layer_of}
+use Rattle.engine_rows.specs.Images.{layer_of}
 use Rattle.shelf_laws.specs.Shelves.{IsShort, HasDocument, HasBlob, HasLayer, HasBlobs, ImageOn, layers_on}
 use Rattle.shelf_laws.proofs.Pointing.{tag_named}
 use Rattle.shelf_laws.proofs.References.{spelled}
 use Rattle.cosign_layers.specs.Standing.{Meaning}
-use Rattle.cosign_client.specs.Part.{named_layer, read_layer}
-use Rattle.cosign_client.specs.References.{signature_tag}
-use Rattle.cosign_client.specs.Search.{payload_type}
-use Rattle.cosign_client.specs.Shelves.{IsAsked, SignedByTag, ValidShelf}
+use Rattle.cosign_rows.specs.Part.{named_layer, read_layer}
+use Rattle.cosign_rows.specs.References.{signature_tag}
+use Rattle.cosign_rows.specs.Search.{payload_type}
+use Rattle.cosign_rows.specs.Shelves.{IsAsked, SignedByTag, ValidShelf}
 use Rattle.valid_shelves.specs.Small.{Texts, sha256, Packed, shelf_of, IsSmall}
 
 -- ---- maps

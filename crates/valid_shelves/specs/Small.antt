@@ -18,13 +18,13 @@ use Rattle.oci_link.specs.declared.shelf.Shelf.{Shelf}
 use Rattle.oci_link.specs.declared.shelf.ShelfDocument.{ShelfDocument}
 use Rattle.engine_requests.specs.Documents.{document_read}
 use Rattle.engine_requests.specs.declared.settings.Settings.{Settings}
-use Rattle.engine_pull.specs.Images.{layer_of}
+use Rattle.engine_rows.specs.Images.{layer_of}
 use Rattle.shelf_laws.specs.Home.{IsWrittenPlainly, CanBeShown}
 use Rattle.cosign_layers.specs.Standing.{Meaning, StandsFor}
 use Rattle.cosign_layers.specs.declared.layer.SignatureLayer.{SignatureLayer}
-use Rattle.cosign_client.specs.Part.{read_layer}
-use Rattle.cosign_client.specs.References.{signature_tag}
-use Rattle.cosign_client.specs.Search.{payload_type}
+use Rattle.cosign_rows.specs.Part.{read_layer}
+use Rattle.cosign_rows.specs.References.{signature_tag}
+use Rattle.cosign_rows.specs.Search.{payload_type}
 
 abbrev pub Texts : Type 0 → Type 0
 Texts V = FinMap by_bytes V

@@ -1,7 +1,7 @@
 use Rattle.std.proofs.Common.{drop}
 use Rattle.engine_requests.specs.Contexts.{context_of}
-use Rattle.engine_pull.specs.Images.{pull_layers}
-use Rattle.engine_pull.proofs.Layers.{Leads}
+use Rattle.engine_rows.specs.Images.{pull_layers}
+use Rattle.engine_blobs.proofs.Layers.{Leads}
 use Rattle.engine_pull.proofs.image.pull_layers.Given as goal
 
 -- what was asked so far leads to the descriptors that are left

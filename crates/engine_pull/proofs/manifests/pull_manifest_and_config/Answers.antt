@@ -1,5 +1,5 @@
 use Rattle.engine_steps.proofs.Exits.{refused, and_then, done}
-use Rattle.engine_pull.specs.Manifests.{pull_manifest_and_config}
+use Rattle.engine_rows.specs.Manifests.{pull_manifest_and_config}
 use Rattle.engine_pull.proofs.manifests.pull_manifest_and_config.Goals as goal
 
 pub returns-in_err-found : goal.returns-in_err-found

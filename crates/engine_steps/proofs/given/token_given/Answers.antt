@@ -1,5 +1,5 @@
 use Rattle.engine_steps.proofs.Exits.{refused, wanting, and_then, done, stores_as, keeps_text}
-use Rattle.engine_steps.specs.Rows.{token_given}
+use Rattle.engine_rows.specs.Rows.{token_given}
 use Rattle.engine_steps.proofs.given.token_given.Goals as goal
 
 pub returns-in_err-store : goal.returns-in_err-store

@@ -1,5 +1,5 @@
 use Rattle.engine_steps.proofs.Exits.{refused, and_then, said, passed_on}
-use Rattle.engine_steps.specs.Rows.{prepared}
+use Rattle.engine_rows.specs.Rows.{prepared}
 use Rattle.engine_steps.proofs.tokens.prepared.Goals as goal
 
 pub returns-in_err-token : goal.returns-in_err-token

@@ -1,5 +1,5 @@
 use Rattle.engine_steps.proofs.Exits.{refused, and_then, said, passed_on}
-use Rattle.engine_steps.specs.Rows.{realm_asked}
+use Rattle.engine_rows.specs.Rows.{realm_asked}
 use Rattle.engine_steps.proofs.tokens.realm_asked.Goals as goal
 
 pub returns-in_err-url : goal.returns-in_err-url

@@ -1,6 +1,5 @@
-use Rattle.std.proofs.Common.{sym, ◌∙◌}
-use Rattle.engine_steps.proofs.Exits.{wanting, done, caught, caught_refusal, caught_memory, keeps_token, passed}
-use Rattle.engine_steps.specs.Rows.{token_asked}
+use Rattle.engine_steps.proofs.Exits.{wanting, done, caught, keeps_token, passed_met}
+use Rattle.engine_rows.specs.Rows.{token_asked}
 use Rattle.engine_steps.proofs.tokens.token_asked.Goals as goal
 
 pub returns-in_err-kept-in-Ok-Some : goal.returns-in_err-kept-in-Ok-Some
@@ -19,10 +18,6 @@ pub returns-in-Ok-None : goal.returns-in-Ok-None
 unfolding token_asked
 returns-in-Ok-None g c = caught _ (rw c.in-Ok-None.field-0-is at (c.in-Ok-None.ensures c.args.memory.now)) done
 
-pub returns-then-is_memory : goal.returns-then-is_memory
+pub returns-in-Err : goal.returns-in-Err
 unfolding token_asked
-returns-then-is_memory g c = caught_memory _ (sym c.is_memory.ensures ∙ c.if-is_memory.true) (c.in-Err.ensures c.args.memory.now)
-
-pub returns-else-is_memory : goal.returns-else-is_memory
-unfolding token_asked
-returns-else-is_memory g c = caught_refusal _ (sym c.is_memory.ensures ∙ c.if-is_memory.false) (c.in-Err.ensures c.args.memory.now) (passed _ _ _ (sym c.is_memory.ensures ∙ c.if-is_memory.false))
+returns-in-Err g c = passed_met _ _ _ c.passed_over.ensures (c.in-Err.ensures c.args.memory.now)

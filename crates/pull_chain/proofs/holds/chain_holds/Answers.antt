@@ -1,7 +1,8 @@
+use Rattle.std.proofs.Common.{refl}
 use Rattle.pull_chain.proofs.Holding.{case_answers}
 use Rattle.pull_chain.proofs.holds.chain_holds.Goals as goal
 
 pub returns : goal.returns
 returns c =
-    case_answers c.in_ok-case_policy.field-0 _ c.args.input c.in_ok-image_in.field-0 c.holds_under.result
-    (rw c.as_str.ensures at c.in_ok-image_in.ensures) c.in_ok-case_policy.ensures.keys (rw c.as_slice.ensures at c.in_ok-case_policy.ensures.constraints) c.holds_under.ensures
+    case_answers (record { keys = c.args.input.case.keys; constraints = c.in_ok-constraints.constraints }) _ c.args.input c.in_ok-image.image c.holds_under-held.result
+    (rw c.as_str.ensures at c.in_ok-image.ensures) refl (rw c.as_slice.ensures at c.in_ok-constraints.ensures) (rw c.terms_in-terms.ensures at c.holds_under-held.ensures)

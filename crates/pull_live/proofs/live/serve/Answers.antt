@@ -1,22 +1,9 @@
-use Rattle.std.proofs.Common.{refl, ◌∙◌}
-use Rattle.pull_live.proofs.Ending.{live_ends}
+use Rattle.pull_live.proofs.Ending.{live_ends, prepared_in, prepares_opened}
 use Rattle.pull_live.proofs.live.serve.Goals as goal
 
 pub returns : goal.returns
 returns g c =
-    live_ends _ c.args.settings
-    (record {
-      client = c.fresh_client-client.result;
-      terms = record { moment = c.args.settings.moment; image = c.in-Ok.made.image; auth = c.in-Ok.made.auth; accepted = c.args.settings.accepted; policy = c.in-Ok-case_policy.policy };
-    })
-    _ _ _ (
-      c.in-Ok.ensures.image,
-      c.in-Ok.ensures.auth,
-      refl,
-      refl,
-      c.in-Ok-case_policy.ensures.keys ∙ c.in-Ok.ensures.keys,
-      rw c.as_slice.ensures at c.in-Ok-case_policy.ensures.constraints,
-      c.fresh_client-client.ensures.state,
-      c.fresh_client-client.ensures.log_keys,
-    )
-    c.converse.ensures
+    live_ends _ c.args.settings (prepared_in c.open_settings-client.result c.in-Ok-constraints_from.constraints) _ _ _
+    (prepares_opened c.in-Ok.asked c.args.settings c.open_settings-client.result c.in-Ok-constraints_from.constraints c.in-Ok.ensures.usual c.open_settings-client.ensures
+    (rw c.as_str.ensures at c.in-Ok.ensures.image) c.in-Ok.ensures.auth (rw c.as_slice.ensures at c.in-Ok-constraints_from.ensures))
+    (rw c.open_settings-client.ensures.blobs at c.converse-ended.ensures)

@@ -1,10 +1,10 @@
-use Rattle.engine_steps.specs.Blobs.{IntoMemory}
+use Rattle.engine_rows.specs.Blobs.{IntoMemory}
 use Rattle.oci_engine.specs.Refusals.{BlobRefused}
-use Rattle.engine_pull.specs.Pulls.{held_blob}
+use Rattle.engine_rows.specs.Pulls.{held_blob}
 use Rattle.engine_requests.specs.Contexts.{within}
 use Rattle.engine_requests.specs.Sources.{described}
-use Rattle.sig_registry.specs.Calls.{blob_made}
-use Rattle.sig_registry.specs.declared.wording.Called.TheVariants.{Pull}
+use Rattle.sig_calls.specs.Calls.{blob_made}
+use Rattle.sig_calls.specs.declared.wording.Called.TheVariants.{Pull}
 use Rattle.sig_registry.proofs.InWords.{made, worded_fault, worded_no_sink}
 use Rattle.sig_registry.proofs.calls.blob_made.Goals as goal
 

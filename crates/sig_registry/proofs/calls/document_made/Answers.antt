@@ -1,9 +1,9 @@
 use Rattle.oci_engine.specs.Refusals.{DocumentRefused}
-use Rattle.engine_pull.specs.Pulls.{pull_manifest_raw}
+use Rattle.engine_rows.specs.Pulls.{pull_manifest_raw}
 use Rattle.engine_requests.specs.Requests.{listed}
 use Rattle.engine_requests.specs.Contexts.{within}
-use Rattle.sig_registry.specs.Calls.{document_made}
-use Rattle.sig_registry.specs.declared.wording.Called.TheVariants.{Pull}
+use Rattle.sig_calls.specs.Calls.{document_made}
+use Rattle.sig_calls.specs.declared.wording.Called.TheVariants.{Pull}
 use Rattle.sig_registry.proofs.InWords.{made, worded_fault, worded_no_sink}
 use Rattle.sig_registry.proofs.calls.document_made.Goals as goal
 

@@ -5,11 +5,11 @@ use Rattle.oci_engine.specs.Refusals.{ReferrersRefused}
 use Rattle.engine_laws.specs.TokenCauses.{TokenCause}
 use Rattle.engine_laws.proofs.ReferrersCauses.{referrers_no_sink}
 use Rattle.engine_laws.specs.Held.{pulling}
-use Rattle.engine_steps.specs.Rows.{token_given}
-use Rattle.engine_pull.specs.Referrers.{pull_referrers}
+use Rattle.engine_rows.specs.Rows.{token_given}
+use Rattle.engine_rows.specs.Referrers.{pull_referrers}
 use Rattle.engine_requests.specs.Contexts.{within}
-use Rattle.sig_registry.specs.Calls.{referrers_made}
-use Rattle.sig_registry.specs.declared.wording.Called.TheVariants.{FetchManifest, PullManifest}
+use Rattle.sig_calls.specs.Calls.{referrers_made}
+use Rattle.sig_calls.specs.declared.wording.Called.TheVariants.{FetchManifest, PullManifest}
 use Rattle.sig_registry.proofs.InWords.{made, worded_fault, worded_no_sink}
 use Rattle.sig_registry.proofs.InTurn.{made_refused, made_next, refused_fault, refused_no_sink, worded_ok, rose_in_second, first_confined, both_confined}
 use Rattle.sig_registry.proofs.calls.referrers_made.Goals as goal

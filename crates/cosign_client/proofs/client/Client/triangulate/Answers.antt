@@ -1,11 +1,11 @@
 use Rattle.std.proofs.Common.{refl, ap}
 use Rattle.engine_requests.specs.Contexts.{within}
 use Rattle.sig_settings.specs.Auths.{registry_auth}
-use Rattle.sig_registry.specs.Direct.{reference_in}
+use Rattle.sig_calls.specs.Direct.{reference_in}
 use Rattle.cosign_client.specs.State.{client_state}
-use Rattle.cosign_client.specs.Triangulated.{triangulated}
-use Rattle.cosign_client.proofs.Confinement.{triangulated_confined}
-use Rattle.cosign_client.proofs.Exits.{and_then, refused, wanting, meets_wanting, shown_refusal, tag_made}
+use Rattle.cosign_rows.specs.Triangulated.{triangulated}
+use Rattle.cosign_laws.proofs.Confinement.{triangulated_confined}
+use Rattle.cosign_rows.proofs.Exits.{and_then, refused, wanting, meets_wanting, shown_refusal, tag_made}
 use Rattle.cosign_client.proofs.client.Client.triangulate.Goals as goal
 
 pub returns-in_err-auth-clause-run : goal.returns-in_err-auth-clause-run

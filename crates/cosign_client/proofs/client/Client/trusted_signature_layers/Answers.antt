@@ -1,14 +1,14 @@
 use Rattle.std.proofs.Common.{refl}
 use Rattle.engine_requests.specs.Contexts.{within}
 use Rattle.cosign_client.specs.State.{client_state, trusts}
-use Rattle.cosign_client.proofs.Exits.{meets_wanting}
+use Rattle.cosign_rows.proofs.Exits.{meets_wanting}
 use Rattle.sig_settings.specs.Auths.{registry_auth}
-use Rattle.sig_registry.specs.Direct.{reference_in}
-use Rattle.cosign_client.proofs.Causes.{search_cause}
-use Rattle.cosign_client.proofs.Confinement.{search_confined}
-use Rattle.cosign_client.proofs.DigestStep.{search_decided}
-use Rattle.cosign_client.proofs.Faults.{search_no_memory, search_faults}
-use Rattle.cosign_client.proofs.Refusals.{search_fault, search_no_sink}
+use Rattle.sig_calls.specs.Direct.{reference_in}
+use Rattle.cosign_laws.proofs.Causes.{search_cause}
+use Rattle.cosign_laws.proofs.Confinement.{search_confined}
+use Rattle.cosign_laws.proofs.DigestStep.{search_decided}
+use Rattle.cosign_laws.proofs.Faults.{search_no_memory, search_faults}
+use Rattle.cosign_laws.proofs.Refusals.{search_fault, search_no_sink}
 use Rattle.cosign_client.proofs.client.Client.trusted_signature_layers.Goals as goal
 
 pub returns-in_err-auth-clause-run : goal.returns-in_err-auth-clause-run

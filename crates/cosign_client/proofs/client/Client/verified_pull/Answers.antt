@@ -1,16 +1,16 @@
 use Rattle.std.proofs.Common.{refl}
 use Rattle.engine_requests.specs.Contexts.{within}
 use Rattle.sig_settings.specs.Auths.{registry_auth}
-use Rattle.sig_registry.specs.Direct.{reference_in}
+use Rattle.sig_calls.specs.Direct.{reference_in}
 use Rattle.cosign_layers.specs.Standing.{Meaning, meaning}
 use Rattle.cosign_client.specs.State.{client_state, trusts}
-use Rattle.cosign_client.proofs.Causes.{pull_cause}
-use Rattle.cosign_client.proofs.Chains.{chain_of, links_of, backed_of}
-use Rattle.cosign_client.proofs.Confinement.{pull_confined}
-use Rattle.cosign_client.proofs.DigestStep.{unread_refused, pull_decided}
-use Rattle.cosign_client.proofs.Faults.{pull_no_memory, pull_faults}
-use Rattle.cosign_client.proofs.Refusals.{pull_fault, pull_no_sink}
-use Rattle.cosign_client.proofs.ShelfPulls.{completed_wide, settled_after, valid_wide}
+use Rattle.cosign_laws.proofs.Causes.{pull_cause}
+use Rattle.cosign_laws.proofs.Chains.{chain_of, links_of, backed_of}
+use Rattle.cosign_laws.proofs.Confinement.{pull_confined}
+use Rattle.cosign_laws.proofs.DigestStep.{unread_refused, pull_decided}
+use Rattle.cosign_laws.proofs.Faults.{pull_no_memory, pull_faults}
+use Rattle.cosign_laws.proofs.Refusals.{pull_fault, pull_no_sink}
+use Rattle.cosign_laws.proofs.ShelfPulls.{completed_wide, settled_after, valid_wide}
 use Rattle.cosign_client.proofs.client.Client.verified_pull.Goals as goal
 
 pub returns-clause-run : goal.returns-clause-run

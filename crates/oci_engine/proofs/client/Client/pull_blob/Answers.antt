@@ -1,4 +1,4 @@
-use Rattle.engine_steps.specs.Blobs.{IntoSink}
+use Rattle.engine_rows.specs.Blobs.{IntoSink}
 use Rattle.engine_laws.proofs.CallResults.{blob_took}
 use Rattle.engine_laws.proofs.CallCauses.{spilled_reason, spilled_fault}
 use Rattle.engine_laws.proofs.ExactRefusals.{blob_url, blob_bad, spilled_only, spilled_early}

@@ -1,4 +1,4 @@
-use Rattle.engine_steps.specs.Blobs.{IntoMemory}
+use Rattle.engine_rows.specs.Blobs.{IntoMemory}
 use Rattle.engine_laws.proofs.CallResults.{blob_body, blob_last, blob_named}
 use Rattle.engine_laws.proofs.CallCauses.{blob_reason, blob_fault}
 use Rattle.engine_laws.proofs.ExactRefusals.{blob_url, blob_bad, met_only, met_early}

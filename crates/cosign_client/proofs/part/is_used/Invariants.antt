@@ -1,7 +1,0 @@
-use Rattle.std.proofs.Common.{ℕ, ◌<◌, get_or}
-use Rattle.cosign_client.specs.LayerTexts.{BeginsOtherwise}
-use Rattle.cosign_client.proofs.part.is_used.Given as goal
-
--- none so far
-abbrev pub invariant-loop-descriptor : goal.invariant-loop-descriptor
-invariant-loop-descriptor l = (k : ℕ) (d : _) → k < l.descriptor-index → BeginsOtherwise l.name (get_or l.descriptors k d).digest

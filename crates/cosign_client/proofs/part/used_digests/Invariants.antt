@@ -1,7 +1,0 @@
-use Rattle.std.proofs.Common.{◌≡◌, ◌++◌, drop, map}
-use Rattle.cosign_client.specs.LayerTexts.{layer_digests}
-use Rattle.cosign_client.proofs.part.used_digests.Given as goal
-
--- the rest goes behind what is there
-abbrev pub invariant-loop-layer : goal.invariant-loop-layer
-invariant-loop-layer l = l.all ++ map (layer_digests l.used) (drop l.layer-index l.layers) ≡ map (layer_digests l.used) l.layers

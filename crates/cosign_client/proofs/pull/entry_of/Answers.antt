@@ -1,7 +1,0 @@
-use Rattle.oci_names.specs.References.{whole_text}
-use Rattle.sig_registry.specs.declared.wording.Called.TheVariants.{Pull}
-use Rattle.cosign_client.proofs.Exits.{in_words_said}
-use Rattle.cosign_client.proofs.pull.entry_of.Goals as goal
-
-pub returns : goal.returns
-returns g c = in_words_said Pull (whole_text c.args.source.now) c.entry_found-found.result _ c.worded.result (rw c.in_ok-resolver.ensures at c.entry_found-found.ensures) c.worded.ensures

@@ -1,0 +1,387 @@
+-- What each whole run of the search and of the pull shows: a chain, that comes of the conversation.
+use Rattle.std.proofs.Common.{◌≡◌, ◌<◌, ◌⊎◌, inl, inr, ℕ, Bool, true, false, cond, List, [], ◌∷◌, ◌++◌, Option, Some, None, Result, Ok, Err, IfOk, length, refl, sym, ap, ◌∙◌, subst, arith, append_assoc, append-nil}
+use Rattle.std.specs.Prelude.{if◌then◌else◌, find, unwrap_or}
+use Rattle.std.specs.FinMap as map_of
+use Rattle.oci_names.specs.declared.reference.Reference.{Reference}
+use Rattle.oci_names.specs.References.{reads_back}
+use Rattle.oci_auth.specs.declared.auth.RegistryAuth.{RegistryAuth}
+use Rattle.oci_manifests.specs.declared.document.OciManifest.{OciManifest}
+use Rattle.oci_manifests.specs.declared.document.OciManifest.TheVariants.{Image, ImageIndex}
+use Rattle.oci_manifests.specs.declared.descriptor.OciDescriptor.{OciDescriptor}
+use Rattle.oci_manifests.specs.declared.blob.ImageLayer.{ImageLayer}
+use Rattle.oci_manifests.specs.declared.index.OciImageIndex.{OciImageIndex}
+use Rattle.oci_manifests.specs.declared.index_entry.ImageIndexEntry.{ImageIndexEntry}
+use Rattle.oci_transport.specs.declared.message.Exchange.{Exchange}
+use Rattle.oci_transport.specs.declared.message.Method.{Method}
+use Rattle.oci_transport.specs.Link.{Link}
+use Rattle.oci_protocol.specs.Proto.{Done}
+use Rattle.oci_protocol.specs.Shows.{Shows}
+use Rattle.oci_protocol.specs.Ends.{Ends, OnAnswer}
+use Rattle.oci_protocol.specs.Runs.{Meets, Told}
+use Rattle.oci_protocol.proofs.Ends.{Ends-any, Ends-bind, Ends-next, Runs-ends}
+use Rattle.oci_protocol.proofs.Showing.{Shows-done, Shows-bind}
+use Rattle.engine_requests.specs.Contexts.{Context}
+use Rattle.engine_requests.specs.declared.settings.Settings.{Settings}
+use Rattle.engine_rows.specs.declared.image.ImageData.{ImageData}
+use Rattle.engine_laws.specs.Answered.{FirstAsked, Answered}
+use Rattle.engine_laws.proofs.DocumentAnswers.{body_after}
+use Rattle.sig_calls.specs.declared.error.SigstoreError.{SigstoreError}
+use Rattle.sig_calls.specs.Errors.{is_memory}
+use Rattle.sig_calls.specs.Clients.{Kept, Row}
+use Rattle.sig_settings.specs.Keys.{manifest_key}
+use Rattle.sig_calls.specs.Caching.{known}
+use Rattle.sig_calls.specs.Calls.{digests, digest_made, digest_call, manifest_call, image_call, referrers_call}
+use Rattle.cosign_layers.specs.Checks.{input}
+use Rattle.cosign_layers.specs.Constraint.{has_no_item}
+use Rattle.cosign_layers.specs.Layer.{LayerOf, Named}
+use Rattle.cosign_layers.specs.Standing.{Meaning, StandsFor}
+use Rattle.cosign_layers.specs.Trust.{Trust}
+use Rattle.cosign_layers.specs.declared.layer.LayerKind.TheVariants as kinds
+use Rattle.cosign_layers.specs.declared.layer.SignatureLayer.{SignatureLayer}
+use Rattle.cosign_layers.specs.declared.rejection.LayerRejection.{LayerRejection}
+use Rattle.cosign_layers.proofs.Layers.{gives}
+use Rattle.cosign_layers.proofs.Supports.{stands_for}
+use Rattle.oci_digests.specs.Names.{Names, digest_text}
+use Rattle.oci_digests.specs.declared.digester.Algorithm.TheVariants.{Sha256}
+use Rattle.oci_platforms.specs.Promise.{Picks}
+use Rattle.oci_platforms.specs.declared.promise.ResolverPromise.{ResolverPromise}
+use Rattle.cosign_chain.specs.Chain.{Chain, FirstIsManifest, FirstIsIndex, LeadsToManifest}
+use Rattle.cosign_chain.specs.Links.{Links as HasLinks}
+use Rattle.cosign_chain.specs.declared.image.VerifiedImage.{VerifiedImage}
+use Rattle.cosign_chain.proofs.LinkTests.{chain_links}
+use Rattle.cosign_rows.specs.Image.{image_row}
+use Rattle.cosign_rows.specs.Part.{skipping, appended, layer_part, named_layer, read_layer, descriptor_part, descriptors_part, read_bundle, bundle_part, bundles_part}
+use Rattle.cosign_rows.specs.References.{tag_reference, digest_reference, reading_back}
+use Rattle.cosign_rows.specs.Refusal.{is_memory as of_refusal}
+use Rattle.cosign_rows.specs.Search.{payload_type, document_part, tag_layers, or_skipped, tag_by, tag_source, bundle_type, behind, referrer_part, referrer_by, referrer_row, referrers_row, listed_row, referrers_source, trusted_layers, searched}
+use Rattle.cosign_rows.specs.Sound.{Fresh, AnsweredOrFresh, Backed, Sound}
+use Rattle.cosign_rows.specs.Verified.{constrained, is_unconstrained, readable, as_whole, part_of, stands_by, standing_by, standing, manifest_digests, verified_image, after_search, verified}
+use Rattle.cosign_rows.specs.declared.found.Part.{Part}
+use Rattle.cosign_rows.specs.declared.found.SkipCause.{SkipCause}
+use Rattle.cosign_rows.specs.declared.found.SkipCause.TheVariants.{Refused}
+use Rattle.cosign_rows.specs.declared.found.Skipped.{Skipped}
+use Rattle.cosign_rows.specs.declared.found.Skipped.TheVariants.{Source, Referrer}
+use Rattle.cosign_rows.specs.declared.found.SourceKind.{SourceKind}
+use Rattle.cosign_rows.specs.declared.found.SourceKind.TheVariants.{Tag, Referrers}
+use Rattle.cosign_rows.specs.declared.found.TrustedLayers.{TrustedLayers}
+use Rattle.cosign_rows.specs.declared.pulled.Pulled.{Pulled}
+use Rattle.cosign_rows.specs.declared.refusal.PullRefusal.{PullRefusal}
+use Rattle.cosign_rows.specs.declared.standing.Standing.{Standing}
+use Rattle.cosign_laws.proofs.Beginnings.{SeenFrom, next_from, step_from, part_from, told_from}
+use Rattle.cosign_laws.proofs.Cached.{IsKnown, IsMade, cached_run}
+use Rattle.cosign_laws.proofs.Images.{Seen, digest_made_shows, next_seen, step_seen, done_seen, bodies_after, IsFirst, IsEntry, Leads, Links, image_shows}
+
+-- ---- an answered digest stays one as more is asked
+
+first_before : {method : Method} {address : List ℕ} {c : List Exchange} (d : List Exchange) → FirstAsked method address c → FirstAsked method address (c ++ d)
+first_before d first = record {
+  before = first.before;
+  none = first.none;
+  request = first.request;
+  asks = first.asks;
+  exchanges = first.exchanges;
+  answer = first.answer;
+  led = first.led;
+  after = first.after ++ d;
+  split = ap (λ c. c ++ d) first.split ∙ append_assoc (first.before ++ first.exchanges) first.after d;
+}
+
+answered_before : (s : Settings) (image : Reference) (c d : List Exchange) (digest : List ℕ) → Answered s image c digest → Answered s image (c ++ d) digest
+unfolding first_before
+answered_before s image c d digest answered = record {
+  url = answered.url;
+  address = answered.address;
+  head = first_before d answered.head;
+  digest = elim answered.digest [
+    | inl by_header ↦ inl by_header
+    | inr other ↦ inr (other.0, record { get = first_before d other.1.get; body = other.1.body })
+  ];
+}
+
+given_before : (kept : Kept) (s : Context) (image : Reference) (a : RegistryAuth) (c d : List Exchange) (digest : List ℕ) → AnsweredOrFresh kept s image a c digest → AnsweredOrFresh kept s image a (c ++ d) digest
+given_before kept s image a c d digest (inl answered) = inl (answered_before s.settings image c d digest answered)
+given_before kept s image a c d digest (inr fresh) = inr fresh
+
+-- ---- the layers that were found
+
+-- the layer is what its bytes say, and is about this image
+record Fits (trust : Trust) (d : List ℕ) (layer : SignatureLayer) : Type 0 where
+  layer_of : LayerOf trust layer
+  about : Named layer d
+
+abbrev AllFit : Trust → List ℕ → List SignatureLayer → Type 0
+AllFit trust d [] = Unit {0}
+AllFit trust d (layer ∷ layers) = Fits trust d layer × AllFit trust d layers
+
+both_fit : (trust : Trust) (d : List ℕ) (xs ys : List SignatureLayer) → AllFit trust d xs → AllFit trust d ys → AllFit trust d (xs ++ ys)
+both_fit trust d [] ys h k = k
+both_fit trust d (x ∷ xs) ys h k = (h.0, both_fit trust d xs ys h.1 k)
+
+abbrev PartFits : Trust → List ℕ → Part → Type 0
+PartFits trust d part = AllFit trust d part.collected
+
+read_fits : (trust : Trust) (d : List ℕ) (x : OciDescriptor) (o : Option ImageLayer) (layer : SignatureLayer) → read_layer trust d x o ≡ Ok layer → Fits trust d layer
+read_fits trust d x None layer is = absurd (cc is)
+read_fits trust d x (Some pulled) layer is =
+    let g = gives trust d (input kinds.Payload pulled.content x.digest (unwrap_or x.annotations map_of.empty)) (Ok layer) is in
+    record { layer_of = g.layer_of; about = g.is_named }
+
+layer_fits : (trust : Trust) (d : List ℕ) (kind : SourceKind) (name : List ℕ) (r : Result SignatureLayer LayerRejection) → ((layer : SignatureLayer) → r ≡ Ok layer → Fits trust d layer) → PartFits trust d (layer_part kind name r)
+layer_fits trust d kind name (Ok layer) fits = (fits layer refl, tt)
+layer_fits trust d kind name (Err cause) fits = tt
+
+descriptors_fit : (trust : Trust) (d : List ℕ) (layers : List ImageLayer) (xs : List OciDescriptor) → PartFits trust d (descriptors_part trust d layers xs)
+descriptors_fit trust d layers [] = tt
+descriptors_fit trust d layers (x ∷ xs) =
+    both_fit trust d (descriptor_part trust d layers x).collected (descriptors_part trust d layers xs).collected
+    (layer_fits trust d Tag x.digest (read_layer trust d x (named_layer x.digest layers)) (λ layer is. read_fits trust d x (named_layer x.digest layers) layer is))
+    (descriptors_fit trust d layers xs)
+
+document_fits : (trust : Trust) (d : List ℕ) (document : OciManifest) (image : ImageData) → PartFits trust d (document_part trust d document image)
+document_fits trust d (ImageIndex index) image = tt
+document_fits trust d (Image manifest) image = descriptors_fit trust d image.layers manifest.layers
+
+skipped_fits : (trust : Trust) (d : List ℕ) (r : Result Part SigstoreError) → OnAnswer (PartFits trust d) r → OnAnswer (PartFits trust d) (or_skipped Tag r)
+skipped_fits trust d (Ok part) h = h
+skipped_fits trust d (Err e) h = by_memory (is_memory e) where
+  by_memory : (b : Bool) → OnAnswer (PartFits trust d) (if b then Err e else Ok (skipping (Source Tag (Refused e))))
+  by_memory true = tt
+  by_memory false = tt
+
+any_answer : {A E : Type 0} (r : Result A E) → OnAnswer (λ (a : A). Unit {0}) r
+any_answer (Ok a) = tt
+any_answer (Err e) = tt
+
+any_ends : {A : Type 0} (p : Row A) → Ends (OnAnswer (λ (a : A). Unit {0})) p
+any_ends p = Ends-any (OnAnswer (λ a. Unit {0})) p any_answer
+
+done_ends : {A : Type 0} (Q : A → Type 0) (a : A) → Q a → Ends {K = Kept} {A = Result A SigstoreError} (OnAnswer Q) (Done (Ok a))
+unfolding Ends
+done_ends Q a h = h
+
+layers_ends : (trust : Trust) (d : List ℕ) (s : Context) (tag : Reference) (a : RegistryAuth) → Ends (OnAnswer (PartFits trust d)) (tag_layers trust d s tag a)
+unfolding tag_layers
+layers_ends trust d s tag a =
+    Ends-next (λ document. Unit {0}) (PartFits trust d) (manifest_call s tag a) _ (any_ends (manifest_call s tag a)) (λ document u.
+    Ends-next (λ image. Unit {0}) (PartFits trust d) (image_call s tag a (payload_type ∷ [])) _ (any_ends (image_call s tag a (payload_type ∷ []))) (λ image v.
+    done_ends (PartFits trust d) (document_part trust d document.0 image) (document_fits trust d document.0 image)))
+
+by_ends : (trust : Trust) (d : List ℕ) (s : Context) (tag : Reference) (a : RegistryAuth) (b : Bool) → Ends (OnAnswer (PartFits trust d)) (tag_by trust d s tag a b)
+unfolding Ends
+by_ends trust d s tag a false = tt
+by_ends trust d s tag a true = Ends-bind (OnAnswer (PartFits trust d)) (OnAnswer (PartFits trust d)) (tag_layers trust d s tag a) (λ r. Done (or_skipped Tag r)) (layers_ends trust d s tag a) (λ r h. skipped_fits trust d r h)
+
+source_ends : (trust : Trust) (s : Context) (image : Reference) (a : RegistryAuth) (d : List ℕ) → Ends (OnAnswer (PartFits trust d)) (tag_source trust s image a d)
+unfolding tag_source
+source_ends trust s image a d = by_ends trust d s (tag_reference image d) a (reads_back (tag_reference image d))
+
+-- ---- the layers of the referrers
+
+bundle_fits : (trust : Trust) (d text : List ℕ) (x : ImageLayer) (layer : SignatureLayer) → read_bundle trust d text x ≡ Ok layer → Fits trust d layer
+bundle_fits trust d text x layer is =
+    let g = gives trust d (input kinds.Bundle x.content text (unwrap_or x.annotations map_of.empty)) (Ok layer) is in
+    record { layer_of = g.layer_of; about = g.is_named }
+
+bundles_fit : (trust : Trust) (d : List ℕ) (xs : List ImageLayer) → PartFits trust d (bundles_part trust d xs)
+bundles_fit trust d [] = tt
+bundles_fit trust d (x ∷ xs) = let text = digest_text Sha256 x.content in
+    both_fit trust d (bundle_part trust d x).collected (bundles_part trust d xs).collected
+    (layer_fits trust d Referrers text (read_bundle trust d text x) (λ layer is. bundle_fits trust d text x layer is))
+    (bundles_fit trust d xs)
+
+referrer_fits : (trust : Trust) (d : List ℕ) (r : Result ImageData SigstoreError) → OnAnswer (PartFits trust d) (referrer_part trust d r)
+referrer_fits trust d (Ok image) = bundles_fit trust d image.layers
+referrer_fits trust d (Err e) = tt
+
+behind_fits : (trust : Trust) (d : List ℕ) (part : Part) (place : SkipCause → Skipped) (r : Result Part SigstoreError) → PartFits trust d part → OnAnswer (PartFits trust d) r → OnAnswer (PartFits trust d) (behind part place r)
+behind_fits trust d part place (Ok more) h k = both_fit trust d part.collected more.collected h k
+behind_fits trust d part place (Err e) h k = by_memory (is_memory e) where
+  by_memory : (b : Bool) → OnAnswer (PartFits trust d) (if b then Err e else Ok (appended part (skipping (place (Refused e)))))
+  by_memory true = tt
+  by_memory false = both_fit trust d part.collected [] h tt
+
+referrer_by_ends : (trust : Trust) (d : List ℕ) (s : Context) (referrer : Reference) (a : RegistryAuth) (digest : List ℕ) (part : Part) (b : Bool) → PartFits trust d part → Ends (OnAnswer (PartFits trust d)) (referrer_by trust d s referrer a digest part b)
+unfolding Ends
+referrer_by_ends trust d s referrer a digest part false h = both_fit trust d part.collected [] h tt
+referrer_by_ends trust d s referrer a digest part true h = Ends-bind (λ r. Unit {0}) (OnAnswer (PartFits trust d)) (image_call s referrer a (bundle_type ∷ [])) _ (Ends-any (λ r. Unit {0}) (image_call s referrer a (bundle_type ∷ [])) (λ r. tt))
+    (λ r u. behind_fits trust d part (Referrer digest) (referrer_part trust d r) h (referrer_fits trust d r))
+
+referrer_ends : (trust : Trust) (d : List ℕ) (s : Context) (source : Reference) (a : RegistryAuth) (digest : List ℕ) (part : Part) → PartFits trust d part → Ends (OnAnswer (PartFits trust d)) (referrer_row trust d s source a digest part)
+unfolding referrer_row
+referrer_ends trust d s source a digest part h = referrer_by_ends trust d s (digest_reference source digest) a digest part (reads_back (digest_reference source digest)) h
+
+referrers_end : (trust : Trust) (d : List ℕ) (s : Context) (source : Reference) (a : RegistryAuth) (xs : List ImageIndexEntry) (part : Part) → PartFits trust d part → Ends (OnAnswer (PartFits trust d)) (referrers_row trust d s source a xs part)
+unfolding referrers_row
+referrers_end trust d s source a [] part h = done_ends (PartFits trust d) part h
+referrers_end trust d s source a (x ∷ xs) part h = Ends-next (PartFits trust d) (PartFits trust d) (referrer_row trust d s source a x.digest part) (λ more. referrers_row trust d s source a xs more) (referrer_ends trust d s source a x.digest part h) (λ more fit. referrers_end trust d s source a xs more fit)
+
+refused_ends : {A : Type 0} (Q : A → Type 0) (r : Result A SigstoreError) → OnAnswer Q r → Ends {K = Kept} (OnAnswer Q) (Done r)
+unfolding Ends
+refused_ends Q r h = h
+
+listed_ends : (trust : Trust) (d : List ℕ) (s : Context) (source : Reference) (a : RegistryAuth) (part : Part) (r : Result OciImageIndex SigstoreError) → PartFits trust d part → Ends (OnAnswer (PartFits trust d)) (listed_row trust d s source a part r)
+listed_ends trust d s source a part (Ok index) h = referrers_end trust d s source a index.manifests part h
+listed_ends trust d s source a part (Err e) h = refused_ends (PartFits trust d) (behind part (Source Referrers) (Err e)) (behind_fits trust d part (Source Referrers) (Err e) h tt)
+
+referrers_source_ends : (trust : Trust) (d : List ℕ) (s : Context) (source : Reference) (a : RegistryAuth) (part : Part) → PartFits trust d part → Ends (OnAnswer (PartFits trust d)) (referrers_source trust d s source a part)
+unfolding referrers_source
+referrers_source_ends trust d s source a part h = Ends-bind (λ r. Unit {0}) (OnAnswer (PartFits trust d)) (referrers_call s source a None) (listed_row trust d s source a part) (Ends-any (λ r. Unit {0}) (referrers_call s source a None) (λ r. tt)) (λ r u. listed_ends trust d s source a part r h)
+
+-- ---- the search
+
+-- the digest was answered, now or before, and what was found fits it
+record Found (kept : Kept) (trust : Trust) (s : Context) (image : Reference) (a : RegistryAuth) (c : List Exchange) (found : TrustedLayers) : Type 0 where
+  answered : AnsweredOrFresh kept s image a c found.digest
+  fit : AllFit trust found.digest found.collected
+
+-- a client that keeps no answers gives none of them
+pub none_fresh : (kept : Kept) (s : Context) (image : Reference) (a : RegistryAuth) (digest : List ℕ) → kept.1 ≡ None → Fresh kept s image a digest → ⊥
+none_fresh kept s image a digest none fresh = never (ap (λ answers. known digests (manifest_key image a) s.moment answers) (sym none) ∙ fresh) where
+  never : (let o : Option (List ℕ) = None in o) ≡ Some digest → ⊥
+  never is = cc is
+
+digest_call_seen : (kept : Kept) (s : Context) (image : Reference) (a : RegistryAuth) → SeenFrom kept (AnsweredOrFresh kept s image a) (digest_call s image a)
+unfolding digest_call
+digest_call_seen kept s image a = record { seen = λ l m n c r run. by_run l m n c r (cached_run digests (manifest_key image a) s.moment (reads_back image) (digest_made s image a) kept l m n c r run) } where
+  by_made : (m n : ℕ) (c : List Exchange) (r : Result (List ℕ) SigstoreError) → Seen (Answered s.settings image) m c n r → Seen (AnsweredOrFresh kept s image a) m c n r
+  by_made m n c (Ok digest) h = inl h
+  by_made m n c (Err e) h = tt
+
+  by_run : (l : Kept) (m n : ℕ) (c : List Exchange) (r : Result (List ℕ) SigstoreError) → IsKnown digests (manifest_key image a) s.moment kept m c n l r ⊎ IsMade digests (manifest_key image a) s.moment (reads_back image) (digest_made s image a) kept m c n l r → Seen (AnsweredOrFresh kept s image a) m c n r
+  by_run l m n c r (inl h) = subst (λ r. Seen (AnsweredOrFresh kept s image a) m c n r) h.result (inr h.known_is)
+  by_run l m n c r (inr h) = by_made m n c r ((digest_made_shows s image a).shows kept.0 l.0 m n c r h.runs)
+
+fits_seen : (trust : Trust) (d : List ℕ) (m n : ℕ) (c : List Exchange) (r : Result Part SigstoreError) → OnAnswer (PartFits trust d) r → Seen (λ c part. PartFits trust d part) m c n r
+fits_seen trust d m n c (Ok part) h = h
+fits_seen trust d m n c (Err e) h = tt
+
+part_shows : (trust : Trust) (d : List ℕ) (p : Row Part) → Ends (OnAnswer (PartFits trust d)) p → Shows (Seen (λ c part. PartFits trust d part)) p
+part_shows trust d p h = record { shows = λ k l m n c r run. fits_seen trust d m n c r (Runs-ends (OnAnswer (PartFits trust d)) p k l m n c r h run) }
+
+search_seen : (kept : Kept) (trust : Trust) (s : Context) (image : Reference) (a : RegistryAuth) → SeenFrom kept (Found kept trust s image a) (searched trust s image a)
+unfolding searched
+search_seen kept trust s image a =
+    next_from kept (AnsweredOrFresh kept s image a) (Found kept trust s image a) (digest_call s image a) _ (digest_call_seen kept s image a) (λ c digest answered.
+    step_seen (λ d found. Found kept trust s image a (c ++ d) found) (reading_back (digest_reference image digest)) _ (λ u is.
+    next_seen (λ d part. PartFits trust digest part) (λ d found. Found kept trust s image a (c ++ d) found) (tag_source trust s image a digest) _ (part_shows trust digest (tag_source trust s image a digest) (source_ends trust s image a digest)) (λ d tag fit.
+    next_seen (λ e part. PartFits trust digest part) (λ e found. Found kept trust s image a (c ++ (d ++ e)) found) (referrers_source trust digest s (digest_reference image digest) a tag) _
+    (part_shows trust digest (referrers_source trust digest s (digest_reference image digest) a tag) (referrers_source_ends trust digest s (digest_reference image digest) a tag fit)) (λ e part fit.
+    done_seen (λ f found. Found kept trust s image a (c ++ (d ++ (e ++ f))) found) (trusted_layers digest part) (record { answered = given_before kept s image a c (d ++ (e ++ [])) digest answered; fit = fit })))))
+
+-- ---- the pull
+
+some_constraint : {A : Type 0} (xs : List A) → has_no_item xs ≡ false → 0 < length xs
+some_constraint [] is = absurd (cc is)
+some_constraint (x ∷ xs) is = omega arith
+
+constrained_some : (b : Bool) (u : Unit {0}) → constrained b ≡ Ok u → b ≡ false
+constrained_some true u is = absurd (cc is)
+constrained_some false u is = refl
+
+first_fits : (trust : Trust) (p : SignatureLayer → Bool) (d : List ℕ) (layers : List SignatureLayer) (layer : SignatureLayer) → AllFit trust d layers → find p layers ≡ Some layer → Fits trust d layer × (p layer ≡ true)
+first_fits trust p d [] layer fit is = absurd (cc is)
+first_fits trust p d (l ∷ layers) layer fit is = by_test (p l) refl is (λ later. first_fits trust p d layers layer fit.1 later) where
+  by_test : (b : Bool) → p l ≡ b → cond b (Some l) (find p layers) ≡ Some layer → (find p layers ≡ Some layer → Fits trust d layer × (p layer ≡ true)) → Fits trust d layer × (p layer ≡ true)
+  by_test true so is later = let same : l ≡ layer = cc is in rw (← same) (fit.0, so)
+  by_test false so is later = later is
+
+-- what a part shows, it shows as a part of the whole
+whole_seen : {A : Type 0} (P : List Exchange → A → Type 0) (m n o : ℕ) (c : List Exchange) (r : Result A SigstoreError) → Seen P m c n r → Seen P m (c ++ []) o (as_whole r)
+whole_seen P m n o c (Ok a) h = rw append-nil h
+whole_seen P m n o c (Err e) h = tt
+
+part_seen : {A : Type 0} (P : List Exchange → A → Type 0) (p : Row A) → Shows (Seen P) p → Shows (Seen P) (part_of p)
+unfolding part_of
+part_seen P p h = Shows-bind (Seen P) (Seen P) p (λ r. Done (as_whole r)) h (λ m n c r at. Shows-done (λ s d o b. Seen P m (c ++ d) o b) (as_whole r) (λ o. whole_seen P m n o c r at))
+
+module _ {V : Type 0} {H : V → Type 0} (kept : Kept) (s : Context) (meaning : Meaning V H) (image : Reference) (a : RegistryAuth) (accepted : List (List ℕ)) where
+  abbrev IsSound : List Exchange → VerifiedImage → Type 0
+  IsSound = Sound kept s meaning image a accepted
+
+  first_leads : (stood : Standing) (pulled : Pulled) → IsFirst pulled.first pulled.chosen → FirstIsManifest (verified_image stood pulled)
+  first_leads stood pulled h = record { reads = h.reads; bytes = h.bytes; digest = ap (λ o. (manifest_digests stood.digest o).0) h.none; no_list = ap (λ o. (manifest_digests stood.digest o).1) h.none }
+
+  entry_leads : (promise : ResolverPromise) (stood : Standing) (pulled : Pulled) → IsEntry promise pulled.first pulled.chosen → FirstIsIndex promise (verified_image stood pulled)
+  entry_leads promise stood pulled h =
+      let same : (manifest_digests stood.digest pulled.chosen.entry).0 ≡ h.entry = ap (λ o. (manifest_digests stood.digest o).0) h.is in
+      record {
+        index = h.index;
+        indexed = h.indexed;
+        picked = subst (Picks promise h.index.manifests) (sym same) h.picked;
+        named = subst (λ d. Names d pulled.chosen.bytes) (sym same) h.named;
+        reads = h.reads;
+        list = ap (λ o. (manifest_digests stood.digest o).1) h.is;
+      }
+
+  leads : (promise : Option ResolverPromise) (stood : Standing) (pulled : Pulled) → Leads promise pulled.first pulled.chosen → LeadsToManifest promise (verified_image stood pulled)
+  leads None stood pulled h = first_leads stood pulled h
+  leads (Some promise) stood pulled (inl h) = inl (first_leads stood pulled h)
+  leads (Some promise) stood pulled (inr h) = inr (entry_leads promise stood pulled h)
+
+  sound_of : (c d : List Exchange) (stood : Standing) (pulled : Pulled) → AnsweredOrFresh kept s image a c stood.digest → StandsFor meaning stood.digest stood.signature → Links s.settings.platform_resolver image stood.digest accepted d pulled → IsSound (c ++ d) (verified_image stood pulled)
+  sound_of c d stood pulled answered signed links = record {
+    chain = record {
+      named = links.named;
+      asked = links.asked;
+      manifest = leads s.settings.platform_resolver stood pulled links.leads;
+      config = links.config;
+      some = links.some;
+      layers = links.layers;
+      signature = signed;
+    };
+    backed = record {
+      answered = given_before kept s image a c d stood.digest answered;
+      first = body_after c links.first_body;
+      manifest = body_after c links.manifest_body;
+      config = body_after c links.config_body;
+      layers = bodies_after c d pulled.layers links.layer_bodies;
+    };
+  }
+
+  -- what stands does so for the digest that was answered
+  record Stood (c : List Exchange) (stood : Standing) : Type 0 where
+    answered : AnsweredOrFresh kept s image a c stood.digest
+    stands : StandsFor meaning stood.digest stood.signature
+
+  stood_by : (c : List Exchange) (found : TrustedLayers) (o : Option SignatureLayer) (stood : Standing) → 0 < length meaning.policy.constraints → Found kept meaning.trust s image a c found → find (stands_by meaning) found.collected ≡ o → standing_by found o ≡ Ok stood → Stood c stood
+  stood_by c found None stood some h first is = absurd (cc is)
+  stood_by c found (Some signature) stood some h first is =
+      let same : (let x : Standing = record { digest = found.digest; signature = signature } in x) ≡ stood = cc is in
+      let f = first_fits meaning.trust (stands_by meaning) found.digest found.collected signature h.fit first in
+      subst (Stood c) same (record { answered = h.answered; stands = (stands_for meaning signature found.digest (f.0).layer_of (f.0).about some).0 f.1 })
+
+  after_shows : (c : List Exchange) (found : TrustedLayers) → 0 < length meaning.policy.constraints → Found kept meaning.trust s image a c found → Shows (Seen (λ d v. IsSound (c ++ d) v)) (after_search meaning s image a accepted found)
+  unfolding after_search
+  after_shows c found some h =
+      step_seen (λ d v. IsSound (c ++ d) v) (standing meaning found) _ (λ stood is.
+      let stands = stood_by c found (find (stands_by meaning) found.collected) stood some h refl is in
+      next_seen (Links s.settings.platform_resolver image stood.digest accepted) (λ d v. IsSound (c ++ d) v) (part_of (image_row s image (digest_reference image stood.digest) a accepted)) _
+      (part_seen (Links s.settings.platform_resolver image stood.digest accepted) (image_row s image (digest_reference image stood.digest) a accepted) (image_shows s image (digest_reference image stood.digest) stood.digest a accepted refl)) (λ d pulled links.
+      done_seen (λ e v. IsSound (c ++ (d ++ e)) v) (verified_image stood pulled) (rw append-nil (sound_of c d stood pulled stands.answered stands.stands links))))
+
+  -- what a pull answers has a chain, and comes of its conversation
+  pub verified_seen : SeenFrom kept IsSound (verified meaning s image a accepted)
+  unfolding verified
+  verified_seen =
+      step_from kept IsSound (constrained (is_unconstrained meaning.policy)) _ (λ u is.
+      step_from kept IsSound (readable image) _ (λ v back.
+      next_from kept (Found kept meaning.trust s image a) IsSound (part_of (searched meaning.trust s image a)) _ (part_from kept (Found kept meaning.trust s image a) (searched meaning.trust s image a) (search_seen kept meaning.trust s image a)) (λ c found h.
+      after_shows c found (some_constraint meaning.policy.constraints (constrained_some (is_unconstrained meaning.policy) u is)) h)))
+
+  told_sound : {old new : Link} {l : Kept} (r : Result VerifiedImage PullRefusal) → Meets of_refusal (verified meaning s image a accepted) old new kept l r → IfOk r (λ v. Told (λ c. IsSound c v) old new)
+  told_sound r met = told_from IsSound r verified_seen met
+
+  -- the chain of what a pull answers
+  pub chain_of : {old new : Link} {l : Kept} (r : Result VerifiedImage PullRefusal) → Meets of_refusal (verified meaning s image a accepted) old new kept l r → IfOk r (λ v. Chain meaning image accepted s.settings.platform_resolver v)
+  chain_of (Ok v) met = (told_sound (Ok v) met).holds.chain
+  chain_of (Err e) met = tt
+
+  -- its links
+  pub links_of : {old new : Link} {l : Kept} (r : Result VerifiedImage PullRefusal) → Meets of_refusal (verified meaning s image a accepted) old new kept l r → IfOk r (λ v. HasLinks image accepted v)
+  links_of (Ok v) met = chain_links (told_sound (Ok v) met).holds.chain
+  links_of (Err e) met = tt
+
+  -- and where it comes from
+  pub backed_of : {old new : Link} {l : Kept} (r : Result VerifiedImage PullRefusal) → Meets of_refusal (verified meaning s image a accepted) old new kept l r → IfOk r (λ v. Told (λ c. Backed kept s image a c v) old new)
+  backed_of (Ok v) met = let told = told_sound (Ok v) met in record { conversation = told.conversation; told = told.told; holds = told.holds.backed }
+  backed_of (Err e) met = tt

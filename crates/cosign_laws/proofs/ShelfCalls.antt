@@ -1,0 +1,241 @@
+-- Calls whose answers may be kept, over a shelf: what was kept before is what the shelf gives, and so is what is kept then.
+use Rattle.std.specs.Prelude.{bytes_eq, not, find, filter, option_map, option_and_then, if◌then◌else◌}
+use Rattle.std.proofs.Common.{◌≡◌, ℕ, Bool, true, false, cond, ◌&&◌, List, [], ◌∷◌, ◌++◌, All, Option, Some, None, Result, Ok, Err, refl, sym, ap, subst, ◌∙◌}
+use Rattle.std.proofs.lemmas.Bool.{cond_both}
+use Rattle.std.proofs.lemmas.List.Elements.{All-nil, All-head, All-tail, All-push, All-filter}
+use Rattle.std.proofs.lemmas.Slice.Eq.{bytes_eq-Decides}
+use Rattle.oci_names.proofs.ReadsBack.{reads_back-means}
+use Rattle.oci_names.specs.References.{reads_back, whole_text, reference_of, resolved_registry, repository_of}
+use Rattle.oci_names.specs.declared.parse_error.ParseError.{ParseError}
+use Rattle.oci_names.specs.declared.reference.Reference.{Reference}
+use Rattle.oci_auth.specs.declared.auth.RegistryAuth.{RegistryAuth}
+use Rattle.oci_auth.specs.Memory.{fresh as new}
+use Rattle.oci_auth.specs.declared.memory.Memory.{Memory}
+use Rattle.oci_manifests.specs.declared.document.OciManifest.{OciManifest}
+use Rattle.oci_manifests.specs.declared.index.OciImageIndex.{OciImageIndex}
+use Rattle.oci_protocol.specs.Lift.{lifted}
+use Rattle.oci_protocol.specs.Proto.{Done, bind, unless_refused, ◌>>◌}
+use Rattle.oci_link.specs.Table.{answer}
+use Rattle.oci_link.specs.declared.shelf.Shelf.{Shelf}
+use Rattle.engine_rows.specs.declared.image.ImageData.{ImageData}
+use Rattle.engine_requests.specs.Contexts.{within}
+use Rattle.engine_requests.specs.declared.settings.Settings.{Settings}
+use Rattle.shelf_laws.specs.Comes.{Comes, ComesTo, Yields, Gives, Stays}
+use Rattle.shelf_laws.specs.Home.{IsAt, Settled}
+use Rattle.shelf_laws.proofs.Coming.{Comes-more, Comes-bind}
+use Rattle.shelf_laws.proofs.Tokens.{fresh_settled}
+use Rattle.shelf_laws.proofs.Lifted.{Comes-lifted, Comes-itself, ComesTo-is, Gives-lifted, Stays-lifted}
+use Rattle.sig_settings.specs.Keys.{manifest_key, pull_key, referrers_key}
+use Rattle.sig_settings.proofs.Tells.{manifest_keys_tell, pull_keys_tell, referrers_keys_tell}
+use Rattle.sig_answers.specs.Answers.{is_of, is_fresh, same_kind, kind_of, given_at, keep, entry, within as in_bounds}
+use Rattle.sig_answers.specs.declared.answer.Answer.{Answer}
+use Rattle.sig_answers.specs.declared.answer.Answer.TheVariants.{Digest, Manifest, Image, Referrers}
+use Rattle.sig_answers.specs.declared.answers.Answers.{Answers}
+use Rattle.sig_answers.specs.declared.answers.Bounds.{Bounds}
+use Rattle.sig_answers.specs.declared.answers.Entry.{Entry}
+use Rattle.sig_calls.specs.Caching.{Cache, known, keeping, known_or, recalled, cached}
+use Rattle.sig_calls.specs.Calls.{digests, manifests, images, referrers, digest_made, manifest_made, image_made, referrers_made, digest_call, manifest_call, image_call, referrers_call}
+use Rattle.sig_calls.specs.Clients.{Kept, Plain}
+use Rattle.sig_calls.specs.declared.error.SigstoreError.{SigstoreError}
+use Rattle.sig_calls.specs.Clients.{no_answers}
+use Rattle.cosign_rows.specs.Settled.{IsGiven, IsOf, IsAnswer, IsRight, AreRight, IsSettled}
+
+-- ---- texts of references
+
+read_same : (x y : Reference) → ◌≡◌ {A = Result Reference ParseError} (Ok x) (Ok y) → x ≡ y
+read_same x y is = cc
+
+-- references that read back are known by their texts
+same_image : (x y : Reference) → reads_back x ≡ true → reads_back y ≡ true → whole_text x ≡ whole_text y → x ≡ y
+same_image x y is also same = read_same x y (sym (reads_back-means x is) ∙ ap reference_of same ∙ reads_back-means y also)
+
+-- ---- entries
+
+and_right : (a b : Bool) → (a && b) ≡ true → b ≡ true
+and_right true b h = h
+and_right false b h = cc h
+
+found_all : (P : Entry → Type 0) (p : Entry → Bool) (es : List Entry) (e : Entry) → All P es → find p es ≡ Some e → P e × (p e ≡ true)
+found_all P p [] e all is = cc
+found_all P p (x ∷ es) e all is = by_test (p x) refl is (found_all P p es e (All-tail P x es all)) where
+  by_test : (b : Bool) → p x ≡ b → cond b (Some x) (find p es) ≡ Some e → (find p es ≡ Some e → P e × (p e ≡ true)) → P e × (p e ≡ true)
+  by_test true passes here later = let same : x ≡ e = cc here in subst (λ (y : Entry). P y × (p y ≡ true)) same (All-head P x es all, passes)
+  by_test false fails there later = later there
+
+bounded_all : (P : Entry → Type 0) (bounds : Option Bounds) (es : List Entry) → All P es → All P (in_bounds bounds es)
+bounded_all P bounds [] all = all
+bounded_all P bounds (e ∷ es) all = cond_both _ (e ∷ es) (in_bounds bounds es) (All P) (λ fits. all) (λ more. bounded_all P bounds es (All-tail P e es all))
+
+module _ (s : Settings) (registry : List ℕ) (a : RegistryAuth) (shelf : Shelf) where
+  abbrev J : Memory → Type 0
+  J k = Settled registry shelf.repository a k
+
+  abbrev R : Option Answers → Type 0
+  R answers = AreRight s registry a shelf answers
+
+  abbrev I : Kept → Type 0
+  I k = J k.0 × R k.1
+
+  abbrev Given : {A : Type 0} → (ℕ → Plain A) → A → Type 0
+  Given call x = IsGiven registry a shelf call x
+
+  kept_right : (e : Entry) (answers : Option Answers) → R answers → IsRight s registry a shelf e → R (option_map (keep e) answers)
+  kept_right e None are is = tt
+  kept_right e (Some k) are is =
+      let others : List Entry = filter (λ other. not (is_of (kind_of e.answer) e.key other)) k.entries in
+      bounded_all (IsRight s registry a shelf) k.bounds (others ++ e ∷ []) (All-push (IsRight s registry a shelf) others e (All-filter (λ other. not (is_of (kind_of e.answer) e.key other)) (IsRight s registry a shelf) k.entries are) is)
+
+  -- how the answers that are kept for a call are its answers
+  record Caches {A : Type 0} (cache : Cache A) (key : List ℕ) (call : ℕ → Plain A) : Type 0 where
+    knows : (o : Answer) (x : A) → IsAnswer s registry a shelf key o → cache.read o ≡ Some x → Given call x
+    keeps : (x : A) → Given call x → IsAnswer s registry a shelf key (cache.kept_as x)
+
+  module _ {A : Type 0} {cache : Cache A} {key : List ℕ} {call : ℕ → Plain A} (caches : Caches cache key call) (now : ℕ) where
+    -- what is known is what the shelf gives
+    known_given : (answers : Option Answers) (x : A) → R answers → known cache key now answers ≡ Some x → Given call x
+    known_given None x are is = cc
+    known_given (Some k) x are is = by_found (find (is_of cache.kind key) k.entries) refl is where
+      by_moment : (e : Entry) (b : Bool) → find (is_of cache.kind key) k.entries ≡ Some e → option_and_then cache.read (if b then Some e.answer else None) ≡ Some x → Given call x
+      by_moment e true there read =
+          let found = found_all (IsRight s registry a shelf) (is_of cache.kind key) k.entries e are there in
+          let own : e.key ≡ key = (bytes_eq-Decides e.key key).0 (and_right (same_kind (kind_of e.answer) cache.kind) (bytes_eq e.key key) found.1) in
+          caches.knows e.answer x (subst (λ (t : List ℕ). IsAnswer s registry a shelf t e.answer) own found.0) read
+      by_moment e false there read = cc read
+
+      by_found : (o : Option Entry) → find (is_of cache.kind key) k.entries ≡ o → option_and_then cache.read (option_and_then (given_at now) o) ≡ Some x → Given call x
+      by_found None there read = cc read
+      by_found (Some e) there read = by_moment e (is_fresh now e.moment) there read
+
+    -- the plain call, whose answer is kept then
+    asked_comes : (Q : Result A SigstoreError → Type 0) (k : Kept) → I k → Comes (answer shelf) (λ l r. J l × Q r) (call now) k.0 → Comes (answer shelf) (λ l r. I l × Q r) (known_or cache key now (call now) None) k
+    unfolding Comes bind keeping
+    asked_comes Q k is h =
+        Comes-bind (answer shelf) (λ (l : Kept) r. ((J l.0 × Q r) × ComesTo (answer shelf) (call now) k.0 r) × (l.1 ≡ k.1)) (λ l r. I l × Q r) (lifted (call now)) (unless_refused (λ x. keeping cache key now x >> Done (Ok x))) k
+        (Comes-lifted (answer shelf) (λ l r. (J l × Q r) × ComesTo (answer shelf) (call now) k.0 r) (call now) k.0 k.1 (Comes-itself (answer shelf) (λ l r. J l × Q r) (call now) k.0 h))
+        by_result
+      where
+        by_result : (l : Kept) (r : Result A SigstoreError) → ((J l.0 × Q r) × ComesTo (answer shelf) (call now) k.0 r) × (l.1 ≡ k.1) → Comes (answer shelf) (λ l r. I l × Q r) (unless_refused (λ x. keeping cache key now x >> Done (Ok x)) r) l
+        by_result l (Ok x) ((found, comes), same) =
+            let given : Given call x = record { moment = now; kept = k.0; settled = is.0; comes = comes } in
+            ((found.0, kept_right (entry key now (cache.kept_as x)) l.1 (subst R (sym same) is.1) (caches.keeps x given)), found.1)
+        by_result l (Err e) ((found, comes), same) = ((found.0, subst R (sym same) is.1), found.1)
+
+    recalled_comes : (Q : Result A SigstoreError → Type 0) (k : Kept) → I k → ((x : A) → Given call x → Q (Ok x)) → Comes (answer shelf) (λ l r. J l × Q r) (call now) k.0 → Comes (answer shelf) (λ l r. I l × Q r) (recalled cache key now (call now)) k
+    unfolding Comes recalled
+    recalled_comes Q k is each h = by_known (known cache key now k.1) refl where
+      by_known : (o : Option A) → known cache key now k.1 ≡ o → Comes (answer shelf) (λ l r. I l × Q r) (known_or cache key now (call now) o) k
+      by_known (Some x) there = (is, each x (known_given k.1 x is.1 there))
+      by_known None there = asked_comes Q k is h
+
+    given_is : {P : A → Type 0} → ((m : ℕ) → Gives J (answer shelf) P (call m)) → (x : A) → Given call x → P x
+    given_is {P} h x g = ComesTo-is (answer shelf) (λ l r. J l × Yields P r) (call g.moment) g.kept (Ok x) (Yields P) (λ l r both. both.1) ((h g.moment).gives g.kept g.settled) g.comes
+
+    recalled_gives : {P : A → Type 0} → ((m : ℕ) → Gives J (answer shelf) P (call m)) → Gives I (answer shelf) P (recalled cache key now (call now))
+    recalled_gives {P} h = record { gives = λ k is. recalled_comes (Yields P) k is (given_is h) ((h now).gives k.0 is.0) }
+
+    recalled_stays : Stays J (answer shelf) (call now) → Stays I (answer shelf) (recalled cache key now (call now))
+    recalled_stays h = record {
+      stays = λ k is. Comes-more (answer shelf) (λ l r. I l × Unit {0}) (λ l r. I l) (recalled cache key now (call now)) k
+          (recalled_comes (λ r. Unit {0}) k is (λ x g. tt) (Comes-more (answer shelf) (λ l r. J l) (λ l r. J l × Unit {0}) (call now) k.0 (h.stays k.0 is.0) (λ l r stays. (stays, tt)))) (λ l r found. found.0);
+    }
+
+  module _ {A : Type 0} {cache : Cache A} {key : List ℕ} {call : ℕ → Plain A} where
+    cached_gives : {P : A → Type 0} (b : Bool) → (b ≡ true → Caches cache key call) → (now : ℕ) → ((m : ℕ) → Gives J (answer shelf) P (call m)) → Gives I (answer shelf) P (cached b cache key now (call now))
+    cached_gives true caches now h = recalled_gives (caches refl) now h
+    cached_gives false caches now h = Gives-lifted R (h now)
+
+    cached_stays : (b : Bool) → (b ≡ true → Caches cache key call) → (now : ℕ) → Stays J (answer shelf) (call now) → Stays I (answer shelf) (cached b cache key now (call now))
+    cached_stays true caches now h = recalled_stays (caches refl) now h
+    cached_stays false caches now h = Stays-lifted R h
+
+  -- ---- the four calls
+
+  module _ (image : Reference) (at : IsAt registry shelf image) where
+    of_image : reads_back image ≡ true → IsOf registry shelf image
+    of_image reads = record { reads = reads; at = at }
+
+    digest_caches : reads_back image ≡ true → Caches digests (manifest_key image a) (λ m. digest_made (within s m) image a)
+    digest_caches reads = record {
+      knows = knows;
+      keeps = λ x given other is same. subst (λ (r : Reference). Given (λ m. digest_made (within s m) r a) x) (same_image image other reads is.reads (sym ((manifest_keys_tell other image a a).0 same).0)) given;
+    } where
+      knows : (o : Answer) (x : List ℕ) → IsAnswer s registry a shelf (manifest_key image a) o → digests.read o ≡ Some x → Given (λ m. digest_made (within s m) image a) x
+      knows (Digest digest) x is read = let same : digest ≡ x = cc read in subst (Given (λ m. digest_made (within s m) image a)) same (is image (of_image reads) refl)
+      knows (Manifest document digest) x is read = cc read
+      knows (Image given) x is read = cc read
+      knows (Referrers index) x is read = cc read
+
+    manifest_caches : reads_back image ≡ true → Caches manifests (manifest_key image a) (λ m. manifest_made (within s m) image a)
+    manifest_caches reads = record {
+      knows = knows;
+      keeps = λ x given other is same. subst (λ (r : Reference). Given (λ m. manifest_made (within s m) r a) x) (same_image image other reads is.reads (sym ((manifest_keys_tell other image a a).0 same).0)) given;
+    } where
+      knows : (o : Answer) (x : OciManifest × List ℕ) → IsAnswer s registry a shelf (manifest_key image a) o → manifests.read o ≡ Some x → Given (λ m. manifest_made (within s m) image a) x
+      knows (Manifest document digest) x is read = let same : (document, digest) ≡ x = cc read in subst (Given (λ m. manifest_made (within s m) image a)) same (is image (of_image reads) refl)
+      knows (Digest digest) x is read = cc read
+      knows (Image given) x is read = cc read
+      knows (Referrers index) x is read = cc read
+
+    image_caches : (accepted : List (List ℕ)) → reads_back image ≡ true → Caches images (pull_key image a accepted) (λ m. image_made (within s m) image a accepted)
+    image_caches accepted reads = record {
+      knows = knows;
+      keeps = λ x given other kinds is same. let told = (pull_keys_tell other image a a kinds accepted).0 same in
+          subst (λ (types : List (List ℕ)). Given (λ m. image_made (within s m) other a types) x) (sym told.2)
+          (subst (λ (r : Reference). Given (λ m. image_made (within s m) r a accepted) x) (same_image image other reads is.reads (sym told.0)) given);
+    } where
+      knows : (o : Answer) (x : ImageData) → IsAnswer s registry a shelf (pull_key image a accepted) o → images.read o ≡ Some x → Given (λ m. image_made (within s m) image a accepted) x
+      knows (Image given) x is read = let same : given ≡ x = cc read in subst (Given (λ m. image_made (within s m) image a accepted)) same (is image accepted (of_image reads) refl)
+      knows (Digest digest) x is read = cc read
+      knows (Manifest document digest) x is read = cc read
+      knows (Referrers index) x is read = cc read
+
+    referrers_caches : (kind : Option (List ℕ)) → reads_back image ≡ true → Caches referrers (referrers_key image a kind) (λ m. referrers_made (within s m) image a kind)
+    referrers_caches kind reads = record {
+      knows = knows;
+      keeps = λ x given other type is same. let told = (referrers_keys_tell other image a a type kind).0 same in
+          subst (λ (t : Option (List ℕ)). Given (λ m. referrers_made (within s m) other a t) x) (sym told.2)
+          (subst (λ (r : Reference). Given (λ m. referrers_made (within s m) r a kind) x) (same_image image other reads is.reads (sym told.0)) given);
+    } where
+      knows : (o : Answer) (x : OciImageIndex) → IsAnswer s registry a shelf (referrers_key image a kind) o → referrers.read o ≡ Some x → Given (λ m. referrers_made (within s m) image a kind) x
+      knows (Referrers index) x is read = let same : index ≡ x = cc read in subst (Given (λ m. referrers_made (within s m) image a kind)) same (is image kind (of_image reads) refl)
+      knows (Digest digest) x is read = cc read
+      knows (Manifest document digest) x is read = cc read
+      knows (Image given) x is read = cc read
+
+    -- a call that gives this at each moment does so by what is kept too
+    pub digest_given : {P : List ℕ → Type 0} (now : ℕ) → ((m : ℕ) → Gives J (answer shelf) P (digest_made (within s m) image a)) → Gives I (answer shelf) P (digest_call (within s now) image a)
+    unfolding digest_call
+    digest_given now h = cached_gives (reads_back image) digest_caches now h
+
+    pub digest_settled : (now : ℕ) → Stays J (answer shelf) (digest_made (within s now) image a) → Stays I (answer shelf) (digest_call (within s now) image a)
+    unfolding digest_call
+    digest_settled now h = cached_stays (reads_back image) digest_caches now h
+
+    pub manifest_given : {P : OciManifest × List ℕ → Type 0} (now : ℕ) → ((m : ℕ) → Gives J (answer shelf) P (manifest_made (within s m) image a)) → Gives I (answer shelf) P (manifest_call (within s now) image a)
+    unfolding manifest_call
+    manifest_given now h = cached_gives (reads_back image) manifest_caches now h
+
+    pub manifest_settled : (now : ℕ) → Stays J (answer shelf) (manifest_made (within s now) image a) → Stays I (answer shelf) (manifest_call (within s now) image a)
+    unfolding manifest_call
+    manifest_settled now h = cached_stays (reads_back image) manifest_caches now h
+
+    pub image_given : {P : ImageData → Type 0} (accepted : List (List ℕ)) (now : ℕ) → ((m : ℕ) → Gives J (answer shelf) P (image_made (within s m) image a accepted)) → Gives I (answer shelf) P (image_call (within s now) image a accepted)
+    unfolding image_call
+    image_given accepted now h = cached_gives (reads_back image) (image_caches accepted) now h
+
+    pub image_settled : (accepted : List (List ℕ)) (now : ℕ) → Stays J (answer shelf) (image_made (within s now) image a accepted) → Stays I (answer shelf) (image_call (within s now) image a accepted)
+    unfolding image_call
+    image_settled accepted now h = cached_stays (reads_back image) (image_caches accepted) now h
+
+    pub referrers_given : {P : OciImageIndex → Type 0} (kind : Option (List ℕ)) (now : ℕ) → ((m : ℕ) → Gives J (answer shelf) P (referrers_made (within s m) image a kind)) → Gives I (answer shelf) P (referrers_call (within s now) image a kind)
+    unfolding referrers_call
+    referrers_given kind now h = cached_gives (reads_back image) (referrers_caches kind) now h
+
+    pub referrers_settled : (kind : Option (List ℕ)) (now : ℕ) → Stays J (answer shelf) (referrers_made (within s now) image a kind) → Stays I (answer shelf) (referrers_call (within s now) image a kind)
+    unfolding referrers_call
+    referrers_settled kind now h = cached_stays (reads_back image) (referrers_caches kind) now h
+
+-- a client that keeps nothing yet is settled
+pub new_settled : (s : Settings) (image : Reference) (a : RegistryAuth) (shelf : Shelf) (default : ℕ) (caching : Bool) → IsSettled s image a shelf (new default, no_answers caching)
+new_settled s image a shelf default true = record { memory = fresh_settled (resolved_registry image) (repository_of image) a default; answers = All-nil (IsRight s (resolved_registry image) a shelf) }
+new_settled s image a shelf default false = record { memory = fresh_settled (resolved_registry image) (repository_of image) a default; answers = tt }

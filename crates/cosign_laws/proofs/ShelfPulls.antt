@@ -1,0 +1,564 @@
+-- A search and a pull over a shelf find what stands there.
+use Rattle.std.specs.Prelude.{find, slice_index_or, MatchBool, if◌then◌else◌}
+use Rattle.std.specs.Option.{option_or}
+use Rattle.std.specs.List.{All}
+use Rattle.std.proofs.Common.{◌≡◌, ◌⊎◌, inl, inr, ◌<◌, ◌≤◌, ◌^◌, ◌-◌, ℕ, zero, suc, Bool, true, false, cond, List, [], ◌∷◌, ◌++◌, length, Option, Some, None, Result, Ok, Err, refl, sym, ap, ◌∙◌, subst, arith}
+use Rattle.std.proofs.lemmas.List.Folds.{find-append}
+use Rattle.std.proofs.lemmas.List.Elements.{All-head, All-tail}
+use Rattle.oci_names.specs.Grammar.{is_digest}
+use Rattle.oci_names.specs.Parts.{digest_refusal}
+use Rattle.oci_names.specs.Words.{Tag}
+use Rattle.oci_names.specs.References.{digest_of, whole_text, resolved_registry, reads_back}
+use Rattle.oci_names.specs.declared.reference.Reference.{Reference}
+use Rattle.oci_auth.specs.declared.auth.RegistryAuth.{RegistryAuth}
+use Rattle.oci_auth.specs.declared.memory.Memory.{Memory}
+use Rattle.oci_digests.specs.Names.{Names, digest_text}
+use Rattle.oci_digests.specs.declared.digester.Algorithm.TheVariants.{Sha256}
+use Rattle.oci_digests.proofs.Validated.{is_validated}
+use Rattle.oci_manifests.specs.declared.document.OciManifest.{OciManifest}
+use Rattle.oci_manifests.specs.declared.document.OciManifest.TheVariants.{Image, ImageIndex}
+use Rattle.oci_manifests.specs.declared.index.OciImageIndex.{OciImageIndex}
+use Rattle.oci_manifests.specs.declared.index_entry.ImageIndexEntry.{ImageIndexEntry}
+use Rattle.oci_manifests.specs.declared.manifest.OciImageManifest.{OciImageManifest}
+use Rattle.oci_manifests.specs.declared.descriptor.OciDescriptor.{OciDescriptor}
+use Rattle.oci_manifests.specs.declared.blob.ImageLayer.{ImageLayer}
+use Rattle.oci_transport.specs.Link.{Link, AnsweredBy}
+use Rattle.oci_transport.specs.declared.message.Request.{Request}
+use Rattle.oci_transport.specs.declared.message.Answer.{Answer}
+use Rattle.oci_protocol.specs.Proto.{Proto, Done, ◌>>=◌, ◌>>◌}
+use Rattle.oci_protocol.specs.Runs.{Runs, Meets}
+use Rattle.oci_transport.specs.declared.message.Exchange.{Exchange}
+use Rattle.oci_protocol.specs.Ends.{UnlessMemory}
+use Rattle.oci_link.specs.State.{answering}
+use Rattle.oci_link.specs.Table.{answer}
+use Rattle.oci_link.specs.declared.shelf.Shelf.{Shelf}
+use Rattle.engine_requests.specs.Answers.{or_digest_error}
+use Rattle.engine_requests.specs.Contexts.{Context, within}
+use Rattle.engine_requests.specs.Documents.{document_read}
+use Rattle.engine_requests.specs.Errors.{◌>>=◌ as ◌before◌, ◌>>◌ as ◌and◌}
+use Rattle.engine_requests.specs.Index.{entry_found, entry_manifest, entry_reference}
+use Rattle.engine_requests.specs.Requests.{manifest_types}
+use Rattle.engine_requests.specs.Sources.{Layer, described}
+use Rattle.engine_requests.specs.declared.error.OciDistributionError.{OciDistributionError}
+use Rattle.engine_requests.specs.declared.settings.Settings.{Settings}
+use Rattle.engine_rows.specs.Rows.{Row as Engine}
+use Rattle.engine_rows.specs.declared.image.ImageData.{ImageData}
+use Rattle.engine_rows.specs.Images.{layers_accepted, layer_of, config_of}
+use Rattle.sig_calls.specs.declared.error.SigstoreError.{SigstoreError}
+use Rattle.sig_calls.specs.declared.error.SigstoreError.TheVariants as sigstore
+use Rattle.sig_calls.specs.declared.wording.Called.{Called}
+use Rattle.sig_calls.specs.declared.wording.Called.TheVariants.{FetchManifest, Pull, PullManifest}
+use Rattle.sig_calls.specs.Errors.{is_memory as of_memory, worded}
+use Rattle.sig_calls.specs.Clients.{Kept, Row}
+use Rattle.sig_calls.specs.Calls.{in_words, digest_made, manifest_made, image_made, document_made, blob_made, referrers_made, document_call, blob_call, referrers_call}
+use Rattle.sig_answers.specs.declared.answers.Answers.{Answers}
+use Rattle.shelf_laws.specs.Comes.{Yields, OrMemory, Gives, Reaches}
+use Rattle.shelf_laws.specs.Home.{Home, IsAt, CanBeShown, Settled}
+use Rattle.shelf_laws.specs.Shelves.{HasBlob, HasLayer, LeadsTo, ImageOn, layers_on}
+use Rattle.shelf_laws.proofs.Coming.{Gives-done, Gives-next, Gives-more, Gives-caught, Reaches-done, Reaches-bind, Reaches-gives, Reaches-strict, Reaches-stays, Reaches-after, Reaches-next, TableOf, Runs-over, Meets-comes}
+use Rattle.shelf_laws.proofs.DigestTags.{sha256_named, tag_of_signatures}
+use Rattle.shelf_laws.proofs.Documents.{NoOther, raw_gives, digest_gives, blob_gives}
+use Rattle.shelf_laws.proofs.Images.{Points, points_itself, types_accepted, manifest_gives, pull_gives}
+use Rattle.shelf_laws.proofs.PlainNames.{tag_segment}
+use Rattle.shelf_laws.proofs.Pointing.{tag_named, image_points}
+use Rattle.shelf_laws.proofs.References.{Spelled, spelled, tag_reads_back, digest_reads_back, digest_is_digest, digest_is_known}
+use Rattle.shelf_laws.proofs.Requests.{yields_ok}
+use Rattle.shelf_laws.proofs.Listing.{referrers_give}
+use Rattle.shelf_laws.proofs.Lifted.{Gives-lifted}
+use Rattle.shelf_laws.proofs.Tokens.{given_gives}
+use Rattle.cosign_layers.specs.Constraint.{has_no_item}
+use Rattle.cosign_layers.specs.Standing.{Meaning, StandsFor}
+use Rattle.cosign_layers.specs.Trust.{Trust}
+use Rattle.cosign_layers.specs.declared.layer.SignatureLayer.{SignatureLayer}
+use Rattle.cosign_layers.proofs.Supports.{stands_by as supports_stand}
+use Rattle.cosign_chain.specs.declared.image.VerifiedImage.{VerifiedImage}
+use Rattle.cosign_rows.specs.Image.{named_by_reference, document_in, entry_in, layers_row, blobs_row, with_image, entry_call, entry_row, manifest_row, after_document, image_row}
+use Rattle.cosign_rows.specs.Part.{skipping, appended, layer_part, named_layer, read_layer, descriptor_part, descriptors_part, read_bundle, bundle_part, bundles_part}
+use Rattle.cosign_rows.specs.References.{signature_tag, tag_reference, digest_reference, or_not_valid, reading_back}
+use Rattle.cosign_rows.specs.Refusal.{is_memory, refused_as}
+use Rattle.cosign_rows.specs.Search.{payload_type, document_part, tag_layers, or_skipped, tag_by, tag_source, behind, bundle_type, referrer_part, referrer_by, referrer_row, referrers_row, listed_row, referrers_source, trusted_layers, searched}
+use Rattle.cosign_rows.specs.Settled.{AreRight, IsSettled}
+use Rattle.cosign_rows.specs.Verified.{Whole, constrained, is_unconstrained, readable_by, readable, as_whole, part_of, stands_by, standing_by, standing, verified_image, after_search, verified}
+use Rattle.cosign_rows.specs.declared.found.Part.{Part}
+use Rattle.cosign_rows.specs.declared.found.SkipCause.{SkipCause}
+use Rattle.cosign_rows.specs.declared.found.SkipCause.TheVariants.{NotAReference, Refused}
+use Rattle.cosign_rows.specs.declared.found.Skipped.{Skipped}
+use Rattle.cosign_rows.specs.declared.found.Skipped.TheVariants.{Source, Referrer}
+use Rattle.cosign_rows.specs.declared.found.SourceKind.TheVariants.{Tag as ByTag, Referrers}
+use Rattle.cosign_rows.specs.declared.found.TrustedLayers.{TrustedLayers}
+use Rattle.cosign_rows.specs.declared.refusal.PullRefusal.{PullRefusal}
+use Rattle.cosign_rows.specs.declared.refusal.PullRefusal.TheVariants as refusal
+use Rattle.cosign_rows.specs.Shelves.{IsAsked, SignedByTag, SignedByReferrer, ImageShelf, WideShelf, ValidShelf, AnswersFrom, OkOrMemory}
+use Rattle.cosign_laws.proofs.ShelfCalls.{digest_given, manifest_given, image_given, referrers_given}
+use Rattle.cosign_laws.proofs.ShelfStays.{home_of, image_at, tag_at, digest_at, referrer_at, entry_at, tag_stays, listing_stays, referrer_stays, verified_stays}
+
+-- ---- some layer stands
+
+-- one of these passes
+Has : (SignatureLayer → Bool) → List SignatureLayer → Type 0
+Has p layers = (layer : SignatureLayer) × (find p layers ≡ Some layer)
+
+has_left : (p : SignatureLayer → Bool) (xs ys : List SignatureLayer) → Has p xs → Has p (xs ++ ys)
+unfolding Has
+has_left p xs ys h = (h.0, find-append p xs ys ∙ ap (λ o. option_or o (find p ys)) h.1)
+
+has_right : (p : SignatureLayer → Bool) (xs ys : List SignatureLayer) → Has p ys → Has p (xs ++ ys)
+unfolding Has
+has_right p xs ys h = by_first (find p xs) refl where
+  by_first : (o : Option SignatureLayer) → find p xs ≡ o → (layer : SignatureLayer) × (find p (xs ++ ys) ≡ Some layer)
+  by_first None is = (h.0, find-append p xs ys ∙ ap (λ o. option_or o (find p ys)) is ∙ h.1)
+  by_first (Some x) is = (x, find-append p xs ys ∙ ap (λ o. option_or o (find p ys)) is)
+
+has_one : (p : SignatureLayer → Bool) (layer : SignatureLayer) → p layer ≡ true → Has p (layer ∷ [])
+unfolding Has
+has_one p layer is = (layer, ap (λ b. cond b (Some layer) None) is)
+
+-- a descriptor whose layer is read and passes
+stood : (p : SignatureLayer → Bool) (trust : Trust) (d : List ℕ) (layers : List ImageLayer) (x : OciDescriptor) (layer : SignatureLayer) → read_layer trust d x (named_layer x.digest layers) ≡ Ok layer → p layer ≡ true
+    → (xs : List OciDescriptor) (k : ℕ) → k < length xs → slice_index_or xs k x ≡ x → Has p (descriptors_part trust d layers xs).collected
+stood p trust d layers x layer reads passes [] k lt is = absurd (omega (arith, lt))
+stood p trust d layers x layer reads passes (y ∷ xs) zero lt is =
+    has_left p (descriptor_part trust d layers y).collected (descriptors_part trust d layers xs).collected
+    (subst (λ (z : OciDescriptor). Has p (descriptor_part trust d layers z).collected) (sym is) (subst (λ r. Has p (layer_part ByTag x.digest r).collected) (sym reads) (has_one p layer passes)))
+stood p trust d layers x layer reads passes (y ∷ xs) (suc k) lt is =
+    has_right p (descriptor_part trust d layers y).collected (descriptors_part trust d layers xs).collected (stood p trust d layers x layer reads passes xs k (omega (arith, lt)) is)
+
+-- a bundle that is read and passes
+bundle_stood : (p : SignatureLayer → Bool) (trust : Trust) (d : List ℕ) (x : ImageLayer) (layer : SignatureLayer) → read_bundle trust d (digest_text Sha256 x.content) x ≡ Ok layer → p layer ≡ true
+    → (xs : List ImageLayer) (k : ℕ) → k < length xs → slice_index_or xs k x ≡ x → Has p (bundles_part trust d xs).collected
+bundle_stood p trust d x layer reads passes [] k lt is = absurd (omega (arith, lt))
+bundle_stood p trust d x layer reads passes (y ∷ xs) zero lt is =
+    has_left p (bundle_part trust d y).collected (bundles_part trust d xs).collected
+    (subst (λ (z : ImageLayer). Has p (bundle_part trust d z).collected) (sym is) (subst (λ r. Has p (layer_part Referrers (digest_text Sha256 x.content) r).collected) (sym reads) (has_one p layer passes)))
+bundle_stood p trust d x layer reads passes (y ∷ xs) (suc k) lt is =
+    has_right p (bundle_part trust d y).collected (bundles_part trust d xs).collected (bundle_stood p trust d x layer reads passes xs k (omega (arith, lt)) is)
+
+-- ---- calls in words
+
+words_give : {J : Memory → Type 0} {table : Request → Answer} {A : Type 0} {P : A → Type 0} {p : Engine A} (called : Called) (image : Reference) → Gives J table P p → Gives J table P (in_words called image p)
+unfolding in_words
+words_give called image h = Gives-caught (λ r. Done (worded called (whole_text image) r)) h (λ a is. Gives-done (Ok a) is)
+
+module _ {I : Kept → Type 0} {table : Request → Answer} where
+  -- a step with no request, which is not refused
+  said : {A : Type 0} (called : Called) (text : List ℕ) (r : Result A OciDistributionError) (a : A) → r ≡ Ok a → Gives I table (λ (x : A). x ≡ a) (let p : Row A = Done (worded called text r) in p)
+  said called text r a is = Gives-done (worded called text r) (yields_ok (λ x. x ≡ a) (worded called text r) a (ap (λ (x : Result _ OciDistributionError). worded called text x) is) refl)
+
+-- ---- the document of the image's digest
+
+named_ok : (o : Option (List ℕ)) (bytes digest : List ℕ) → Names digest bytes → NoOther o digest → named_by_reference o bytes ≡ Ok tt
+named_ok None bytes digest named other = refl
+named_ok (Some own) bytes digest named other =
+    ap (λ r. or_digest_error r and Ok tt) (is_validated bytes None (Some own) own (record { header_names = tt; reference_names = subst (λ (t : List ℕ). Names t bytes) (sym other) named; answer = refl }))
+
+shelf_table : (shelf : Shelf) → TableOf (answer shelf) (answering shelf)
+unfolding answering
+shelf_table shelf = record { answer = λ place request. refl; never = λ place. refl }
+
+some_constraint : {C : Type 0} (cs : List C) → 0 < length cs → has_no_item cs ≡ false
+some_constraint [] h = absurd (omega (arith, h))
+some_constraint (c ∷ cs) h = refl
+
+module _ {V : Type 0} {H : V → Type 0} (meaning : Meaning V H) (s : Settings) (image : Reference) (a : RegistryAuth) (accepted : List (List ℕ)) (shelf : Shelf) (valid : ImageShelf s image a accepted shelf) (moment : ℕ) where
+  abbrev registry : List ℕ
+  registry = resolved_registry image
+
+  abbrev J : Memory → Type 0
+  J k = Settled registry shelf.repository a k
+
+  abbrev R : Option Answers → Type 0
+  R answers = AreRight s registry a shelf answers
+
+  abbrev I : Kept → Type 0
+  I k = J k.0 × R k.1
+
+  abbrev ctx : Context
+  ctx = record { settings = s; moment = moment }
+
+  abbrev digest : List ℕ
+  digest = valid.digest
+
+  abbrev first : List ℕ
+  first = valid.image_on.first
+
+  abbrev can : CanBeShown a
+  can = valid.asked.credentials
+
+  spelling : Spelled image
+  spelling = spelled image valid.asked.reads_back_is
+
+  home : Home s registry shelf
+  home = home_of valid.asked
+
+  at_image : IsAt registry shelf image
+  at_image = image_at valid.asked
+
+  at_tag : IsAt registry shelf (tag_reference image digest)
+  at_tag = tag_at valid.asked digest
+
+  at_digest : IsAt registry shelf (digest_reference image digest)
+  at_digest = digest_at valid.asked digest
+
+  points_image : Points shelf image digest
+  points_image = image_points shelf image digest first spelling valid.image_on.there valid.named
+
+  digest_back : reads_back (digest_reference image digest) ≡ true
+  digest_back =
+      let named = valid.image_on.there.named in
+      digest_reads_back image spelling digest (ap is_digest named.1 ∙ digest_is_digest named.0 first) (ap digest_refusal named.1 ∙ digest_is_known named.0 first)
+
+  abbrev source : Reference
+  source = digest_reference image digest
+
+  -- a part in which a layer stands
+  abbrev Stood : Part → Type 0
+  Stood part = Has (stands_by meaning) part.collected
+
+  stands_is : (layer : SignatureLayer) → StandsFor meaning digest layer → stands_by meaning layer ≡ true
+  stands_is layer h = supports_stand meaning.trust.valid meaning.policy meaning.own layer h.supports
+
+  -- ---- the signature tag
+
+  module _ (tag_reads : reads_back (tag_reference image digest) ≡ true) (signed : SignedByTag meaning digest shelf) where
+    tag_is : Tag (signature_tag digest)
+    tag_is = (spelled (tag_reference image digest) tag_reads).tag_is
+
+    points_tag : Points shelf (tag_reference image digest) signed.signatures
+    points_tag = record { plain = tag_segment (signature_tag digest) tag_is; points = tag_named shelf (signature_tag digest) tag_is ∙ signed.tagged; other = tt }
+
+    abbrev signatures_on : ImageOn s shelf signed.signatures (payload_type ∷ [])
+    signatures_on = record { first = signed.there.0; there = signed.there.1; document = Image signed.manifest; reads = signed.there.2; manifest = signed.manifest; leads = refl; blobs = signed.payloads }
+
+    -- a layer that stands is under the tag
+    stood_here : Has (stands_by meaning) (descriptors_part meaning.trust digest (layers_on shelf signed.manifest.layers) signed.manifest.layers).collected
+    stood_here = stood (stands_by meaning) meaning.trust digest (layers_on shelf signed.manifest.layers) signed.standing.descriptor signed.standing.layer signed.standing.reads (stands_is signed.standing.layer signed.standing.stands_for) signed.manifest.layers signed.standing.listed.0 signed.standing.listed.1 signed.standing.listed.2
+
+    abbrev IsSigned : OciManifest × List ℕ → Type 0
+    IsSigned found = found ≡ (Image signed.manifest, signed.signatures)
+
+    tag_document : (m : ℕ) → Gives J (answer shelf) IsSigned (manifest_made (within s m) (tag_reference image digest) a)
+    unfolding manifest_made
+    tag_document m = words_give PullManifest (tag_reference image digest) (manifest_gives home valid.short a can m (tag_reference image digest) signed.signatures signed.there.0 (Image signed.manifest) at_tag points_tag signed.there.1 signed.there.2)
+
+    tag_image : (m : ℕ) → Gives J (answer shelf) (λ (pulled : ImageData). pulled.layers ≡ layers_on shelf signed.manifest.layers) (image_made (within s m) (tag_reference image digest) a (payload_type ∷ []))
+    unfolding image_made
+    tag_image m = words_give Pull (tag_reference image digest) (pull_gives home valid.short a can m (tag_reference image digest) signed.signatures (payload_type ∷ []) signatures_on at_tag points_tag)
+
+    tag_gives : Gives I (answer shelf) Stood (tag_layers meaning.trust digest ctx (tag_reference image digest) a)
+    unfolding tag_layers
+    tag_gives =
+        Gives-next _ (manifest_given s registry a shelf (tag_reference image digest) at_tag moment tag_document) (λ document known.
+        Gives-next _ (image_given s registry a shelf (tag_reference image digest) at_tag (payload_type ∷ []) moment tag_image) (λ pulled same.
+        Gives-done (Ok (document_part meaning.trust digest document.0 pulled)) (subst (λ (p : OciManifest × List ℕ). Has (stands_by meaning) (document_part meaning.trust digest p.0 pulled).collected) (sym known) (subst (λ (layers : List ImageLayer). Has (stands_by meaning) (descriptors_part meaning.trust digest layers signed.manifest.layers).collected) (sym same) stood_here))))
+
+    source_gives : Gives I (answer shelf) Stood (tag_source meaning.trust ctx image a digest)
+    unfolding tag_source
+    source_gives = subst (λ b. Gives I (answer shelf) Stood (tag_by meaning.trust digest ctx (tag_reference image digest) a b)) (sym tag_reads) (Gives-caught (λ r. Done (or_skipped ByTag r)) tag_gives (λ part is. Gives-done (Ok part) is))
+
+  -- what a part is of which nothing is known
+  abbrev AnyPart : Part → Type 0
+  AnyPart part = Unit {0}
+
+  skipped_by : (b : Bool) (cause : Skipped) (e : SigstoreError) → of_memory e ≡ b → OrMemory of_memory AnyPart (if b then Err e else Ok (skipping cause))
+  skipped_by true cause e is = is
+  skipped_by false cause e is = tt
+
+  skipped_any : (r : Result Part SigstoreError) → OrMemory of_memory AnyPart (or_skipped ByTag r)
+  skipped_any (Ok part) = tt
+  skipped_any (Err e) = skipped_by (of_memory e) (Source ByTag (Refused e)) e refl
+
+  by_reading : (b : Bool) → Reaches I (answer shelf) (OrMemory of_memory AnyPart) (tag_by meaning.trust digest ctx (tag_reference image digest) a b)
+  by_reading false = Reaches-done (Ok (skipping (Source ByTag (NotAReference (whole_text (tag_reference image digest)))))) tt
+  by_reading true = Reaches-bind _ (Reaches-stays (tag_stays meaning s image a accepted shelf valid.asked moment digest)) (λ r u. Reaches-done (or_skipped ByTag r) (skipped_any r))
+
+  source_reaches : Reaches I (answer shelf) (OrMemory of_memory AnyPart) (tag_source meaning.trust ctx image a digest)
+  unfolding tag_source
+  source_reaches = by_reading (reads_back (tag_reference image digest))
+
+  -- ---- the referrers, whatever they are
+
+  at_referrer : (x : List ℕ) → IsAt registry shelf (digest_reference source x)
+  at_referrer x = referrer_at valid.asked digest x
+
+  -- what is so of a part and of all that stand behind it
+  record Grows (P : Part → Type 0) : Type 0 where
+    grows : (part more : Part) → P part → P (appended part more)
+
+  stood_grows : Grows Stood
+  stood_grows = record { grows = λ part more h. has_left (stands_by meaning) part.collected more.collected h }
+
+  any_grows : Grows AnyPart
+  any_grows = record { grows = λ part more h. tt }
+
+  module _ (P : Part → Type 0) (growing : Grows P) where
+    behind_by : (b : Bool) (part : Part) (cause : Skipped) (e : SigstoreError) → of_memory e ≡ b → P part → OrMemory of_memory P (if b then Err e else Ok (appended part (skipping cause)))
+    behind_by true part cause e is h = is
+    behind_by false part cause e is h = growing.grows part (skipping cause) h
+
+    behind_is : (part : Part) (place : SkipCause → Skipped) (r : Result Part SigstoreError) → P part → OrMemory of_memory P (behind part place r)
+    behind_is part place (Ok more) h = growing.grows part more h
+    behind_is part place (Err e) h = behind_by (of_memory e) part (place (Refused e)) e refl h
+
+    referrer_reaches : (x : List ℕ) (part : Part) (b : Bool) → P part → Reaches I (answer shelf) (OrMemory of_memory P) (referrer_by meaning.trust digest ctx (digest_reference source x) a x part b)
+    referrer_reaches x part false h = Reaches-done (Ok (appended part (skipping (Referrer x (NotAReference (whole_text (digest_reference source x))))))) (growing.grows part (skipping (Referrer x (NotAReference (whole_text (digest_reference source x))))) h)
+    referrer_reaches x part true h = Reaches-bind _ (Reaches-stays (referrer_stays meaning s image a accepted shelf valid.asked moment digest x)) (λ r u. Reaches-done _ (behind_is part (Referrer x) (referrer_part meaning.trust digest r) h))
+
+    each_reaches : (xs : List ImageIndexEntry) (part : Part) → P part → Reaches I (answer shelf) (OrMemory of_memory P) (referrers_row meaning.trust digest ctx source a xs part)
+    unfolding referrers_row referrer_row
+    each_reaches [] part h = Reaches-done (Ok part) h
+    each_reaches (x ∷ xs) part h = Reaches-next _ (referrer_reaches x.digest part (reads_back (digest_reference source x.digest)) h) (λ more holds. each_reaches xs more holds)
+
+    listed_reaches : (part : Part) (r : Result OciImageIndex SigstoreError) → P part → Reaches I (answer shelf) (OrMemory of_memory P) (listed_row meaning.trust digest ctx source a part r)
+    listed_reaches part (Ok index) h = each_reaches index.manifests part h
+    listed_reaches part (Err e) h = Reaches-done _ (behind_is part (Source Referrers) (Err e) h)
+
+  referrers_reach : (part : Part) → Stood part → Reaches I (answer shelf) (OrMemory of_memory Stood) (referrers_source meaning.trust digest ctx source a part)
+  unfolding referrers_source
+  referrers_reach part h = Reaches-bind _ (Reaches-stays (listing_stays meaning s image a accepted shelf valid.asked moment digest)) (λ r u. listed_reaches Stood stood_grows part r h)
+
+  any_row : (y : ImageIndexEntry) (part : Part) → Reaches I (answer shelf) (OrMemory of_memory AnyPart) (referrer_row meaning.trust digest ctx source a y.digest part)
+  unfolding referrer_row
+  any_row y part = referrer_reaches AnyPart any_grows y.digest part (reads_back (digest_reference source y.digest)) tt
+
+  -- ---- a referrer that stands
+
+  module _ (signed : SignedByReferrer meaning s image digest shelf) where
+    abbrev x : List ℕ
+    x = signed.entry.digest
+
+    points_entry : Points shelf (digest_reference source x) x
+    points_entry = points_itself shelf (digest_reference source x) x signed.bundles.first refl signed.bundles.there
+
+    bundles_stand : Has (stands_by meaning) (bundles_part meaning.trust digest (layers_on shelf signed.bundles.manifest.layers)).collected
+    bundles_stand = bundle_stood (stands_by meaning) meaning.trust digest signed.bundle signed.layer signed.reads (stands_is signed.layer signed.stands_for) (layers_on shelf signed.bundles.manifest.layers) signed.listed.0 signed.listed.1 signed.listed.2
+
+    entry_image : (m : ℕ) → Gives J (answer shelf) (λ (pulled : ImageData). pulled.layers ≡ layers_on shelf signed.bundles.manifest.layers) (image_made (within s m) (digest_reference source x) a (bundle_type ∷ []))
+    unfolding image_made
+    entry_image m = words_give Pull (digest_reference source x) (pull_gives home valid.short a can m (digest_reference source x) x (bundle_type ∷ []) signed.bundles (at_referrer x) points_entry)
+
+    entry_gives : (part : Part) → Gives I (answer shelf) Stood (referrer_by meaning.trust digest ctx (digest_reference source x) a x part true)
+    entry_gives part =
+        Gives-caught (λ r. Done (behind part (Referrer x) (referrer_part meaning.trust digest r)))
+        (image_given s registry a shelf (digest_reference source x) (at_referrer x) (bundle_type ∷ []) moment entry_image)
+        (λ pulled same. Gives-done (Ok (appended part (bundles_part meaning.trust digest pulled.layers))) (has_right (stands_by meaning) part.collected (bundles_part meaning.trust digest pulled.layers).collected (subst (λ (layers : List ImageLayer). Has (stands_by meaning) (bundles_part meaning.trust digest layers).collected) (sym same) bundles_stand)))
+
+    row_gives : (part : Part) → Gives I (answer shelf) Stood (referrer_row meaning.trust digest ctx source a x part)
+    unfolding referrer_row
+    row_gives part = subst (λ b. Gives I (answer shelf) Stood (referrer_by meaning.trust digest ctx (digest_reference source x) a x part b)) (sym signed.entry_reads) (entry_gives part)
+
+    -- from any part, as far as that entry, and then on
+    each_stands : (xs : List ImageIndexEntry) (k : ℕ) (part : Part) → k < length xs → slice_index_or xs k signed.entry ≡ signed.entry → Reaches I (answer shelf) (OrMemory of_memory Stood) (referrers_row meaning.trust digest ctx source a xs part)
+    unfolding referrers_row
+    each_stands [] k part lt is = absurd (omega (arith, lt))
+    each_stands (y ∷ xs) zero part lt is = Reaches-after _ (subst (λ (z : ImageIndexEntry). Gives I (answer shelf) Stood (referrer_row meaning.trust digest ctx source a z.digest part)) (sym is) (row_gives part)) (λ more holds. each_reaches Stood stood_grows xs more holds)
+    each_stands (y ∷ xs) (suc k) part lt is = Reaches-next _ (any_row y part) (λ more u. each_stands xs k more (omega (arith, lt)) is)
+
+    listing : (m : ℕ) → Gives J (answer shelf) (λ (index : OciImageIndex). index ≡ signed.index) (referrers_made (within s m) source a None)
+    unfolding referrers_made
+    listing m = Gives-next _ (words_give FetchManifest source (given_gives home source at_digest a can m)) (λ u given. words_give PullManifest source (referrers_give home valid.short source at_digest a can m digest first valid.image_on.there.named signed.index refl signed.lists))
+
+    listing_gives : Gives I (answer shelf) (λ (index : OciImageIndex). index ≡ signed.index) (referrers_call ctx source a None)
+    listing_gives = referrers_given s registry a shelf source at_digest None moment listing
+
+    listed_stands : (part : Part) (r : Result OciImageIndex SigstoreError) → Yields (λ (index : OciImageIndex). index ≡ signed.index) r → Reaches I (answer shelf) (OrMemory of_memory Stood) (listed_row meaning.trust digest ctx source a part r)
+    listed_stands part (Ok index) is = subst (λ (i : OciImageIndex). Reaches I (answer shelf) (OrMemory of_memory Stood) (referrers_row meaning.trust digest ctx source a i.manifests part)) (sym is) (each_stands signed.index.manifests signed.among.0 part signed.among.1 signed.among.2)
+    listed_stands part (Err e) is = absurd is
+
+    referrers_stand : (part : Part) → Reaches I (answer shelf) (OrMemory of_memory Stood) (referrers_source meaning.trust digest ctx source a part)
+    unfolding referrers_source
+    referrers_stand part = Reaches-bind _ (Reaches-gives listing_gives) (λ r is. listed_stands part r is)
+
+  -- ---- the search
+
+  -- the digest, and a layer that stands
+  abbrev Found : TrustedLayers → Type 0
+  Found found = (found.digest ≡ digest) × Has (stands_by meaning) found.collected
+
+  abbrev Signed : Type 0
+  Signed = ((reads_back (tag_reference image digest) ≡ true) × SignedByTag meaning digest shelf) ⊎ SignedByReferrer meaning s image digest shelf
+
+  both_reach : Signed → Reaches I (answer shelf) (OrMemory of_memory Found) (tag_source meaning.trust ctx image a digest >>= λ tag. referrers_source meaning.trust digest ctx source a tag >>= λ found. Done (Ok (trusted_layers digest found)))
+  both_reach (inl (tag_reads, signed)) = Reaches-after _ (source_gives tag_reads signed) (λ tag is. Reaches-next _ (referrers_reach tag is) (λ found stands. Reaches-done (Ok (trusted_layers digest found)) (refl, stands)))
+  both_reach (inr signed) = Reaches-next _ source_reaches (λ tag u. Reaches-next _ (referrers_stand signed tag) (λ found stands. Reaches-done (Ok (trusted_layers digest found)) (refl, stands)))
+
+  digest_step : (m : ℕ) → Gives J (answer shelf) (λ (d : List ℕ). d ≡ digest) (digest_made (within s m) image a)
+  unfolding digest_made
+  digest_step m = words_give FetchManifest image (digest_gives home valid.short image at_image a can m digest first valid.image_on.there points_image.plain points_image.points points_image.other)
+
+  search_reaches : Signed → Reaches I (answer shelf) (OrMemory of_memory Found) (searched meaning.trust ctx image a)
+  unfolding searched
+  search_reaches signed =
+      Reaches-after _ (digest_given s registry a shelf image at_image moment digest_step) (λ d known.
+      subst (λ (t : List ℕ). Reaches I (answer shelf) (OrMemory of_memory Found) (Done (reading_back (digest_reference image t)) >> (tag_source meaning.trust ctx image a t >>= λ tag. referrers_source meaning.trust t ctx (digest_reference image t) a tag >>= λ found. Done (Ok (trusted_layers t found))))) (sym known)
+      (Reaches-after _ (Gives-done (reading_back source) (yields_ok (λ u. Unit {0}) (reading_back source) tt (ap (or_not_valid source) digest_back) tt)) (λ u read. both_reach signed)))
+
+  -- ---- the image
+
+  points_source : Points shelf source digest
+  points_source = points_itself shelf source digest first refl valid.image_on.there
+
+  document_ok : document_in image first ≡ Ok valid.image_on.document
+  document_ok = ap (λ r. r and document_read first) (named_ok (digest_of image) first digest valid.image_on.there.named points_image.other) ∙ valid.image_on.reads
+
+  blob_row_gives : (x : Layer) (has : HasBlob shelf x.digest) → Gives I (answer shelf) (λ (b : List ℕ). Unit {0}) (blob_call ctx source x)
+  unfolding blob_call blob_made
+  blob_row_gives x has = Gives-lifted R (Gives-more (λ (b : List ℕ). Unit {0}) (words_give Pull source (blob_gives home valid.short source at_digest a can moment x has)) (λ b is. tt))
+
+  layers_row_give : (xs : List OciDescriptor) (given : List ImageLayer) → All (HasLayer shelf accepted) xs → Gives I (answer shelf) (λ (layers : List ImageLayer). Unit {0}) (layers_row ctx source xs given)
+  unfolding layers_row
+  layers_row_give [] given all = Gives-done (Ok given) tt
+  layers_row_give (x ∷ xs) given all = Gives-next _ (blob_row_gives (described x) (All-head (HasLayer shelf accepted) x xs all).0) (λ content u. layers_row_give xs (given ++ layer_of x content ∷ []) (All-tail (HasLayer shelf accepted) x xs all))
+
+  blobs_row_gives : Gives I (answer shelf) (λ p. Unit {0}) (blobs_row ctx source accepted valid.image_on.manifest)
+  unfolding blobs_row
+  blobs_row_gives =
+      let has = valid.image_on.blobs in
+      Gives-next _ (blob_row_gives (described valid.image_on.manifest.config) has.config) (λ content u.
+      Gives-next _ (said Pull (whole_text source) (layers_accepted accepted valid.image_on.manifest.layers) tt (types_accepted shelf accepted valid.image_on.manifest.layers has.some has.layers)) (λ u checked.
+      Gives-next _ (layers_row_give valid.image_on.manifest.layers [] has.layers) (λ layers u.
+      Gives-done (Ok (config_of valid.image_on.manifest content, layers)) tt)))
+
+  -- the row comes to an answer of which this is so
+  abbrev From : {A E : Type 0} → Proto Kept (Result A E) → (A → Type 0) → Type 0
+  From p P = Gives I (answer shelf) P p
+
+  chosen_gives : (document : OciManifest) → LeadsTo s shelf document valid.image_on.manifest → From (manifest_row ctx source a first document) (λ chosen. chosen.manifest ≡ valid.image_on.manifest)
+  unfolding entry_row entry_call document_call document_made
+  chosen_gives (Image own) leads = Gives-done (Ok (record { bytes = first; manifest = own; entry = None })) leads
+  chosen_gives (ImageIndex index) (entry, is, (bytes, has, reads)) =
+      let own : Reference = entry_reference source entry in
+      let at_own : IsAt registry shelf own = entry_at valid.asked digest entry in
+      let points = points_itself shelf own entry bytes refl has in
+      Gives-next _ (said Pull (whole_text source) (entry_found s.platform_resolver index.manifests) entry is) (λ e same.
+      Gives-next _ (subst (λ (t : List ℕ). Gives I (answer shelf) (λ found. found.0 ≡ bytes) (entry_call ctx source a t)) (sym same)
+      (Gives-caught (λ r. Done (with_image (whole_text source) r)) (Gives-lifted R (words_give Pull own (raw_gives home valid.short own at_own a can moment entry bytes manifest_types has points.plain points.points points.other refl))) (λ found known. Gives-done (Ok found) (ap (λ (p : List ℕ × List ℕ). p.0) known)))) (λ found known.
+      Gives-next _ (said Pull (whole_text source) (entry_in e found.0) valid.image_on.manifest (ap (λ (t : List ℕ). document_read t before entry_manifest e) known ∙ ap (λ r. r before entry_manifest e) reads)) (λ manifest chosen.
+      Gives-done (Ok (record { bytes = found.0; manifest = manifest; entry = Some e })) chosen)))
+
+  image_gives : Gives I (answer shelf) (λ pulled. Unit {0}) (image_row ctx image source a accepted)
+  unfolding image_row document_call document_made
+  image_gives =
+      Gives-next _ (Gives-lifted R (words_give Pull source (raw_gives home valid.short source at_digest a can moment digest first manifest_types valid.image_on.there points_source.plain points_source.points points_source.other refl))) (λ found known.
+      subst (λ (p : List ℕ × List ℕ). Gives I (answer shelf) (λ pulled. Unit {0}) (after_document ctx image source a accepted p.0)) (sym known)
+      (Gives-next _ (said Pull (whole_text source) (document_in image first) valid.image_on.document document_ok) (λ document same.
+      Gives-next _ (subst (λ (t : OciManifest). From (manifest_row ctx source a first t) (λ chosen. chosen.manifest ≡ valid.image_on.manifest)) (sym same) (chosen_gives valid.image_on.document valid.image_on.leads)) (λ chosen is.
+      Gives-next _ (subst (λ (m : OciImageManifest). Gives I (answer shelf) (λ p. Unit {0}) (blobs_row ctx source accepted m)) (sym is) blobs_row_gives) (λ blobs u.
+      Gives-done (Ok (record { first = first; chosen = chosen; config = blobs.0; layers = blobs.1 })) tt)))))
+
+  -- ---- the whole
+
+  part_gives : {A : Type 0} {P : A → Type 0} {p : Row A} → Gives I (answer shelf) P p → Gives I (answer shelf) P (part_of p)
+  unfolding part_of
+  part_gives h = Gives-caught (λ r. Done (as_whole r)) h (λ a is. Gives-done (Ok a) is)
+
+  -- want of memory in a part is that of the whole
+  refused_memory : (e : SigstoreError) → of_memory e ≡ true → is_memory (refused_as e) ≡ true
+  refused_memory sigstore.WantOfMemory is = refl
+  refused_memory (sigstore.OciReferenceNotValidError r) is = absurd (cc is)
+  refused_memory (sigstore.RegistryFetchManifestError i e) is = absurd (cc is)
+  refused_memory (sigstore.RegistryPullError i e) is = absurd (cc is)
+  refused_memory (sigstore.RegistryPullManifestError i e) is = absurd (cc is)
+
+  as_whole_is : {A : Type 0} (P : A → Type 0) (r : Result A SigstoreError) → OrMemory of_memory P r → OrMemory is_memory P (as_whole r)
+  as_whole_is P (Ok a) h = h
+  as_whole_is P (Err e) h = refused_memory e h
+
+  part_reaches : {A : Type 0} {P : A → Type 0} {p : Row A} → Reaches I (answer shelf) (OrMemory of_memory P) p → Reaches I (answer shelf) (OrMemory is_memory P) (part_of p)
+  unfolding part_of
+  part_reaches {A} {P} h = Reaches-bind (λ r. Done (as_whole r)) h (λ r is. Reaches-done (as_whole r) (as_whole_is P r is))
+
+  constraint_is : Signed → 0 < length meaning.policy.constraints
+  constraint_is (inl (tag_reads, signed)) = signed.standing.stands_for.constrained
+  constraint_is (inr signed) = signed.stands_for.constrained
+
+  constrained_is : Signed → constrained (is_unconstrained meaning.policy) ≡ Ok tt
+  constrained_is signed = ap constrained (some_constraint meaning.policy.constraints (constraint_is signed))
+
+  readable_is : readable image ≡ Ok tt
+  readable_is = ap (readable_by image) valid.asked.reads_back_is
+
+  standing_is : (found : TrustedLayers) (layer : SignatureLayer) → find (stands_by meaning) found.collected ≡ Some layer → standing meaning found ≡ Ok (record { digest = found.digest; signature = layer })
+  standing_is found layer is = ap (standing_by found) is
+
+  standing_gives : (found : TrustedLayers) (layer : SignatureLayer) → find (stands_by meaning) found.collected ≡ Some layer → found.digest ≡ digest → From (let p : Whole _ = Done (standing meaning found) in p) (λ stood. stood.digest ≡ digest)
+  standing_gives found layer is known = Gives-done (standing meaning found) (subst (Yields _) (sym (standing_is found layer is)) known)
+
+  found_gives : (found : TrustedLayers) → Found found → Gives I (answer shelf) (λ (v : VerifiedImage). Unit {0}) (after_search meaning ctx image a accepted found)
+  unfolding after_search Has
+  found_gives found (known, (layer, is)) =
+      Gives-next _ (standing_gives found layer is known) (λ stood same.
+      Gives-next _ (subst (λ (t : List ℕ). Gives I (answer shelf) (λ pulled. Unit {0}) (part_of (image_row ctx image (digest_reference image t) a accepted))) (sym same) (part_gives image_gives)) (λ pulled u.
+      Gives-done (Ok (verified_image stood pulled)) tt))
+
+  pub verified_reaches : Signed → Reaches I (answer shelf) (OrMemory is_memory (λ (v : VerifiedImage). Unit {0})) (verified meaning ctx image a accepted)
+  unfolding verified
+  verified_reaches signed =
+      Reaches-after _ (Gives-done (constrained (is_unconstrained meaning.policy)) (yields_ok (λ u. Unit {0}) (constrained (is_unconstrained meaning.policy)) tt (constrained_is signed) tt)) (λ u checked.
+      Reaches-after _ (Gives-done (readable image) (yields_ok (λ u. Unit {0}) (readable image) tt readable_is tt)) (λ u read.
+      Reaches-next _ (part_reaches (search_reaches signed)) (λ found is. Reaches-strict is_memory (found_gives found is))))
+
+  -- ---- the call
+
+  memory_is : (e : PullRefusal) → is_memory e ≡ true → e ≡ refusal.WantOfMemory
+  memory_is refusal.WantOfMemory is = refl
+  memory_is _ is = absurd (cc is)
+
+  by_memory : (b : Bool) (e : PullRefusal) (P : Type 0) → is_memory e ≡ b → MatchBool b (Unit {0}) (P × (is_memory e ≡ true)) → e ≡ refusal.WantOfMemory
+  by_memory true e P is h = memory_is e is
+  by_memory false e P is h = memory_is e h.1
+
+  answered : (l : Kept) (r : Result VerifiedImage PullRefusal) → UnlessMemory is_memory (λ r. I l × OrMemory is_memory (λ (v : VerifiedImage). Unit {0}) r) r → OkOrMemory r
+  answered l (Ok v) h = tt
+  answered l (Err e) h = by_memory (is_memory e) e (I l) refl h
+
+  settled_in : (k : Kept) → IsSettled s image a shelf k → I k
+  settled_in k settled = (subst (λ (t : List ℕ). Settled registry t a k.0) valid.asked.repository_is settled.memory, settled.answers)
+
+  -- over a wide shelf a client that is settled gets the image, or memory is wanting
+  pub completed_wide : Signed → {old new : Link} {k l : Kept} (r : Result VerifiedImage PullRefusal) → AnswersFrom shelf old → IsSettled s image a shelf k → Meets is_memory (verified meaning ctx image a accepted) old new k l r → OkOrMemory r
+  completed_wide signed {old} {new} {k} {l} r from settled met =
+      answered l r (Meets-comes (answer shelf) (λ l r. I l × OrMemory is_memory (λ (v : VerifiedImage). Unit {0}) r) (answering shelf) (verified meaning ctx image a accepted) from.before old new k l r (shelf_table shelf) from.answers from.told from.faults
+      ((verified_reaches signed).reaches k (settled_in k settled)) met)
+
+  -- the same of a whole run without faults
+  pub run_wide : Signed → (k l : Kept) (place m n : ℕ) (c : List Exchange) (r : Result VerifiedImage PullRefusal) → IsSettled s image a shelf k → AnsweredBy (answering shelf) place c → n ≤ m → m < 2 ^ 64 - 1 → Runs (verified meaning ctx image a accepted) k m c n l r → OrMemory is_memory (λ (v : VerifiedImage). Unit {0}) r
+  run_wide signed k l place m n c r settled answered_is le lt run =
+      (Runs-over (answer shelf) (λ l r. I l × OrMemory is_memory (λ (v : VerifiedImage). Unit {0}) r) (answering shelf) (verified meaning ctx image a accepted) place k l m n c r (shelf_table shelf)
+      ((verified_reaches signed).reaches k (settled_in k settled)) answered_is le lt run).1
+
+-- a valid shelf is a wide one
+pub valid_wide : {V : Type 0} {H : V → Type 0} (meaning : Meaning V H) (s : Settings) (image : Reference) (a : RegistryAuth) (accepted : List (List ℕ)) (shelf : Shelf) → ValidShelf meaning s image a accepted shelf → WideShelf meaning s image a accepted shelf
+valid_wide meaning s image a accepted shelf valid =
+    let first = valid.image_on.first in
+    let digest_is = sha256_named valid.digest valid.sha256.0 first valid.sha256.1 valid.image_on.there.named in
+    let tag_reads = tag_reads_back image (spelled image valid.asked.reads_back_is) (signature_tag valid.digest) (tag_of_signatures valid.digest first digest_is) in
+    record { has = record { asked = valid.asked; digest = valid.digest; named = valid.named; image_on = valid.image_on; short = valid.short }; signed = inl (tag_reads, valid.signed) }
+
+-- ---- afterwards
+
+module _ {V : Type 0} {H : V → Type 0} (meaning : Meaning V H) (s : Settings) (image : Reference) (a : RegistryAuth) (accepted : List (List ℕ)) (shelf : Shelf) (asked : IsAsked s image a shelf) (moment : ℕ) where
+  abbrev Before : Kept → Type 0
+  Before k = Settled (resolved_registry image) shelf.repository a k.0 × AreRight s (resolved_registry image) a shelf k.1
+
+  settled_again : (k : Kept) → Before k → IsSettled s image a shelf k
+  settled_again k is = record { memory = subst (λ (t : List ℕ). Settled (resolved_registry image) t a k.0) (sym asked.repository_is) is.0; answers = is.1 }
+
+  settled_by : (l : Kept) (b : Bool) (e : PullRefusal) → MatchBool b (Unit {0}) (Before l) → MatchBool b (Unit {0}) (IsSettled s image a shelf l)
+  settled_by l true e h = tt
+  settled_by l false e h = settled_again l h
+
+  settled_unless : (l : Kept) (r : Result VerifiedImage PullRefusal) → UnlessMemory is_memory (λ r. Before l) r → UnlessMemory is_memory (λ r. IsSettled s image a shelf l) r
+  settled_unless l (Ok v) h = settled_again l h
+  settled_unless l (Err e) h = settled_by l (is_memory e) e h
+
+  -- after a pull over a shelf that is asked for the image a client that was settled is settled, whatever was answered
+  pub settled_after : {old new : Link} {k l : Kept} (r : Result VerifiedImage PullRefusal) → AnswersFrom shelf old → IsSettled s image a shelf k → Meets is_memory (verified meaning (record { settings = s; moment = moment }) image a accepted) old new k l r → UnlessMemory is_memory (λ r. IsSettled s image a shelf l) r
+  settled_after {old} {new} {k} {l} r from settled met =
+      settled_unless l r (Meets-comes (answer shelf) (λ l r. Before l) (answering shelf) (verified meaning (record { settings = s; moment = moment }) image a accepted) from.before old new k l r (shelf_table shelf) from.answers from.told from.faults
+      ((verified_stays meaning s image a accepted shelf asked moment).stays k (subst (λ (t : List ℕ). Settled (resolved_registry image) t a k.0) asked.repository_is settled.memory, settled.answers)) met)
+
+  -- so it is after a whole run without faults
+  pub run_settled : (k l : Kept) (place m n : ℕ) (c : List Exchange) (r : Result VerifiedImage PullRefusal) → IsSettled s image a shelf k → AnsweredBy (answering shelf) place c → n ≤ m → m < 2 ^ 64 - 1 → Runs (verified meaning (record { settings = s; moment = moment }) image a accepted) k m c n l r → IsSettled s image a shelf l
+  run_settled k l place m n c r settled answered_is le lt run =
+      settled_again l (Runs-over (answer shelf) (λ l r. Before l) (answering shelf) (verified meaning (record { settings = s; moment = moment }) image a accepted) place k l m n c r (shelf_table shelf)
+      ((verified_stays meaning s image a accepted shelf asked moment).stays k (subst (λ (t : List ℕ). Settled (resolved_registry image) t a k.0) asked.repository_is settled.memory, settled.answers)) answered_is le lt run)

@@ -1,0 +1,233 @@
+-- Whatever a pull over a shelf answers, the client is settled afterwards.
+use Rattle.std.specs.Prelude.{codes, bytes_eq, unwrap_or, if◌then◌else◌}
+use Rattle.std.proofs.Common.{◌≡◌, ℕ, Bool, true, false, List, [], ◌∷◌, ◌++◌, is_some, Option, Some, None, Result, Ok, Err, refl, sym, ap, subst}
+use Rattle.oci_names.specs.Words.{Path}
+use Rattle.oci_names.specs.References.{registry_of, whole_text, resolved_registry, reads_back}
+use Rattle.oci_names.specs.declared.reference.Reference.{Reference}
+use Rattle.oci_auth.specs.declared.auth.RegistryAuth.{RegistryAuth}
+use Rattle.oci_auth.specs.declared.memory.Memory.{Memory}
+use Rattle.oci_manifests.specs.declared.document.OciManifest.{OciManifest}
+use Rattle.oci_manifests.specs.declared.document.OciManifest.TheVariants.{Image, ImageIndex}
+use Rattle.oci_manifests.specs.declared.index.OciImageIndex.{OciImageIndex}
+use Rattle.oci_manifests.specs.declared.index_entry.ImageIndexEntry.{ImageIndexEntry}
+use Rattle.oci_manifests.specs.declared.manifest.OciImageManifest.{OciImageManifest}
+use Rattle.oci_manifests.specs.declared.descriptor.OciDescriptor.{OciDescriptor}
+use Rattle.oci_manifests.specs.declared.blob.ImageLayer.{ImageLayer}
+use Rattle.oci_transport.specs.declared.message.Request.{Request}
+use Rattle.oci_transport.specs.declared.message.Answer.{Answer}
+use Rattle.oci_protocol.specs.Proto.{Proto, Done}
+use Rattle.oci_link.specs.Table.{answer}
+use Rattle.oci_link.specs.declared.shelf.Shelf.{Shelf}
+use Rattle.engine_requests.specs.Contexts.{Context}
+use Rattle.engine_requests.specs.Index.{entry_found, entry_reference}
+use Rattle.engine_requests.specs.Requests.{manifest_types}
+use Rattle.engine_requests.specs.Sources.{Layer, described}
+use Rattle.engine_requests.specs.declared.settings.Settings.{Settings}
+use Rattle.engine_rows.specs.Rows.{Row as Engine}
+use Rattle.engine_rows.specs.Images.{layers_accepted, layer_of}
+use Rattle.sig_answers.specs.declared.answers.Answers.{Answers}
+use Rattle.sig_calls.specs.declared.error.SigstoreError.{SigstoreError}
+use Rattle.sig_calls.specs.declared.wording.Called.{Called}
+use Rattle.sig_calls.specs.declared.wording.Called.TheVariants.{FetchManifest, Pull, PullManifest}
+use Rattle.sig_calls.specs.Errors.{worded}
+use Rattle.sig_calls.specs.Clients.{Kept, Row}
+use Rattle.sig_calls.specs.Calls.{in_words, digest_made, manifest_made, image_made, document_made, blob_made, referrers_made, document_call, blob_call, referrers_call, image_call}
+use Rattle.shelf_laws.specs.Comes.{Stays}
+use Rattle.shelf_laws.specs.Home.{Home, IsAt, CanBeShown, Settled}
+use Rattle.shelf_laws.proofs.Coming.{Gives-stays, Stays-done, Stays-bind, Stays-next}
+use Rattle.shelf_laws.proofs.Lifted.{Stays-lifted}
+use Rattle.shelf_laws.proofs.References.{Spelled, spelled, resolved_domain}
+use Rattle.shelf_laws.proofs.Staying.{digest_stays, raw_stays, manifest_stays, blob_stays, pull_stays, referrers_stay}
+use Rattle.shelf_laws.proofs.Tokens.{given_gives}
+use Rattle.cosign_layers.specs.Standing.{Meaning}
+use Rattle.cosign_rows.specs.Image.{document_in, entry_in, layers_row, blobs_row, with_image, entry_call, entry_row, manifest_row, image_row}
+use Rattle.cosign_rows.specs.References.{tag_reference, digest_reference, reading_back}
+use Rattle.cosign_rows.specs.Search.{payload_type, tag_layers, or_skipped, tag_by, tag_source, behind, bundle_type, referrer_part, referrer_by, referrer_row, referrers_row, listed_row, referrers_source, searched}
+use Rattle.cosign_rows.specs.Settled.{AreRight}
+use Rattle.cosign_rows.specs.Shelves.{IsAsked}
+use Rattle.cosign_rows.specs.Verified.{constrained, is_unconstrained, readable, as_whole, part_of, standing, after_search, verified}
+use Rattle.cosign_rows.specs.declared.found.Part.{Part}
+use Rattle.cosign_rows.specs.declared.found.SourceKind.TheVariants.{Tag}
+use Rattle.cosign_rows.specs.declared.found.Skipped.TheVariants.{Referrer}
+use Rattle.cosign_rows.specs.declared.found.TrustedLayers.{TrustedLayers}
+use Rattle.cosign_laws.proofs.ShelfCalls.{digest_settled, manifest_settled, image_settled, referrers_settled}
+
+pub words_stay : {J : Memory → Type 0} {table : Request → Answer} {A : Type 0} {p : Engine A} (called : Called) (r : Reference) → Stays J table p → Stays J table (in_words called r p)
+unfolding in_words
+words_stay called r h = Stays-bind (λ x. Done (worded called (whole_text r) x)) h (λ x. Stays-done _)
+
+module _ {s : Settings} {image : Reference} {a : RegistryAuth} {shelf : Shelf} (asked : IsAsked s image a shelf) where
+  spelling : Spelled image
+  spelling = spelled image asked.reads_back_is
+
+  pub home_of : Home s (resolved_registry image) shelf
+  home_of = record { written = asked.written; domain = resolved_domain image spelling; path = subst Path asked.repository_is spelling.path; agent = asked.agent; lead = asked.lead }
+
+  pub image_at : IsAt (resolved_registry image) shelf image
+  image_at = record { registry_is = refl; repository_is = asked.repository_is; no_mirror = ap (λ (m : Option (List ℕ)). if is_some m then Some (registry_of image) else None) spelling.no_mirror }
+
+  pub own_registry : unwrap_or None (if bytes_eq (registry_of image) (codes "docker.io") then codes "index.docker.io" else registry_of image) ≡ resolved_registry image
+  own_registry = ap (λ (m : Option (List ℕ)). unwrap_or m (if bytes_eq (registry_of image) (codes "docker.io") then codes "index.docker.io" else registry_of image)) (sym spelling.no_mirror)
+
+  pub tag_at : (d : List ℕ) → IsAt (resolved_registry image) shelf (tag_reference image d)
+  tag_at d = record { registry_is = own_registry; repository_is = asked.repository_is; no_mirror = refl }
+
+  pub digest_at : (d : List ℕ) → IsAt (resolved_registry image) shelf (digest_reference image d)
+  digest_at d = record { registry_is = own_registry; repository_is = asked.repository_is; no_mirror = refl }
+
+  pub referrer_at : (d x : List ℕ) → IsAt (resolved_registry image) shelf (digest_reference (digest_reference image d) x)
+  referrer_at d x = record { registry_is = own_registry; repository_is = asked.repository_is; no_mirror = refl }
+
+  pub entry_at : (d x : List ℕ) → IsAt (resolved_registry image) shelf (entry_reference (digest_reference image d) x)
+  entry_at d x = record { registry_is = own_registry; repository_is = asked.repository_is; no_mirror = refl }
+
+module _ {V : Type 0} {H : V → Type 0} (meaning : Meaning V H) (s : Settings) (image : Reference) (a : RegistryAuth) (accepted : List (List ℕ)) (shelf : Shelf) (asked : IsAsked s image a shelf) (moment : ℕ) where
+  abbrev registry : List ℕ
+  registry = resolved_registry image
+
+  abbrev J : Memory → Type 0
+  J k = Settled registry shelf.repository a k
+
+  abbrev R : Option Answers → Type 0
+  R answers = AreRight s registry a shelf answers
+
+  abbrev I : Kept → Type 0
+  I k = J k.0 × R k.1
+
+  abbrev ctx : Context
+  ctx = record { settings = s; moment = moment }
+
+  abbrev Settles : {A : Type 0} → Proto Kept A → Type 0
+  Settles p = Stays I (answer shelf) p
+
+  abbrev can : CanBeShown a
+  can = asked.credentials
+
+  home : Home s registry shelf
+  home = home_of asked
+
+  -- ---- the search
+
+  digest_step : Stays J (answer shelf) (digest_made ctx image a)
+  unfolding digest_made
+  digest_step = words_stay FetchManifest image (digest_stays home a can moment image (image_at asked))
+
+  module _ (d : List ℕ) where
+    abbrev source : Reference
+    source = digest_reference image d
+
+    tag_document : Stays J (answer shelf) (manifest_made ctx (tag_reference image d) a)
+    unfolding manifest_made
+    tag_document = words_stay PullManifest (tag_reference image d) (manifest_stays home a can moment (tag_reference image d) (tag_at asked d))
+
+    pulled : (r : Reference) → IsAt registry shelf r → (types : List (List ℕ)) → Stays J (answer shelf) (image_made ctx r a types)
+    unfolding image_made
+    pulled r at types = words_stay Pull r (pull_stays home a can moment r at types)
+
+    pub tag_stays : Settles (tag_layers meaning.trust d ctx (tag_reference image d) a)
+    unfolding tag_layers
+    tag_stays =
+        Stays-next _ (manifest_settled s registry a shelf (tag_reference image d) (tag_at asked d) moment tag_document) (λ document.
+        Stays-next _ (image_settled s registry a shelf (tag_reference image d) (tag_at asked d) (payload_type ∷ []) moment (pulled (tag_reference image d) (tag_at asked d) (payload_type ∷ []))) (λ found. Stays-done _))
+
+    tag_by_stays : (b : Bool) → Settles (tag_by meaning.trust d ctx (tag_reference image d) a b)
+    tag_by_stays false = Stays-done _
+    tag_by_stays true = Stays-bind (λ r. Done (or_skipped Tag r)) tag_stays (λ r. Stays-done _)
+
+    tag_source_stays : Settles (tag_source meaning.trust ctx image a d)
+    unfolding tag_source
+    tag_source_stays = tag_by_stays (reads_back (tag_reference image d))
+
+    listing : Stays J (answer shelf) (referrers_made ctx source a None)
+    unfolding referrers_made
+    listing = Stays-next _ (words_stay FetchManifest source (Gives-stays (given_gives home source (digest_at asked d) a can moment))) (λ u. words_stay PullManifest source (referrers_stay home a can moment source (digest_at asked d) None))
+
+    pub listing_stays : Settles (referrers_call ctx source a None)
+    listing_stays = referrers_settled s registry a shelf source (digest_at asked d) None moment listing
+
+    pub referrer_stays : (x : List ℕ) → Settles (image_call ctx (digest_reference source x) a (bundle_type ∷ []))
+    referrer_stays x = image_settled s registry a shelf (digest_reference source x) (referrer_at asked d x) (bundle_type ∷ []) moment (pulled (digest_reference source x) (referrer_at asked d x) (bundle_type ∷ []))
+
+    referrer_by_stays : (x : List ℕ) (part : Part) (b : Bool) → Settles (referrer_by meaning.trust d ctx (digest_reference source x) a x part b)
+    referrer_by_stays x part false = Stays-done _
+    referrer_by_stays x part true = Stays-bind (λ r. Done (behind part (Referrer x) (referrer_part meaning.trust d r))) (referrer_stays x) (λ r. Stays-done _)
+
+    referrers_row_stays : (xs : List ImageIndexEntry) (part : Part) → Settles (referrers_row meaning.trust d ctx source a xs part)
+    unfolding referrers_row referrer_row
+    referrers_row_stays [] part = Stays-done _
+    referrers_row_stays (x ∷ xs) part = Stays-next _ (referrer_by_stays x.digest part (reads_back (digest_reference source x.digest))) (λ more. referrers_row_stays xs more)
+
+    listed_stays : (part : Part) (r : Result OciImageIndex SigstoreError) → Settles (listed_row meaning.trust d ctx source a part r)
+    listed_stays part (Ok index) = referrers_row_stays index.manifests part
+    listed_stays part (Err e) = Stays-done _
+
+    referrers_source_stays : (part : Part) → Settles (referrers_source meaning.trust d ctx source a part)
+    unfolding referrers_source
+    referrers_source_stays part = Stays-bind (listed_row meaning.trust d ctx source a part) listing_stays (λ r. listed_stays part r)
+
+  searched_stays : Settles (searched meaning.trust ctx image a)
+  unfolding searched
+  searched_stays =
+      Stays-next _ (digest_settled s registry a shelf image (image_at asked) moment digest_step) (λ d.
+      Stays-next _ (Stays-done (reading_back (digest_reference image d))) (λ u.
+      Stays-next _ (tag_source_stays d) (λ tag.
+      Stays-next _ (referrers_source_stays d tag) (λ found. Stays-done _))))
+
+  -- ---- the image
+
+  module _ (d : List ℕ) where
+    abbrev own : Reference
+    own = digest_reference image d
+
+    document_stays : (r : Reference) → IsAt registry shelf r → Settles (document_call ctx r a manifest_types)
+    unfolding document_call document_made
+    document_stays r at = Stays-lifted R (words_stay Pull r (raw_stays home a can moment r at manifest_types refl))
+
+    blob_call_stays : (x : Layer) → Settles (blob_call ctx own x)
+    unfolding blob_call blob_made
+    blob_call_stays x = Stays-lifted R (words_stay Pull own (blob_stays home a can moment own (digest_at asked d) x))
+
+    layers_row_stays : (xs : List OciDescriptor) (before : List ImageLayer) → Settles (layers_row ctx own xs before)
+    unfolding layers_row
+    layers_row_stays [] before = Stays-done _
+    layers_row_stays (x ∷ xs) before = Stays-next _ (blob_call_stays (described x)) (λ content. layers_row_stays xs (before ++ layer_of x content ∷ []))
+
+    blobs_row_stays : (manifest : OciImageManifest) → Settles (blobs_row ctx own accepted manifest)
+    unfolding blobs_row
+    blobs_row_stays manifest =
+        Stays-next _ (blob_call_stays (described manifest.config)) (λ content.
+        Stays-next _ (Stays-done (worded Pull (whole_text own) (layers_accepted accepted manifest.layers))) (λ u.
+        Stays-next _ (layers_row_stays manifest.layers []) (λ layers. Stays-done _)))
+
+    manifest_row_stays : (first : List ℕ) (document : OciManifest) → Settles (manifest_row ctx own a first document)
+    unfolding entry_row entry_call
+    manifest_row_stays first (Image manifest) = Stays-done _
+    manifest_row_stays first (ImageIndex index) =
+        Stays-next _ (Stays-done (worded Pull (whole_text own) (entry_found s.platform_resolver index.manifests))) (λ entry.
+        Stays-next _ (Stays-bind (λ r. Done (with_image (whole_text own) r)) (document_stays (entry_reference own entry) (entry_at asked d entry)) (λ r. Stays-done _)) (λ found.
+        Stays-next _ (Stays-done (worded Pull (whole_text own) (entry_in entry found.0))) (λ manifest. Stays-done _)))
+
+    image_stays : Settles (image_row ctx image own a accepted)
+    unfolding image_row
+    image_stays =
+        Stays-next _ (document_stays own (digest_at asked d)) (λ found.
+        Stays-next _ (Stays-done (worded Pull (whole_text own) (document_in image found.0))) (λ document.
+        Stays-next _ (manifest_row_stays found.0 document) (λ chosen.
+        Stays-next _ (blobs_row_stays chosen.manifest) (λ blobs. Stays-done _))))
+
+  -- ---- the whole
+
+  part_stays : {A : Type 0} {p : Row A} → Settles p → Settles (part_of p)
+  unfolding part_of
+  part_stays h = Stays-bind (λ r. Done (as_whole r)) h (λ r. Stays-done _)
+
+  after_stays : (found : TrustedLayers) → Settles (after_search meaning ctx image a accepted found)
+  unfolding after_search
+  after_stays found = Stays-next _ (Stays-done (standing meaning found)) (λ stood. Stays-next _ (part_stays (image_stays stood.digest)) (λ pulled. Stays-done _))
+
+  pub verified_stays : Settles (verified meaning ctx image a accepted)
+  unfolding verified
+  verified_stays =
+      Stays-next _ (Stays-done (constrained (is_unconstrained meaning.policy))) (λ u.
+      Stays-next _ (Stays-done (readable image)) (λ u.
+      Stays-next _ (part_stays searched_stays) (λ found. after_stays found)))

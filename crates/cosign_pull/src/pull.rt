@@ -1,0 +1,334 @@
+//! The image of a digest for which a signature stands.
+ghost use Rattle.std.specs.Prelude.{◌≡◌, IfOk};
+ghost use Rattle.engine_requests.specs.Contexts.{within};
+ghost use Rattle.oci_names.specs.References.{digest_of, whole_text};
+ghost use Rattle.engine_requests.specs.declared.settings.Settings.{Settings};
+ghost use Rattle.engine_requests.specs.Errors.{Says as SaysEngine};
+ghost use Rattle.engine_requests.specs.Requests.{listed, manifest_types};
+ghost use Rattle.engine_requests.specs.Index.{entry_found};
+ghost use Rattle.sig_calls.specs.Errors.{is_memory, worded, Says};
+ghost use Rattle.sig_calls.specs.declared.wording.Called.TheVariants.{Pull};
+ghost use Rattle.sig_calls.specs.Clients.{Made};
+ghost use Rattle.cosign_rows.specs.Image.{named_by_reference, document_in, entry_in, layers_row, blobs_row};
+ghost use Rattle.cosign_rows.specs.Image.{with_image, entry_call, entry_row, manifest_row};
+ghost use Rattle.cosign_rows.specs.Image.{after_document, image_row};
+
+use cosign_rows::{Asked, Pulled, PulledManifest};
+use engine_requests::{
+    OciDistributionError, entry_found, entry_manifest, entry_reference, read_document,
+};
+use engine_rows::{config_of, layer_of, layers_accepted};
+use json_values::{Blob, Copied, List, Text};
+use oci_digests::{DigestError, validate_digest};
+use oci_manifests::blob::Config;
+use oci_manifests::{
+    IMAGE_MANIFEST_LIST_MEDIA_TYPE, IMAGE_MANIFEST_MEDIA_TYPE, ImageIndexEntry, ImageLayer,
+    OCI_IMAGE_INDEX_MEDIA_TYPE, OCI_IMAGE_MEDIA_TYPE, OciDescriptor, OciImageManifest, OciManifest,
+};
+use oci_names::Reference;
+use oci_platforms::PlatformResolver;
+use oci_transport::Transport;
+use sig_calls::{Called, ClientCapabilities, SigstoreError, worded};
+use std::alloc::{AllocError, Global};
+
+// The four media types of manifests and indexes.
+fn manifest_types(alloc: Global) -> Result<List<Text>, AllocError>
+    ensures { IfOk result (λ types. listed types ≡ manifest_types) }
+{
+    let mut types = List::new(alloc);
+    types.push(Text::new(alloc, IMAGE_MANIFEST_MEDIA_TYPE)?)?;
+    types.push(Text::new(alloc, IMAGE_MANIFEST_LIST_MEDIA_TYPE)?)?;
+    types.push(Text::new(alloc, OCI_IMAGE_MEDIA_TYPE)?)?;
+    types.push(Text::new(alloc, OCI_IMAGE_INDEX_MEDIA_TYPE)?)?;
+    Ok(types)
+}
+
+// The digest of the reference that was asked for, where it has one, names the document.
+fn named_by_reference(
+    alloc: Global,
+    image: &Reference,
+    bytes: &Blob,
+) -> Result<(), OciDistributionError>
+    ensures { SaysEngine result (named_by_reference (digest_of image.now) bytes.now) }
+{
+    let Some(digest) = image.digest() else {
+        return Ok(());
+    };
+    match validate_digest(alloc, bytes.as_slice(), None, Some(digest)) {
+        Ok(_) => Ok(()),
+        Err(DigestError::WantOfMemory) => Err(OciDistributionError::WantOfMemory),
+        Err(error) => Err(OciDistributionError::DigestError(error)),
+    }
+}
+
+// The document for this reference.
+fn document_in(
+    alloc: Global,
+    image: &Reference,
+    bytes: &Blob,
+) -> Result<OciManifest, OciDistributionError>
+    ensures { SaysEngine result (document_in image.now bytes.now) }
+{
+    named_by_reference(alloc, image, bytes)?;
+    let document = read_document(alloc, bytes)?;
+    Ok(document)
+}
+
+// The manifest in an entry's document, which may not be an index again.
+fn entry_in(
+    alloc: Global,
+    entry: &str,
+    bytes: &Blob,
+) -> Result<OciImageManifest, OciDistributionError>
+    ensures { SaysEngine result (entry_in entry.now bytes.now) }
+{
+    let document = read_document(alloc, bytes)?;
+    let manifest = entry_manifest(alloc, entry, document)?;
+    Ok(manifest)
+}
+
+// Each descriptor's blob, behind the layers that are there.
+fn pull_layers<C: ClientCapabilities, T: Transport>(
+    alloc: Global,
+    client: &mut C,
+    transport: &mut T,
+    moment: u64,
+    source: &Reference,
+    descriptors: &[OciDescriptor],
+    mut layers: List<ImageLayer>,
+) -> Result<List<ImageLayer>, SigstoreError>
+    ensures { (s : Settings) → Made is_memory s
+        (layers_row (within s moment) source.now descriptors.now layers)
+        (C.state client.old) (C.state client.new) (T.state transport.old) (T.state transport.new) result }
+{
+    for descriptor in descriptors {
+        let content = client.pull_blob(alloc, transport, moment, source, descriptor)?;
+        let layer = layer_of(alloc, descriptor, content)?;
+        layers.push(layer)?;
+    }
+    Ok(layers)
+}
+
+// The configuration and the layers that a manifest names.
+fn pull_blobs<C: ClientCapabilities, T: Transport>(
+    alloc: Global,
+    client: &mut C,
+    transport: &mut T,
+    moment: u64,
+    source: &Reference,
+    accepted: &[Text],
+    manifest: &OciImageManifest,
+) -> Result<(Config, List<ImageLayer>), SigstoreError>
+    ensures { (s : Settings) → Made is_memory s
+        (blobs_row (within s moment) source.now accepted.now manifest.now)
+        (C.state client.old) (C.state client.new) (T.state transport.old) (T.state transport.new) result }
+{
+    let content = client.pull_blob(alloc, transport, moment, source, &manifest.config)?;
+    let descriptors = manifest.layers.as_slice();
+    let checked = layers_accepted(alloc, accepted, descriptors);
+    worded(alloc, Called::Pull, source, checked)?;
+    let layers = pull_layers(
+        alloc,
+        client,
+        transport,
+        moment,
+        source,
+        descriptors,
+        List::new(alloc),
+    )?;
+    let config = config_of(alloc, manifest, content)?;
+    Ok((config, layers))
+}
+
+// Which image of an index the client's configuration means.
+fn platform_resolver<C: ClientCapabilities>(
+    alloc: Global,
+    client: &C,
+) -> Result<Option<PlatformResolver>, AllocError>
+    ensures { IfOk result (λ resolver. resolver ≡ (C.state client.now).settings.platform_resolver) }
+{
+    match client.platform_resolver() {
+        Some(resolver) => Ok(Some(resolver.copy(alloc)?)),
+        None => Ok(None),
+    }
+}
+
+// The digest of the entry that the client's configuration means.
+fn entry_of<C: ClientCapabilities>(
+    alloc: Global,
+    client: &C,
+    source: &Reference,
+    entries: &[ImageIndexEntry],
+) -> Result<Text, SigstoreError>
+    ensures { Says result (worded Pull (whole_text source.now)
+        (entry_found (C.state client.now).settings.platform_resolver entries.now)) }
+{
+    let resolver = platform_resolver(alloc, client)?;
+    let found = entry_found(alloc, &resolver, entries);
+    worded(alloc, Called::Pull, source, found)
+}
+
+// A refused pull speaks of the source.
+fn with_image(
+    alloc: Global,
+    source: &Reference,
+    found: Result<(Blob, Text), SigstoreError>,
+) -> Result<(Blob, Text), SigstoreError>
+    ensures { Says result (with_image (whole_text source.now) found) }
+{
+    match found {
+        Ok(found) => Ok(found),
+        Err(SigstoreError::RegistryPullError { error, .. }) => {
+            let image = source.whole(alloc)?;
+            Err(SigstoreError::RegistryPullError { image, error })
+        }
+        Err(SigstoreError::OciReferenceNotValidError { reference }) => {
+            Err(SigstoreError::OciReferenceNotValidError { reference })
+        }
+        Err(SigstoreError::RegistryFetchManifestError { image, error }) => {
+            Err(SigstoreError::RegistryFetchManifestError { image, error })
+        }
+        Err(SigstoreError::RegistryPullManifestError { image, error }) => {
+            Err(SigstoreError::RegistryPullManifestError { image, error })
+        }
+        Err(SigstoreError::WantOfMemory) => Err(SigstoreError::WantOfMemory),
+    }
+}
+
+// The document of an entry, in the source's repository.
+fn pull_entry_document<C: ClientCapabilities, T: Transport>(
+    alloc: Global,
+    client: &mut C,
+    transport: &mut T,
+    asked: &Asked<'_>,
+    source: &Reference,
+    entry: &str,
+) -> Result<(Blob, Text), SigstoreError>
+    ensures { (s : Settings) → Made is_memory s
+        (entry_call (within s asked.now.moment) source.now asked.now.auth.now entry.now)
+        (C.state client.old) (C.state client.new) (T.state transport.old) (T.state transport.new) result }
+{
+    let types = manifest_types(alloc)?;
+    let reference = entry_reference(alloc, source, entry)?;
+    let found = client.pull_manifest_raw(
+        alloc,
+        transport,
+        asked.moment,
+        &reference,
+        asked.auth,
+        types.as_slice(),
+    );
+    with_image(alloc, source, found)
+}
+
+// The manifest of the entry that the client's configuration means.
+fn pull_entry<C: ClientCapabilities, T: Transport>(
+    alloc: Global,
+    client: &mut C,
+    transport: &mut T,
+    asked: &Asked<'_>,
+    source: &Reference,
+    entries: &[ImageIndexEntry],
+) -> Result<PulledManifest, SigstoreError>
+    ensures { (s : Settings) → Made is_memory s
+        (entry_row (within s asked.now.moment) source.now asked.now.auth.now entries.now)
+        (C.state client.old) (C.state client.new) (T.state transport.old) (T.state transport.new) result }
+{
+    let entry = entry_of(alloc, client, source, entries)?;
+    let found = pull_entry_document(alloc, client, transport, asked, source, entry.as_str())?;
+    let (bytes, _) = found;
+    let read = entry_in(alloc, entry.as_str(), &bytes);
+    let manifest = worded(alloc, Called::Pull, source, read)?;
+    Ok(PulledManifest {
+        bytes,
+        manifest,
+        entry: Some(entry),
+    })
+}
+
+// The manifest that a document is, or that of an index's entry.
+fn pull_chosen<C: ClientCapabilities, T: Transport>(
+    alloc: Global,
+    client: &mut C,
+    transport: &mut T,
+    asked: &Asked<'_>,
+    source: &Reference,
+    first: &Blob,
+    document: OciManifest,
+) -> Result<PulledManifest, SigstoreError>
+    ensures { (s : Settings) → Made is_memory s
+        (manifest_row (within s asked.now.moment) source.now asked.now.auth.now first.now document)
+        (C.state client.old) (C.state client.new) (T.state transport.old) (T.state transport.new) result }
+{
+    match document {
+        OciManifest::Image(manifest) => {
+            let bytes = first.copy(alloc)?;
+            Ok(PulledManifest {
+                bytes,
+                manifest,
+                entry: None,
+            })
+        }
+        OciManifest::ImageIndex(index) => {
+            let entries = index.manifests.as_slice();
+            pull_entry(alloc, client, transport, asked, source, entries)
+        }
+    }
+}
+
+// The manifest of a document, and its blobs.
+fn after_document<C: ClientCapabilities, T: Transport>(
+    alloc: Global,
+    client: &mut C,
+    transport: &mut T,
+    asked: &Asked<'_>,
+    source: &Reference,
+    accepted: &[Text],
+    first: Blob,
+) -> Result<Pulled, SigstoreError>
+    ensures { (s : Settings) → Made is_memory s
+        (after_document (within s asked.now.moment) asked.now.image.now source.now asked.now.auth.now
+        accepted.now first)
+        (C.state client.old) (C.state client.new) (T.state transport.old) (T.state transport.new) result }
+{
+    let read = document_in(alloc, asked.image, &first);
+    let document = worded(alloc, Called::Pull, source, read)?;
+    let chosen = pull_chosen(alloc, client, transport, asked, source, &first, document)?;
+    let moment = asked.moment;
+    let manifest = &chosen.manifest;
+    let blobs = pull_blobs(alloc, client, transport, moment, source, accepted, manifest)?;
+    let (config, layers) = blobs;
+    Ok(Pulled {
+        first,
+        chosen,
+        config,
+        layers,
+    })
+}
+
+/// The document of the source's digest, its manifest, and the blobs of that. `asked` has the reference that was asked
+/// for.
+pub fn pull_image<C: ClientCapabilities, T: Transport>(
+    alloc: Global,
+    client: &mut C,
+    transport: &mut T,
+    asked: &Asked<'_>,
+    source: &Reference,
+    accepted: &[Text],
+) -> Result<Pulled, SigstoreError>
+    ensures { (s : Settings) → Made is_memory s
+        (image_row (within s asked.now.moment) asked.now.image.now source.now asked.now.auth.now accepted.now)
+        (C.state client.old) (C.state client.new) (T.state transport.old) (T.state transport.new) result }
+{
+    let types = manifest_types(alloc)?;
+    let found = client.pull_manifest_raw(
+        alloc,
+        transport,
+        asked.moment,
+        source,
+        asked.auth,
+        types.as_slice(),
+    )?;
+    let (first, _) = found;
+    after_document(alloc, client, transport, asked, source, accepted, first)
+}

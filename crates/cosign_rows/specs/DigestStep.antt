@@ -1,0 +1,44 @@
+-- Which refusals have to come.
+use Rattle.std.specs.Prelude.{◌≡◌, ℕ, false, List, ◌++◌, Result, Ok, Err}
+use Rattle.oci_names.specs.declared.reference.Reference.{Reference}
+use Rattle.oci_names.specs.References.{whole_text, reads_back}
+use Rattle.oci_auth.specs.declared.auth.RegistryAuth.{RegistryAuth}
+use Rattle.oci_transport.specs.declared.message.Exchange.{Exchange}
+use Rattle.oci_protocol.specs.Ends.{UnlessMemory}
+use Rattle.engine_requests.specs.Contexts.{Context}
+use Rattle.sig_calls.specs.declared.error.SigstoreError.{SigstoreError}
+use Rattle.sig_calls.specs.declared.error.SigstoreError.TheVariants as sigstore
+use Rattle.sig_calls.specs.Calls.{digest_call}
+use Rattle.cosign_rows.specs.declared.refusal.PullRefusal.{PullRefusal}
+use Rattle.cosign_rows.specs.Refusal.{is_memory}
+use Rattle.cosign_rows.specs.Points.{Point, Ran, Silent}
+use Rattle.cosign_rows.specs.References.{digest_reference}
+
+-- the pull was refused so, unless memory was wanting
+abbrev pub IsRefusedAs : {A : Type 0} → PullRefusal → Result A PullRefusal → Type 0
+IsRefusedAs e r = UnlessMemory is_memory (λ r. r ≡ Err e) r
+
+-- a refusal of the search, which is the whole's
+abbrev pub unchanged : SigstoreError → SigstoreError
+unchanged e = e
+
+-- What the answer of the digest step decides of the whole: a refusal is the whole's, and so is, with that
+-- reference's text, a digest by which the image's reference does not read back. Nothing more is asked then.
+abbrev pub Decides : {A E : Type 0} → (SigstoreError → E) → Reference → Result (List ℕ) SigstoreError
+    → Point → List Exchange → Point → Result A E → Type 0
+Decides refused image (Err e) between rest end r = (r ≡ Err (refused e)) × Silent between rest end
+Decides refused image (Ok digest) between rest end r =
+    reads_back (digest_reference image digest) ≡ false
+    → (r ≡ Err (refused (sigstore.OciReferenceNotValidError (whole_text (digest_reference image digest)))))
+    × Silent between rest end
+
+-- the exchanges begin with those of the digest step, whose answer decides so
+pub record BeginsWithDigest {A E : Type 0} (refused : SigstoreError → E) (s : Context) (image : Reference)
+    (a : RegistryAuth) (start : Point) (c : List Exchange) (end : Point) (r : Result A E) : Type 0 where
+  pub step : List Exchange
+  pub rest : List Exchange
+  pub split : c ≡ step ++ rest
+  pub between : Point
+  pub answer : Result (List ℕ) SigstoreError
+  pub ran : Ran (digest_call s image a) start step between answer
+  pub decides : Decides refused image answer between rest end r

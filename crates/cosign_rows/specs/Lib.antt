@@ -1,0 +1,15 @@
+pub mod Causes
+pub mod DigestStep
+pub mod Image
+pub mod Part
+pub mod Points
+pub mod References
+pub mod Refusal
+pub mod Search
+pub mod Settled
+pub mod Shelves
+pub mod Skips
+pub mod Sound
+pub mod Terms
+pub mod Triangulated
+pub mod Verified

@@ -1,0 +1,47 @@
+-- Why a pull was refused.
+use Rattle.std.specs.Prelude.{◌≡◌, Bool, true, false, Option, Some, None, Result, Ok, Err}
+use Rattle.json_values.specs.Counts.{Rose}
+use Rattle.json_values.specs.Refusals as Refusals
+use Rattle.oci_transport.specs.Link.{Link}
+use Rattle.engine_requests.specs.declared.error.OciDistributionError.{OciDistributionError}
+use Rattle.engine_requests.specs.declared.error.OciDistributionError.TheVariants.{TransportFault, SinkFault}
+use Rattle.sig_calls.specs.declared.error.SigstoreError.{SigstoreError}
+use Rattle.sig_calls.specs.declared.error.SigstoreError.TheVariants as sigstore
+use Rattle.cosign_rows.specs.declared.refusal.PullRefusal.{PullRefusal}
+use Rattle.cosign_rows.specs.declared.refusal.PullRefusal.TheVariants as refusal
+
+abbrev pub is_memory : PullRefusal → Bool
+is_memory refusal.WantOfMemory = true
+is_memory _ = false
+
+-- the refusal of a part, as the refusal of the whole
+abbrev pub refused_as : SigstoreError → PullRefusal
+refused_as (sigstore.OciReferenceNotValidError reference) = refusal.OciReferenceNotValidError reference
+refused_as (sigstore.RegistryFetchManifestError image error) = refusal.RegistryFetchManifestError image error
+refused_as (sigstore.RegistryPullError image error) = refusal.RegistryPullError image error
+-- never: no part whose refusal ends the whole answers it
+refused_as (sigstore.RegistryPullManifestError image error) = refusal.RegistryPullError image error
+refused_as sigstore.WantOfMemory = refusal.WantOfMemory
+
+-- the answer is this one, unless memory was wanting
+abbrev pub Says : {A : Type 0} → Result A PullRefusal → Result A PullRefusal → Type 0
+Says answer said = Refusals.Says is_memory answer said
+
+-- what the registry's client answered, where the refusal holds that
+abbrev pub client_refusal : PullRefusal → Option OciDistributionError
+client_refusal (refusal.RegistryFetchManifestError image error) = Some error
+client_refusal (refusal.RegistryPullError image error) = Some error
+client_refusal _ = None
+
+-- the pull was refused, and that is what the registry's client answered
+abbrev pub IsRefusedBy : OciDistributionError → {A : Type 0} → Result A PullRefusal → Type 0
+IsRefusedBy e (Ok a) = ⊥
+IsRefusedBy e (Err refused) = client_refusal refused ≡ Some e
+
+-- a fault of the transport is answered only where its count of faults rose
+abbrev pub FaultCounted : {A : Type 0} → Link → Link → Result A PullRefusal → Type 0
+FaultCounted old new r = IsRefusedBy TransportFault r → Rose old.faults new.faults
+
+-- no sink takes part, so none can fail
+abbrev pub NoSinkFault : {A : Type 0} → Result A PullRefusal → Type 0
+NoSinkFault r = IsRefusedBy SinkFault r → ⊥

@@ -1,0 +1,46 @@
+-- What an image that was pulled has to do with the policy and with what registries answered.
+use Rattle.std.specs.Prelude.{◌≡◌, ◌⊎◌, ℕ, List, [], ◌∷◌, Some}
+use Rattle.oci_names.specs.declared.reference.Reference.{Reference}
+use Rattle.oci_auth.specs.declared.auth.RegistryAuth.{RegistryAuth}
+use Rattle.oci_transport.specs.declared.message.Exchange.{Exchange}
+use Rattle.oci_manifests.specs.declared.blob.ImageLayer.{ImageLayer}
+use Rattle.engine_requests.specs.Contexts.{Context}
+use Rattle.engine_laws.specs.Answered.{Answered, Body}
+use Rattle.sig_settings.specs.Keys.{manifest_key}
+use Rattle.sig_calls.specs.Caching.{known}
+use Rattle.sig_calls.specs.Calls.{digests}
+use Rattle.sig_calls.specs.Clients.{Kept}
+use Rattle.cosign_layers.specs.Standing.{Meaning}
+use Rattle.cosign_chain.specs.Chain.{Chain}
+use Rattle.cosign_chain.specs.declared.image.VerifiedImage.{VerifiedImage}
+
+-- each layer is the body of an answer
+abbrev pub EachBody : List Exchange → List ImageLayer → Type 0
+EachBody c [] = Unit {0}
+EachBody c (layer ∷ layers) = Body c layer.content × EachBody c layers
+
+-- the client keeps this digest for the image and these credentials, and still gives it at the moment; one that keeps no
+-- answers gives none
+abbrev pub Fresh : Kept → Context → Reference → RegistryAuth → List ℕ → Type 0
+Fresh kept s image a digest = known digests (manifest_key image a) s.moment kept.1 ≡ Some digest
+
+-- the digest was answered for the image in this conversation, or the client that began it still gave it
+abbrev pub AnsweredOrFresh : Kept → Context → Reference → RegistryAuth → List Exchange → List ℕ → Type 0
+AnsweredOrFresh kept s image a c digest = Answered s.settings image c digest ⊎ Fresh kept s image a digest
+
+-- the image's digest was answered for it, in this conversation or still by the client that began it, which kept this,
+-- and in this conversation each document and blob is the body of an answer
+pub record Backed (kept : Kept) (s : Context) (image : Reference) (a : RegistryAuth) (c : List Exchange)
+    (v : VerifiedImage) : Type 0 where
+  pub answered : AnsweredOrFresh kept s image a c v.digest
+  pub first : Body c v.first
+  pub manifest : Body c v.manifest_bytes
+  pub config : Body c v.config.content
+  pub layers : EachBody c v.layers
+
+-- the chain holds, and comes of this conversation
+pub record Sound {V : Type 0} {H : V → Type 0} (kept : Kept) (s : Context) (meaning : Meaning V H)
+    (image : Reference) (a : RegistryAuth) (accepted : List (List ℕ)) (c : List Exchange) (v : VerifiedImage)
+    : Type 0 where
+  pub chain : Chain meaning image accepted s.settings.platform_resolver v
+  pub backed : Backed kept s image a c v

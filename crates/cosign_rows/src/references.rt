@@ -1,0 +1,86 @@
+//! The references that the search and the pull ask for, in the image's repository.
+ghost use Rattle.std.specs.Prelude.{◌≡◌, IfOk, string_bytes};
+ghost use Rattle.sig_calls.specs.Direct.{reference_in};
+ghost use Rattle.sig_calls.specs.Errors.{Says};
+ghost use Rattle.cosign_rows.specs.References.{with_dashes, signature_tag, tag_reference};
+ghost use Rattle.cosign_rows.specs.References.{digest_reference, reading_back};
+
+use json_values::Text;
+use oci_names::Reference;
+use sig_calls::{OciReference, SigstoreError};
+use std::alloc::{AllocError, Global};
+
+// No tag has a colon, so a dash stands for it.
+fn with_dashes(alloc: Global, text: &str) -> Result<String, AllocError>
+    ensures { IfOk result (λ dashes. string_bytes dashes ≡ with_dashes text.now) }
+{
+    text.chars()
+        .map(|c| if c == ':' { '-' } else { c })
+        .collect(alloc)
+}
+
+// The tag under which a digest's signatures stand.
+fn signature_tag(alloc: Global, digest: &str) -> Result<Text, AllocError>
+    ensures { IfOk result (λ tag. tag ≡ signature_tag digest.now) }
+{
+    let dashes = with_dashes(alloc, digest)?;
+    let mut tag = Text::new(alloc, dashes.as_str())?;
+    tag.push_str(".sig")?;
+    Ok(tag)
+}
+
+/// The reference of that tag, in the image's repository.
+pub fn tag_reference(
+    alloc: Global,
+    image: &Reference,
+    digest: &str,
+) -> Result<Reference, AllocError>
+    ensures { IfOk result (λ tag. tag ≡ tag_reference image.now digest.now) }
+{
+    let tag = signature_tag(alloc, digest)?;
+    let registry = Text::new(alloc, image.registry())?;
+    let repository = Text::new(alloc, image.repository())?;
+    Ok(Reference::with_tag(registry, repository, tag))
+}
+
+/// The same, for users.
+#[tactic(auto, using(crate::proofs::Exits::tag_same))]
+pub fn oci_tag_reference(
+    alloc: Global,
+    image: &OciReference,
+    digest: &str,
+) -> Result<OciReference, AllocError>
+    ensures { IfOk result (λ tag. reference_in tag ≡ tag_reference (reference_in image.now) digest.now) }
+{
+    let tag = signature_tag(alloc, digest)?;
+    let registry = Text::new(alloc, image.registry())?;
+    let repository = Text::new(alloc, image.repository())?;
+    let reference = OciReference::with_tag(registry, repository, tag);
+    Ok(reference)
+}
+
+/// The reference of a digest in the image's repository.
+pub fn digest_reference(
+    alloc: Global,
+    image: &Reference,
+    digest: &str,
+) -> Result<Reference, AllocError>
+    ensures { IfOk result (λ source. source ≡ digest_reference image.now digest.now) }
+{
+    let digest = Text::new(alloc, digest)?;
+    let registry = Text::new(alloc, image.registry())?;
+    let repository = Text::new(alloc, image.repository())?;
+    Ok(Reference::with_digest(registry, repository, digest))
+}
+
+/// A reference that is read back from its text, or `OciReferenceNotValidError` with that text.
+pub fn reading_back(alloc: Global, image: &Reference) -> Result<(), SigstoreError>
+    ensures { Says result (reading_back image.now) }
+{
+    let reads_back = image.reads_back(alloc)?;
+    if reads_back {
+        return Ok(());
+    }
+    let reference = image.whole(alloc)?;
+    Err(SigstoreError::OciReferenceNotValidError { reference })
+}

@@ -1,0 +1,173 @@
+//! Why an image was not pulled.
+use crate::found::Skipped;
+use cosign_layers::SignatureLayer;
+use engine_requests::OciDistributionError;
+use json_values::{Copied, List, Text, copy_all, row};
+use sig_calls::SigstoreError;
+use std::alloc::{AllocError, AllocFailed, Global};
+use std::fmt;
+use thiserror::Error;
+
+/// Why an image was not pulled.
+#[derive(Drop, Error)]
+pub enum PullRefusal {
+    /// The policy has no constraint. Nothing was asked.
+    #[error("the policy has no constraint: say who has to have signed")]
+    EmptyPolicy,
+    /// The image does not read back, and nothing was asked; or the reference by the answered digest does not.
+    #[error("the reference does not read: write it as [domain/]path[:tag][@digest]")]
+    OciReferenceNotValidError {
+        reference: Text,
+    },
+    /// The digest of the image was not answered.
+    #[error("the image's digest was not answered: look at what the registry's client says")]
+    RegistryFetchManifestError {
+        image: Text,
+        error: OciDistributionError,
+    },
+    /// A signature layer stands for the digest, and its image was not pulled.
+    #[error("the image was not pulled: look at what the registry's client says")]
+    RegistryPullError {
+        image: Text,
+        error: OciDistributionError,
+    },
+    /// No signature layer that was found stands for the digest.
+    #[error("no trusted signature stands for the image: look at what was found and skipped")]
+    Unsatisfied {
+        digest: Text,
+        collected: List<SignatureLayer>,
+        skipped: List<Skipped>,
+    },
+    /// The allocator had no memory.
+    #[error("out of memory: free some and try again")]
+    WantOfMemory,
+}
+
+impl PullRefusal {
+    ghost use Rattle.std.specs.Prelude.{◌≡◌};
+    ghost use Rattle.cosign_rows.specs.Refusal.{is_memory};
+
+    /// Whether memory was wanting, and nothing is said of the image.
+    pub fn is_memory(&self) -> bool
+        ensures { result ≡ is_memory self.now }
+    {
+        matches!(self, PullRefusal::WantOfMemory)
+    }
+}
+
+impl Copied for PullRefusal {
+    fn copy(&self, alloc: Global) -> Result<PullRefusal, AllocError> {
+        Ok(match self {
+            PullRefusal::EmptyPolicy => PullRefusal::EmptyPolicy,
+            PullRefusal::OciReferenceNotValidError { reference } => {
+                let reference = reference.copy(alloc)?;
+                PullRefusal::OciReferenceNotValidError { reference }
+            }
+            PullRefusal::RegistryFetchManifestError { image, error } => {
+                let row!(image, error) = copy_all(alloc, row!(image, error))?;
+                PullRefusal::RegistryFetchManifestError { image, error }
+            }
+            PullRefusal::RegistryPullError { image, error } => {
+                let row!(image, error) = copy_all(alloc, row!(image, error))?;
+                PullRefusal::RegistryPullError { image, error }
+            }
+            PullRefusal::Unsatisfied {
+                digest,
+                collected,
+                skipped,
+            } => {
+                let row!(digest, collected, skipped) = copy_all(
+                    alloc,
+                    row!(digest, collected, skipped),
+                )?;
+                PullRefusal::Unsatisfied {
+                    digest,
+                    collected,
+                    skipped,
+                }
+            }
+            PullRefusal::WantOfMemory => PullRefusal::WantOfMemory,
+        })
+    }
+}
+
+/// Of the signature layers that were found, it shows how many there are.
+impl fmt::Debug for PullRefusal {
+    fn fmt<W: fmt::Write>(&self, f: &mut fmt::Formatter<W>) -> fmt::Result {
+        match self {
+            PullRefusal::EmptyPolicy => f.write_str("EmptyPolicy"),
+            PullRefusal::OciReferenceNotValidError { reference } => f
+                .debug_struct("OciReferenceNotValidError")
+                .field("reference", &reference.as_str())
+                .finish(),
+            PullRefusal::RegistryFetchManifestError { image, error } => f
+                .debug_struct("RegistryFetchManifestError")
+                .field("image", &image.as_str())
+                .field("error", error)
+                .finish(),
+            PullRefusal::RegistryPullError { image, error } => f
+                .debug_struct("RegistryPullError")
+                .field("image", &image.as_str())
+                .field("error", error)
+                .finish(),
+            PullRefusal::Unsatisfied {
+                digest,
+                collected,
+                skipped,
+            } => f
+                .debug_struct("Unsatisfied")
+                .field("digest", &digest.as_str())
+                .field("collected", &collected.as_slice().len())
+                .field("skipped", &skipped.as_slice())
+                .finish(),
+            PullRefusal::WantOfMemory => f.write_str("WantOfMemory"),
+        }
+    }
+}
+
+impl From<AllocError> for PullRefusal {
+    ghost use Rattle.std.specs.Prelude.{◌≡◌};
+    ghost use Rattle.cosign_rows.specs.declared.refusal.PullRefusal.TheVariants.{WantOfMemory};
+
+    ghost from_gives = { λ _ e. e ≡ WantOfMemory };
+
+    fn from(_: AllocError) -> Self {
+        PullRefusal::WantOfMemory
+    }
+}
+
+impl<T: Drop> From<AllocFailed<T>> for PullRefusal {
+    ghost use Rattle.std.specs.Prelude.{◌≡◌};
+    ghost use Rattle.cosign_rows.specs.declared.refusal.PullRefusal.TheVariants.{WantOfMemory};
+
+    ghost from_gives = { λ _ e. e ≡ WantOfMemory };
+
+    fn from(_: AllocFailed<T>) -> Self {
+        PullRefusal::WantOfMemory
+    }
+}
+
+impl From<SigstoreError> for PullRefusal {
+    ghost use Rattle.std.specs.Prelude.{◌≡◌};
+    ghost use Rattle.cosign_rows.specs.Refusal.{refused_as};
+
+    ghost from_gives = { λ e r. r ≡ refused_as e };
+
+    fn from(error: SigstoreError) -> Self {
+        match error {
+            SigstoreError::OciReferenceNotValidError { reference } => {
+                PullRefusal::OciReferenceNotValidError { reference }
+            }
+            SigstoreError::RegistryFetchManifestError { image, error } => {
+                PullRefusal::RegistryFetchManifestError { image, error }
+            }
+            SigstoreError::RegistryPullError { image, error } => {
+                PullRefusal::RegistryPullError { image, error }
+            }
+            SigstoreError::RegistryPullManifestError { image, error } => {
+                PullRefusal::RegistryPullError { image, error }
+            }
+            SigstoreError::WantOfMemory => PullRefusal::WantOfMemory,
+        }
+    }
+}

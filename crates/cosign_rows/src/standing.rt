@@ -1,0 +1,10 @@
+//! What stands for a digest.
+use cosign_layers::SignatureLayer;
+use json_values::Text;
+
+/// A digest, and the signature layer that stands for it.
+#[derive(Drop)]
+pub struct Standing {
+    pub digest: Text,
+    pub signature: SignatureLayer,
+}

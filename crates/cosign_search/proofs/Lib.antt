@@ -1,0 +1,3 @@
+pub mod BundleParts
+pub mod LayerTexts
+pub mod ReferrerRows

@@ -1,0 +1,283 @@
+//! What a source of signatures gives.
+ghost use Rattle.std.specs.Prelude.{◌≡◌, false, All, IfOk, map, option_copied};
+ghost use Rattle.std.specs.List.{position};
+ghost use Rattle.cosign_layers.specs.Checks.{input, layer_read};
+ghost use Rattle.cosign_layers.specs.Trust.{trust_of};
+ghost use Rattle.cosign_layers.specs.declared.layer.LayerKind.TheVariants as kinds;
+ghost use Rattle.cosign_layers.specs.Rejection.{Says as SaysLayer};
+ghost use Rattle.cosign_rows.specs.Part.{appended, descriptors_part, layer_part, named_layer, read_layer, skipping};
+ghost use Rattle.cosign_search.specs.LayerTexts.{is_among, is_text, layer_digests, text_by};
+ghost use Rattle.cosign_search.specs.LayerTexts.{BeginsOtherwise, Serves, Tell};
+ghost use Rattle.cosign_rows.specs.declared.found.SourceKind.TheVariants.{Tag};
+
+use cosign_layers::{
+    LayerRejection, Offline, SignatureLayer, SignatureVerifier, Trusted, read_payload_layer,
+};
+use cosign_rows::{Part, Skipped, SourceKind};
+use json_values::{Annotations, Copied, List, Text};
+use oci_digests::{Algorithm, digest_text};
+use oci_manifests::{ImageLayer, OciDescriptor};
+use std::alloc::{AllocError, Global};
+
+/// Which algorithms the digests of descriptors begin with.
+#[derive(Clone, Copy)]
+pub(crate) struct Used {
+    pub sha256: bool,
+    pub sha384: bool,
+    pub sha512: bool,
+}
+
+/// The digest texts of a pulled layer by each algorithm that is used, so that it is hashed once by each of them,
+/// however many descriptors there are.
+#[derive(Drop)]
+pub(crate) struct LayerDigests {
+    pub sha256: Option<Text>,
+    pub sha384: Option<Text>,
+    pub sha512: Option<Text>,
+}
+
+/// A part that is one cause.
+pub(crate) fn skipping(alloc: Global, cause: Skipped) -> Result<Part, AllocError>
+    ensures { IfOk result (λ part. part ≡ skipping cause) }
+{
+    let mut skipped = List::new(alloc);
+    skipped.push(cause)?;
+    Ok(Part {
+        collected: List::new(alloc),
+        skipped,
+    })
+}
+
+/// What each descriptor under the signature tag gives for the image of this digest, in their order.
+#[tactic(auto, using(cosign_rows::proofs::Descriptors::descriptors_next, cosign_rows::proofs::Descriptors::descriptors_end))]
+pub(crate) fn descriptors_part<V: SignatureVerifier, O: Offline>(
+    alloc: Global,
+    trusted: &Trusted<'_, V, O>,
+    digest: &str,
+    layers: &[ImageLayer],
+    descriptors: &[OciDescriptor],
+) -> Result<Part, AllocError>
+    ensures { IfOk result (λ part. part ≡ descriptors_part (trust_of V.valid O.vouched trusted.now)
+        digest.now layers.now descriptors.now) }
+{
+    let digests = all_digests(alloc, layers, descriptors)?;
+    let mut part = Part {
+        collected: List::new(alloc),
+        skipped: List::new(alloc),
+    };
+    for descriptor in descriptors {
+        let named = named_layer(descriptor.digest.as_str(), digests.as_slice(), layers);
+        part = add_descriptor(alloc, trusted, digest, descriptor, named, part)?;
+    }
+    Ok(part)
+}
+
+// Digest texts of each layer, which tell for each descriptor which layer it names.
+#[tactic(auto, using(crate::proofs::LayerTexts::all_tell))]
+fn all_digests(
+    alloc: Global,
+    layers: &[ImageLayer],
+    descriptors: &[OciDescriptor],
+) -> Result<List<LayerDigests>, AllocError>
+    ensures { IfOk result (λ all. All (λ x. Tell all layers.now x.digest) descriptors.now) }
+{
+    let used = used_algorithms(descriptors);
+    let all = used_digests(alloc, used, layers)?;
+    Ok(all)
+}
+
+#[tactic(auto, using(crate::proofs::LayerTexts::all_served))]
+fn used_algorithms(descriptors: &[OciDescriptor]) -> Used
+    ensures { All (λ x. Serves result x.digest) descriptors.now }
+{
+    Used {
+        sha256: is_used("sha256:", descriptors),
+        sha384: is_used("sha384:", descriptors),
+        sha512: is_used("sha512:", descriptors),
+    }
+}
+
+// Whether the digest of a descriptor begins so.
+#[tactic(auto, using(crate::proofs::LayerTexts::none_begins))]
+fn is_used(name: &str, descriptors: &[OciDescriptor]) -> bool
+    ensures { result ≡ false → All (λ x. BeginsOtherwise name.now x.digest) descriptors.now }
+{
+    for descriptor in descriptors {
+        if begins(name, descriptor.digest.as_str()) {
+            return true;
+        }
+    }
+    false
+}
+
+fn begins(name: &str, digest: &str) -> bool
+    ensures { result ≡ false → BeginsOtherwise name.now digest.now }
+{
+    digest.starts_with(name)
+}
+
+#[tactic(auto, using(crate::proofs::LayerTexts::digests_next, crate::proofs::LayerTexts::digests_end))]
+fn used_digests(
+    alloc: Global,
+    used: Used,
+    layers: &[ImageLayer],
+) -> Result<List<LayerDigests>, AllocError>
+    ensures { IfOk result (λ all. all ≡ map (layer_digests used) layers.now) }
+{
+    let mut all = List::new(alloc);
+    for layer in layers {
+        all.push(layer_digests(alloc, used, layer)?)?;
+    }
+    Ok(all)
+}
+
+fn layer_digests(alloc: Global, used: Used, layer: &ImageLayer) -> Result<LayerDigests, AllocError>
+    ensures { IfOk result (λ own. own ≡ layer_digests used layer.now) }
+{
+    let sha256 = text_by(alloc, Algorithm::Sha256, used.sha256, layer)?;
+    let sha384 = text_by(alloc, Algorithm::Sha384, used.sha384, layer)?;
+    let sha512 = text_by(alloc, Algorithm::Sha512, used.sha512, layer)?;
+    Ok(LayerDigests {
+        sha256,
+        sha384,
+        sha512,
+    })
+}
+
+fn text_by(
+    alloc: Global,
+    algorithm: Algorithm,
+    is_used: bool,
+    layer: &ImageLayer,
+) -> Result<Option<Text>, AllocError>
+    ensures { IfOk result (λ text. text ≡ text_by algorithm is_used layer.now) }
+{
+    if !is_used {
+        return Ok(None);
+    }
+    let text = digest_text(alloc, algorithm, layer.content.as_slice())?;
+    Ok(Some(text))
+}
+
+// The first layer that the digest names, by the layers' digest texts.
+#[tactic(auto, using(crate::proofs::LayerTexts::named_nowhere))]
+fn named_layer<'a>(
+    digest: &str,
+    digests: &[LayerDigests],
+    layers: &'a [ImageLayer],
+) -> Option<&'a ImageLayer>
+    requires { Tell digests.now layers.now digest.now }
+    ensures { option_copied result ≡ named_layer digest.now layers.now }
+{
+    let Some(place) = place_among(digest, digests) else {
+        return None;
+    };
+    let Some(layer) = layers.get(place) else {
+        return None;
+    };
+    Some(layer)
+}
+
+// The place of the first texts that have the digest.
+#[tactic(auto, using(cosign_rows::proofs::First::first_place, cosign_rows::proofs::First::no_place))]
+fn place_among(digest: &str, digests: &[LayerDigests]) -> Option<usize>
+    ensures { result ≡ position (is_among digest.now) digests.now }
+{
+    for (place, own) in digests.iter().enumerate() {
+        if is_among(own, digest) {
+            return Some(place);
+        }
+    }
+    None
+}
+
+fn is_among(own: &LayerDigests, digest: &str) -> bool
+    ensures { result ≡ is_among digest.now own.now }
+{
+    is_text(&own.sha256, digest) || is_text(&own.sha384, digest) || is_text(&own.sha512, digest)
+}
+
+fn is_text(own: &Option<Text>, digest: &str) -> bool
+    ensures { result ≡ is_text digest.now own.now }
+{
+    match own {
+        Some(own) => digest == own.as_str(),
+        None => false,
+    }
+}
+
+// A descriptor's layer, or why there is none, behind what is there.
+fn add_descriptor<V: SignatureVerifier, O: Offline>(
+    alloc: Global,
+    trusted: &Trusted<'_, V, O>,
+    digest: &str,
+    descriptor: &OciDescriptor,
+    named: Option<&ImageLayer>,
+    mut part: Part,
+) -> Result<Part, AllocError>
+    ensures { IfOk result (λ more. more ≡ appended part (layer_part Tag descriptor.now.digest
+        (read_layer (trust_of V.valid O.vouched trusted.now) digest.now descriptor.now
+        (option_copied named.entry)))) }
+{
+    match read_layer(alloc, trusted, digest, descriptor, named) {
+        Ok(layer) => {
+            part.collected.push(layer)?;
+            Ok(part)
+        }
+        Err(cause) => {
+            if cause.is_memory() {
+                return Err(AllocError);
+            }
+            let digest = descriptor.digest.copy(alloc)?;
+            part.skipped
+                .push(Skipped::Layer(SourceKind::Tag, digest, cause))?;
+            Ok(part)
+        }
+    }
+}
+
+// The signature layer of a pulled layer.
+fn read_layer<V: SignatureVerifier, O: Offline>(
+    alloc: Global,
+    trusted: &Trusted<'_, V, O>,
+    digest: &str,
+    descriptor: &OciDescriptor,
+    named: Option<&ImageLayer>,
+) -> Result<SignatureLayer, LayerRejection>
+    ensures { SaysLayer result (read_layer (trust_of V.valid O.vouched trusted.now) digest.now
+        descriptor.now (option_copied named.entry)) }
+{
+    let Some(layer) = named else {
+        return Err(LayerRejection::LayerNotPulled);
+    };
+    match &descriptor.annotations {
+        Some(annotations) => read_pulled(alloc, trusted, digest, descriptor, layer, annotations),
+        None => {
+            let annotations = Annotations::new(alloc);
+            read_pulled(alloc, trusted, digest, descriptor, layer, &annotations)
+        }
+    }
+}
+
+fn read_pulled<V: SignatureVerifier, O: Offline>(
+    alloc: Global,
+    trusted: &Trusted<'_, V, O>,
+    digest: &str,
+    descriptor: &OciDescriptor,
+    layer: &ImageLayer,
+    annotations: &Annotations,
+) -> Result<SignatureLayer, LayerRejection>
+    ensures { SaysLayer result (layer_read (trust_of V.valid O.vouched trusted.now) digest.now
+        (input kinds.Payload layer.now.content descriptor.now.digest annotations.now)) }
+{
+    read_payload_layer(
+        alloc,
+        &layer.content,
+        descriptor.digest.as_str(),
+        annotations,
+        digest,
+        trusted.log_keys,
+        trusted.verifier,
+        trusted.judge,
+    )
+}

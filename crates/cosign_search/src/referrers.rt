@@ -1,0 +1,250 @@
+//! The images that refer to a digest, as a source of signatures.
+ghost use Rattle.std.specs.Prelude.{◌≡◌, [], ◌∷◌, Err, IfOk};
+ghost use Rattle.oci_names.specs.References.{reads_back};
+ghost use Rattle.engine_requests.specs.Contexts.{within};
+ghost use Rattle.engine_requests.specs.declared.settings.Settings.{Settings};
+ghost use Rattle.cosign_layers.specs.Trust.{trust_of};
+ghost use Rattle.sig_calls.specs.Calls.{image_call};
+ghost use Rattle.sig_calls.specs.Clients.{Made};
+ghost use Rattle.sig_calls.specs.Errors.{is_memory, Says};
+ghost use Rattle.cosign_rows.specs.Part.{appended, bundles_part, skipping};
+ghost use Rattle.cosign_rows.specs.Search.{behind, bundle_type, referrer_part, referrer_by, referrer_row};
+ghost use Rattle.cosign_rows.specs.Search.{referrers_row, referrers_source};
+ghost use Rattle.cosign_rows.specs.declared.found.Skipped.TheVariants.{Source, Referrer};
+ghost use Rattle.cosign_rows.specs.declared.found.SourceKind.TheVariants.{Referrers};
+
+use crate::bundles::add_bundles;
+use cosign_layers::{Offline, SignatureVerifier, Trusted};
+use cosign_rows::{Asked, Part, Referred, SkipCause, Skipped, SourceKind, digest_reference};
+use engine_rows::ImageData;
+use json_values::{List, Text};
+use oci_manifests::ImageIndexEntry;
+use oci_transport::Transport;
+use sig_calls::{ClientCapabilities, SigstoreError};
+use std::alloc::{AllocError, Global};
+
+/// The media type of bundles.
+const BUNDLE_TYPE: &str = "application/vnd.dev.sigstore.bundle.v0.3+json";
+
+fn bundle_types(alloc: Global) -> Result<List<Text>, AllocError>
+    ensures { IfOk result (λ types. types ≡ bundle_type ∷ []) }
+{
+    let mut types = List::new(alloc);
+    types.push(Text::new(alloc, BUNDLE_TYPE)?)?;
+    Ok(types)
+}
+
+fn pull_bundles<C: ClientCapabilities, T: Transport>(
+    alloc: Global,
+    client: &mut C,
+    transport: &mut T,
+    referrer: &Asked<'_>,
+) -> Result<ImageData, SigstoreError>
+    ensures { (s : Settings) → Made is_memory s
+        (image_call (within s referrer.now.moment) referrer.now.image.now referrer.now.auth.now (bundle_type ∷ []))
+        (C.state client.old) (C.state client.new) (T.state transport.old) (T.state transport.new) result }
+{
+    let types = bundle_types(alloc)?;
+    client.pull(
+        alloc,
+        transport,
+        referrer.moment,
+        referrer.image,
+        referrer.auth,
+        types.as_slice(),
+    )
+}
+
+// One cause more.
+fn add_skipped(mut part: Part, cause: Skipped) -> Result<Part, AllocError>
+    ensures { IfOk result (λ more. more ≡ appended part (skipping cause)) }
+{
+    part.skipped.push(cause)?;
+    Ok(part)
+}
+
+// The bundles of a referrer that was pulled, behind what is there.
+fn add_pulled<V: SignatureVerifier, O: Offline>(
+    alloc: Global,
+    trusted: &Trusted<'_, V, O>,
+    source: &str,
+    image: &ImageData,
+    part: Part,
+) -> Result<Part, AllocError>
+    ensures { IfOk result (λ more. more ≡ appended part
+        (bundles_part (trust_of V.valid O.vouched trusted.now) source.now image.now.layers)) }
+{
+    let layers = image.layers.as_slice();
+    add_bundles(alloc, trusted, source, layers, part)
+}
+
+// A referrer that was not pulled is skipped.
+fn skip_referrer(
+    alloc: Global,
+    digest: &str,
+    error: SigstoreError,
+    part: Part,
+) -> Result<Part, SigstoreError>
+    ensures { Says result (behind part (Referrer digest.now) (Err error)) }
+{
+    if error.is_memory() {
+        return Err(error);
+    }
+    let digest = Text::new(alloc, digest)?;
+    let cause = Skipped::Referrer(digest, SkipCause::Refused(error));
+    let part = add_skipped(part, cause)?;
+    Ok(part)
+}
+
+// The bundles of a referrer, or why it was not pulled, behind what is there.
+fn add_referrer<V: SignatureVerifier, O: Offline>(
+    alloc: Global,
+    trusted: &Trusted<'_, V, O>,
+    source: &str,
+    digest: &str,
+    image: Result<ImageData, SigstoreError>,
+    part: Part,
+) -> Result<Part, SigstoreError>
+    ensures { Says result (behind part (Referrer digest.now)
+        (referrer_part (trust_of V.valid O.vouched trusted.now) source.now image)) }
+{
+    match image {
+        Ok(image) => {
+            let part = add_pulled(alloc, trusted, source, &image, part)?;
+            Ok(part)
+        }
+        Err(error) => skip_referrer(alloc, digest, error, part),
+    }
+}
+
+// A referrer by its reference, where that reads back.
+fn referrer_by<C: ClientCapabilities, T: Transport, V: SignatureVerifier, O: Offline>(
+    alloc: Global,
+    client: &mut C,
+    transport: &mut T,
+    referrer: &Asked<'_>,
+    referred: &Referred<'_, V, O>,
+    digest: &str,
+    part: Part,
+) -> Result<Part, SigstoreError>
+    ensures { (s : Settings) → Made is_memory s
+        (referrer_by (trust_of V.valid O.vouched referred.now.trusted.now) referred.now.digest.now
+        (within s referrer.now.moment) referrer.now.image.now referrer.now.auth.now digest.now part
+        (reads_back referrer.now.image.now))
+        (C.state client.old) (C.state client.new) (T.state transport.old) (T.state transport.new) result }
+{
+    let reads_back = referrer.image.reads_back(alloc)?;
+    if reads_back {
+        let image = pull_bundles(alloc, client, transport, referrer);
+        return add_referrer(
+            alloc,
+            referred.trusted,
+            referred.digest,
+            digest,
+            image,
+            part,
+        );
+    }
+    let digest = Text::new(alloc, digest)?;
+    let text = referrer.image.whole(alloc)?;
+    let cause = Skipped::Referrer(digest, SkipCause::NotAReference(text));
+    let part = add_skipped(part, cause)?;
+    Ok(part)
+}
+
+// A referrer by its digest, in the repository of what it refers to.
+fn referrer<C: ClientCapabilities, T: Transport, V: SignatureVerifier, O: Offline>(
+    alloc: Global,
+    client: &mut C,
+    transport: &mut T,
+    referred: &Referred<'_, V, O>,
+    digest: &str,
+    part: Part,
+) -> Result<Part, SigstoreError>
+    ensures { (s : Settings) → Made is_memory s
+        (referrer_row (trust_of V.valid O.vouched referred.now.trusted.now) referred.now.digest.now
+        (within s referred.now.moment) referred.now.image.now referred.now.auth.now digest.now part)
+        (C.state client.old) (C.state client.new) (T.state transport.old) (T.state transport.new) result }
+{
+    let reference = digest_reference(alloc, referred.image, digest)?;
+    let asked = Asked {
+        moment: referred.moment,
+        image: &reference,
+        auth: referred.auth,
+    };
+    referrer_by(alloc, client, transport, &asked, referred, digest, part)
+}
+
+// Each referrer, in their order.
+fn each_referrer<C: ClientCapabilities, T: Transport, V: SignatureVerifier, O: Offline>(
+    alloc: Global,
+    client: &mut C,
+    transport: &mut T,
+    referred: &Referred<'_, V, O>,
+    entries: &[ImageIndexEntry],
+    mut part: Part,
+) -> Result<Part, SigstoreError>
+    ensures { (s : Settings) → Made is_memory s
+        (referrers_row (trust_of V.valid O.vouched referred.now.trusted.now) referred.now.digest.now
+        (within s referred.now.moment) referred.now.image.now referred.now.auth.now entries.now part)
+        (C.state client.old) (C.state client.new) (T.state transport.old) (T.state transport.new) result }
+{
+    for entry in entries {
+        part = referrer(
+            alloc,
+            client,
+            transport,
+            referred,
+            entry.digest.as_str(),
+            part,
+        )?;
+    }
+    Ok(part)
+}
+
+// A refused listing is skipped.
+fn skip_listing(part: Part, refused: SigstoreError) -> Result<Part, SigstoreError>
+    ensures { Says result (behind part (Source Referrers) (Err refused)) }
+{
+    if refused.is_memory() {
+        return Err(refused);
+    }
+    let cause = Skipped::Source(SourceKind::Referrers, SkipCause::Refused(refused));
+    let part = add_skipped(part, cause)?;
+    Ok(part)
+}
+
+/// What refers to a digest as a source of signatures, behind what is there.
+pub(crate) fn referrers_source<
+    C: ClientCapabilities,
+    T: Transport,
+    V: SignatureVerifier,
+    O: Offline,
+>(
+    alloc: Global,
+    client: &mut C,
+    transport: &mut T,
+    referred: &Referred<'_, V, O>,
+    part: Part,
+) -> Result<Part, SigstoreError>
+    ensures { (s : Settings) → Made is_memory s
+        (referrers_source (trust_of V.valid O.vouched referred.now.trusted.now) referred.now.digest.now
+        (within s referred.now.moment) referred.now.image.now referred.now.auth.now part)
+        (C.state client.old) (C.state client.new) (T.state transport.old) (T.state transport.new) result }
+{
+    let listed = client.pull_referrers(
+        alloc,
+        transport,
+        referred.moment,
+        referred.image,
+        referred.auth,
+        None,
+    );
+    match listed {
+        Ok(index) => {
+            let entries = index.manifests.as_slice();
+            each_referrer(alloc, client, transport, referred, entries, part)
+        }
+        Err(error) => skip_listing(part, error),
+    }
+}

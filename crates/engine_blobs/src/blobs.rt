@@ -1,0 +1,151 @@
+// Blobs, into a sink or into memory.
+ghost use Rattle.oci_auth.specs.declared.memory.Memory.{Memory};
+ghost use Rattle.oci_protocol.specs.Runs.{Meets};
+ghost use Rattle.engine_requests.specs.Contexts.{context_of};
+ghost use Rattle.engine_requests.specs.Errors.{is_memory};
+ghost use Rattle.engine_requests.specs.Sources.{layer_in, places_of};
+ghost use Rattle.engine_rows.specs.Blobs.{IntoSink, IntoMemory, Spills};
+ghost use Rattle.engine_rows.specs.Offers.{tried};
+ghost use Rattle.engine_rows.specs.Pulls.{pull_blob, held_blob};
+
+use engine_requests::{
+    Call, LayerDescriptor, MANIFEST_TYPES, OciDistributionError, Settings, asked_at, blob_url,
+    place_of,
+};
+use engine_steps::{Target, attempt, held, held_offer, offer, prepared};
+use json_values::{Blob, Sink, Text};
+use oci_auth::{Memory, RegistryOperation};
+use oci_transport::{Method, Request, Transport};
+use std::alloc::Global;
+
+// One request, and while its answer is one of an error the places that the URLs name, in order.
+fn tried<T: Transport, K: Sink>(
+    alloc: Global,
+    transport: &mut T,
+    settings: &Settings,
+    digest: &str,
+    urls: &[Text],
+    mut request: Request,
+    out: &mut K,
+) -> Result<(), OciDistributionError>
+    ensures { (k : Memory) → Spills (tried IntoSink settings.now digest.now (places_of urls.now) request)
+        (T.state transport.old) (T.state transport.new) k k (K.state out.old) (K.state out.new) result }
+{
+    for url in urls {
+        let Some(place) = place_of(alloc, url.as_str())? else {
+            continue;
+        };
+        let limit = settings.max_body_bytes;
+        let put = offer(alloc, transport, limit, digest, &request, out)?;
+        if put {
+            return Ok(());
+        }
+        request = asked_at(alloc, settings, place)?;
+    }
+    let limit = settings.max_body_bytes;
+    attempt(alloc, transport, limit, digest, &request, out)?;
+    Ok(())
+}
+
+// The same, with the bytes held.
+fn held_tried<T: Transport>(
+    alloc: Global,
+    transport: &mut T,
+    settings: &Settings,
+    digest: &str,
+    urls: &[Text],
+    mut request: Request,
+) -> Result<Blob, OciDistributionError>
+    ensures { (k : Memory) → Meets is_memory (tried IntoMemory settings.now digest.now (places_of urls.now) request)
+        (T.state transport.old) (T.state transport.new) k k result }
+{
+    for url in urls {
+        let Some(place) = place_of(alloc, url.as_str())? else {
+            continue;
+        };
+        let limit = settings.max_body_bytes;
+        let found = held_offer(alloc, transport, limit, digest, &request)?;
+        if let Some(bytes) = found {
+            return Ok(bytes);
+        }
+        request = asked_at(alloc, settings, place)?;
+    }
+    let limit = settings.max_body_bytes;
+    let bytes = held(alloc, transport, limit, digest, &request)?;
+    Ok(bytes)
+}
+
+/// Puts the bytes of a blob, piece by piece as they come. It is asked at the registry, and while the answer is one of
+/// an error at the URLs of its descriptor, in order and with no credentials. After a refusal the sink has taken a
+/// front of the last answer's body, whose status is one of success, or nothing.
+pub fn pull_blob<T: Transport, K: Sink>(
+    alloc: Global,
+    transport: &mut T,
+    memory: &mut Memory,
+    call: &Call,
+    layer: &LayerDescriptor,
+    out: &mut K,
+) -> Result<(), OciDistributionError>
+    ensures { Spills (pull_blob (context_of call.now) call.now.image.now (layer_in layer.now))
+        (T.state transport.old) (T.state transport.new) memory.old memory.new (K.state out.old)
+        (K.state out.new) result }
+{
+    let url = blob_url(alloc, call.settings, call.image, layer.digest)?;
+    let target = Target {
+        method: Method::Get,
+        url: &url,
+    };
+    let op = RegistryOperation::Pull;
+    let request = prepared(alloc, transport, memory, call, op, &target, MANIFEST_TYPES)?;
+    match layer.urls {
+        Some(urls) => {
+            tried(
+                alloc,
+                transport,
+                call.settings,
+                layer.digest,
+                urls.as_slice(),
+                request,
+                out,
+            )?;
+            Ok(())
+        }
+        None => {
+            let limit = call.settings.max_body_bytes;
+            attempt(alloc, transport, limit, layer.digest, &request, out)?;
+            Ok(())
+        }
+    }
+}
+
+/// The bytes of a blob, asked for at the same places. No sink takes part.
+pub fn pulled_blob<T: Transport>(
+    alloc: Global,
+    transport: &mut T,
+    memory: &mut Memory,
+    call: &Call,
+    layer: &LayerDescriptor,
+) -> Result<Blob, OciDistributionError>
+    ensures { Meets is_memory (held_blob (context_of call.now) call.now.image.now (layer_in layer.now))
+        (T.state transport.old) (T.state transport.new) memory.old memory.new result }
+{
+    let url = blob_url(alloc, call.settings, call.image, layer.digest)?;
+    let target = Target {
+        method: Method::Get,
+        url: &url,
+    };
+    let op = RegistryOperation::Pull;
+    let request = prepared(alloc, transport, memory, call, op, &target, MANIFEST_TYPES)?;
+    match layer.urls {
+        Some(urls) => {
+            let urls = urls.as_slice();
+            let bytes = held_tried(alloc, transport, call.settings, layer.digest, urls, request)?;
+            Ok(bytes)
+        }
+        None => {
+            let limit = call.settings.max_body_bytes;
+            let bytes = held(alloc, transport, limit, layer.digest, &request)?;
+            Ok(bytes)
+        }
+    }
+}

@@ -1,0 +1,171 @@
+// Documents and their digests.
+ghost use Rattle.std.specs.Prelude.{◌≡◌};
+ghost use Rattle.oci_auth.specs.declared.memory.Memory.{Memory};
+ghost use Rattle.oci_protocol.specs.Runs.{Meets};
+ghost use Rattle.engine_requests.specs.Contexts.{context_of};
+ghost use Rattle.engine_requests.specs.Errors.{is_memory, Says};
+ghost use Rattle.engine_rows.specs.Pulls.{document, manifest_document, pull_manifest_raw};
+ghost use Rattle.engine_rows.specs.Pulls.{digest_by, fetch_manifest_digest, pull_manifest, manifest_asked};
+
+use engine_requests::{
+    Call, MANIFEST_TYPES, OciDistributionError, accepted, document_in, fits_reference,
+    manifest_url, read_document,
+};
+use engine_rows::Named;
+use engine_steps::{Target, named_after, prepared, whole};
+use json_values::{Blob, Text};
+use oci_auth::{Memory, RegistryAuth, RegistryOperation, store};
+use oci_manifests::OciManifest;
+use oci_transport::{Method, Transport};
+use std::alloc::Global;
+use url::Url;
+
+// A document's bytes with their digest.
+fn document<T: Transport>(
+    alloc: Global,
+    transport: &mut T,
+    memory: &mut Memory,
+    call: &Call,
+    url: &Url,
+    types: &str,
+) -> Result<(Blob, Text), OciDistributionError>
+    ensures { Meets is_memory (document (context_of call.now) call.now.image.now url.now types.now)
+        (T.state transport.old) (T.state transport.new) memory.old memory.new result }
+{
+    let target = Target {
+        method: Method::Get,
+        url,
+    };
+    let request = prepared(
+        alloc,
+        transport,
+        memory,
+        call,
+        RegistryOperation::Pull,
+        &target,
+        types,
+    )?;
+    let got = whole(alloc, transport, 10, &request, call.settings.max_body_bytes)?;
+    let found = document_in(alloc, call.image, got)?;
+    Ok(found)
+}
+
+/// The bytes of the image's manifest or index, with their digest. `types` is what the header `accept` lists.
+pub fn manifest_document<T: Transport>(
+    alloc: Global,
+    transport: &mut T,
+    memory: &mut Memory,
+    call: &Call,
+    types: &str,
+) -> Result<(Blob, Text), OciDistributionError>
+    ensures { Meets is_memory (manifest_document (context_of call.now) call.now.image.now types.now)
+        (T.state transport.old) (T.state transport.new) memory.old memory.new result }
+{
+    let url = manifest_url(alloc, call.settings, call.image)?;
+    let found = document(alloc, transport, memory, call, &url, types)?;
+    Ok(found)
+}
+
+/// The same, with credentials that are stored for the registry where none are.
+pub fn pull_manifest_raw<T: Transport>(
+    alloc: Global,
+    transport: &mut T,
+    memory: &mut Memory,
+    call: &Call,
+    auth: &RegistryAuth,
+    types: &str,
+) -> Result<(Blob, Text), OciDistributionError>
+    ensures { Meets is_memory (pull_manifest_raw (context_of call.now) call.now.image.now auth.now types.now)
+        (T.state transport.old) (T.state transport.new) memory.old memory.new result }
+{
+    store(alloc, memory, call.image.resolve_registry(), auth)?;
+    let found = manifest_document(alloc, transport, memory, call, types)?;
+    Ok(found)
+}
+
+// The digest that an answer names, or else the document's.
+fn digest_by<T: Transport>(
+    alloc: Global,
+    transport: &mut T,
+    memory: &mut Memory,
+    call: &Call,
+    url: &Url,
+    named: Named,
+) -> Result<Text, OciDistributionError>
+    ensures { Meets is_memory (digest_by (context_of call.now) call.now.image.now url.now named)
+        (T.state transport.old) (T.state transport.new) memory.old memory.new result }
+{
+    match named {
+        Named::ByHeader(digest, got) => {
+            let _body = accepted(alloc, got)?;
+            let digest = fits_reference(alloc, digest, call.image)?;
+            Ok(digest)
+        }
+        Named::Unnamed => {
+            let found = document(alloc, transport, memory, call, url, MANIFEST_TYPES)?;
+            Ok(found.1)
+        }
+    }
+}
+
+/// The digest of the image's manifest or index, as the registry names it.
+pub fn fetch_manifest_digest<T: Transport>(
+    alloc: Global,
+    transport: &mut T,
+    memory: &mut Memory,
+    call: &Call,
+    auth: &RegistryAuth,
+) -> Result<Text, OciDistributionError>
+    ensures { Meets is_memory (fetch_manifest_digest (context_of call.now) call.now.image.now auth.now)
+        (T.state transport.old) (T.state transport.new) memory.old memory.new result }
+{
+    store(alloc, memory, call.image.resolve_registry(), auth)?;
+    let url = manifest_url(alloc, call.settings, call.image)?;
+    let target = Target {
+        method: Method::Head,
+        url: &url,
+    };
+    let request = prepared(
+        alloc,
+        transport,
+        memory,
+        call,
+        RegistryOperation::Pull,
+        &target,
+        MANIFEST_TYPES,
+    )?;
+    let named = named_after(alloc, transport, 10, &request, call.settings.max_body_bytes)?;
+    let digest = digest_by(alloc, transport, memory, call, &url, named)?;
+    Ok(digest)
+}
+
+/// The image's manifest or index, with its digest.
+pub fn pull_manifest<T: Transport>(
+    alloc: Global,
+    transport: &mut T,
+    memory: &mut Memory,
+    call: &Call,
+    auth: &RegistryAuth,
+) -> Result<(OciManifest, Text), OciDistributionError>
+    ensures { Meets is_memory (pull_manifest (context_of call.now) call.now.image.now auth.now)
+        (T.state transport.old) (T.state transport.new) memory.old memory.new result }
+{
+    let found = pull_manifest_raw(alloc, transport, memory, call, auth, MANIFEST_TYPES)?;
+    let document = read_document(alloc, &found.0)?;
+    Ok((document, found.1))
+}
+
+/// The same, where credentials are stored already.
+pub(crate) fn manifest_asked<T: Transport>(
+    alloc: Global,
+    transport: &mut T,
+    memory: &mut Memory,
+    call: &Call,
+) -> Result<(OciManifest, Text), OciDistributionError>
+    ensures { Meets is_memory (manifest_asked (context_of call.now) call.now.image.now)
+        (T.state transport.old) (T.state transport.new) memory.old memory.new result }
+{
+    let found = manifest_document(alloc, transport, memory, call, MANIFEST_TYPES)?;
+    let document = read_document(alloc, &found.0)?;
+    Ok((document, found.1))
+}

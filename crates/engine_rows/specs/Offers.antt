@@ -1,0 +1,64 @@
+-- A blob that may be in more than one place: the registry is asked, and then the URLs that its descriptor lists, in
+-- order, while the answer is one of an error (OCI image specification, descriptor.md, `urls`).
+use Rattle.std.specs.Prelude.{◌≡◌, ◌⊎◌, ℕ, Bool, true, false, List, [], ◌∷◌, Option, Some, None, Result, Ok, Err}
+use Rattle.std.specs.Prelude.{if◌then◌else◌}
+use Rattle.json_values.specs.Tray.{Tray}
+use Rattle.oci_transport.specs.Link.{Link}
+use Rattle.oci_transport.specs.declared.message.Request.{Request}
+use Rattle.oci_transport.specs.declared.message.AnswerHead.{AnswerHead}
+use Rattle.oci_auth.specs.declared.memory.Memory.{Memory}
+use Rattle.oci_protocol.specs.Proto.{Reading, Unread, Reply, Headed, Done, ◌>>=◌}
+use Rattle.oci_protocol.specs.Follow.{follow}
+use Rattle.oci_protocol.specs.Runs.{Meets}
+use Rattle.engine_requests.specs.Answers.{is_error}
+use Rattle.engine_requests.specs.Errors.{is_memory}
+use Rattle.engine_requests.specs.Sources.{asked_at}
+use Rattle.engine_requests.specs.declared.settings.Settings.{Settings}
+use Rattle.engine_requests.specs.declared.error.OciDistributionError.{OciDistributionError}
+use Rattle.engine_requests.specs.declared.sources.Place.{Place}
+use Rattle.engine_rows.specs.Blobs.{Destination, blob_reading, blob_reply, attempt, Spills}
+use Rattle.engine_rows.specs.Rows.{Row}
+
+-- an answer of an error is not read
+unfoldable pub offer_reading : Destination → ℕ → List ℕ → AnswerHead → Reading
+offer_reading to limit digest head = if is_error head.status then Unread else blob_reading to limit digest head
+
+-- what comes next comes after such an answer
+abbrev pub offer_reply : List ℕ → Row (List ℕ) → Request → Reply → Row (List ℕ)
+offer_reply digest next last (Headed head) = if is_error head.status then next else blob_reply digest last (Headed head)
+offer_reply digest next last reply = blob_reply digest last reply
+
+-- one request for a blob, and what comes next where its answer is one of an error
+unfoldable pub offer : Destination → ℕ → List ℕ → Row (List ℕ) → Request → Row (List ℕ)
+offer to limit digest next request = follow 10 request (offer_reading to limit digest) (offer_reply digest next)
+
+-- one request for a blob, and then the places that are left
+unfoldable pub tried : Destination → Settings → List ℕ → List Place → Request → Row (List ℕ)
+tried to s digest [] request = attempt to s.max_body_bytes digest request
+tried to s digest (p ∷ ps) request = offer to s.max_body_bytes digest
+    (Done (asked_at s p) >>= (λ next. tried to s digest ps next)) request
+
+-- the row takes the answer with this head as the body of a blob: it is the attempt, or the offer where the answer is
+-- no error
+abbrev pub Takes : Destination → ℕ → List ℕ → Request → AnswerHead → Row (List ℕ) → Type 0
+Takes to limit digest request head p = (p ≡ attempt to limit digest request)
+    ⊎ ((is_error head.status ≡ false) × (next : Row (List ℕ)) × (p ≡ offer to limit digest next request))
+
+-- ---- what an offer came to
+
+-- The row ended with the bytes or a refusal, or its answer was passed over: then whatever comes next is met by the row.
+abbrev pub Offered : Row (List ℕ) → Row (List ℕ) → Link → Link → Memory → Result (Option (List ℕ)) OciDistributionError
+    → Type 0
+Offered next p old new k (Ok (Some bytes)) = Meets is_memory p old new k k (Ok bytes)
+Offered next p old new k (Ok None) = (end : Link) (l : Memory) (r : Result (List ℕ) OciDistributionError)
+    → Meets is_memory next new end k l r → Meets is_memory p old end k l r
+Offered next p old new k (Err e) = Meets is_memory p old new k k (Err e)
+
+-- the same of one into a sink, which took the bytes, or nothing of what was passed over
+abbrev pub OfferedInto : Row (List ℕ) → Row (List ℕ) → Link → Link → Memory → Tray → Tray
+    → Result Bool OciDistributionError → Type 0
+OfferedInto next p old new k before after (Ok true) = Spills p old new k k before after (Ok tt)
+OfferedInto next p old new k before after (Ok false) = (end : Link) (l : Memory) (later : Tray)
+    (r : Result Unit OciDistributionError)
+    → Spills next new end k l after later r → Spills p old end k l before later r
+OfferedInto next p old new k before after (Err e) = Spills p old new k k before after (Err e)

@@ -1,0 +1,38 @@
+-- The referrers of a manifest (OCI distribution specification, "Listing Referrers").
+use Rattle.std.specs.Prelude.{ℕ, List, Option, if◌then◌else◌, nat_eq}
+use Rattle.oci_transport.specs.declared.message.Method.TheVariants.{Get}
+use Rattle.oci_names.specs.declared.reference.Reference.{Reference}
+use Rattle.oci_names.specs.References.{digest_of}
+use Rattle.oci_auth.specs.declared.token_type.RegistryOperation.TheVariants.{Pull}
+use Rattle.oci_manifests.specs.declared.index.OciImageIndex.{OciImageIndex}
+use Rattle.oci_protocol.specs.Proto.{Done, bind, ◌>>=◌}
+use Rattle.engine_requests.specs.Contexts.{Context}
+use Rattle.engine_requests.specs.declared.answers.Got.{Got}
+use Rattle.engine_requests.specs.Requests.{manifest_types}
+use Rattle.engine_requests.specs.Referrers.{digest_given, referrers_url, referrers_in, fallback_reference, tagged_index}
+use Rattle.engine_rows.specs.Rows.{Row, whole, prepared}
+use Rattle.engine_rows.specs.Pulls.{manifest_asked}
+
+-- the answer to the request for the list, of this type of artifacts where one is asked for
+unfoldable pub referrers_asked : Context → Reference → List ℕ → Option (List ℕ) → Row Got
+referrers_asked s image digest kind = do
+  url ← Done (referrers_url s.settings image digest kind)
+  request ← prepared s image Pull Get url manifest_types
+  whole 10 request s.settings.max_body_bytes
+
+-- the index under the tag that stands for the list, or none where there is no such tag
+unfoldable pub referrers_tagged : Context → Reference → List ℕ → Option (List ℕ) → Row OciImageIndex
+referrers_tagged s image digest kind =
+    bind (manifest_asked s (fallback_reference image digest)) (λ answer. Done (tagged_index digest kind answer))
+
+-- a registry that knows no such list is asked for the tag
+abbrev pub referrers_by : Context → Reference → List ℕ → Option (List ℕ) → Got → Row OciImageIndex
+referrers_by s image digest kind got =
+    if nat_eq got.answer.status 404 then referrers_tagged s image digest kind else Done (referrers_in got)
+
+-- the index of what refers to the image's digest, of this type of artifacts where one is asked for
+unfoldable pub pull_referrers : Context → Reference → Option (List ℕ) → Row OciImageIndex
+pull_referrers s image kind = do
+  digest ← Done (digest_given (digest_of image))
+  got ← referrers_asked s image digest kind
+  referrers_by s image digest kind got

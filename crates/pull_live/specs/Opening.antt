@@ -1,0 +1,30 @@
+-- Settings whose client is made.
+use Rattle.std.specs.Prelude.{◌≡◌, true}
+use Rattle.cosign_client.specs.Builder.{fresh_state}
+use Rattle.cosign_client.specs.State.{client_state}
+use Rattle.pull_setup.specs.Clients.{config_by}
+use Rattle.pull_setup.specs.declared.asked.Asked.{Asked}
+use Rattle.pull_setup.specs.declared.client.WrittenClient.{WrittenClient}
+use Rattle.pull_live.specs.declared.opening.Opened.{Opened}
+use Rattle.pull_live.specs.declared.settings.LiveSettings.{LiveSettings}
+
+-- what the settings say of the client
+abbrev pub client_in : LiveSettings → WrittenClient
+client_in settings = record {
+  protocol = settings.protocol;
+  limit = settings.limit;
+  platform = settings.platform;
+  caching = true;
+  log_keys = settings.log_keys;
+}
+
+-- the client keeps nothing yet, and all else is what was asked and what the settings say
+pub record Opens (asked : Asked) (settings : LiveSettings) (o : Opened) : Type 0 where
+  pub client : client_state o.client ≡ fresh_state (config_by asked.usual (client_in settings)) true
+  pub log_keys : o.client.rekor_pub_keys ≡ settings.log_keys
+  pub moment : o.moment ≡ settings.moment
+  pub image : o.image ≡ asked.image
+  pub auth : o.auth ≡ asked.auth
+  pub accepted : o.accepted ≡ settings.accepted
+  pub keys : o.keys ≡ settings.keys
+  pub blobs : o.blobs ≡ settings.blobs

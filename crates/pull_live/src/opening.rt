@@ -1,0 +1,43 @@
+// Settings whose client is made.
+ghost use Rattle.pull_live.specs.Opening.{Opens};
+
+use crate::settings::LiveSettings;
+use cosign_client::Client;
+use json_values::{Blob, List, Text};
+use pull_setup::{Asked, WrittenClient, client_by};
+use sig_registry::{Auth, OciReference};
+use std::alloc::Global;
+
+/// A client, and what it is asked. It keeps answers, so that the search is not asked twice.
+#[derive(Drop)]
+pub(crate) struct Opened {
+    pub client: Client,
+    pub moment: u64,
+    pub image: OciReference,
+    pub auth: Auth,
+    pub accepted: List<Text>,
+    pub keys: List<Blob>,
+    pub blobs: bool,
+}
+
+pub(crate) fn open_settings(alloc: Global, asked: Asked, settings: LiveSettings) -> Opened
+    ensures { Opens asked settings result }
+{
+    let Asked { image, auth, usual } = asked;
+    let written = WrittenClient {
+        protocol: settings.protocol,
+        limit: settings.limit,
+        platform: settings.platform,
+        caching: true,
+        log_keys: settings.log_keys,
+    };
+    Opened {
+        client: client_by(alloc, usual, written),
+        moment: settings.moment,
+        image,
+        auth,
+        accepted: settings.accepted,
+        keys: settings.keys,
+        blobs: settings.blobs,
+    }
+}

@@ -1,0 +1,90 @@
+-- The calls of a client, each as the engine's, with its refusals in the words of the call.
+use Rattle.std.specs.Prelude.{ℕ, List, Option}
+use Rattle.oci_names.specs.declared.reference.Reference.{Reference}
+use Rattle.oci_names.specs.References.{whole_text, reads_back}
+use Rattle.oci_auth.specs.declared.auth.RegistryAuth.{RegistryAuth}
+use Rattle.oci_auth.specs.declared.token_type.RegistryOperation.TheVariants as operation
+use Rattle.oci_manifests.specs.declared.document.OciManifest.{OciManifest}
+use Rattle.oci_manifests.specs.declared.index.OciImageIndex.{OciImageIndex}
+use Rattle.oci_protocol.specs.Proto.{Done, bind, ◌>>=◌, ◌>>◌}
+use Rattle.oci_protocol.specs.Lift.{lifted}
+use Rattle.engine_requests.specs.Contexts.{Context}
+use Rattle.engine_requests.specs.Sources.{Layer}
+use Rattle.engine_rows.specs.Rows.{Row as Engine, token_given}
+use Rattle.engine_rows.specs.Pulls.{fetch_manifest_digest, pull_manifest, pull_manifest_raw, held_blob}
+use Rattle.engine_rows.specs.Images.{pull}
+use Rattle.engine_rows.specs.Referrers.{pull_referrers}
+use Rattle.engine_rows.specs.declared.image.ImageData.{ImageData}
+use Rattle.sig_answers.specs.Answers.{as_digest, as_manifest, as_image, as_referrers}
+use Rattle.sig_answers.specs.declared.answer.Answer.TheVariants.{Digest, Manifest, Image, Referrers}
+use Rattle.sig_answers.specs.declared.answer.Kind.TheVariants as kinds
+use Rattle.sig_settings.specs.Keys.{manifest_key, pull_key, referrers_key}
+use Rattle.sig_calls.specs.declared.wording.Called.{Called}
+use Rattle.sig_calls.specs.declared.wording.Called.TheVariants.{FetchManifest, Pull, PullManifest}
+use Rattle.sig_calls.specs.Errors.{worded}
+use Rattle.sig_calls.specs.Caching.{Cache, cached}
+use Rattle.sig_calls.specs.Clients.{Plain, Row}
+
+-- ---- as they are made
+
+-- a call of the engine, in other words
+unfoldable pub in_words : Called → Reference → {A : Type 0} → Engine A → Plain A
+in_words called image p = bind p (λ r. Done (worded called (whole_text image) r))
+
+unfoldable pub digest_made : Context → Reference → RegistryAuth → Plain (List ℕ)
+digest_made s image a = in_words FetchManifest image (fetch_manifest_digest s image a)
+
+unfoldable pub manifest_made : Context → Reference → RegistryAuth → Plain (OciManifest × List ℕ)
+manifest_made s image a = in_words PullManifest image (pull_manifest s image a)
+
+unfoldable pub image_made : Context → Reference → RegistryAuth → List (List ℕ) → Plain ImageData
+image_made s image a accepted = in_words Pull image (pull s image a accepted)
+
+unfoldable pub document_made : Context → Reference → RegistryAuth → List ℕ → Plain (List ℕ × List ℕ)
+document_made s image a types = in_words Pull image (pull_manifest_raw s image a types)
+
+unfoldable pub blob_made : Context → Reference → Layer → Plain (List ℕ)
+blob_made s image layer = in_words Pull image (held_blob s image layer)
+
+-- a token is got first
+unfoldable pub referrers_made : Context → Reference → RegistryAuth → Option (List ℕ) → Plain OciImageIndex
+referrers_made s image a kind = do
+  in_words FetchManifest image (token_given s image a operation.Pull)
+  in_words PullManifest image (pull_referrers s image kind)
+
+-- ---- as clients answer them, of which some keep answers
+
+abbrev pub digests : Cache (List ℕ)
+digests = record { kind = kinds.Digests; kept_as = Digest; read = as_digest }
+
+abbrev pub manifests : Cache (OciManifest × List ℕ)
+manifests = record { kind = kinds.Manifests; kept_as = λ pair. Manifest pair.0 pair.1; read = as_manifest }
+
+abbrev pub images : Cache ImageData
+images = record { kind = kinds.Images; kept_as = Image; read = as_image }
+
+abbrev pub referrers : Cache OciImageIndex
+referrers = record { kind = kinds.Referrers; kept_as = Referrers; read = as_referrers }
+
+unfoldable pub digest_call : Context → Reference → RegistryAuth → Row (List ℕ)
+digest_call s image a =
+    cached (reads_back image) digests (manifest_key image a) s.moment (digest_made s image a)
+
+unfoldable pub manifest_call : Context → Reference → RegistryAuth → Row (OciManifest × List ℕ)
+manifest_call s image a =
+    cached (reads_back image) manifests (manifest_key image a) s.moment (manifest_made s image a)
+
+unfoldable pub image_call : Context → Reference → RegistryAuth → List (List ℕ) → Row ImageData
+image_call s image a accepted =
+    cached (reads_back image) images (pull_key image a accepted) s.moment (image_made s image a accepted)
+
+unfoldable pub referrers_call : Context → Reference → RegistryAuth → Option (List ℕ) → Row OciImageIndex
+referrers_call s image a kind =
+    cached (reads_back image) referrers (referrers_key image a kind) s.moment (referrers_made s image a kind)
+
+-- documents as bytes and blobs are never kept
+unfoldable pub document_call : Context → Reference → RegistryAuth → List ℕ → Row (List ℕ × List ℕ)
+document_call s image a types = lifted (document_made s image a types)
+
+unfoldable pub blob_call : Context → Reference → Layer → Row (List ℕ)
+blob_call s image layer = lifted (blob_made s image layer)

@@ -1,0 +1,27 @@
+-- Where a client's credentials and tokens go in a call.
+use Rattle.std.specs.Prelude.{ℕ, Option}
+use Rattle.oci_transport.specs.Link.{Link}
+use Rattle.oci_names.specs.declared.reference.Reference.{Reference}
+use Rattle.oci_auth.specs.declared.auth.RegistryAuth.{RegistryAuth}
+use Rattle.oci_protocol.specs.Runs.{Told}
+use Rattle.engine_requests.specs.Contexts.{within}
+use Rattle.engine_laws.specs.Confined.{Within}
+use Rattle.engine_laws.specs.Held.{pulling}
+use Rattle.engine_laws.specs.Referrers.{WithinReferrers}
+use Rattle.sig_calls.specs.Clients.{Client}
+
+-- To the image's registry and to the realm that it names, and nowhere else: so it is of each request that was told.
+-- Each token that is kept afterwards was kept before, or the call may show it and it stands under the image's
+-- repository.
+abbrev pub Stays : Client → Client → ℕ → Reference → Option RegistryAuth → Link → Link → Type 0
+Stays before after moment image handed old new =
+    Told
+    (Within (pulling before.kept.0 (within before.settings moment) image handed) before.settings after.kept.0)
+    old new
+
+-- The same of a call that may ask a tag in place of a list of referrers: from then on to the tag's registry.
+abbrev pub StaysWithTag : Client → Client → ℕ → Reference → Option RegistryAuth → Link → Link → Type 0
+StaysWithTag before after moment image handed old new =
+    Told
+    (WithinReferrers (pulling before.kept.0 (within before.settings moment) image handed) before.settings after.kept.0)
+    old new

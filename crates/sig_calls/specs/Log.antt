@@ -1,0 +1,157 @@
+-- The calls of one client over time, and where their answers come from.
+use Rattle.std.specs.Prelude.{◌≡◌, ◌⊎◌, ◌≤◌, ◌<◌, ◌-◌, ℕ, List, [], ◌∷◌, Option, Some, None, Result}
+use Rattle.std.specs.Prelude.{Ok, Err, true}
+use Rattle.oci_transport.specs.declared.message.Exchange.{Exchange}
+use Rattle.oci_transport.specs.Link.{Link, Extends}
+use Rattle.oci_names.specs.declared.reference.Reference.{Reference}
+use Rattle.oci_names.specs.References.{reads_back}
+use Rattle.oci_auth.specs.declared.auth.RegistryAuth.{RegistryAuth}
+use Rattle.oci_auth.specs.declared.memory.Memory.{Memory}
+use Rattle.oci_protocol.specs.Proto.{Done, bind}
+use Rattle.oci_protocol.specs.Runs.{Runs}
+use Rattle.engine_requests.specs.Contexts.{Context, within}
+use Rattle.engine_requests.specs.declared.settings.Settings.{Settings}
+use Rattle.sig_settings.specs.Keys.{manifest_key, pull_key, referrers_key}
+use Rattle.sig_answers.specs.Answers.{kind_of}
+use Rattle.sig_answers.specs.declared.answer.Answer.{Answer}
+use Rattle.sig_answers.specs.declared.answer.Kind.{Kind}
+use Rattle.sig_answers.specs.declared.answer.Kind.TheVariants as kinds
+use Rattle.sig_answers.specs.declared.answers.Answers.{Answers}
+use Rattle.sig_answers.specs.declared.answers.Entry.{Entry}
+use Rattle.sig_calls.specs.Caching.{Cache, known}
+use Rattle.sig_calls.specs.Calls.{digests, manifests, images, referrers}
+use Rattle.sig_calls.specs.Calls.{digest_made, manifest_made, image_made, referrers_made}
+use Rattle.sig_calls.specs.Clients.{Client, Plain}
+use Rattle.sig_calls.specs.Errors.{Says}
+use Rattle.sig_calls.specs.declared.error.SigstoreError.{SigstoreError}
+
+-- a call whose answer may be kept, with what it is asked with
+pub data Call : Type 0 where
+  DigestCall : (image : Reference) → (auth : RegistryAuth) → Call
+  ManifestCall : (image : Reference) → (auth : RegistryAuth) → Call
+  ImageCall : (image : Reference) → (auth : RegistryAuth) → (accepted : List (List ℕ)) → Call
+  ReferrersCall : (image : Reference) → (auth : RegistryAuth) → (artifact_type : Option (List ℕ)) → Call
+
+abbrev pub kind_called : Call → Kind
+kind_called (DigestCall image a) = kinds.Digests
+kind_called (ManifestCall image a) = kinds.Manifests
+kind_called (ImageCall image a accepted) = kinds.Images
+kind_called (ReferrersCall image a artifact_type) = kinds.Referrers
+
+abbrev pub key_called : Call → List ℕ
+key_called (DigestCall image a) = manifest_key image a
+key_called (ManifestCall image a) = manifest_key image a
+key_called (ImageCall image a accepted) = pull_key image a accepted
+key_called (ReferrersCall image a artifact_type) = referrers_key image a artifact_type
+
+abbrev pub image_called : Call → Reference
+image_called (DigestCall image a) = image
+image_called (ManifestCall image a) = image
+image_called (ImageCall image a accepted) = image
+image_called (ReferrersCall image a artifact_type) = image
+
+-- Where the reference reads back and an answer is known, that is the answer, unless memory was wanting: nothing is
+-- sent, and the client stays as it was.
+pub record Recalled {A : Type 0} (cache : Cache A) (call : Call) (now : ℕ) (before after : Client) (old new : Link)
+    (r : Result A SigstoreError) : Type 0 where
+  pub recalled : (answer : A) → reads_back (image_called call) ≡ true
+      → known cache (key_called call) now before.kept.1 ≡ Some answer
+      → Says r (Ok answer) × (new ≡ old) × (after ≡ before)
+
+-- an answer as it is kept
+abbrev pub answered : {A : Type 0} → Cache A → Result A SigstoreError → Result Answer SigstoreError
+answered cache (Ok answer) = Ok (cache.kept_as answer)
+answered cache (Err e) = Err e
+
+abbrev pub answering : {A : Type 0} → Cache A → Plain A → Plain Answer
+answering cache p = bind p (λ r. Done (answered cache r))
+
+-- the call as it is made where no answer is known
+abbrev pub call_made : Context → Call → Plain Answer
+call_made s (DigestCall image a) = answering digests (digest_made s image a)
+call_made s (ManifestCall image a) = answering manifests (manifest_made s image a)
+call_made s (ImageCall image a accepted) = answering images (image_made s image a accepted)
+call_made s (ReferrersCall image a artifact_type) = answering referrers (referrers_made s image a artifact_type)
+
+-- One call of a client: what it was and when, the credentials and tokens that were kept before and after it, its
+-- exchanges with the transport's count of faults before and after them, and the answer.
+pub record Place : Type 0 where
+  pub call : Call
+  pub moment : ℕ
+  pub entry : Memory
+  pub exit : Memory
+  pub before : ℕ
+  pub conversation : List Exchange
+  pub after : ℕ
+  pub answer : Result Answer SigstoreError
+
+-- the call was made in full, by what was kept and at its moment, and that is its answer
+unfoldable pub IsStep : Settings → Place → Type 0
+IsStep s p =
+    Runs (call_made (within s p.moment) p.call) p.entry p.before p.conversation p.after p.exit p.answer
+
+-- some of these
+abbrev pub AnyOf : (Place → Type 0) → List Place → Type 0
+AnyOf P [] = ⊥
+AnyOf P (p ∷ log) = P p ⊎ AnyOf P log
+
+-- the same call was made in full, no later than now and less than 60 seconds before, and this was its answer
+pub record IsSource (s : Settings) (call : Call) (now : ℕ) (answer : Answer) (p : Place) : Type 0 where
+  pub call_is : p.call ≡ call
+  pub answer_is : p.answer ≡ Ok answer
+  pub step : IsStep s p
+  pub early : p.moment ≤ now
+  pub recent : now - p.moment < 60
+
+-- the answer of this call came of one that was made in full: this one, or one before it
+abbrev pub HasSource : Settings → Place → List Place → Type 0
+HasSource s p log = (answer : Answer) → p.answer ≡ Ok answer → AnyOf (IsSource s p.call p.moment answer) (p ∷ log)
+
+-- So did each answer of the log, whose latest call stands first.
+abbrev pub IsRun : Settings → List Place → Type 0
+IsRun s [] = Unit {0}
+IsRun s (p ∷ log) = HasSource s p log × IsRun s log
+
+-- what is kept is the answer of this call, which was made in full at the moment that it is kept with
+pub record IsOrigin (s : Settings) (e : Entry) (p : Place) : Type 0 where
+  pub kind_is : kind_called p.call ≡ kind_of e.answer
+  pub key_is : key_called p.call ≡ e.key
+  pub reads_back_is : reads_back (image_called p.call) ≡ true
+  pub moment_is : p.moment ≡ e.moment
+  pub answer_is : p.answer ≡ Ok e.answer
+  pub step : IsStep s p
+
+-- each of these is the answer of such a call
+abbrev pub EachBacked : Settings → List Entry → List Place → Type 0
+EachBacked s [] log = Unit {0}
+EachBacked s (e ∷ es) log = AnyOf (IsOrigin s e) log × EachBacked s es log
+
+abbrev pub IsBacked : Settings → Option Answers → List Place → Type 0
+IsBacked s None log = Unit {0}
+IsBacked s (Some answers) log = EachBacked s answers.entries log
+
+-- this call of a client, as a place of a log
+abbrev pub place_of : Call → ℕ → Client → Client → Link → List Exchange → Link → Result Answer SigstoreError → Place
+place_of call now before after old c new answer = record {
+  call = call;
+  moment = now;
+  entry = before.kept.0;
+  exit = after.kept.0;
+  before = old.faults;
+  conversation = c;
+  after = new.faults;
+  answer = answer;
+}
+
+-- the log with this call is a run, and what is kept now is backed by it
+pub record IsLawful (s : Settings) (kept : Option Answers) (p : Place) (log : List Place) : Type 0 where
+  pub run : IsRun s (p ∷ log)
+  pub backed : IsBacked s kept (p ∷ log)
+
+-- Of any log of a client with these settings that is a run and backs what the client keeps, this is so again with
+-- this call and its exchanges.
+pub record Logged {A : Type 0} (s : Settings) (cache : Cache A) (call : Call) (now : ℕ) (before after : Client)
+    (old new : Link) (r : Result A SigstoreError) : Type 0 where
+  pub logged : before.settings ≡ s → (log : List Place) → IsRun s log → IsBacked s before.kept.1 log
+      → (c : List Exchange) × Extends old new c
+      × IsLawful s after.kept.1 (place_of call now before after old c new (answered cache r)) log

@@ -1,0 +1,53 @@
+// Refusals of the registry's client, in the words of the call.
+ghost use Rattle.std.specs.Prelude.{◌≡◌, IfOk};
+ghost use Rattle.oci_names.specs.References.{whole_text};
+ghost use Rattle.sig_calls.specs.Errors.{refusal, worded, Says};
+
+use crate::error::SigstoreError;
+use engine_requests::OciDistributionError;
+use oci_names::Reference;
+use std::alloc::{AllocError, Global};
+
+/// What was called, by the refusal that it has.
+#[derive(Clone, Copy, Debug, PartialEq, Eq)]
+pub enum Called {
+    FetchManifest,
+    Pull,
+    PullManifest,
+}
+
+fn refusal(
+    alloc: Global,
+    called: Called,
+    image: &Reference,
+    error: OciDistributionError,
+) -> Result<SigstoreError, AllocError>
+    ensures { IfOk result (λ e. e ≡ refusal called (whole_text image.now) error) }
+{
+    let image = image.whole(alloc)?;
+    Ok(match called {
+        Called::FetchManifest => SigstoreError::RegistryFetchManifestError { image, error },
+        Called::Pull => SigstoreError::RegistryPullError { image, error },
+        Called::PullManifest => SigstoreError::RegistryPullManifestError { image, error },
+    })
+}
+
+/// The same answer, or its refusal in the words of the call.
+pub fn worded<A: Drop>(
+    alloc: Global,
+    called: Called,
+    image: &Reference,
+    outcome: Result<A, OciDistributionError>,
+) -> Result<A, SigstoreError>
+    ensures { Says result (worded called (whole_text image.now) outcome) }
+{
+    match outcome {
+        Ok(answer) => Ok(answer),
+        Err(error) => {
+            if error.is_memory() {
+                return Err(SigstoreError::WantOfMemory);
+            }
+            Err(refusal(alloc, called, image, error)?)
+        }
+    }
+}

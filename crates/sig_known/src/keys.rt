@@ -1,0 +1,65 @@
+// The texts that answers are kept under.
+ghost use Rattle.std.specs.Prelude.{◌≡◌, IfOk, option_copied};
+ghost use Rattle.oci_names.specs.References.{reads_back};
+ghost use Rattle.sig_settings.specs.Keys.{manifest_key, pull_key, referrers_key};
+ghost use Rattle.sig_calls.specs.Caching.{key_if};
+
+use json_values::{Blob, Text};
+use oci_auth::RegistryAuth;
+use oci_names::Reference;
+use sig_settings::{PullManifestSettings, PullReferrersSettings, PullSettings};
+use std::alloc::{AllocError, Global};
+
+// The key, where the reference reads back.
+fn if_it_reads_back(alloc: Global, image: &Reference, key: Blob) -> Result<Option<Blob>, AllocError>
+    ensures { IfOk result (λ found. found ≡ key_if (reads_back image.now) key) }
+{
+    let reads = image.reads_back(alloc)?;
+    if !reads {
+        return Ok(None);
+    }
+    Ok(Some(key))
+}
+
+/// The key of a call for a digest or a manifest; none where the reference does not read back.
+pub fn manifest_key(
+    alloc: Global,
+    image: &Reference,
+    auth: &RegistryAuth,
+) -> Result<Option<Blob>, AllocError>
+    ensures { IfOk result (λ key. key ≡ key_if (reads_back image.now) (manifest_key image.now auth.now)) }
+{
+    let settings = PullManifestSettings::new(alloc, image, auth)?;
+    let key = settings.key_text(alloc)?;
+    if_it_reads_back(alloc, image, key)
+}
+
+/// The key of a call for an image; none where the reference does not read back.
+pub fn image_key(
+    alloc: Global,
+    image: &Reference,
+    auth: &RegistryAuth,
+    accepted_media_types: &[Text],
+) -> Result<Option<Blob>, AllocError>
+    ensures { IfOk result (λ key. key
+        ≡ key_if (reads_back image.now) (pull_key image.now auth.now accepted_media_types.now)) }
+{
+    let settings = PullSettings::new(alloc, image, auth, accepted_media_types)?;
+    let key = settings.key_text(alloc)?;
+    if_it_reads_back(alloc, image, key)
+}
+
+/// The key of a call for referrers; none where the reference does not read back.
+pub fn list_key(
+    alloc: Global,
+    image: &Reference,
+    auth: &RegistryAuth,
+    artifact_type: Option<&str>,
+) -> Result<Option<Blob>, AllocError>
+    ensures { IfOk result (λ key. key
+        ≡ key_if (reads_back image.now) (referrers_key image.now auth.now (option_copied artifact_type.entry))) }
+{
+    let settings = PullReferrersSettings::new(alloc, image, auth, artifact_type)?;
+    let key = settings.key_text(alloc)?;
+    if_it_reads_back(alloc, image, key)
+}

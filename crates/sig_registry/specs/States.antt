@@ -1,0 +1,33 @@
+-- What the clients of a registry show.
+use Rattle.std.specs.Prelude.{◌≡◌, Option, Some, None, Result}
+use Rattle.oci_transport.specs.Link.{Link}
+use Rattle.oci_protocol.specs.Runs.{Meets}
+use Rattle.engine_requests.specs.declared.settings.Settings.{Settings}
+use Rattle.oci_engine.specs.declared.client.Client.{Client as Engine}
+use Rattle.sig_answers.specs.declared.answers.Answers.{Answers}
+use Rattle.sig_calls.specs.Clients.{Client, Plain}
+use Rattle.sig_calls.specs.Errors.{is_memory}
+use Rattle.sig_calls.specs.declared.error.SigstoreError.{SigstoreError}
+use Rattle.sig_registry.specs.declared.caching.OciCachingClient.{OciCachingClient}
+use Rattle.sig_registry.specs.declared.plain.OciClient.{OciClient}
+use Rattle.sig_registry.specs.declared.registry_client.RegistryClient.{RegistryClient}
+use Rattle.sig_registry.specs.declared.registry_client.RegistryClient.TheVariants as given
+
+-- a client of the registry's, with these answers kept
+abbrev pub engine_state : Engine → Option Answers → Client
+engine_state c answers = record { settings = c.settings; kept = (c.memory, answers) }
+
+abbrev pub plain_state : OciClient → Client
+plain_state c = engine_state c.client None
+
+abbrev pub caching_state : OciCachingClient → Client
+caching_state c = engine_state c.client (Some c.answers)
+
+abbrev pub state_of : RegistryClient → Client
+state_of (given.Plain c) = plain_state c
+state_of (given.Caching c) = caching_state c
+
+-- the same of a call that knows of no kept answers
+pub record PlainlyMade {A : Type 0} (s : Settings) (p : Plain A) (c d : Engine) (old new : Link)
+    (r : Result A SigstoreError) : Type 0 where
+  pub made : c.settings ≡ s → (d.settings ≡ s) × Meets is_memory p old new c.memory d.memory r
