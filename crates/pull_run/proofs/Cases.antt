@@ -1,7 +1,7 @@
 -- The pulls of a case.
 use Rattle.std.proofs.Common.{◌≡◌, ℕ, Bool, false, List, [], ◌∷◌, Result, Ok, Err, refl, sym, ap, ◌∙◌, subst}
 use mathlib.Core.Path.{fun_ext}
-use Rattle.std.specs.Prelude.{IfOk}
+use Rattle.std.specs.Prelude.{IfOk, IsErr}
 use Rattle.std.specs.declared.alloc.Global.{Global}
 use Rattle.std.specs.declared.dyn_box.DynBox.{DynBox}
 use Rattle.oci_names.specs.declared.reference.Reference.{Reference}
@@ -127,3 +127,7 @@ reports_opened own case asked o constraints moments l made usual opens moments_a
 pub ok_weaker : {A E : Type 0} {P Q : A → Type 0} (r : Result A E) → ((a : A) → P a → Q a) → IfOk r P → IfOk r Q
 ok_weaker (Ok a) more h = more a h
 ok_weaker (Err e) more h = tt
+
+pub none_made : {A E : Type 0} {P : A → Type 0} (r : Result A E) → IsErr r → IfOk r P
+none_made (Ok a) h = absurd h
+none_made (Err e) h = tt

@@ -1,5 +1,5 @@
 // The pulls of a case.
-ghost use Rattle.std.specs.Prelude.{◌≡◌, ◌++◌, ◌||◌, false, not, Ok, IsOk, IsErr, IfOk, IfSome, OnOk};
+ghost use Rattle.std.specs.Prelude.{◌≡◌, ◌++◌, ◌||◌, false, not, Ok, IsErr, IfOk, IfSome, OnOk};
 ghost use Rattle.oci_engine.specs.Clients.{default_config};
 ghost use Rattle.oci_names.specs.References.{reference_of};
 ghost use Rattle.sig_calls.specs.Direct.{reference_in};
@@ -187,20 +187,7 @@ impl Task for Case {
     }
 }
 
-// All of a case's pulls that memory is taken for before the first request.
-fn prepare(alloc: Global, case: &Case) -> Result<(Asked, List<Constraint>), AllocError>
-    requires { IsOk (reference_of case.now.reference) }
-    ensures image { IfOk result (λ made. reference_of case.now.reference ≡ Ok (reference_in made.0.image)) }
-    ensures auth { IfOk result (λ made. registry_auth made.0.auth ≡ case.now.auth) }
-    ensures usual { IfOk result (λ made. made.0.usual ≡ default_config) }
-    ensures constraints { IfOk result (λ made. made.1 ≡ constraints_by case.now.constraints) }
-{
-    let asked = ask_for(alloc, case.reference.as_str(), &case.auth)?;
-    let constraints = constraints_from(alloc, case.constraints.as_slice())?;
-    Ok((asked, constraints))
-}
-
-// The pulls of a case that was prepared so.
+// The pulls of a case, once all is there that memory is taken for before the first request.
 fn make_pulls(
     alloc: Global,
     asked: Asked,
@@ -236,13 +223,25 @@ fn make_pulls(
     report
 }
 
+// The pulls of a case whose reference was read.
+fn pull_asked(alloc: Global, asked: Asked, case: Case) -> Result<Report, AllocError>
+    requires { IsReady case }
+    ensures { asked.usual ≡ default_config → registry_auth asked.auth ≡ case.auth
+        → reference_of case.reference ≡ Ok (reference_in asked.image) → IfOk result (ReportsCase case) }
+{
+    match constraints_from(alloc, case.constraints.as_slice()) {
+        Ok(constraints) => make_pulls(alloc, asked, constraints, case),
+        Err(_) => without_memory(case),
+    }
+}
+
 /// Makes the pulls of a case over what its registry answers, and writes their report.
 pub fn pull_case(alloc: Global, case: Case) -> Result<Report, AllocError>
     requires { IsReady case }
     ensures { IfOk result (ReportsCase case) }
 {
-    match prepare(alloc, &case) {
-        Ok((asked, constraints)) => make_pulls(alloc, asked, constraints, case),
+    match ask_for(alloc, case.reference.as_str(), &case.auth) {
+        Ok(asked) => pull_asked(alloc, asked, case),
         Err(_) => without_memory(case),
     }
 }
