@@ -128,6 +128,6 @@ pub ok_weaker : {A E : Type 0} {P Q : A → Type 0} (r : Result A E) → ((a : A
 ok_weaker (Ok a) more h = more a h
 ok_weaker (Err e) more h = tt
 
-pub none_made : {A E : Type 0} {P : A → Type 0} (r : Result A E) → IsErr r → IfOk r P
-none_made (Ok a) h = absurd h
-none_made (Err e) h = tt
+pub none_made : {A E : Type 0} (P : A → Type 0) (r : Result A E) → IsErr r → IfOk r P
+none_made P (Ok a) h = absurd (cc h)
+none_made P (Err e) h = tt
