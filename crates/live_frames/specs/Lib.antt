@@ -1,3 +1,4 @@
+pub mod Constants
 pub mod Frame
 pub mod Parts
 pub mod Reading

@@ -15,5 +15,6 @@ pub use auth::RegistryAuth;
 pub use cache::TokenCache;
 pub use expiration::bearer_token_cache_expiration;
 pub use memory::{Memory, store};
+pub use shown::write_basic;
 pub use token::{RegistryToken, TokenError};
 pub use token_type::{RegistryOperation, RegistryTokenType};

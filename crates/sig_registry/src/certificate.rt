@@ -80,6 +80,12 @@ impl From<Certificate> for oci_engine::Certificate {
     }
 }
 
+impl Copied for CertificateEncoding {
+    fn copy(&self, _alloc: Global) -> Result<CertificateEncoding, AllocError> {
+        Ok(*self)
+    }
+}
+
 impl Copied for Certificate {
     fn copy(&self, alloc: Global) -> Result<Certificate, AllocError> {
         let content = self.content.copy(alloc)?;

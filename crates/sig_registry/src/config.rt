@@ -2,7 +2,7 @@
 ghost use Rattle.std.specs.Prelude.{◌≡◌, IfOk};
 ghost use Rattle.sig_registry.specs.Config.{default_config, oci_config};
 
-use json_values::{List, Text};
+use json_values::{Copied, List, Text};
 use oci_engine::PlatformResolver;
 use std::alloc::{AllocError, Global};
 
@@ -13,6 +13,19 @@ pub enum ClientProtocol {
     Https,
     /// `http` for these registries, `https` for all others.
     HttpsExcept(List<Text>),
+}
+
+impl Copied for ClientProtocol {
+    fn copy(&self, alloc: Global) -> Result<ClientProtocol, AllocError> {
+        match self {
+            ClientProtocol::Http => Ok(ClientProtocol::Http),
+            ClientProtocol::Https => Ok(ClientProtocol::Https),
+            ClientProtocol::HttpsExcept(registries) => {
+                let registries = registries.copy(alloc)?;
+                Ok(ClientProtocol::HttpsExcept(registries))
+            }
+        }
+    }
 }
 
 impl From<ClientProtocol> for oci_engine::ClientProtocol {

@@ -3,6 +3,7 @@ pub mod Call
 pub mod Calls
 pub mod Causes
 pub mod Configuration
+pub mod Constants
 pub mod Entities
 pub mod Error
 pub mod Exchange

@@ -1,6 +1,5 @@
 -- Credentials, as the registry's client takes them and as data.
-use Rattle.std.specs.Prelude.{ℕ, List, [], ◌∷◌, ◌++◌, codes, Option, Some, option_map}
-use Rattle.std.specs.Fmt.{debug_str}
+use Rattle.std.specs.Prelude.{ℕ, List, [], ◌∷◌, codes, Some}
 use Rattle.serde_json.specs.Data.{Data, string}
 use Rattle.json_values.specs.Writing.{listed}
 use Rattle.json_writing.specs.Fields.{fields}
@@ -24,10 +23,3 @@ abbrev pub auth_value : Auth → Data
 auth_value given.Anonymous = string (codes "Anonymous")
 auth_value (given.Basic user password) = fields ((codes "Basic", Some (listed string (user ∷ password ∷ []))) ∷ [])
 auth_value (given.Bearer token) = fields ((codes "Bearer", Some (string token)) ∷ [])
-
--- what is shown of them: neither the password nor the token
-abbrev pub redacted : Auth → Option (List ℕ)
-redacted given.Anonymous = Some (codes "Anonymous")
-redacted (given.Basic user password) =
-    option_map (λ name. codes "Basic(" ++ name ++ codes ", \"<redacted>\")") (debug_str user)
-redacted (given.Bearer token) = Some (codes "Bearer(\"<redacted>\")")

@@ -4,7 +4,7 @@ ghost use Rattle.sig_settings.specs.Auths.{registry_auth, auth_from};
 
 use json_values::{Copied, List, Text, ToValue, copy_all, row};
 use json_writing::object;
-use oci_auth::RegistryAuth;
+use oci_auth::{RegistryAuth, write_basic};
 use serde_json::Value;
 use std::alloc::{AllocError, Global};
 use std::fmt;
@@ -87,16 +87,36 @@ impl ToValue for Auth {
     }
 }
 
-/// Neither the password nor the token is shown.
+impl Copied for Auth {
+    fn copy(&self, alloc: Global) -> Result<Auth, AllocError> {
+        match self {
+            Auth::Anonymous => Ok(Auth::Anonymous),
+            Auth::Basic(user, password) => {
+                let row![user, password] = copy_all(alloc, row![user, password])?;
+                Ok(Auth::Basic(user, password))
+            }
+            Auth::Bearer(token) => Ok(Auth::Bearer(token.copy(alloc)?)),
+        }
+    }
+}
+
+/// Neither the password nor the token is shown, whatever the formatter.
 impl fmt::Debug for Auth {
-    ghost use Rattle.sig_settings.specs.Auths.{redacted};
+    ghost use Rattle.std.specs.Prelude.{Some};
+    ghost use Rattle.std.specs.Fmt.{DisplaysOnOk, WritesStyledOnOk};
+    ghost use Rattle.oci_auth.specs.Shown.{shown_auth};
 
-    ghost debug_output = { redacted };
+    ghost debug_output = { λ auth. Some (shown_auth (registry_auth auth)) };
 
-    fn fmt<W: fmt::Write>(&self, f: &mut fmt::Formatter<W>) -> fmt::Result {
+    fn fmt<W: fmt::Write>(&self, f: &mut fmt::Formatter<W>) -> fmt::Result
+        ensures writes { DisplaysOnOk W.write_str_gives f.old result
+            (Some (shown_auth (registry_auth self.now))) f.new }
+        ensures styled { WritesStyledOnOk W.write_str_gives f.old result
+            (shown_auth (registry_auth self.now)) f.new }
+    {
         match self {
             Auth::Anonymous => f.write_str("Anonymous"),
-            Auth::Basic(user, _) => write!(f, "Basic({:?}, \"<redacted>\")", user.as_str()),
+            Auth::Basic(user, _) => write_basic(f, user.as_str()),
             Auth::Bearer(_) => f.write_str("Bearer(\"<redacted>\")"),
         }
     }

@@ -1,0 +1,7 @@
+-- The public constant is its number.
+use Rattle.std.specs.Prelude.{◌≡◌, refl}
+use Rattle.live_frames.specs.Frame.{most_bytes}
+use Rattle.live_frames.specs.declared.reading.TheConstants as constant
+
+pub most_bytes_is : constant.MOST_BYTES ≡ most_bytes
+most_bytes_is = refl
