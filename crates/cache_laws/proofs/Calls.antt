@@ -11,12 +11,12 @@ use Rattle.oci_protocol.specs.Runs.{Runs}
 use Rattle.oci_protocol.proofs.Extending.{Extends-untold}
 use Rattle.oci_protocol.proofs.Lifting.{Runs-unlifted}
 use Rattle.oci_protocol.proofs.Parts.{Parts, Runs-parts, Runs-done}
-use Rattle.engine_requests.specs.declared.settings.Settings.{Settings}
-use Rattle.engine_requests.specs.Contexts.{within}
+use Rattle.engine_terms.specs.declared.settings.Settings.{Settings}
+use Rattle.engine_terms.specs.Contexts.{within}
 use Rattle.engine_requests.specs.Sources.{Layer}
 use Rattle.sig_calls.specs.declared.error.SigstoreError.{SigstoreError}
 use Rattle.sig_calls.specs.Errors.{is_memory}
-use Rattle.sig_calls.specs.Clients.{Kept, Plain, Row, Client, Made}
+use Rattle.sig_calls.specs.Clients.{Kept, Plain, Row, Client, Fulfils}
 use Rattle.sig_calls.specs.Caching.{Cache, known, keeping, known_or, recalled, cached}
 use Rattle.sig_calls.specs.Calls.{digests, manifests, images, referrers, digest_made, manifest_made, image_made, referrers_made, document_made, blob_made, digest_call, manifest_call, image_call, referrers_call, document_call, blob_call}
 use Rattle.sig_calls.specs.Log.{Call, DigestCall, ManifestCall, ImageCall, ReferrersCall, image_called, kind_called, key_called, answering, answered, call_made, Place, place_of, IsRun, IsBacked}
@@ -70,7 +70,7 @@ silent_extends m n c = Extends-untold (silent m) (silent n) c refl (record { ste
 abbrev client : Settings → Kept → Client
 client s k = record { settings = s; kept = k }
 
-answered_made : {A : Type 0} (s : Settings) (p : Row A) (k l : Kept) (m n : ℕ) (c : List Exchange) (a : A) → Runs p k m c n l (Ok a) → Made is_memory s p (client s k) (client s l) (silent m) (silent n) (Ok a)
+answered_made : {A : Type 0} (s : Settings) (p : Row A) (k l : Kept) (m n : ℕ) (c : List Exchange) (a : A) → Runs p k m c n l (Ok a) → Fulfils is_memory s p (client s k) (client s l) (silent m) (silent n) (Ok a)
 answered_made s p k l m n c a run = record { made = λ at. (at, record { outcome = record { conversation = c; told = silent_extends m n c; runs = run } }) }
 
 -- one whose answer may be kept

@@ -1,13 +1,13 @@
 -- The pulls of a case at its moments.
 use Rattle.std.proofs.Common.{ℕ, Bool, true, false, List, [], ◌∷◌, ◌++◌, ap, subst, append_assoc}
-use Rattle.engine_requests.specs.declared.settings.Settings.{Settings}
+use Rattle.engine_terms.specs.declared.settings.Settings.{Settings}
 use Rattle.sig_calls.specs.Clients.{Kept}
 use Rattle.sig_calls.specs.Log.{Place, IsRun, IsBacked}
 use Rattle.cosign_chain.specs.declared.image.VerifiedImage.{VerifiedImage}
 use Rattle.cosign_rows.specs.Verified.{Whole}
 use Rattle.pull_case.specs.Policy.{meaning_of}
 use Rattle.pull_case.specs.declared.case.Case.{Case}
-use Rattle.pull_run.specs.Pulls.{Talk, InTurn, Pulled, settings_of, row_of}
+use Rattle.pull_cases.specs.Pulls.{Talk, InTurn, Pulled, settings_of, row_of}
 use Rattle.pull_setup.specs.Clients.{fresh}
 use Rattle.cache_laws.specs.Growth.{Grown, Grows}
 use Rattle.cache_laws.proofs.Growing.{as_it_was}

@@ -7,7 +7,7 @@ use Rattle.oci_protocol.specs.Lift.{lifted}
 use Rattle.oci_protocol.specs.Runs.{Runs}
 use Rattle.oci_protocol.proofs.Lifting.{Runs-unlifted}
 use Rattle.oci_protocol.proofs.Parts.{Runs-parts, Runs-done}
-use Rattle.engine_requests.specs.declared.settings.Settings.{Settings}
+use Rattle.engine_terms.specs.declared.settings.Settings.{Settings}
 use Rattle.sig_answers.specs.declared.answers.Answers.{Answers}
 use Rattle.sig_calls.specs.Clients.{Kept}
 use Rattle.sig_calls.specs.Log.{Place, IsRun, IsBacked}

@@ -6,16 +6,16 @@ use Rattle.oci_auth.specs.declared.auth.RegistryAuth.{RegistryAuth}
 use Rattle.oci_manifests.specs.declared.document.OciManifest.{OciManifest}
 use Rattle.oci_manifests.specs.declared.document.OciManifest.TheVariants.{Image, ImageIndex}
 use Rattle.oci_manifests.specs.declared.index.OciImageIndex.{OciImageIndex}
-use Rattle.oci_manifests.specs.declared.index_entry.ImageIndexEntry.{ImageIndexEntry}
+use Rattle.oci_descriptors.specs.declared.index_entry.ImageIndexEntry.{ImageIndexEntry}
 use Rattle.oci_manifests.specs.declared.manifest.OciImageManifest.{OciImageManifest}
-use Rattle.oci_manifests.specs.declared.descriptor.OciDescriptor.{OciDescriptor}
+use Rattle.oci_descriptors.specs.declared.descriptor.OciDescriptor.{OciDescriptor}
 use Rattle.oci_manifests.specs.declared.blob.ImageLayer.{ImageLayer}
 use Rattle.oci_protocol.specs.Proto.{Done}
-use Rattle.engine_requests.specs.declared.settings.Settings.{Settings}
-use Rattle.engine_requests.specs.Contexts.{within}
+use Rattle.engine_terms.specs.declared.settings.Settings.{Settings}
+use Rattle.engine_terms.specs.Contexts.{within}
 use Rattle.engine_requests.specs.Requests.{manifest_types}
 use Rattle.engine_requests.specs.Sources.{described}
-use Rattle.engine_requests.specs.Index.{entry_reference}
+use Rattle.engine_answers.specs.Index.{entry_reference}
 use Rattle.engine_rows.specs.Images.{layer_of}
 use Rattle.sig_calls.specs.declared.error.SigstoreError.{SigstoreError}
 use Rattle.sig_calls.specs.Clients.{Row}
@@ -52,26 +52,29 @@ module _ (s : Settings) (now : ℕ) (a : RegistryAuth) where
   unfolding tag_source
   tag_grows trust image d = tag_by_grows trust d (tag_reference image d) (reads_back (tag_reference image d))
 
-  referrer_by_grows : (trust : Trust) (d : List ℕ) (referrer : Reference) (digest : List ℕ) (b : Bool) → Each (λ part. Grows s (referrer_by trust d (within s now) referrer a digest part b))
-  referrer_by_grows trust d referrer digest false = λ part. grows_done s _
-  referrer_by_grows trust d referrer digest true = λ part. grows_bind s (image_call (within s now) referrer a (bundle_type ∷ [])) _ (image_grows s now referrer a (bundle_type ∷ [])) (λ r. grows_done s _)
+  referrer_by_grows : (trust : Trust) (d : List ℕ) (referrer : Reference) (digest : List ℕ) (b : Bool) → Grows s (referrer_by trust d (within s now) referrer a digest b)
+  referrer_by_grows trust d referrer digest false = grows_done s _
+  referrer_by_grows trust d referrer digest true = grows_bind s (image_call (within s now) referrer a (bundle_type ∷ [])) _ (image_grows s now referrer a (bundle_type ∷ [])) (λ r. grows_done s _)
 
-  referrer_grows : (trust : Trust) (d : List ℕ) (source : Reference) (digest : List ℕ) → Each (λ part. Grows s (referrer_row trust d (within s now) source a digest part))
+  referrer_grows : (trust : Trust) (d : List ℕ) (source : Reference) (digest : List ℕ) → Grows s (referrer_row trust d (within s now) source a digest)
   unfolding referrer_row
-  referrer_grows trust d source digest = λ part. referrer_by_grows trust d (digest_reference source digest) digest (reads_back (digest_reference source digest)) part
+  referrer_grows trust d source digest = referrer_by_grows trust d (digest_reference source digest) digest (reads_back (digest_reference source digest))
 
-  referrers_row_grows : (trust : Trust) (d : List ℕ) (source : Reference) (xs : List ImageIndexEntry) → Each (λ part. Grows s (referrers_row trust d (within s now) source a xs part))
+  referrers_row_grows : (trust : Trust) (d : List ℕ) (source : Reference) (xs : List ImageIndexEntry) → Grows s (referrers_row trust d (within s now) source a xs)
   unfolding referrers_row
-  referrers_row_grows trust d source [] = λ part. grows_done s _
-  referrers_row_grows trust d source (x ∷ xs) = λ part. grows_next s (referrer_row trust d (within s now) source a x.digest part) _ (referrer_grows trust d source x.digest part) (λ more. referrers_row_grows trust d source xs more)
+  referrers_row_grows trust d source [] = grows_done s _
+  referrers_row_grows trust d source (x ∷ xs) =
+      grows_next s (referrer_row trust d (within s now) source a x.digest) _ (referrer_grows trust d source x.digest) (λ one.
+      grows_next s (referrers_row trust d (within s now) source a xs) _ (referrers_row_grows trust d source xs) (λ rest.
+      grows_done s _))
 
-  listed_grows : (trust : Trust) (d : List ℕ) (source : Reference) (r : Result OciImageIndex SigstoreError) → Each (λ part. Grows s (listed_row trust d (within s now) source a part r))
-  listed_grows trust d source (Ok index) = λ part. referrers_row_grows trust d source index.manifests part
-  listed_grows trust d source (Err e) = λ part. grows_done s _
+  listed_grows : (trust : Trust) (d : List ℕ) (source : Reference) (r : Result OciImageIndex SigstoreError) → Grows s (listed_row trust d (within s now) source a r)
+  listed_grows trust d source (Ok index) = referrers_row_grows trust d source index.manifests
+  listed_grows trust d source (Err e) = grows_done s _
 
-  referrers_source_grows : (trust : Trust) (d : List ℕ) (source : Reference) → Each (λ part. Grows s (referrers_source trust d (within s now) source a part))
+  referrers_source_grows : (trust : Trust) (d : List ℕ) (source : Reference) → Grows s (referrers_source trust d (within s now) source a)
   unfolding referrers_source
-  referrers_source_grows trust d source = λ part. grows_bind s (referrers_call (within s now) source a None) _ (referrers_grow s now source a None) (λ r. listed_grows trust d source r part)
+  referrers_source_grows trust d source = grows_bind s (referrers_call (within s now) source a None) _ (referrers_grow s now source a None) (λ r. listed_grows trust d source r)
 
   pub search_grows : (trust : Trust) (image : Reference) → Grows s (searched trust (within s now) image a)
   unfolding searched
@@ -79,7 +82,7 @@ module _ (s : Settings) (now : ℕ) (a : RegistryAuth) where
       grows_next s (digest_call (within s now) image a) _ (digest_grows s now image a) (λ digest.
       grows_next s (Done _) _ (grows_done s _) (λ _.
       grows_next s (tag_source trust (within s now) image a digest) _ (tag_grows trust image digest) (λ tag.
-      grows_next s (referrers_source trust digest (within s now) (digest_reference image digest) a tag) _ (referrers_source_grows trust digest (digest_reference image digest) tag) (λ found.
+      grows_next s (referrers_source trust digest (within s now) (digest_reference image digest) a) _ (referrers_source_grows trust digest (digest_reference image digest)) (λ more.
       grows_done s _))))
 
   -- ---- the image

@@ -9,7 +9,7 @@ use Rattle.oci_protocol.specs.Runs.{Runs}
 use Rattle.oci_protocol.proofs.Ends.{Ends-bind}
 use Rattle.oci_protocol.proofs.Lifting.{Ends-lifted, Runs-unlifted}
 use Rattle.oci_protocol.proofs.Parts.{Runs-parts}
-use Rattle.engine_requests.specs.declared.settings.Settings.{Settings}
+use Rattle.engine_terms.specs.declared.settings.Settings.{Settings}
 use Rattle.engine_laws.specs.Held.{Entry}
 use Rattle.engine_laws.proofs.Confines.{ConfinesBy, Alone, Beside, confines_done, confines_bind, confines_recall, confines_kept, confines_lifted}
 use Rattle.sig_answers.specs.Answers.{keep, entry}

@@ -4,14 +4,14 @@ use Rattle.std.specs.Prelude.{if◌then◌else◌, find, MatchBool}
 use Rattle.oci_names.specs.declared.reference.Reference.{Reference}
 use Rattle.oci_names.specs.References.{whole_text, reads_back}
 use Rattle.oci_auth.specs.declared.auth.RegistryAuth.{RegistryAuth}
-use Rattle.oci_manifests.specs.declared.descriptor.OciDescriptor.{OciDescriptor}
+use Rattle.oci_descriptors.specs.declared.descriptor.OciDescriptor.{OciDescriptor}
 use Rattle.oci_manifests.specs.declared.blob.ImageLayer.{ImageLayer}
 use Rattle.oci_manifests.specs.declared.manifest.OciImageManifest.{OciImageManifest}
 use Rattle.oci_manifests.specs.declared.document.OciManifest.{OciManifest}
 use Rattle.oci_manifests.specs.declared.document.OciManifest.TheVariants.{Image, ImageIndex}
 use Rattle.oci_manifests.specs.declared.index.OciImageIndex.{OciImageIndex}
-use Rattle.oci_manifests.specs.declared.index_entry.ImageIndexEntry.{ImageIndexEntry}
-use Rattle.engine_requests.specs.Index.{entry_found, entry_reference}
+use Rattle.oci_descriptors.specs.declared.index_entry.ImageIndexEntry.{ImageIndexEntry}
+use Rattle.engine_answers.specs.Index.{entry_found, entry_reference}
 use Rattle.oci_transport.specs.Link.{Link}
 use Rattle.oci_transport.specs.declared.message.Exchange.{Exchange}
 use Rattle.oci_protocol.specs.Proto.{Proto, Done, unless_refused, ◌>>=◌}
@@ -21,10 +21,10 @@ use Rattle.oci_protocol.specs.Runs.{Runs, Meets, Told, Performs, Breaks}
 use Rattle.oci_protocol.proofs.Ends.{Ends-any, Ends-bind, Runs-ends}
 use Rattle.oci_protocol.proofs.Lifting.{Ends-lifted}
 use Rattle.oci_protocol.proofs.Keeping.{ShowsKept-run, ShowsKept-done, ShowsKept-more, ShowsKept-both, ShowsKept-bind, ShowsKept-step}
-use Rattle.engine_requests.specs.Contexts.{Context}
+use Rattle.engine_terms.specs.Contexts.{Context}
 use Rattle.engine_requests.specs.Sources.{Layer, described}
-use Rattle.engine_requests.specs.declared.error.OciDistributionError.{OciDistributionError}
-use Rattle.engine_requests.specs.Errors.{is_memory as engine_is_memory}
+use Rattle.engine_terms.specs.declared.error.OciDistributionError.{OciDistributionError}
+use Rattle.engine_terms.specs.Errors.{is_memory as engine_is_memory}
 use Rattle.engine_requests.specs.Requests.{manifest_types}
 use Rattle.engine_rows.specs.Rows.{Row as Engine}
 use Rattle.engine_rows.specs.Pulls.{fetch_manifest_digest, pull_manifest_raw, held_blob}
@@ -44,11 +44,11 @@ use Rattle.cosign_layers.specs.declared.layer.SignatureLayer.{SignatureLayer}
 use Rattle.cosign_chain.specs.declared.image.VerifiedImage.{VerifiedImage}
 use Rattle.cosign_rows.specs.Causes.{SearchCause, Found, PullCause}
 use Rattle.cosign_rows.specs.Image.{document_in, entry_in, with_image, layers_row, blobs_row, entry_call, entry_row, manifest_row, image_row}
-use Rattle.cosign_rows.specs.Part.{skipping, appended}
+use Rattle.cosign_rows.specs.Part.{nothing, skipping, appended}
 use Rattle.cosign_rows.specs.Points.{Point, point, Ran}
 use Rattle.cosign_rows.specs.References.{tag_reference, digest_reference, or_not_valid, reading_back}
 use Rattle.cosign_rows.specs.Refusal.{is_memory, refused_as}
-use Rattle.cosign_rows.specs.Search.{bundle_type, tag_layers, or_skipped, tag_by, tag_source, behind, referrer_part, referrer_by, referrer_row, referrers_row, listed_row, referrers_source, trusted_layers, searched}
+use Rattle.cosign_rows.specs.Search.{bundle_type, tag_layers, or_skipped, tag_by, tag_source, referrer_part, referrer_by, referrer_row, referrers_row, listed_row, referrers_source, trusted_layers, searched}
 use Rattle.cosign_rows.specs.Verified.{constrained, is_unconstrained, readable, readable_by, as_whole, part_of, stands_by, standing_by, standing, verified_image, after_search, verified}
 use Rattle.cosign_rows.specs.declared.found.Part.{Part}
 use Rattle.cosign_rows.specs.declared.found.SkipCause.{SkipCause}
@@ -181,16 +181,16 @@ image_own s image source a accepted =
 abbrev IsMemory : SigstoreError → Type 0
 IsMemory e = of_memory e ≡ true
 
-source_memory : (r : Result Part SigstoreError) → OnRefusal IsMemory (or_skipped Tag r)
-source_memory (Ok part) = tt
-source_memory (Err e) = by_memory (of_memory e) refl where
-  by_memory : (b : Bool) → of_memory e ≡ b → OnRefusal {A = Part} IsMemory (if b then Err e else Ok (skipping (Source Tag (Refused e))))
+skipped_memory : (place : SkipCause → Skipped) (r : Result Part SigstoreError) → OnRefusal IsMemory (or_skipped place r)
+skipped_memory place (Ok part) = tt
+skipped_memory place (Err e) = by_memory (of_memory e) refl where
+  by_memory : (b : Bool) → of_memory e ≡ b → OnRefusal {A = Part} IsMemory (if b then Err e else Ok (skipping (place (Refused e))))
   by_memory true is = is
   by_memory false is = tt
 
 by_memory_only : (trust : Trust) (d : List ℕ) (s : Context) (tag : Reference) (a : RegistryAuth) (b : Bool) → Ends (OnRefusal IsMemory) (tag_by trust d s tag a b)
 unfolding Ends
-by_memory_only trust d s tag a true = Ends-bind (λ r. Unit {0}) (OnRefusal IsMemory) (tag_layers trust d s tag a) (λ r. Done (or_skipped Tag r)) (any_ends (tag_layers trust d s tag a)) (λ r u. source_memory r)
+by_memory_only trust d s tag a true = Ends-bind (λ r. Unit {0}) (OnRefusal IsMemory) (tag_layers trust d s tag a) (λ r. Done (or_skipped (Source Tag) r)) (any_ends (tag_layers trust d s tag a)) (λ r u. skipped_memory (Source Tag) r)
 by_memory_only trust d s tag a false = tt
 
 tag_memory : (trust : Trust) (s : Context) (image : Reference) (a : RegistryAuth) (d : List ℕ) → Ends (OnRefusal IsMemory) (tag_source trust s image a d)
@@ -198,47 +198,43 @@ unfolding tag_source
 tag_memory trust s image a d = by_memory_only trust d s (tag_reference image d) a (reads_back (tag_reference image d))
 
 -- and so is a referrer
-behind_memory : (part : Part) (place : SkipCause → Skipped) (r : Result Part SigstoreError) → OnRefusal IsMemory (behind part place r)
-behind_memory part place (Ok more) = tt
-behind_memory part place (Err e) = by_memory (of_memory e) refl where
-  by_memory : (b : Bool) → of_memory e ≡ b → OnRefusal {A = Part} IsMemory (if b then Err e else Ok (appended part (skipping (place (Refused e)))))
-  by_memory true is = is
-  by_memory false is = tt
-
-referrer_by_memory : (trust : Trust) (d : List ℕ) (s : Context) (referrer : Reference) (a : RegistryAuth) (digest : List ℕ) (part : Part) (b : Bool) → Ends (OnRefusal IsMemory) (referrer_by trust d s referrer a digest part b)
+referrer_by_memory : (trust : Trust) (d : List ℕ) (s : Context) (referrer : Reference) (a : RegistryAuth) (digest : List ℕ) (b : Bool) → Ends (OnRefusal IsMemory) (referrer_by trust d s referrer a digest b)
 unfolding Ends
-referrer_by_memory trust d s referrer a digest part true = Ends-bind (λ r. Unit {0}) (OnRefusal IsMemory) (image_call s referrer a (bundle_type ∷ [])) _ (any_ends (image_call s referrer a (bundle_type ∷ []))) (λ r u. behind_memory part (Referrer digest) (referrer_part trust d r))
-referrer_by_memory trust d s referrer a digest part false = tt
+referrer_by_memory trust d s referrer a digest true = Ends-bind (λ r. Unit {0}) (OnRefusal IsMemory) (image_call s referrer a (bundle_type ∷ [])) _ (any_ends (image_call s referrer a (bundle_type ∷ []))) (λ r u. skipped_memory (Referrer digest) (referrer_part trust d r))
+referrer_by_memory trust d s referrer a digest false = tt
 
-referrer_memory : (trust : Trust) (d : List ℕ) (s : Context) (source : Reference) (a : RegistryAuth) (digest : List ℕ) (part : Part) → Ends (OnRefusal IsMemory) (referrer_row trust d s source a digest part)
+referrer_memory : (trust : Trust) (d : List ℕ) (s : Context) (source : Reference) (a : RegistryAuth) (digest : List ℕ) → Ends (OnRefusal IsMemory) (referrer_row trust d s source a digest)
 unfolding referrer_row
-referrer_memory trust d s source a digest part = referrer_by_memory trust d s (digest_reference source digest) a digest part (reads_back (digest_reference source digest))
+referrer_memory trust d s source a digest = referrer_by_memory trust d s (digest_reference source digest) a digest (reads_back (digest_reference source digest))
 
-referrers_memory : (trust : Trust) (d : List ℕ) (s : Context) (source : Reference) (a : RegistryAuth) (xs : List ImageIndexEntry) (part : Part) → Ends (OnRefusal IsMemory) (referrers_row trust d s source a xs part)
+referrers_memory : (trust : Trust) (d : List ℕ) (s : Context) (source : Reference) (a : RegistryAuth) (xs : List ImageIndexEntry) → Ends (OnRefusal IsMemory) (referrers_row trust d s source a xs)
 unfolding referrers_row
-referrers_memory trust d s source a [] part = done_own IsMemory (Ok part) tt
-referrers_memory trust d s source a (x ∷ xs) part = next_own IsMemory (referrer_row trust d s source a x.digest part) (λ more. referrers_row trust d s source a xs more) (referrer_memory trust d s source a x.digest part) (λ more. referrers_memory trust d s source a xs more)
+referrers_memory trust d s source a [] = done_own IsMemory (Ok nothing) tt
+referrers_memory trust d s source a (x ∷ xs) =
+    next_own IsMemory (referrer_row trust d s source a x.digest) _ (referrer_memory trust d s source a x.digest) (λ one.
+    next_own IsMemory (referrers_row trust d s source a xs) _ (referrers_memory trust d s source a xs) (λ rest.
+    done_own IsMemory (Ok (appended one rest)) tt))
 
-listed_memory : (trust : Trust) (d : List ℕ) (s : Context) (source : Reference) (a : RegistryAuth) (part : Part) (r : Result OciImageIndex SigstoreError) → Ends (OnRefusal IsMemory) (listed_row trust d s source a part r)
-listed_memory trust d s source a part (Ok index) = referrers_memory trust d s source a index.manifests part
-listed_memory trust d s source a part (Err e) = done_own IsMemory (behind part (Source Referrers) (Err e)) (behind_memory part (Source Referrers) (Err e))
+listed_memory : (trust : Trust) (d : List ℕ) (s : Context) (source : Reference) (a : RegistryAuth) (r : Result OciImageIndex SigstoreError) → Ends (OnRefusal IsMemory) (listed_row trust d s source a r)
+listed_memory trust d s source a (Ok index) = referrers_memory trust d s source a index.manifests
+listed_memory trust d s source a (Err e) = done_own IsMemory (or_skipped (Source Referrers) (Err e)) (skipped_memory (Source Referrers) (Err e))
 
-source_memory_only : (trust : Trust) (d : List ℕ) (s : Context) (source : Reference) (a : RegistryAuth) (part : Part) → Ends (OnRefusal IsMemory) (referrers_source trust d s source a part)
+source_memory_only : (trust : Trust) (d : List ℕ) (s : Context) (source : Reference) (a : RegistryAuth) → Ends (OnRefusal IsMemory) (referrers_source trust d s source a)
 unfolding referrers_source
-source_memory_only trust d s source a part = Ends-bind (λ r. Unit {0}) (OnRefusal IsMemory) (referrers_call s source a None) (listed_row trust d s source a part) (any_ends (referrers_call s source a None)) (λ r u. listed_memory trust d s source a part r)
+source_memory_only trust d s source a = Ends-bind (λ r. Unit {0}) (OnRefusal IsMemory) (referrers_call s source a None) (listed_row trust d s source a) (any_ends (referrers_call s source a None)) (λ r u. listed_memory trust d s source a r)
 
 -- what comes after a digest that was answered
 abbrev pub rest_of : Trust → Context → Reference → RegistryAuth → List ℕ → Row TrustedLayers
 rest_of trust s image a digest = do
   tag ← tag_source trust s image a digest
-  found ← referrers_source trust digest s (digest_reference image digest) a tag
-  Done (Ok (trusted_layers digest found))
+  more ← referrers_source trust digest s (digest_reference image digest) a
+  Done (Ok (trusted_layers digest (appended tag more)))
 
 rest_memory : (trust : Trust) (s : Context) (image : Reference) (a : RegistryAuth) (digest : List ℕ) → Ends (OnRefusal IsMemory) (rest_of trust s image a digest)
 rest_memory trust s image a digest =
     next_own IsMemory (tag_source trust s image a digest) _ (tag_memory trust s image a digest) (λ tag.
-    next_own IsMemory (referrers_source trust digest s (digest_reference image digest) a tag) _ (source_memory_only trust digest s (digest_reference image digest) a tag) (λ found.
-    done_own IsMemory (Ok (trusted_layers digest found)) tt))
+    next_own IsMemory (referrers_source trust digest s (digest_reference image digest) a) _ (source_memory_only trust digest s (digest_reference image digest) a) (λ more.
+    done_own IsMemory (Ok (trusted_layers digest (appended tag more))) tt))
 
 -- ---- the search
 

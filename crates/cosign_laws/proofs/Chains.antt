@@ -7,10 +7,10 @@ use Rattle.oci_names.specs.References.{reads_back}
 use Rattle.oci_auth.specs.declared.auth.RegistryAuth.{RegistryAuth}
 use Rattle.oci_manifests.specs.declared.document.OciManifest.{OciManifest}
 use Rattle.oci_manifests.specs.declared.document.OciManifest.TheVariants.{Image, ImageIndex}
-use Rattle.oci_manifests.specs.declared.descriptor.OciDescriptor.{OciDescriptor}
+use Rattle.oci_descriptors.specs.declared.descriptor.OciDescriptor.{OciDescriptor}
 use Rattle.oci_manifests.specs.declared.blob.ImageLayer.{ImageLayer}
 use Rattle.oci_manifests.specs.declared.index.OciImageIndex.{OciImageIndex}
-use Rattle.oci_manifests.specs.declared.index_entry.ImageIndexEntry.{ImageIndexEntry}
+use Rattle.oci_descriptors.specs.declared.index_entry.ImageIndexEntry.{ImageIndexEntry}
 use Rattle.oci_transport.specs.declared.message.Exchange.{Exchange}
 use Rattle.oci_transport.specs.declared.message.Method.{Method}
 use Rattle.oci_transport.specs.Link.{Link}
@@ -20,10 +20,10 @@ use Rattle.oci_protocol.specs.Ends.{Ends, OnAnswer}
 use Rattle.oci_protocol.specs.Runs.{Meets, Told}
 use Rattle.oci_protocol.proofs.Ends.{Ends-any, Ends-bind, Ends-next, Runs-ends}
 use Rattle.oci_protocol.proofs.Showing.{Shows-done, Shows-bind}
-use Rattle.engine_requests.specs.Contexts.{Context}
-use Rattle.engine_requests.specs.declared.settings.Settings.{Settings}
+use Rattle.engine_terms.specs.Contexts.{Context}
+use Rattle.engine_terms.specs.declared.settings.Settings.{Settings}
 use Rattle.engine_rows.specs.declared.image.ImageData.{ImageData}
-use Rattle.engine_laws.specs.Answered.{FirstAsked, Answered}
+use Rattle.engine_laws.specs.Answered.{FirstAsked, DigestAnswered}
 use Rattle.engine_laws.proofs.DocumentAnswers.{body_after}
 use Rattle.sig_calls.specs.declared.error.SigstoreError.{SigstoreError}
 use Rattle.sig_calls.specs.Errors.{is_memory}
@@ -33,7 +33,7 @@ use Rattle.sig_calls.specs.Caching.{known}
 use Rattle.sig_calls.specs.Calls.{digests, digest_made, digest_call, manifest_call, image_call, referrers_call}
 use Rattle.cosign_layers.specs.Checks.{input}
 use Rattle.cosign_layers.specs.Constraint.{has_no_item}
-use Rattle.cosign_layers.specs.Layer.{LayerOf, Named}
+use Rattle.cosign_layers.specs.Layer.{LayerOf, IsAboutImage}
 use Rattle.cosign_layers.specs.Standing.{Meaning, StandsFor}
 use Rattle.cosign_layers.specs.Trust.{Trust}
 use Rattle.cosign_layers.specs.declared.layer.LayerKind.TheVariants as kinds
@@ -50,10 +50,10 @@ use Rattle.cosign_chain.specs.Links.{Links as HasLinks}
 use Rattle.cosign_chain.specs.declared.image.VerifiedImage.{VerifiedImage}
 use Rattle.cosign_chain.proofs.LinkTests.{chain_links}
 use Rattle.cosign_rows.specs.Image.{image_row}
-use Rattle.cosign_rows.specs.Part.{skipping, appended, layer_part, named_layer, read_layer, descriptor_part, descriptors_part, read_bundle, bundle_part, bundles_part}
+use Rattle.cosign_rows.specs.Part.{nothing, skipping, appended, layer_part, named_layer, read_layer, descriptor_part, descriptors_part, read_bundle, bundle_part, bundles_part}
 use Rattle.cosign_rows.specs.References.{tag_reference, digest_reference, reading_back}
 use Rattle.cosign_rows.specs.Refusal.{is_memory as of_refusal}
-use Rattle.cosign_rows.specs.Search.{payload_type, document_part, tag_layers, or_skipped, tag_by, tag_source, bundle_type, behind, referrer_part, referrer_by, referrer_row, referrers_row, listed_row, referrers_source, trusted_layers, searched}
+use Rattle.cosign_rows.specs.Search.{payload_type, document_part, tag_layers, or_skipped, tag_by, tag_source, bundle_type, referrer_part, referrer_by, referrer_row, referrers_row, listed_row, referrers_source, trusted_layers, searched}
 use Rattle.cosign_rows.specs.Sound.{Fresh, AnsweredOrFresh, Backed, Sound}
 use Rattle.cosign_rows.specs.Verified.{constrained, is_unconstrained, readable, as_whole, part_of, stands_by, standing_by, standing, manifest_digests, verified_image, after_search, verified}
 use Rattle.cosign_rows.specs.declared.found.Part.{Part}
@@ -86,7 +86,7 @@ first_before d first = record {
   split = ap (λ c. c ++ d) first.split ∙ append_assoc (first.before ++ first.exchanges) first.after d;
 }
 
-answered_before : (s : Settings) (image : Reference) (c d : List Exchange) (digest : List ℕ) → Answered s image c digest → Answered s image (c ++ d) digest
+answered_before : (s : Settings) (image : Reference) (c d : List Exchange) (digest : List ℕ) → DigestAnswered s image c digest → DigestAnswered s image (c ++ d) digest
 unfolding first_before
 answered_before s image c d digest answered = record {
   url = answered.url;
@@ -107,7 +107,7 @@ given_before kept s image a c d digest (inr fresh) = inr fresh
 -- the layer is what its bytes say, and is about this image
 record Fits (trust : Trust) (d : List ℕ) (layer : SignatureLayer) : Type 0 where
   layer_of : LayerOf trust layer
-  about : Named layer d
+  about : IsAboutImage layer d
 
 abbrev AllFit : Trust → List ℕ → List SignatureLayer → Type 0
 AllFit trust d [] = Unit {0}
@@ -141,10 +141,10 @@ document_fits : (trust : Trust) (d : List ℕ) (document : OciManifest) (image :
 document_fits trust d (ImageIndex index) image = tt
 document_fits trust d (Image manifest) image = descriptors_fit trust d image.layers manifest.layers
 
-skipped_fits : (trust : Trust) (d : List ℕ) (r : Result Part SigstoreError) → OnAnswer (PartFits trust d) r → OnAnswer (PartFits trust d) (or_skipped Tag r)
-skipped_fits trust d (Ok part) h = h
-skipped_fits trust d (Err e) h = by_memory (is_memory e) where
-  by_memory : (b : Bool) → OnAnswer (PartFits trust d) (if b then Err e else Ok (skipping (Source Tag (Refused e))))
+skipped_fits : (trust : Trust) (d : List ℕ) (place : SkipCause → Skipped) (r : Result Part SigstoreError) → OnAnswer (PartFits trust d) r → OnAnswer (PartFits trust d) (or_skipped place r)
+skipped_fits trust d place (Ok part) h = h
+skipped_fits trust d place (Err e) h = by_memory (is_memory e) where
+  by_memory : (b : Bool) → OnAnswer (PartFits trust d) (if b then Err e else Ok (skipping (place (Refused e))))
   by_memory true = tt
   by_memory false = tt
 
@@ -169,7 +169,7 @@ layers_ends trust d s tag a =
 by_ends : (trust : Trust) (d : List ℕ) (s : Context) (tag : Reference) (a : RegistryAuth) (b : Bool) → Ends (OnAnswer (PartFits trust d)) (tag_by trust d s tag a b)
 unfolding Ends
 by_ends trust d s tag a false = tt
-by_ends trust d s tag a true = Ends-bind (OnAnswer (PartFits trust d)) (OnAnswer (PartFits trust d)) (tag_layers trust d s tag a) (λ r. Done (or_skipped Tag r)) (layers_ends trust d s tag a) (λ r h. skipped_fits trust d r h)
+by_ends trust d s tag a true = Ends-bind (OnAnswer (PartFits trust d)) (OnAnswer (PartFits trust d)) (tag_layers trust d s tag a) (λ r. Done (or_skipped (Source Tag) r)) (layers_ends trust d s tag a) (λ r h. skipped_fits trust d (Source Tag) r h)
 
 source_ends : (trust : Trust) (s : Context) (image : Reference) (a : RegistryAuth) (d : List ℕ) → Ends (OnAnswer (PartFits trust d)) (tag_source trust s image a d)
 unfolding tag_source
@@ -193,39 +193,35 @@ referrer_fits : (trust : Trust) (d : List ℕ) (r : Result ImageData SigstoreErr
 referrer_fits trust d (Ok image) = bundles_fit trust d image.layers
 referrer_fits trust d (Err e) = tt
 
-behind_fits : (trust : Trust) (d : List ℕ) (part : Part) (place : SkipCause → Skipped) (r : Result Part SigstoreError) → PartFits trust d part → OnAnswer (PartFits trust d) r → OnAnswer (PartFits trust d) (behind part place r)
-behind_fits trust d part place (Ok more) h k = both_fit trust d part.collected more.collected h k
-behind_fits trust d part place (Err e) h k = by_memory (is_memory e) where
-  by_memory : (b : Bool) → OnAnswer (PartFits trust d) (if b then Err e else Ok (appended part (skipping (place (Refused e)))))
-  by_memory true = tt
-  by_memory false = both_fit trust d part.collected [] h tt
-
-referrer_by_ends : (trust : Trust) (d : List ℕ) (s : Context) (referrer : Reference) (a : RegistryAuth) (digest : List ℕ) (part : Part) (b : Bool) → PartFits trust d part → Ends (OnAnswer (PartFits trust d)) (referrer_by trust d s referrer a digest part b)
+referrer_by_ends : (trust : Trust) (d : List ℕ) (s : Context) (referrer : Reference) (a : RegistryAuth) (digest : List ℕ) (b : Bool) → Ends (OnAnswer (PartFits trust d)) (referrer_by trust d s referrer a digest b)
 unfolding Ends
-referrer_by_ends trust d s referrer a digest part false h = both_fit trust d part.collected [] h tt
-referrer_by_ends trust d s referrer a digest part true h = Ends-bind (λ r. Unit {0}) (OnAnswer (PartFits trust d)) (image_call s referrer a (bundle_type ∷ [])) _ (Ends-any (λ r. Unit {0}) (image_call s referrer a (bundle_type ∷ [])) (λ r. tt))
-    (λ r u. behind_fits trust d part (Referrer digest) (referrer_part trust d r) h (referrer_fits trust d r))
+referrer_by_ends trust d s referrer a digest false = tt
+referrer_by_ends trust d s referrer a digest true = Ends-bind (λ r. Unit {0}) (OnAnswer (PartFits trust d)) (image_call s referrer a (bundle_type ∷ [])) _ (Ends-any (λ r. Unit {0}) (image_call s referrer a (bundle_type ∷ [])) (λ r. tt))
+    (λ r u. skipped_fits trust d (Referrer digest) (referrer_part trust d r) (referrer_fits trust d r))
 
-referrer_ends : (trust : Trust) (d : List ℕ) (s : Context) (source : Reference) (a : RegistryAuth) (digest : List ℕ) (part : Part) → PartFits trust d part → Ends (OnAnswer (PartFits trust d)) (referrer_row trust d s source a digest part)
+referrer_ends : (trust : Trust) (d : List ℕ) (s : Context) (source : Reference) (a : RegistryAuth) (digest : List ℕ) → Ends (OnAnswer (PartFits trust d)) (referrer_row trust d s source a digest)
 unfolding referrer_row
-referrer_ends trust d s source a digest part h = referrer_by_ends trust d s (digest_reference source digest) a digest part (reads_back (digest_reference source digest)) h
+referrer_ends trust d s source a digest = referrer_by_ends trust d s (digest_reference source digest) a digest (reads_back (digest_reference source digest))
 
-referrers_end : (trust : Trust) (d : List ℕ) (s : Context) (source : Reference) (a : RegistryAuth) (xs : List ImageIndexEntry) (part : Part) → PartFits trust d part → Ends (OnAnswer (PartFits trust d)) (referrers_row trust d s source a xs part)
+referrers_end : (trust : Trust) (d : List ℕ) (s : Context) (source : Reference) (a : RegistryAuth) (xs : List ImageIndexEntry) → Ends (OnAnswer (PartFits trust d)) (referrers_row trust d s source a xs)
 unfolding referrers_row
-referrers_end trust d s source a [] part h = done_ends (PartFits trust d) part h
-referrers_end trust d s source a (x ∷ xs) part h = Ends-next (PartFits trust d) (PartFits trust d) (referrer_row trust d s source a x.digest part) (λ more. referrers_row trust d s source a xs more) (referrer_ends trust d s source a x.digest part h) (λ more fit. referrers_end trust d s source a xs more fit)
+referrers_end trust d s source a [] = done_ends (PartFits trust d) nothing tt
+referrers_end trust d s source a (x ∷ xs) =
+    Ends-next (PartFits trust d) (PartFits trust d) (referrer_row trust d s source a x.digest) _ (referrer_ends trust d s source a x.digest) (λ one fit.
+    Ends-next (PartFits trust d) (PartFits trust d) (referrers_row trust d s source a xs) _ (referrers_end trust d s source a xs) (λ rest also.
+    done_ends (PartFits trust d) (appended one rest) (both_fit trust d one.collected rest.collected fit also)))
 
 refused_ends : {A : Type 0} (Q : A → Type 0) (r : Result A SigstoreError) → OnAnswer Q r → Ends {K = Kept} (OnAnswer Q) (Done r)
 unfolding Ends
 refused_ends Q r h = h
 
-listed_ends : (trust : Trust) (d : List ℕ) (s : Context) (source : Reference) (a : RegistryAuth) (part : Part) (r : Result OciImageIndex SigstoreError) → PartFits trust d part → Ends (OnAnswer (PartFits trust d)) (listed_row trust d s source a part r)
-listed_ends trust d s source a part (Ok index) h = referrers_end trust d s source a index.manifests part h
-listed_ends trust d s source a part (Err e) h = refused_ends (PartFits trust d) (behind part (Source Referrers) (Err e)) (behind_fits trust d part (Source Referrers) (Err e) h tt)
+listed_ends : (trust : Trust) (d : List ℕ) (s : Context) (source : Reference) (a : RegistryAuth) (r : Result OciImageIndex SigstoreError) → Ends (OnAnswer (PartFits trust d)) (listed_row trust d s source a r)
+listed_ends trust d s source a (Ok index) = referrers_end trust d s source a index.manifests
+listed_ends trust d s source a (Err e) = refused_ends (PartFits trust d) (or_skipped (Source Referrers) (Err e)) (skipped_fits trust d (Source Referrers) (Err e) tt)
 
-referrers_source_ends : (trust : Trust) (d : List ℕ) (s : Context) (source : Reference) (a : RegistryAuth) (part : Part) → PartFits trust d part → Ends (OnAnswer (PartFits trust d)) (referrers_source trust d s source a part)
+referrers_source_ends : (trust : Trust) (d : List ℕ) (s : Context) (source : Reference) (a : RegistryAuth) → Ends (OnAnswer (PartFits trust d)) (referrers_source trust d s source a)
 unfolding referrers_source
-referrers_source_ends trust d s source a part h = Ends-bind (λ r. Unit {0}) (OnAnswer (PartFits trust d)) (referrers_call s source a None) (listed_row trust d s source a part) (Ends-any (λ r. Unit {0}) (referrers_call s source a None) (λ r. tt)) (λ r u. listed_ends trust d s source a part r h)
+referrers_source_ends trust d s source a = Ends-bind (λ r. Unit {0}) (OnAnswer (PartFits trust d)) (referrers_call s source a None) (listed_row trust d s source a) (Ends-any (λ r. Unit {0}) (referrers_call s source a None) (λ r. tt)) (λ r u. listed_ends trust d s source a r)
 
 -- ---- the search
 
@@ -243,7 +239,7 @@ none_fresh kept s image a digest none fresh = never (ap (λ answers. known diges
 digest_call_seen : (kept : Kept) (s : Context) (image : Reference) (a : RegistryAuth) → SeenFrom kept (AnsweredOrFresh kept s image a) (digest_call s image a)
 unfolding digest_call
 digest_call_seen kept s image a = record { seen = λ l m n c r run. by_run l m n c r (cached_run digests (manifest_key image a) s.moment (reads_back image) (digest_made s image a) kept l m n c r run) } where
-  by_made : (m n : ℕ) (c : List Exchange) (r : Result (List ℕ) SigstoreError) → Seen (Answered s.settings image) m c n r → Seen (AnsweredOrFresh kept s image a) m c n r
+  by_made : (m n : ℕ) (c : List Exchange) (r : Result (List ℕ) SigstoreError) → Seen (DigestAnswered s.settings image) m c n r → Seen (AnsweredOrFresh kept s image a) m c n r
   by_made m n c (Ok digest) h = inl h
   by_made m n c (Err e) h = tt
 
@@ -264,9 +260,9 @@ search_seen kept trust s image a =
     next_from kept (AnsweredOrFresh kept s image a) (Found kept trust s image a) (digest_call s image a) _ (digest_call_seen kept s image a) (λ c digest answered.
     step_seen (λ d found. Found kept trust s image a (c ++ d) found) (reading_back (digest_reference image digest)) _ (λ u is.
     next_seen (λ d part. PartFits trust digest part) (λ d found. Found kept trust s image a (c ++ d) found) (tag_source trust s image a digest) _ (part_shows trust digest (tag_source trust s image a digest) (source_ends trust s image a digest)) (λ d tag fit.
-    next_seen (λ e part. PartFits trust digest part) (λ e found. Found kept trust s image a (c ++ (d ++ e)) found) (referrers_source trust digest s (digest_reference image digest) a tag) _
-    (part_shows trust digest (referrers_source trust digest s (digest_reference image digest) a tag) (referrers_source_ends trust digest s (digest_reference image digest) a tag fit)) (λ e part fit.
-    done_seen (λ f found. Found kept trust s image a (c ++ (d ++ (e ++ f))) found) (trusted_layers digest part) (record { answered = given_before kept s image a c (d ++ (e ++ [])) digest answered; fit = fit })))))
+    next_seen (λ e part. PartFits trust digest part) (λ e found. Found kept trust s image a (c ++ (d ++ e)) found) (referrers_source trust digest s (digest_reference image digest) a) _
+    (part_shows trust digest (referrers_source trust digest s (digest_reference image digest) a) (referrers_source_ends trust digest s (digest_reference image digest) a)) (λ e more also.
+    done_seen (λ f found. Found kept trust s image a (c ++ (d ++ (e ++ f))) found) (trusted_layers digest (appended tag more)) (record { answered = given_before kept s image a c (d ++ (e ++ [])) digest answered; fit = both_fit trust digest tag.collected more.collected fit also })))))
 
 -- ---- the pull
 

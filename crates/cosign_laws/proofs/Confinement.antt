@@ -20,16 +20,16 @@ use Rattle.oci_auth.specs.declared.memory.Memory.{Memory}
 use Rattle.oci_auth.specs.declared.token_type.RegistryOperation.TheVariants.{Pull}
 use Rattle.oci_manifests.specs.declared.document.OciManifest.{OciManifest}
 use Rattle.oci_manifests.specs.declared.document.OciManifest.TheVariants.{Image, ImageIndex}
-use Rattle.oci_manifests.specs.declared.descriptor.OciDescriptor.{OciDescriptor}
+use Rattle.oci_descriptors.specs.declared.descriptor.OciDescriptor.{OciDescriptor}
 use Rattle.oci_manifests.specs.declared.blob.ImageLayer.{ImageLayer}
 use Rattle.oci_manifests.specs.declared.manifest.OciImageManifest.{OciImageManifest}
 use Rattle.oci_manifests.specs.declared.index.OciImageIndex.{OciImageIndex}
-use Rattle.oci_manifests.specs.declared.index_entry.ImageIndexEntry.{ImageIndexEntry}
-use Rattle.engine_requests.specs.Contexts.{Context}
+use Rattle.oci_descriptors.specs.declared.index_entry.ImageIndexEntry.{ImageIndexEntry}
+use Rattle.engine_terms.specs.Contexts.{Context}
 use Rattle.engine_requests.specs.Sources.{Layer, described}
-use Rattle.engine_requests.specs.Index.{entry_found, entry_reference}
+use Rattle.engine_answers.specs.Index.{entry_found, entry_reference}
 use Rattle.engine_requests.specs.Requests.{manifest_types}
-use Rattle.engine_requests.specs.declared.settings.Settings.{Settings}
+use Rattle.engine_terms.specs.declared.settings.Settings.{Settings}
 use Rattle.engine_rows.specs.Blobs.{IntoMemory}
 use Rattle.engine_rows.specs.Rows.{Row as Engine, token_given}
 use Rattle.engine_rows.specs.Images.{pull, layers_accepted, layer_of}
@@ -49,10 +49,9 @@ use Rattle.cosign_rows.specs.Image.{document_in, entry_in, with_image, layers_ro
 use Rattle.cosign_rows.specs.Refusal.{is_memory as of_refusal}
 use Rattle.cosign_rows.specs.declared.refusal.PullRefusal.{PullRefusal}
 use Rattle.cosign_rows.specs.References.{tag_reference, digest_reference, reading_back}
-use Rattle.cosign_rows.specs.Search.{payload_type, bundle_type, tag_layers, or_skipped, tag_by, tag_source, referrer_by, referrer_row, referrers_row, listed_row, referrers_source, searched}
+use Rattle.cosign_rows.specs.Search.{payload_type, bundle_type, tag_layers, tag_by, tag_source, referrer_by, referrer_row, referrers_row, listed_row, referrers_source, searched}
 use Rattle.cosign_rows.specs.Triangulated.{triangulated}
 use Rattle.cosign_rows.specs.Verified.{constrained, is_unconstrained, readable, as_whole, part_of, standing, after_search, verified}
-use Rattle.cosign_rows.specs.declared.found.Part.{Part}
 use Rattle.cosign_rows.specs.declared.found.TrustedLayers.{TrustedLayers}
 
 -- ---- calls
@@ -170,11 +169,11 @@ tag_layers_confine k trust d s tag a = let x = pulling k s tag (Some a) in
 
 tag_by_confines : (k : Memory) (trust : Trust) (d : List ℕ) (s : Context) (tag : Reference) (a : RegistryAuth) (b : Bool) → Confines (pulling k s tag (Some a)) s.settings (tag_by trust d s tag a b)
 tag_by_confines k trust d s tag a false = confines_done Beside _ s.settings _
-tag_by_confines k trust d s tag a true = let x = pulling k s tag (Some a) in confines_bind Beside x s.settings (tag_layers trust d s tag a) (λ r. Done (or_skipped _ r)) (tag_layers_confine k trust d s tag a) (λ r. confines_done Beside x s.settings _)
+tag_by_confines k trust d s tag a true = let x = pulling k s tag (Some a) in confines_bind Beside x s.settings (tag_layers trust d s tag a) _ (tag_layers_confine k trust d s tag a) (λ r. confines_done Beside x s.settings _)
 
-referrer_by_confines : (k : Memory) (trust : Trust) (d : List ℕ) (s : Context) (referrer : Reference) (a : RegistryAuth) (digest : List ℕ) (part : Part) (b : Bool) → Confines (pulling k s referrer (Some a)) s.settings (referrer_by trust d s referrer a digest part b)
-referrer_by_confines k trust d s referrer a digest part false = confines_done Beside _ s.settings _
-referrer_by_confines k trust d s referrer a digest part true = let x = pulling k s referrer (Some a) in confines_bind Beside x s.settings (image_call s referrer a (bundle_type ∷ [])) _ (image_confines k s referrer a (bundle_type ∷ [])) (λ r. confines_done Beside x s.settings _)
+referrer_by_confines : (k : Memory) (trust : Trust) (d : List ℕ) (s : Context) (referrer : Reference) (a : RegistryAuth) (digest : List ℕ) (b : Bool) → Confines (pulling k s referrer (Some a)) s.settings (referrer_by trust d s referrer a digest b)
+referrer_by_confines k trust d s referrer a digest false = confines_done Beside _ s.settings _
+referrer_by_confines k trust d s referrer a digest true = let x = pulling k s referrer (Some a) in confines_bind Beside x s.settings (image_call s referrer a (bundle_type ∷ [])) _ (image_confines k s referrer a (bundle_type ∷ [])) (λ r. confines_done Beside x s.settings _)
 
 module _ (k : Memory) (s : Context) (image : Reference) (a : RegistryAuth) (direct : mirror_of image ≡ None) where
   abbrev OfImage : {A : Type 0} → Proto Kept A → Type 0
@@ -185,25 +184,28 @@ module _ (k : Memory) (s : Context) (image : Reference) (a : RegistryAuth) (dire
   tag_confines trust d = let tag = tag_reference image d in confines_same Beside k s image tag (Some a) (plain_registry image direct) refl s.settings (tag_by trust d s tag a (reads_back tag)) (tag_by_confines k trust d s tag a (reads_back tag))
 
   -- by its digest in the repository of a reference by a digest
-  referrer_confines : (trust : Trust) (d digest : List ℕ) (part : Part) → OfImage (referrer_row trust d s (digest_reference image d) a digest part)
+  referrer_confines : (trust : Trust) (d digest : List ℕ) → OfImage (referrer_row trust d s (digest_reference image d) a digest)
   unfolding referrer_row
-  referrer_confines trust d digest part = let referrer = digest_reference image digest in confines_same Beside k s image referrer (Some a) (plain_registry image direct) refl s.settings (referrer_by trust d s referrer a digest part (reads_back referrer)) (referrer_by_confines k trust d s referrer a digest part (reads_back referrer))
+  referrer_confines trust d digest = let referrer = digest_reference image digest in confines_same Beside k s image referrer (Some a) (plain_registry image direct) refl s.settings (referrer_by trust d s referrer a digest (reads_back referrer)) (referrer_by_confines k trust d s referrer a digest (reads_back referrer))
 
-  referrers_confine : (trust : Trust) (d : List ℕ) (xs : List ImageIndexEntry) (part : Part) → OfImage (referrers_row trust d s (digest_reference image d) a xs part)
+  referrers_confine : (trust : Trust) (d : List ℕ) (xs : List ImageIndexEntry) → OfImage (referrers_row trust d s (digest_reference image d) a xs)
   unfolding referrers_row
-  referrers_confine trust d [] part = confines_done Beside _ s.settings _
-  referrers_confine trust d (x ∷ xs) part = confines_next Beside (pulling k s image (Some a)) s.settings (referrer_row trust d s (digest_reference image d) a x.digest part) _ (referrer_confines trust d x.digest part) (λ more. referrers_confine trust d xs more)
+  referrers_confine trust d [] = confines_done Beside _ s.settings _
+  referrers_confine trust d (x ∷ xs) = let pulled = pulling k s image (Some a) in
+      confines_next Beside pulled s.settings (referrer_row trust d s (digest_reference image d) a x.digest) _ (referrer_confines trust d x.digest) (λ one.
+      confines_next Beside pulled s.settings (referrers_row trust d s (digest_reference image d) a xs) _ (referrers_confine trust d xs) (λ rest.
+      confines_done Beside pulled s.settings _))
 
   listing_confines : (d : List ℕ) → OfImage (referrers_call s (digest_reference image d) a None)
   listing_confines d = let source = digest_reference image d in confines_same Beside k s image source (Some a) (plain_registry image direct) refl s.settings (referrers_call s source a None) (referrers_call_confines k s source a None refl)
 
-  listed_confines : (trust : Trust) (d : List ℕ) (part : Part) (r : Result OciImageIndex SigstoreError) → OfImage (listed_row trust d s (digest_reference image d) a part r)
-  listed_confines trust d part (Ok index) = referrers_confine trust d index.manifests part
-  listed_confines trust d part (Err e) = confines_done Beside _ s.settings _
+  listed_confines : (trust : Trust) (d : List ℕ) (r : Result OciImageIndex SigstoreError) → OfImage (listed_row trust d s (digest_reference image d) a r)
+  listed_confines trust d (Ok index) = referrers_confine trust d index.manifests
+  listed_confines trust d (Err e) = confines_done Beside _ s.settings _
 
-  source_confines : (trust : Trust) (d : List ℕ) (part : Part) → OfImage (referrers_source trust d s (digest_reference image d) a part)
+  source_confines : (trust : Trust) (d : List ℕ) → OfImage (referrers_source trust d s (digest_reference image d) a)
   unfolding referrers_source
-  source_confines trust d part = confines_bind Beside (pulling k s image (Some a)) s.settings (referrers_call s (digest_reference image d) a None) (listed_row trust d s (digest_reference image d) a part) (listing_confines d) (listed_confines trust d part)
+  source_confines trust d = confines_bind Beside (pulling k s image (Some a)) s.settings (referrers_call s (digest_reference image d) a None) (listed_row trust d s (digest_reference image d) a) (listing_confines d) (listed_confines trust d)
 
   searched_confines : (trust : Trust) → OfImage (searched trust s image a)
   unfolding searched
@@ -211,7 +213,7 @@ module _ (k : Memory) (s : Context) (image : Reference) (a : RegistryAuth) (dire
       confines_next Beside x s.settings (digest_call s image a) _ (digest_confines k s image a) (λ digest.
       confines_next Beside x s.settings (Done (reading_back (digest_reference image digest))) _ (confines_done Beside x s.settings _) (λ u.
       confines_next Beside x s.settings (tag_source trust s image a digest) _ (tag_confines trust digest) (λ tag.
-      confines_next Beside x s.settings (referrers_source trust digest s (digest_reference image digest) a tag) _ (source_confines trust digest tag) (λ found.
+      confines_next Beside x s.settings (referrers_source trust digest s (digest_reference image digest) a) _ (source_confines trust digest) (λ more.
       confines_done Beside x s.settings _))))
 
   triangulated_confines : OfImage (triangulated s image a)

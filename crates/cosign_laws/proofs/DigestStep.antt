@@ -11,7 +11,7 @@ use Rattle.oci_protocol.specs.Runs.{Runs, Meets, Told}
 use Rattle.oci_protocol.specs.Shows.{ShowsKept}
 use Rattle.oci_protocol.proofs.Ends.{Meets-ends}
 use Rattle.oci_protocol.proofs.Keeping.{ShowsKept-run, ShowsKept-bind, ShowsKept-step, Meets-shows-kept}
-use Rattle.engine_requests.specs.Contexts.{Context}
+use Rattle.engine_terms.specs.Contexts.{Context}
 use Rattle.sig_calls.specs.declared.error.SigstoreError.{SigstoreError}
 use Rattle.sig_calls.specs.declared.error.SigstoreError.TheVariants as sigstore
 use Rattle.sig_calls.specs.Errors.{is_memory as of_memory}

@@ -16,9 +16,9 @@ use Rattle.oci_digests.specs.declared.digester.Algorithm.TheVariants.{Sha256}
 use Rattle.oci_digests.specs.declared.error.DigestError.TheVariants as digest_refusal
 use Rattle.oci_manifests.specs.declared.document.OciManifest.{OciManifest}
 use Rattle.oci_manifests.specs.declared.document.OciManifest.TheVariants.{Image, ImageIndex}
-use Rattle.oci_manifests.specs.declared.descriptor.OciDescriptor.{OciDescriptor}
+use Rattle.oci_descriptors.specs.declared.descriptor.OciDescriptor.{OciDescriptor}
 use Rattle.oci_manifests.specs.declared.index.OciImageIndex.{OciImageIndex}
-use Rattle.oci_manifests.specs.declared.index_entry.ImageIndexEntry.{ImageIndexEntry}
+use Rattle.oci_descriptors.specs.declared.index_entry.ImageIndexEntry.{ImageIndexEntry}
 use Rattle.oci_manifests.specs.declared.blob.ImageLayer.{ImageLayer}
 use Rattle.oci_transport.specs.Link.{Link}
 use Rattle.oci_transport.specs.declared.message.Exchange.{Exchange}
@@ -26,11 +26,11 @@ use Rattle.oci_protocol.specs.Proto.{Proto, Done, bind, unless_refused, ◌>>=�
 use Rattle.oci_protocol.specs.Ends.{OnAnswer}
 use Rattle.oci_protocol.specs.Runs.{Runs, Meets}
 use Rattle.oci_protocol.proofs.Laws.{Runs-count}
-use Rattle.engine_requests.specs.Contexts.{Context}
-use Rattle.engine_requests.specs.declared.settings.Settings.{Settings}
-use Rattle.engine_requests.specs.declared.error.OciDistributionError.{OciDistributionError}
-use Rattle.engine_requests.specs.declared.error.OciDistributionError.TheVariants as engine_refusal
-use Rattle.engine_requests.specs.Errors.{is_memory as engine_is_memory}
+use Rattle.engine_terms.specs.Contexts.{Context}
+use Rattle.engine_terms.specs.declared.settings.Settings.{Settings}
+use Rattle.engine_terms.specs.declared.error.OciDistributionError.{OciDistributionError}
+use Rattle.engine_terms.specs.declared.error.OciDistributionError.TheVariants as engine_refusal
+use Rattle.engine_terms.specs.Errors.{is_memory as engine_is_memory}
 use Rattle.engine_requests.specs.Requests.{manifest_types}
 use Rattle.engine_rows.specs.Rows.{Row as Engine, token_given}
 use Rattle.engine_rows.specs.Referrers.{pull_referrers}
@@ -67,10 +67,10 @@ use Rattle.cosign_layers.specs.declared.rejection.LayerRejection.TheVariants.{Wa
 use Rattle.cosign_layers.proofs.Layers.{never_memory}
 use Rattle.cosign_chain.specs.declared.image.VerifiedImage.{VerifiedImage}
 use Rattle.cosign_rows.specs.Image.{image_row}
-use Rattle.cosign_rows.specs.Part.{skipping, appended, layer_part, named_layer, read_layer, descriptors_part, read_bundle, bundles_part}
+use Rattle.cosign_rows.specs.Part.{nothing, skipping, appended, layer_part, named_layer, read_layer, descriptors_part, read_bundle, bundles_part}
 use Rattle.cosign_rows.specs.References.{tag_reference, digest_reference, reading_back}
 use Rattle.cosign_rows.specs.Refusal.{is_memory as of_refusal, refused_as}
-use Rattle.cosign_rows.specs.Search.{payload_type, document_part, tag_layers, or_skipped, tag_by, tag_source, bundle_type, behind, referrer_part, referrer_by, referrer_row, referrers_row, listed_row, referrers_source, trusted_layers, searched}
+use Rattle.cosign_rows.specs.Search.{payload_type, document_part, tag_layers, or_skipped, tag_by, tag_source, bundle_type, referrer_part, referrer_by, referrer_row, referrers_row, listed_row, referrers_source, trusted_layers, searched}
 use Rattle.cosign_rows.specs.Skips.{in_engine, in_refusal, holds_memory_or_sink, HoldsNoMemoryNorSink, is_engine_fault, is_refused_fault, is_fault, CountsFaults, OnSkipped}
 use Rattle.cosign_rows.specs.Verified.{constrained, is_unconstrained, readable, readable_by, as_whole, part_of, stands_by, standing_by, standing, verified_image, after_search, verified}
 use Rattle.cosign_rows.specs.declared.found.Part.{Part}
@@ -263,9 +263,6 @@ record Counted (m n : ℕ) (skipped : List Skipped) : Type 0 where
 none_skipped : (m n : ℕ) → m ≤ n → Counted m n []
 none_skipped m n le = record { no_memory = λ k d lt. absurd (omega arith); faults = omega (arith, le) }
 
-later : (m n o : ℕ) (skipped : List Skipped) → n ≤ o → Counted m n skipped → Counted m o skipped
-later m n o skipped le h = record { no_memory = h.no_memory; faults = omega (arith, le, h.faults) }
-
 count_one : (x : Skipped) (xs : List Skipped) → count_by is_fault (xs ++ x ∷ []) ≡ count_by is_fault xs + cond (is_fault x) 1 0
 count_one x xs = sum_by-append (λ x. cond (is_fault x) 1 0) xs (x ∷ []) ∙ ap (λ n. count_by is_fault xs + n) (zero-add (cond (is_fault x) 1 0))
 
@@ -336,36 +333,38 @@ bundles_quiet trust d (x ∷ xs) = let text = digest_text Sha256 x.content in la
 
 -- ---- the tag as a source
 
-abbrev TagCounts : ℕ → ℕ → Result Part SigstoreError → Type 0
-TagCounts m n (Ok part) = Counted m n part.skipped
-TagCounts m n (Err e) = SincereWords m n e
+-- of a source whose refusal is not yet skipped
+abbrev UnskippedCounts : ℕ → ℕ → Result Part SigstoreError → Type 0
+UnskippedCounts m n (Ok part) = Counted m n part.skipped
+UnskippedCounts m n (Err e) = SincereWords m n e
 
-image_then : (m n o : ℕ) (trust : Trust) (d : List ℕ) (document : OciManifest) (r : Result ImageData SigstoreError) → m ≤ n → CallCounts n o r → Counts {K = Kept} (λ t p b. t ≡ o → TagCounts m p b) (unless_refused (λ image. Done (Ok (document_part trust d document image))) r)
-image_then m n o trust d document (Ok image) le call = Counts-done (λ t p b. t ≡ o → TagCounts m p b) (Ok (document_part trust d document image)) (λ p same. rw same (document_quiet trust d document image m o (omega (arith, le, call))))
-image_then m n o trust d document (Err e) le call = Counts-done (λ t p b. t ≡ o → TagCounts m p b) (Err e) (λ p same. rw same (wider m n o e le call))
+image_then : (m n o : ℕ) (trust : Trust) (d : List ℕ) (document : OciManifest) (r : Result ImageData SigstoreError) → m ≤ n → CallCounts n o r → Counts {K = Kept} (λ t p b. t ≡ o → UnskippedCounts m p b) (unless_refused (λ image. Done (Ok (document_part trust d document image))) r)
+image_then m n o trust d document (Ok image) le call = Counts-done (λ t p b. t ≡ o → UnskippedCounts m p b) (Ok (document_part trust d document image)) (λ p same. rw same (document_quiet trust d document image m o (omega (arith, le, call))))
+image_then m n o trust d document (Err e) le call = Counts-done (λ t p b. t ≡ o → UnskippedCounts m p b) (Err e) (λ p same. rw same (wider m n o e le call))
 
-manifest_then : (m n : ℕ) (trust : Trust) (d : List ℕ) (s : Context) (tag : Reference) (a : RegistryAuth) (r : Result (OciManifest × List ℕ) SigstoreError) → CallCounts m n r → Counts (λ t p b. t ≡ n → TagCounts m p b) (unless_refused (λ document. image_call s tag a (payload_type ∷ []) >>= λ image. Done (Ok (document_part trust d document.0 image))) r)
-manifest_then m n trust d s tag a (Err e) call = Counts-done (λ t p b. t ≡ n → TagCounts m p b) (Err e) (λ p same. rw same call)
-manifest_then m n trust d s tag a (Ok document) call = Counts-bind CallCounts (λ t p b. t ≡ n → TagCounts m p b) (image_call s tag a (payload_type ∷ [])) _ (image_call_counts s tag a (payload_type ∷ []))
-    (λ t p r at. Counts-more (λ u q b. u ≡ p → t ≡ n → TagCounts m q b) (λ u q b. u ≡ p → t ≡ n → TagCounts m q b) _ (record { counts = λ k l u q c b run same begins. (image_then m t p trust d document.0 r (rw begins call) at).counts k l u q c b run same }) (λ u q b h. h))
+manifest_then : (m n : ℕ) (trust : Trust) (d : List ℕ) (s : Context) (tag : Reference) (a : RegistryAuth) (r : Result (OciManifest × List ℕ) SigstoreError) → CallCounts m n r → Counts (λ t p b. t ≡ n → UnskippedCounts m p b) (unless_refused (λ document. image_call s tag a (payload_type ∷ []) >>= λ image. Done (Ok (document_part trust d document.0 image))) r)
+manifest_then m n trust d s tag a (Err e) call = Counts-done (λ t p b. t ≡ n → UnskippedCounts m p b) (Err e) (λ p same. rw same call)
+manifest_then m n trust d s tag a (Ok document) call = Counts-bind CallCounts (λ t p b. t ≡ n → UnskippedCounts m p b) (image_call s tag a (payload_type ∷ [])) _ (image_call_counts s tag a (payload_type ∷ []))
+    (λ t p r at. Counts-more (λ u q b. u ≡ p → t ≡ n → UnskippedCounts m q b) (λ u q b. u ≡ p → t ≡ n → UnskippedCounts m q b) _ (record { counts = λ k l u q c b run same begins. (image_then m t p trust d document.0 r (rw begins call) at).counts k l u q c b run same }) (λ u q b h. h))
 
-tag_layers_counts : (trust : Trust) (d : List ℕ) (s : Context) (tag : Reference) (a : RegistryAuth) → Counts TagCounts (tag_layers trust d s tag a)
+tag_layers_counts : (trust : Trust) (d : List ℕ) (s : Context) (tag : Reference) (a : RegistryAuth) → Counts UnskippedCounts (tag_layers trust d s tag a)
 unfolding tag_layers
-tag_layers_counts trust d s tag a = Counts-bind CallCounts TagCounts (manifest_call s tag a) _ (manifest_call_counts s tag a) (λ m n r at. manifest_then m n trust d s tag a r at)
+tag_layers_counts trust d s tag a = Counts-bind CallCounts UnskippedCounts (manifest_call s tag a) _ (manifest_call_counts s tag a) (λ m n r at. manifest_then m n trust d s tag a r at)
 
 abbrev SourceCounts : ℕ → ℕ → Result Part SigstoreError → Type 0
 SourceCounts m n r = OnAnswer (λ part. Counted m n part.skipped) r
 
-skipped_counts : (m n : ℕ) (r : Result Part SigstoreError) → TagCounts m n r → SourceCounts m n (or_skipped Tag r)
-skipped_counts m n (Ok part) h = h
-skipped_counts m n (Err e) h = by_memory (is_memory e) refl where
-  by_memory : (b : Bool) → is_memory e ≡ b → SourceCounts m n (if b then Err e else Ok (skipping (Source Tag (Refused e))))
+-- a refusal is skipped at a place that is what the refusal is
+skipped_counts : (place : SkipCause → Skipped) (m n : ℕ) (r : Result Part SigstoreError) → ((e : SigstoreError) → holds_memory_or_sink (place (Refused e)) ≡ in_refusal e) → ((e : SigstoreError) → is_fault (place (Refused e)) ≡ is_refused_fault e) → UnskippedCounts m n r → SourceCounts m n (or_skipped place r)
+skipped_counts place m n (Ok part) memory fault h = h
+skipped_counts place m n (Err e) memory fault h = by_memory (is_memory e) refl where
+  by_memory : (b : Bool) → is_memory e ≡ b → SourceCounts m n (if b then Err e else Ok (skipping (place (Refused e))))
   by_memory true is = tt
-  by_memory false is = one_cause m n (Source Tag (Refused e)) h.falls (h.no_memory is) h.fault
+  by_memory false is = one_cause m n (place (Refused e)) h.falls (memory e ∙ h.no_memory is) (λ wrong. h.fault (sym (fault e) ∙ wrong))
 
 by_counts : (trust : Trust) (d : List ℕ) (s : Context) (tag : Reference) (a : RegistryAuth) (b : Bool) → Counts SourceCounts (tag_by trust d s tag a b)
-by_counts trust d s tag a true = Counts-bind TagCounts SourceCounts (tag_layers trust d s tag a) (λ r. Done (or_skipped Tag r)) (tag_layers_counts trust d s tag a)
-    (λ m n r at. Counts-done (λ t p b. t ≡ n → SourceCounts m p b) (or_skipped Tag r) (λ p same. rw same (skipped_counts m n r at)))
+by_counts trust d s tag a true = Counts-bind UnskippedCounts SourceCounts (tag_layers trust d s tag a) (λ r. Done (or_skipped (Source Tag) r)) (tag_layers_counts trust d s tag a)
+    (λ m n r at. Counts-done (λ t p b. t ≡ n → SourceCounts m p b) (or_skipped (Source Tag) r) (λ p same. rw same (skipped_counts (Source Tag) m n r (λ e. refl) (λ e. refl) at)))
 by_counts trust d s tag a false = Counts-done SourceCounts (Ok (skipping (Source Tag (NotAReference (whole_text tag))))) (λ m. quiet_one (Source Tag (NotAReference (whole_text tag))) refl refl m m (omega arith))
 
 source_counts : (trust : Trust) (s : Context) (image : Reference) (a : RegistryAuth) (d : List ℕ) → Counts SourceCounts (tag_source trust s image a d)
@@ -381,75 +380,68 @@ both m n o xs ys h k = record {
   faults = subst (λ t. min (m + t) (2 ^ 64 - 1) ≤ o) (sym (sum_by-append (λ x. cond (is_fault x) 1 0) xs ys)) (omega (arith, h.faults, k.faults));
 }
 
--- what is skipped in the end is counted from where the count of what was there begins
-abbrev Onward : Part → ℕ → ℕ → Result Part SigstoreError → Type 0
-Onward part n o r = (m : ℕ) → Counted m n part.skipped → OnAnswer (λ more. Counted m o more.skipped) r
+-- so it is of what was answered
+from_earlier : {A : Type 0} (skips : A → List Skipped) (m n o : ℕ) (r : Result A SigstoreError) → m ≤ n → OnAnswer (λ a. Counted n o (skips a)) r → OnAnswer (λ a. Counted m o (skips a)) r
+from_earlier skips m n o (Ok a) le h = earlier m n o (skips a) le h
+from_earlier skips m n o (Err e) le h = tt
 
--- one cause more
-refused_onward : (part : Part) (place : SkipCause → Skipped) (n o : ℕ) (e : SigstoreError) → holds_memory_or_sink (place (Refused e)) ≡ in_refusal e → is_fault (place (Refused e)) ≡ is_refused_fault e → SincereWords n o e → Onward part n o (behind part place (Err e))
-refused_onward part place n o e memory fault h = by_memory (is_memory e) refl where
-  by_memory : (b : Bool) → is_memory e ≡ b → Onward part n o (if b then Err e else Ok (appended part (skipping (place (Refused e)))))
-  by_memory true is m begins = tt
-  by_memory false is m begins = one_more m n o part.skipped (place (Refused e)) h.falls begins (memory ∙ h.no_memory is) (λ wrong. h.fault (sym fault ∙ wrong))
+-- two sources in turn, and what is made of both
+module _ {A : Type 0} (skips : A → List Skipped) (f : Part → Part → A) (is : (one rest : Part) → skips (f one rest) ≡ one.skipped ++ rest.skipped) where
+  abbrev BothCount : ℕ → ℕ → Result A SigstoreError → Type 0
+  BothCount m n r = OnAnswer (λ a. Counted m n (skips a)) r
 
-referrer_onward : (trust : Trust) (d digest : List ℕ) (part : Part) (n o : ℕ) (r : Result ImageData SigstoreError) → CallCounts n o r → Onward part n o (behind part (Referrer digest) (referrer_part trust d r))
-referrer_onward trust d digest part n o (Ok image) le = λ m begins. both m n o part.skipped (bundles_part trust d image.layers).skipped begins (bundles_quiet trust d image.layers n o le)
-referrer_onward trust d digest part n o (Err e) h = refused_onward part (Referrer digest) n o e refl refl h
+  second_then : (m n o : ℕ) (one : Part) (r : Result Part SigstoreError) → Counted m n one.skipped → SourceCounts n o r → Counts {K = Kept} (λ t p b. t ≡ o → BothCount m p b) (unless_refused (λ rest. Done (Ok (f one rest))) r)
+  second_then m n o one (Ok rest) h k = Counts-done (λ t p b. t ≡ o → BothCount m p b) (Ok (f one rest)) (λ p same. rw same (subst (Counted m o) (sym (is one rest)) (both m n o one.skipped rest.skipped h k)))
+  second_then m n o one (Err e) h k = Counts-done (λ t p b. t ≡ o → BothCount m p b) (Err e) (λ p same. tt)
 
-referrer_by_onward : (trust : Trust) (d : List ℕ) (s : Context) (referrer : Reference) (a : RegistryAuth) (digest : List ℕ) (part : Part) (b : Bool) → Counts (Onward part) (referrer_by trust d s referrer a digest part b)
-referrer_by_onward trust d s referrer a digest part true = Counts-bind CallCounts (Onward part) (image_call s referrer a (bundle_type ∷ [])) _ (image_call_counts s referrer a (bundle_type ∷ []))
-    (λ m n r at. Counts-done (λ t p b. t ≡ n → Onward part m p b) (behind part (Referrer digest) (referrer_part trust d r)) (λ p same. rw same (referrer_onward trust d digest part m n r at)))
-referrer_by_onward trust d s referrer a digest part false = let cause = Referrer digest (NotAReference (whole_text referrer)) in
-    Counts-done (Onward part) (Ok (appended part (skipping cause))) (λ n m begins. one_more m n n part.skipped cause (omega arith) begins refl (λ wrong. absurd (cc wrong)))
+  first_then : (second : Row Part) → Counts SourceCounts second → (m n : ℕ) (r : Result Part SigstoreError) → SourceCounts m n r → Counts (λ t p b. t ≡ n → BothCount m p b) (unless_refused (λ one. second >>= λ rest. Done (Ok (f one rest))) r)
+  first_then second counts m n (Ok one) h = Counts-bind SourceCounts (λ t p b. t ≡ n → BothCount m p b) second _ counts
+      (λ t p r at. record { counts = λ k l u q c b run same begins. (second_then m t p one r (rw begins h) at).counts k l u q c b run same })
+  first_then second counts m n (Err e) h = Counts-done (λ t p b. t ≡ n → BothCount m p b) (Err e) (λ p same. tt)
 
-referrer_row_onward : (trust : Trust) (d : List ℕ) (s : Context) (source : Reference) (a : RegistryAuth) (digest : List ℕ) (part : Part) → Counts (Onward part) (referrer_row trust d s source a digest part)
+  both_counts : (first second : Row Part) → Counts SourceCounts first → Counts SourceCounts second → Counts BothCount (first >>= λ one. second >>= λ rest. Done (Ok (f one rest)))
+  both_counts first second h k = Counts-bind SourceCounts BothCount first _ h (λ m n r at. first_then second k m n r at)
+
+referrer_counts : (trust : Trust) (d : List ℕ) (m n : ℕ) (r : Result ImageData SigstoreError) → CallCounts m n r → UnskippedCounts m n (referrer_part trust d r)
+referrer_counts trust d m n (Ok image) le = bundles_quiet trust d image.layers m n le
+referrer_counts trust d m n (Err e) h = h
+
+referrer_by_counts : (trust : Trust) (d : List ℕ) (s : Context) (referrer : Reference) (a : RegistryAuth) (digest : List ℕ) (b : Bool) → Counts SourceCounts (referrer_by trust d s referrer a digest b)
+referrer_by_counts trust d s referrer a digest true = Counts-bind CallCounts SourceCounts (image_call s referrer a (bundle_type ∷ [])) _ (image_call_counts s referrer a (bundle_type ∷ []))
+    (λ m n r at. Counts-done (λ t p b. t ≡ n → SourceCounts m p b) (or_skipped (Referrer digest) (referrer_part trust d r)) (λ p same. rw same (skipped_counts (Referrer digest) m n (referrer_part trust d r) (λ e. refl) (λ e. refl) (referrer_counts trust d m n r at))))
+referrer_by_counts trust d s referrer a digest false = let cause = Referrer digest (NotAReference (whole_text referrer)) in
+    Counts-done SourceCounts (Ok (skipping cause)) (λ m. quiet_one cause refl refl m m (omega arith))
+
+referrer_row_counts : (trust : Trust) (d : List ℕ) (s : Context) (source : Reference) (a : RegistryAuth) (digest : List ℕ) → Counts SourceCounts (referrer_row trust d s source a digest)
 unfolding referrer_row
-referrer_row_onward trust d s source a digest part = referrer_by_onward trust d s (digest_reference source digest) a digest part (reads_back (digest_reference source digest))
+referrer_row_counts trust d s source a digest = referrer_by_counts trust d s (digest_reference source digest) a digest (reads_back (digest_reference source digest))
 
--- from what is there to more, and from that on
-onward_then : (part more : Part) (m n o : ℕ) (r : Result Part SigstoreError) → Onward part m n (let b : Result Part SigstoreError = Ok more in b) → Onward more n o r → Onward part m o r
-onward_then part more m n o r first rest base begins = rest base (first base begins)
-
--- the first referrer, and then those behind it
-more_onward : (part : Part) (rest : Part → Row Part) → ((more : Part) → Counts (Onward more) (rest more)) → (m n : ℕ) (r : Result Part SigstoreError) → Onward part m n r → Counts (λ t o b. t ≡ n → Onward part m o b) (unless_refused rest r)
-more_onward part rest each m n (Ok more) first = Counts-more (Onward more) (λ t o b. t ≡ n → Onward part m o b) (rest more) (each more) (λ t o b h same. onward_then part more m n o b first (rw same at h))
-more_onward part rest each m n (Err e) first = Counts-done (λ t o b. t ≡ n → Onward part m o b) (Err e) (λ o same base begins. tt)
-
-referrers_onward : (trust : Trust) (d : List ℕ) (s : Context) (source : Reference) (a : RegistryAuth) (xs : List ImageIndexEntry) (part : Part) → Counts (Onward part) (referrers_row trust d s source a xs part)
+referrers_counts : (trust : Trust) (d : List ℕ) (s : Context) (source : Reference) (a : RegistryAuth) (xs : List ImageIndexEntry) → Counts SourceCounts (referrers_row trust d s source a xs)
 unfolding referrers_row
-referrers_onward trust d s source a [] part = Counts-done (Onward part) (Ok part) (λ n m begins. begins)
-referrers_onward trust d s source a (x ∷ xs) part = Counts-bind (Onward part) (Onward part) (referrer_row trust d s source a x.digest part) _ (referrer_row_onward trust d s source a x.digest part)
-    (λ m n r first. more_onward part (λ more. referrers_row trust d s source a xs more) (λ more. referrers_onward trust d s source a xs more) m n r first)
+referrers_counts trust d s source a [] = Counts-done SourceCounts (Ok nothing) (λ m. none_skipped m m (omega arith))
+referrers_counts trust d s source a (x ∷ xs) = both_counts (λ part. part.skipped) appended (λ one rest. refl) (referrer_row trust d s source a x.digest) (referrers_row trust d s source a xs) (referrer_row_counts trust d s source a x.digest) (referrers_counts trust d s source a xs)
 
-listed_onward : (trust : Trust) (d : List ℕ) (s : Context) (source : Reference) (a : RegistryAuth) (part : Part) (m n : ℕ) (r : Result OciImageIndex SigstoreError) → CallCounts m n r → Counts (λ t o b. t ≡ n → Onward part m o b) (listed_row trust d s source a part r)
-listed_onward trust d s source a part m n (Ok index) le = Counts-more (Onward part) (λ t o b. t ≡ n → Onward part m o b) (referrers_row trust d s source a index.manifests part) (referrers_onward trust d s source a index.manifests part)
-    (λ t o b rest same base begins. rest base (rw same (later base m n part.skipped le begins)))
-listed_onward trust d s source a part m n (Err e) h = Counts-done (λ t o b. t ≡ n → Onward part m o b) (behind part (Source Referrers) (Err e)) (λ o same. rw same (refused_onward part (Source Referrers) m n e refl refl h))
+listed_counts : (trust : Trust) (d : List ℕ) (s : Context) (source : Reference) (a : RegistryAuth) (m n : ℕ) (r : Result OciImageIndex SigstoreError) → CallCounts m n r → Counts (λ t o b. t ≡ n → SourceCounts m o b) (listed_row trust d s source a r)
+listed_counts trust d s source a m n (Ok index) le = Counts-more SourceCounts (λ t o b. t ≡ n → SourceCounts m o b) (referrers_row trust d s source a index.manifests) (referrers_counts trust d s source a index.manifests)
+    (λ t o b h same. from_earlier (λ (part : Part). part.skipped) m n o b le (rw same at h))
+listed_counts trust d s source a m n (Err e) h = Counts-done (λ t o b. t ≡ n → SourceCounts m o b) (or_skipped (Source Referrers) (Err e)) (λ o same. rw same (skipped_counts (Source Referrers) m n (Err e) (λ e. refl) (λ e. refl) h))
 
-referrers_source_onward : (trust : Trust) (d : List ℕ) (s : Context) (source : Reference) (a : RegistryAuth) (part : Part) → Counts (Onward part) (referrers_source trust d s source a part)
+referrers_source_counts : (trust : Trust) (d : List ℕ) (s : Context) (source : Reference) (a : RegistryAuth) → Counts SourceCounts (referrers_source trust d s source a)
 unfolding referrers_source
-referrers_source_onward trust d s source a part = Counts-bind CallCounts (Onward part) (referrers_call s source a None) (listed_row trust d s source a part) (referrers_call_counts s source a None) (λ m n r at. listed_onward trust d s source a part m n r at)
+referrers_source_counts trust d s source a = Counts-bind CallCounts SourceCounts (referrers_call s source a None) (listed_row trust d s source a) (referrers_call_counts s source a None) (λ m n r at. listed_counts trust d s source a m n r at)
 
 -- ---- the search
 
 abbrev SearchCounts : ℕ → ℕ → Result TrustedLayers SigstoreError → Type 0
 SearchCounts m n r = OnAnswer (λ found. Counted m n found.skipped) r
 
-found_then : (m n : ℕ) (digest : List ℕ) (r : Result Part SigstoreError) → SourceCounts m n r → Counts {K = Kept} (λ t p b. t ≡ n → SearchCounts m p b) (unless_refused (λ found. Done (Ok (trusted_layers digest found))) r)
-found_then m n digest (Ok part) h = Counts-done (λ t p b. t ≡ n → SearchCounts m p b) (Ok (trusted_layers digest part)) (λ p same. rw same h)
-found_then m n digest (Err e) h = Counts-done (λ t p b. t ≡ n → SearchCounts m p b) (Err e) (λ p same. tt)
-
--- the referrers, behind what the tag gave
-after_tag : (m n o : ℕ) (trust : Trust) (s : Context) (image : Reference) (a : RegistryAuth) (digest : List ℕ) (r : Result Part SigstoreError) → m ≤ n → SourceCounts n o r
-    → Counts (λ t p b. t ≡ o → SearchCounts m p b) (unless_refused (λ tag. referrers_source trust digest s (digest_reference image digest) a tag >>= λ found. Done (Ok (trusted_layers digest found))) r)
-after_tag m n o trust s image a digest (Err e) le h = Counts-done (λ t p b. t ≡ o → SearchCounts m p b) (Err e) (λ p same. tt)
-after_tag m n o trust s image a digest (Ok tag) le h = Counts-bind (Onward tag) (λ t p b. t ≡ o → SearchCounts m p b) (referrers_source trust digest s (digest_reference image digest) a tag) _ (referrers_source_onward trust digest s (digest_reference image digest) a tag)
-    (λ t p r at. record { counts = λ k l u q c b run same begins. (found_then m p digest r (at m (rw begins (earlier m n o tag.skipped le h)))).counts k l u q c b run same })
+rest_counts : (trust : Trust) (s : Context) (image : Reference) (a : RegistryAuth) (digest : List ℕ) → Counts SearchCounts (rest_of trust s image a digest)
+rest_counts trust s image a digest = both_counts (λ found. found.skipped) (λ tag more. trusted_layers digest (appended tag more)) (λ tag more. refl) (tag_source trust s image a digest) (referrers_source trust digest s (digest_reference image digest) a) (source_counts trust s image a digest) (referrers_source_counts trust digest s (digest_reference image digest) a)
 
 after_digest : (m n : ℕ) (trust : Trust) (s : Context) (image : Reference) (a : RegistryAuth) (digest : List ℕ) (r : Result (Unit {0}) SigstoreError) → m ≤ n → Counts (λ t p b. t ≡ n → SearchCounts m p b) (unless_refused (λ u. rest_of trust s image a digest) r)
 after_digest m n trust s image a digest (Err e) le = Counts-done (λ t p b. t ≡ n → SearchCounts m p b) (Err e) (λ p same. tt)
-after_digest m n trust s image a digest (Ok u) le = Counts-bind SourceCounts (λ t p b. t ≡ n → SearchCounts m p b) (tag_source trust s image a digest) _ (source_counts trust s image a digest)
-    (λ t p r at. record { counts = λ k l u q c b run same begins. (after_tag m t p trust s image a digest r (rw begins le) at).counts k l u q c b run same })
+after_digest m n trust s image a digest (Ok u) le = Counts-more SearchCounts (λ t p b. t ≡ n → SearchCounts m p b) (rest_of trust s image a digest) (rest_counts trust s image a digest)
+    (λ t p b h same. from_earlier (λ (found : TrustedLayers). found.skipped) m n p b le (rw same at h))
 
 digest_then : (m n : ℕ) (trust : Trust) (s : Context) (image : Reference) (a : RegistryAuth) (r : Result (List ℕ) SigstoreError) → m ≤ n → Counts (λ t p b. t ≡ n → SearchCounts m p b) (unless_refused (λ digest. Done (reading_back (digest_reference image digest)) >>= (λ u. rest_of trust s image a digest)) r)
 unfolding bind

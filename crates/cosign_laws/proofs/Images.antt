@@ -15,9 +15,9 @@ use Rattle.oci_digests.specs.declared.error.DigestError.TheVariants as digest_re
 use Rattle.oci_manifests.specs.declared.document.OciManifest.{OciManifest}
 use Rattle.oci_manifests.specs.declared.document.OciManifest.TheVariants.{Image, ImageIndex}
 use Rattle.oci_manifests.specs.declared.manifest.OciImageManifest.{OciImageManifest}
-use Rattle.oci_manifests.specs.declared.descriptor.OciDescriptor.{OciDescriptor}
+use Rattle.oci_descriptors.specs.declared.descriptor.OciDescriptor.{OciDescriptor}
 use Rattle.oci_manifests.specs.declared.index.OciImageIndex.{OciImageIndex}
-use Rattle.oci_manifests.specs.declared.index_entry.ImageIndexEntry.{ImageIndexEntry}
+use Rattle.oci_descriptors.specs.declared.index_entry.ImageIndexEntry.{ImageIndexEntry}
 use Rattle.oci_manifests.specs.declared.blob.Config.{Config}
 use Rattle.oci_manifests.specs.declared.blob.ImageLayer.{ImageLayer}
 use Rattle.oci_transport.specs.declared.message.Exchange.{Exchange}
@@ -25,22 +25,22 @@ use Rattle.oci_protocol.specs.Proto.{Proto, Done, ◌>>=◌}
 use Rattle.oci_protocol.specs.Shows.{Shows, WhereOk}
 use Rattle.oci_protocol.proofs.Lifting.{Shows-lifted}
 use Rattle.oci_protocol.proofs.Showing.{Shows-done, Shows-more, Shows-bind, Shows-next, Shows-step}
-use Rattle.engine_requests.specs.Contexts.{Context}
+use Rattle.engine_terms.specs.Contexts.{Context}
 use Rattle.engine_requests.specs.Sources.{Layer, described}
-use Rattle.engine_requests.specs.declared.error.OciDistributionError.{OciDistributionError}
-use Rattle.engine_requests.specs.declared.error.OciDistributionError.TheVariants as engine_refusal
-use Rattle.engine_requests.specs.Errors.{is_memory as engine_is_memory}
-use Rattle.engine_requests.specs.Answers.{or_digest_error}
+use Rattle.engine_terms.specs.declared.error.OciDistributionError.{OciDistributionError}
+use Rattle.engine_terms.specs.declared.error.OciDistributionError.TheVariants as engine_refusal
+use Rattle.engine_terms.specs.Errors.{is_memory as engine_is_memory}
+use Rattle.engine_answers.specs.Answers.{or_digest_error}
 use Rattle.engine_requests.specs.Requests.{manifest_types}
-use Rattle.engine_requests.specs.Documents.{document_read}
-use Rattle.engine_requests.specs.Index.{entry_found, entry_manifest, entry_reference}
+use Rattle.engine_answers.specs.Documents.{document_read}
+use Rattle.engine_answers.specs.Index.{entry_found, entry_manifest, entry_reference}
 use Rattle.oci_platforms.specs.Promise.{Picks}
 use Rattle.oci_platforms.specs.declared.promise.ResolverPromise.{ResolverPromise}
 use Rattle.engine_rows.specs.Blobs.{IntoMemory}
 use Rattle.engine_rows.specs.Rows.{Row as Engine}
 use Rattle.engine_rows.specs.Pulls.{fetch_manifest_digest, pull_manifest_raw, held_blob}
 use Rattle.engine_rows.specs.Images.{is_accepted, all_accepted, layers_accepted, layer_of, config_of}
-use Rattle.engine_laws.specs.Answered.{Answered, Body, Document, LastBody}
+use Rattle.engine_laws.specs.Answered.{DigestAnswered, Body, Document, LastBody}
 use Rattle.engine_laws.proofs.DocumentAnswers.{body_before, body_after, raw_shows}
 use Rattle.engine_laws.proofs.BlobAnswers.{blob_shows}
 use Rattle.engine_laws.proofs.DigestAnswers.{digest_shows}
@@ -78,9 +78,9 @@ unfolding in_words
 words_show P called image p h = Shows-bind (Seen P) (Seen P) p (λ r. Done (worded called (whole_text image) r)) h
     (λ m n c r at. Shows-done (λ s d o b. Seen P m (c ++ d) o b) (worded called (whole_text image) r) (λ o. worded_seen P called (whole_text image) m n o c r at))
 
-pub digest_made_shows : (s : Context) (image : Reference) (a : RegistryAuth) → Shows (Seen (Answered s.settings image)) (digest_made s image a)
+pub digest_made_shows : (s : Context) (image : Reference) (a : RegistryAuth) → Shows (Seen (DigestAnswered s.settings image)) (digest_made s image a)
 unfolding digest_made
-digest_made_shows s image a = words_show (Answered s.settings image) FetchManifest image (fetch_manifest_digest s image a) (digest_shows s image a)
+digest_made_shows s image a = words_show (DigestAnswered s.settings image) FetchManifest image (fetch_manifest_digest s image a) (digest_shows s image a)
 
 -- a document of this image
 abbrev IsDocument : Reference → List Exchange → List ℕ × List ℕ → Type 0

@@ -18,7 +18,7 @@ use Rattle.oci_manifests.specs.Document.{document_of}
 use Rattle.oci_manifests.specs.declared.versioned.Versioned.{Versioned}
 use Rattle.oci_manifests.specs.declared.document.OciManifest.{OciManifest}
 use Rattle.oci_manifests.specs.declared.document.OciManifest.TheVariants.{Image, ImageIndex}
-use Rattle.oci_manifests.specs.declared.descriptor.OciDescriptor.{OciDescriptor}
+use Rattle.oci_descriptors.specs.declared.descriptor.OciDescriptor.{OciDescriptor}
 use Rattle.oci_manifests.specs.declared.blob.ImageLayer.{ImageLayer}
 use Rattle.oci_manifests.specs.declared.manifest.OciImageManifest.{OciImageManifest}
 use Rattle.oci_transport.specs.Link.{Link}
@@ -27,20 +27,20 @@ use Rattle.oci_protocol.specs.Proto.{Done, unless_refused, ◌>>=◌}
 use Rattle.oci_protocol.specs.Runs.{Runs, Meets}
 use Rattle.oci_protocol.specs.Shows.{Shows, ByAnswer}
 use Rattle.oci_protocol.proofs.Laws.{Runs-count}
-use Rattle.engine_requests.specs.Contexts.{Context}
+use Rattle.engine_terms.specs.Contexts.{Context}
 use Rattle.engine_requests.specs.Sources.{Layer, described}
-use Rattle.engine_requests.specs.declared.settings.Settings.{Settings}
-use Rattle.engine_requests.specs.declared.error.OciDistributionError.{OciDistributionError}
-use Rattle.engine_requests.specs.declared.error.OciDistributionError.TheVariants as engine_refusal
-use Rattle.engine_requests.specs.Answers.{or_digest_error}
-use Rattle.engine_requests.specs.Documents.{plain_of, type_checked, version_checked, versioned_in, or_unread, reads_twice, tables_read, document_read}
-use Rattle.engine_requests.specs.Errors.{is_memory as engine_is_memory, ◌>>=◌ as ◌before◌}
+use Rattle.engine_terms.specs.declared.settings.Settings.{Settings}
+use Rattle.engine_terms.specs.declared.error.OciDistributionError.{OciDistributionError}
+use Rattle.engine_terms.specs.declared.error.OciDistributionError.TheVariants as engine_refusal
+use Rattle.engine_answers.specs.Answers.{or_digest_error}
+use Rattle.engine_answers.specs.Documents.{plain_of, type_checked, version_checked, versioned_in, or_unread, reads_twice, tables_read, document_read}
+use Rattle.engine_terms.specs.Errors.{is_memory as engine_is_memory, ◌>>=◌ as ◌before◌}
 use Rattle.engine_requests.specs.Requests.{manifest_types}
-use Rattle.engine_requests.specs.Index.{entry_named, entry_found, entry_manifest, entry_reference}
+use Rattle.engine_answers.specs.Index.{entry_named, entry_found, entry_manifest, entry_reference}
 use Rattle.oci_platforms.specs.Promise.{lists, resolved}
 use Rattle.oci_platforms.specs.declared.promise.ResolverPromise.{ResolverPromise}
 use Rattle.oci_manifests.specs.declared.index.OciImageIndex.{OciImageIndex}
-use Rattle.oci_manifests.specs.declared.index_entry.ImageIndexEntry.{ImageIndexEntry}
+use Rattle.oci_descriptors.specs.declared.index_entry.ImageIndexEntry.{ImageIndexEntry}
 use Rattle.engine_rows.specs.Blobs.{IntoMemory}
 use Rattle.engine_rows.specs.Rows.{Row as Engine}
 use Rattle.engine_rows.specs.Pulls.{fetch_manifest_digest, pull_manifest_raw, held_blob}
@@ -64,10 +64,10 @@ use Rattle.cosign_layers.specs.Trust.{Trust}
 use Rattle.cosign_layers.specs.declared.layer.SignatureLayer.{SignatureLayer}
 use Rattle.cosign_chain.specs.declared.image.VerifiedImage.{VerifiedImage}
 use Rattle.cosign_rows.specs.Image.{named_by_reference, document_in, entry_in, with_image, layers_row, blobs_row, entry_call, entry_row, manifest_row, image_row}
-use Rattle.cosign_rows.specs.Part.{skipping, appended}
+use Rattle.cosign_rows.specs.Part.{nothing, skipping, appended}
 use Rattle.cosign_rows.specs.References.{tag_reference, digest_reference, or_not_valid, reading_back}
 use Rattle.cosign_rows.specs.Refusal.{is_memory as of_refusal, refused_as, client_refusal, FaultCounted, NoSinkFault}
-use Rattle.cosign_rows.specs.Search.{payload_type, document_part, tag_layers, or_skipped, tag_by, tag_source, bundle_type, behind, referrer_part, referrer_by, referrer_row, referrers_row, listed_row, referrers_source, trusted_layers, searched}
+use Rattle.cosign_rows.specs.Search.{payload_type, document_part, tag_layers, or_skipped, tag_by, tag_source, bundle_type, referrer_part, referrer_by, referrer_row, referrers_row, listed_row, referrers_source, trusted_layers, searched}
 use Rattle.cosign_rows.specs.Skips.{in_engine, is_engine_fault}
 use Rattle.cosign_rows.specs.Verified.{Whole, constrained, is_unconstrained, readable, readable_by, as_whole, part_of, stands_by, standing_by, standing, verified_image, after_search, verified}
 use Rattle.cosign_rows.specs.declared.found.Part.{Part}
@@ -309,54 +309,49 @@ layers_tag_counts trust d s tag a =
     next (manifest_call s tag a) _ (manifest_call_counts s tag a) (λ document.
     next (image_call s tag a (payload_type ∷ [])) _ (image_call_counts s tag a (payload_type ∷ [])) (λ image. answered (document_part trust d document.0 image)))
 
-skipped_refusal : (m n : ℕ) (r : Result Part SigstoreError) → CallCounts m n r → CallCounts m n (or_skipped Tag r)
-skipped_refusal m n (Ok part) h = h
-skipped_refusal m n (Err e) h = by_memory (is_memory e) where
-  by_memory : (b : Bool) → CallCounts m n (if b then Err e else Ok (skipping (Source Tag (Refused e))))
+skipped_refusal : (place : SkipCause → Skipped) (m n : ℕ) (r : Result Part SigstoreError) → CallCounts m n r → CallCounts m n (or_skipped place r)
+skipped_refusal place m n (Ok part) h = h
+skipped_refusal place m n (Err e) h = by_memory (is_memory e) where
+  by_memory : (b : Bool) → CallCounts m n (if b then Err e else Ok (skipping (place (Refused e))))
   by_memory true = h
   by_memory false = h.falls
 
 by_counts : (trust : Trust) (d : List ℕ) (s : Context) (tag : Reference) (a : RegistryAuth) (b : Bool) → Counts CallCounts (tag_by trust d s tag a b)
-by_counts trust d s tag a true = Counts-bind CallCounts CallCounts (tag_layers trust d s tag a) (λ r. Done (or_skipped Tag r)) (layers_tag_counts trust d s tag a)
-    (λ m n r at. Counts-done (λ t p b. t ≡ n → CallCounts m p b) (or_skipped Tag r) (λ p same. rw same (skipped_refusal m n r at)))
+by_counts trust d s tag a true = Counts-bind CallCounts CallCounts (tag_layers trust d s tag a) (λ r. Done (or_skipped (Source Tag) r)) (layers_tag_counts trust d s tag a)
+    (λ m n r at. Counts-done (λ t p b. t ≡ n → CallCounts m p b) (or_skipped (Source Tag) r) (λ p same. rw same (skipped_refusal (Source Tag) m n r at)))
 by_counts trust d s tag a false = answered _
 
 tag_counts : (trust : Trust) (s : Context) (image : Reference) (a : RegistryAuth) (d : List ℕ) → Counts CallCounts (tag_source trust s image a d)
 unfolding tag_source
 tag_counts trust s image a d = by_counts trust d s (tag_reference image d) a (reads_back (tag_reference image d))
 
-image_behind : (trust : Trust) (d : List ℕ) (m n : ℕ) (r : Result ImageData SigstoreError) → CallCounts m n r → CallCounts m n (referrer_part trust d r)
-image_behind trust d m n (Ok image) h = h
-image_behind trust d m n (Err e) h = h
+referrer_refusal : (trust : Trust) (d : List ℕ) (m n : ℕ) (r : Result ImageData SigstoreError) → CallCounts m n r → CallCounts m n (referrer_part trust d r)
+referrer_refusal trust d m n (Ok image) h = h
+referrer_refusal trust d m n (Err e) h = h
 
-behind_refusal : (part : Part) (place : SkipCause → Skipped) (m n : ℕ) (r : Result Part SigstoreError) → CallCounts m n r → CallCounts m n (behind part place r)
-behind_refusal part place m n (Ok more) h = h
-behind_refusal part place m n (Err e) h = by_memory (is_memory e) where
-  by_memory : (b : Bool) → CallCounts m n (if b then Err e else Ok (appended part (skipping (place (Refused e)))))
-  by_memory true = h
-  by_memory false = h.falls
+referrer_by_counts : (trust : Trust) (d : List ℕ) (s : Context) (referrer : Reference) (a : RegistryAuth) (digest : List ℕ) (b : Bool) → Counts CallCounts (referrer_by trust d s referrer a digest b)
+referrer_by_counts trust d s referrer a digest true = Counts-bind CallCounts CallCounts (image_call s referrer a (bundle_type ∷ [])) _ (image_call_counts s referrer a (bundle_type ∷ []))
+    (λ m n r at. Counts-done (λ t p b. t ≡ n → CallCounts m p b) (or_skipped (Referrer digest) (referrer_part trust d r)) (λ p same. rw same (skipped_refusal (Referrer digest) m n (referrer_part trust d r) (referrer_refusal trust d m n r at))))
+referrer_by_counts trust d s referrer a digest false = answered _
 
-referrer_by_counts : (trust : Trust) (d : List ℕ) (s : Context) (referrer : Reference) (a : RegistryAuth) (digest : List ℕ) (part : Part) (b : Bool) → Counts CallCounts (referrer_by trust d s referrer a digest part b)
-referrer_by_counts trust d s referrer a digest part true = Counts-bind CallCounts CallCounts (image_call s referrer a (bundle_type ∷ [])) _ (image_call_counts s referrer a (bundle_type ∷ []))
-    (λ m n r at. Counts-done (λ t p b. t ≡ n → CallCounts m p b) (behind part (Referrer digest) (referrer_part trust d r)) (λ p same. rw same (behind_refusal part (Referrer digest) m n (referrer_part trust d r) (image_behind trust d m n r at))))
-referrer_by_counts trust d s referrer a digest part false = answered _
-
-referrer_counts : (trust : Trust) (d : List ℕ) (s : Context) (source : Reference) (a : RegistryAuth) (digest : List ℕ) (part : Part) → Counts CallCounts (referrer_row trust d s source a digest part)
+referrer_counts : (trust : Trust) (d : List ℕ) (s : Context) (source : Reference) (a : RegistryAuth) (digest : List ℕ) → Counts CallCounts (referrer_row trust d s source a digest)
 unfolding referrer_row
-referrer_counts trust d s source a digest part = referrer_by_counts trust d s (digest_reference source digest) a digest part (reads_back (digest_reference source digest))
+referrer_counts trust d s source a digest = referrer_by_counts trust d s (digest_reference source digest) a digest (reads_back (digest_reference source digest))
 
-referrers_counts : (trust : Trust) (d : List ℕ) (s : Context) (source : Reference) (a : RegistryAuth) (xs : List ImageIndexEntry) (part : Part) → Counts CallCounts (referrers_row trust d s source a xs part)
+referrers_counts : (trust : Trust) (d : List ℕ) (s : Context) (source : Reference) (a : RegistryAuth) (xs : List ImageIndexEntry) → Counts CallCounts (referrers_row trust d s source a xs)
 unfolding referrers_row
-referrers_counts trust d s source a [] part = answered part
-referrers_counts trust d s source a (x ∷ xs) part = next (referrer_row trust d s source a x.digest part) (λ more. referrers_row trust d s source a xs more) (referrer_counts trust d s source a x.digest part) (λ more. referrers_counts trust d s source a xs more)
+referrers_counts trust d s source a [] = answered nothing
+referrers_counts trust d s source a (x ∷ xs) =
+    next (referrer_row trust d s source a x.digest) _ (referrer_counts trust d s source a x.digest) (λ one.
+    next (referrers_row trust d s source a xs) _ (referrers_counts trust d s source a xs) (λ rest. answered (appended one rest)))
 
-listed_counts : (trust : Trust) (d : List ℕ) (s : Context) (source : Reference) (a : RegistryAuth) (part : Part) (m n : ℕ) (r : Result OciImageIndex SigstoreError) → CallCounts m n r → Counts (λ t q b. t ≡ n → CallCounts m q b) (listed_row trust d s source a part r)
-listed_counts trust d s source a part m n (Ok index) at = Counts-more CallCounts (λ t q b. t ≡ n → CallCounts m q b) (referrers_row trust d s source a index.manifests part) (referrers_counts trust d s source a index.manifests part) (λ t q b h same. later m t q b (rw same at) h)
-listed_counts trust d s source a part m n (Err e) at = Counts-done (λ t q b. t ≡ n → CallCounts m q b) (behind part (Source Referrers) (Err e)) (λ q same. rw same (behind_refusal part (Source Referrers) m n (Err e) at))
+listed_counts : (trust : Trust) (d : List ℕ) (s : Context) (source : Reference) (a : RegistryAuth) (m n : ℕ) (r : Result OciImageIndex SigstoreError) → CallCounts m n r → Counts (λ t q b. t ≡ n → CallCounts m q b) (listed_row trust d s source a r)
+listed_counts trust d s source a m n (Ok index) at = Counts-more CallCounts (λ t q b. t ≡ n → CallCounts m q b) (referrers_row trust d s source a index.manifests) (referrers_counts trust d s source a index.manifests) (λ t q b h same. later m t q b (rw same at) h)
+listed_counts trust d s source a m n (Err e) at = Counts-done (λ t q b. t ≡ n → CallCounts m q b) (or_skipped (Source Referrers) (Err e)) (λ q same. rw same (skipped_refusal (Source Referrers) m n (Err e) at))
 
-referrers_source_counts : (trust : Trust) (d : List ℕ) (s : Context) (source : Reference) (a : RegistryAuth) (part : Part) → Counts CallCounts (referrers_source trust d s source a part)
+referrers_source_counts : (trust : Trust) (d : List ℕ) (s : Context) (source : Reference) (a : RegistryAuth) → Counts CallCounts (referrers_source trust d s source a)
 unfolding referrers_source
-referrers_source_counts trust d s source a part = Counts-bind CallCounts CallCounts (referrers_call s source a None) (listed_row trust d s source a part) (referrers_call_counts s source a None) (λ m n r at. listed_counts trust d s source a part m n r at)
+referrers_source_counts trust d s source a = Counts-bind CallCounts CallCounts (referrers_call s source a None) (listed_row trust d s source a) (referrers_call_counts s source a None) (λ m n r at. listed_counts trust d s source a m n r at)
 
 back_counts : (image : Reference) → Counts {K = Kept} CallCounts (Done (reading_back image))
 back_counts image = Counts-done CallCounts (reading_back image) (λ m. by_back m (reads_back image)) where
@@ -370,7 +365,7 @@ search_counts trust s image a =
     next (digest_call s image a) _ (digest_call_counts s image a) (λ digest.
     next (Done (reading_back (digest_reference image digest))) _ (back_counts (digest_reference image digest)) (λ u.
     next (tag_source trust s image a digest) _ (tag_counts trust s image a digest) (λ tag.
-    next (referrers_source trust digest s (digest_reference image digest) a tag) _ (referrers_source_counts trust digest s (digest_reference image digest) a tag) (λ found. answered (trusted_layers digest found)))))
+    next (referrers_source trust digest s (digest_reference image digest) a) _ (referrers_source_counts trust digest s (digest_reference image digest) a) (λ more. answered (trusted_layers digest (appended tag more))))))
 
 words_fault : (m n : ℕ) (e : SigstoreError) → SincereWords m n e → registry_refusal e ≡ Some engine_refusal.TransportFault → Rose m n
 words_fault m n (sigstore.OciReferenceNotValidError text) h is = absurd (cc is)

@@ -18,8 +18,8 @@ use Rattle.oci_protocol.specs.Proto.{Done, bind, unless_refused, ◌>>◌}
 use Rattle.oci_link.specs.Table.{answer}
 use Rattle.oci_link.specs.declared.shelf.Shelf.{Shelf}
 use Rattle.engine_rows.specs.declared.image.ImageData.{ImageData}
-use Rattle.engine_requests.specs.Contexts.{within}
-use Rattle.engine_requests.specs.declared.settings.Settings.{Settings}
+use Rattle.engine_terms.specs.Contexts.{within}
+use Rattle.engine_terms.specs.declared.settings.Settings.{Settings}
 use Rattle.shelf_laws.specs.Comes.{Comes, ComesTo, Yields, Gives, Stays}
 use Rattle.shelf_laws.specs.Home.{IsAt, Settled}
 use Rattle.shelf_laws.proofs.Coming.{Comes-more, Comes-bind}

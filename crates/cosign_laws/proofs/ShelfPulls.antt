@@ -18,9 +18,9 @@ use Rattle.oci_digests.proofs.Validated.{is_validated}
 use Rattle.oci_manifests.specs.declared.document.OciManifest.{OciManifest}
 use Rattle.oci_manifests.specs.declared.document.OciManifest.TheVariants.{Image, ImageIndex}
 use Rattle.oci_manifests.specs.declared.index.OciImageIndex.{OciImageIndex}
-use Rattle.oci_manifests.specs.declared.index_entry.ImageIndexEntry.{ImageIndexEntry}
+use Rattle.oci_descriptors.specs.declared.index_entry.ImageIndexEntry.{ImageIndexEntry}
 use Rattle.oci_manifests.specs.declared.manifest.OciImageManifest.{OciImageManifest}
-use Rattle.oci_manifests.specs.declared.descriptor.OciDescriptor.{OciDescriptor}
+use Rattle.oci_descriptors.specs.declared.descriptor.OciDescriptor.{OciDescriptor}
 use Rattle.oci_manifests.specs.declared.blob.ImageLayer.{ImageLayer}
 use Rattle.oci_transport.specs.Link.{Link, AnsweredBy}
 use Rattle.oci_transport.specs.declared.message.Request.{Request}
@@ -32,15 +32,15 @@ use Rattle.oci_protocol.specs.Ends.{UnlessMemory}
 use Rattle.oci_link.specs.State.{answering}
 use Rattle.oci_link.specs.Table.{answer}
 use Rattle.oci_link.specs.declared.shelf.Shelf.{Shelf}
-use Rattle.engine_requests.specs.Answers.{or_digest_error}
-use Rattle.engine_requests.specs.Contexts.{Context, within}
-use Rattle.engine_requests.specs.Documents.{document_read}
-use Rattle.engine_requests.specs.Errors.{◌>>=◌ as ◌before◌, ◌>>◌ as ◌and◌}
-use Rattle.engine_requests.specs.Index.{entry_found, entry_manifest, entry_reference}
+use Rattle.engine_answers.specs.Answers.{or_digest_error}
+use Rattle.engine_terms.specs.Contexts.{Context, within}
+use Rattle.engine_answers.specs.Documents.{document_read}
+use Rattle.engine_terms.specs.Errors.{◌>>=◌ as ◌before◌, ◌>>◌ as ◌and◌}
+use Rattle.engine_answers.specs.Index.{entry_found, entry_manifest, entry_reference}
 use Rattle.engine_requests.specs.Requests.{manifest_types}
 use Rattle.engine_requests.specs.Sources.{Layer, described}
-use Rattle.engine_requests.specs.declared.error.OciDistributionError.{OciDistributionError}
-use Rattle.engine_requests.specs.declared.settings.Settings.{Settings}
+use Rattle.engine_terms.specs.declared.error.OciDistributionError.{OciDistributionError}
+use Rattle.engine_terms.specs.declared.settings.Settings.{Settings}
 use Rattle.engine_rows.specs.Rows.{Row as Engine}
 use Rattle.engine_rows.specs.declared.image.ImageData.{ImageData}
 use Rattle.engine_rows.specs.Images.{layers_accepted, layer_of, config_of}
@@ -73,10 +73,10 @@ use Rattle.cosign_layers.specs.declared.layer.SignatureLayer.{SignatureLayer}
 use Rattle.cosign_layers.proofs.Supports.{stands_by as supports_stand}
 use Rattle.cosign_chain.specs.declared.image.VerifiedImage.{VerifiedImage}
 use Rattle.cosign_rows.specs.Image.{named_by_reference, document_in, entry_in, layers_row, blobs_row, with_image, entry_call, entry_row, manifest_row, after_document, image_row}
-use Rattle.cosign_rows.specs.Part.{skipping, appended, layer_part, named_layer, read_layer, descriptor_part, descriptors_part, read_bundle, bundle_part, bundles_part}
+use Rattle.cosign_rows.specs.Part.{nothing, skipping, appended, layer_part, named_layer, read_layer, descriptor_part, descriptors_part, read_bundle, bundle_part, bundles_part}
 use Rattle.cosign_rows.specs.References.{signature_tag, tag_reference, digest_reference, or_not_valid, reading_back}
 use Rattle.cosign_rows.specs.Refusal.{is_memory, refused_as}
-use Rattle.cosign_rows.specs.Search.{payload_type, document_part, tag_layers, or_skipped, tag_by, tag_source, behind, bundle_type, referrer_part, referrer_by, referrer_row, referrers_row, listed_row, referrers_source, trusted_layers, searched}
+use Rattle.cosign_rows.specs.Search.{payload_type, document_part, tag_layers, or_skipped, tag_by, tag_source, bundle_type, referrer_part, referrer_by, referrer_row, referrers_row, listed_row, referrers_source, trusted_layers, searched}
 use Rattle.cosign_rows.specs.Settled.{AreRight, IsSettled}
 use Rattle.cosign_rows.specs.Verified.{Whole, constrained, is_unconstrained, readable_by, readable, as_whole, part_of, stands_by, standing_by, standing, verified_image, after_search, verified}
 use Rattle.cosign_rows.specs.declared.found.Part.{Part}
@@ -253,7 +253,7 @@ module _ {V : Type 0} {H : V → Type 0} (meaning : Meaning V H) (s : Settings) 
 
     source_gives : Gives I (answer shelf) Stood (tag_source meaning.trust ctx image a digest)
     unfolding tag_source
-    source_gives = subst (λ b. Gives I (answer shelf) Stood (tag_by meaning.trust digest ctx (tag_reference image digest) a b)) (sym tag_reads) (Gives-caught (λ r. Done (or_skipped ByTag r)) tag_gives (λ part is. Gives-done (Ok part) is))
+    source_gives = subst (λ b. Gives I (answer shelf) Stood (tag_by meaning.trust digest ctx (tag_reference image digest) a b)) (sym tag_reads) (Gives-caught (λ r. Done (or_skipped (Source ByTag) r)) tag_gives (λ part is. Gives-done (Ok part) is))
 
   -- what a part is of which nothing is known
   abbrev AnyPart : Part → Type 0
@@ -263,13 +263,13 @@ module _ {V : Type 0} {H : V → Type 0} (meaning : Meaning V H) (s : Settings) 
   skipped_by true cause e is = is
   skipped_by false cause e is = tt
 
-  skipped_any : (r : Result Part SigstoreError) → OrMemory of_memory AnyPart (or_skipped ByTag r)
-  skipped_any (Ok part) = tt
-  skipped_any (Err e) = skipped_by (of_memory e) (Source ByTag (Refused e)) e refl
+  skipped_any : (place : SkipCause → Skipped) (r : Result Part SigstoreError) → OrMemory of_memory AnyPart (or_skipped place r)
+  skipped_any place (Ok part) = tt
+  skipped_any place (Err e) = skipped_by (of_memory e) (place (Refused e)) e refl
 
   by_reading : (b : Bool) → Reaches I (answer shelf) (OrMemory of_memory AnyPart) (tag_by meaning.trust digest ctx (tag_reference image digest) a b)
   by_reading false = Reaches-done (Ok (skipping (Source ByTag (NotAReference (whole_text (tag_reference image digest)))))) tt
-  by_reading true = Reaches-bind _ (Reaches-stays (tag_stays meaning s image a accepted shelf valid.asked moment digest)) (λ r u. Reaches-done (or_skipped ByTag r) (skipped_any r))
+  by_reading true = Reaches-bind _ (Reaches-stays (tag_stays meaning s image a accepted shelf valid.asked moment digest)) (λ r u. Reaches-done (or_skipped (Source ByTag) r) (skipped_any (Source ByTag) r))
 
   source_reaches : Reaches I (answer shelf) (OrMemory of_memory AnyPart) (tag_source meaning.trust ctx image a digest)
   unfolding tag_source
@@ -280,45 +280,26 @@ module _ {V : Type 0} {H : V → Type 0} (meaning : Meaning V H) (s : Settings) 
   at_referrer : (x : List ℕ) → IsAt registry shelf (digest_reference source x)
   at_referrer x = referrer_at valid.asked digest x
 
-  -- what is so of a part and of all that stand behind it
-  record Grows (P : Part → Type 0) : Type 0 where
-    grows : (part more : Part) → P part → P (appended part more)
+  referrer_reaches : (x : List ℕ) (b : Bool) → Reaches I (answer shelf) (OrMemory of_memory AnyPart) (referrer_by meaning.trust digest ctx (digest_reference source x) a x b)
+  referrer_reaches x false = Reaches-done (Ok (skipping (Referrer x (NotAReference (whole_text (digest_reference source x)))))) tt
+  referrer_reaches x true = Reaches-bind _ (Reaches-stays (referrer_stays meaning s image a accepted shelf valid.asked moment digest x)) (λ r u. Reaches-done _ (skipped_any (Referrer x) (referrer_part meaning.trust digest r)))
 
-  stood_grows : Grows Stood
-  stood_grows = record { grows = λ part more h. has_left (stands_by meaning) part.collected more.collected h }
-
-  any_grows : Grows AnyPart
-  any_grows = record { grows = λ part more h. tt }
-
-  module _ (P : Part → Type 0) (growing : Grows P) where
-    behind_by : (b : Bool) (part : Part) (cause : Skipped) (e : SigstoreError) → of_memory e ≡ b → P part → OrMemory of_memory P (if b then Err e else Ok (appended part (skipping cause)))
-    behind_by true part cause e is h = is
-    behind_by false part cause e is h = growing.grows part (skipping cause) h
-
-    behind_is : (part : Part) (place : SkipCause → Skipped) (r : Result Part SigstoreError) → P part → OrMemory of_memory P (behind part place r)
-    behind_is part place (Ok more) h = growing.grows part more h
-    behind_is part place (Err e) h = behind_by (of_memory e) part (place (Refused e)) e refl h
-
-    referrer_reaches : (x : List ℕ) (part : Part) (b : Bool) → P part → Reaches I (answer shelf) (OrMemory of_memory P) (referrer_by meaning.trust digest ctx (digest_reference source x) a x part b)
-    referrer_reaches x part false h = Reaches-done (Ok (appended part (skipping (Referrer x (NotAReference (whole_text (digest_reference source x))))))) (growing.grows part (skipping (Referrer x (NotAReference (whole_text (digest_reference source x))))) h)
-    referrer_reaches x part true h = Reaches-bind _ (Reaches-stays (referrer_stays meaning s image a accepted shelf valid.asked moment digest x)) (λ r u. Reaches-done _ (behind_is part (Referrer x) (referrer_part meaning.trust digest r) h))
-
-    each_reaches : (xs : List ImageIndexEntry) (part : Part) → P part → Reaches I (answer shelf) (OrMemory of_memory P) (referrers_row meaning.trust digest ctx source a xs part)
-    unfolding referrers_row referrer_row
-    each_reaches [] part h = Reaches-done (Ok part) h
-    each_reaches (x ∷ xs) part h = Reaches-next _ (referrer_reaches x.digest part (reads_back (digest_reference source x.digest)) h) (λ more holds. each_reaches xs more holds)
-
-    listed_reaches : (part : Part) (r : Result OciImageIndex SigstoreError) → P part → Reaches I (answer shelf) (OrMemory of_memory P) (listed_row meaning.trust digest ctx source a part r)
-    listed_reaches part (Ok index) h = each_reaches index.manifests part h
-    listed_reaches part (Err e) h = Reaches-done _ (behind_is part (Source Referrers) (Err e) h)
-
-  referrers_reach : (part : Part) → Stood part → Reaches I (answer shelf) (OrMemory of_memory Stood) (referrers_source meaning.trust digest ctx source a part)
-  unfolding referrers_source
-  referrers_reach part h = Reaches-bind _ (Reaches-stays (listing_stays meaning s image a accepted shelf valid.asked moment digest)) (λ r u. listed_reaches Stood stood_grows part r h)
-
-  any_row : (y : ImageIndexEntry) (part : Part) → Reaches I (answer shelf) (OrMemory of_memory AnyPart) (referrer_row meaning.trust digest ctx source a y.digest part)
+  any_row : (x : List ℕ) → Reaches I (answer shelf) (OrMemory of_memory AnyPart) (referrer_row meaning.trust digest ctx source a x)
   unfolding referrer_row
-  any_row y part = referrer_reaches AnyPart any_grows y.digest part (reads_back (digest_reference source y.digest)) tt
+  any_row x = referrer_reaches x (reads_back (digest_reference source x))
+
+  each_reaches : (xs : List ImageIndexEntry) → Reaches I (answer shelf) (OrMemory of_memory AnyPart) (referrers_row meaning.trust digest ctx source a xs)
+  unfolding referrers_row
+  each_reaches [] = Reaches-done (Ok nothing) tt
+  each_reaches (y ∷ ys) = Reaches-next _ (any_row y.digest) (λ one u. Reaches-next _ (each_reaches ys) (λ rest v. Reaches-done (Ok (appended one rest)) tt))
+
+  listed_reaches : (r : Result OciImageIndex SigstoreError) → Reaches I (answer shelf) (OrMemory of_memory AnyPart) (listed_row meaning.trust digest ctx source a r)
+  listed_reaches (Ok index) = each_reaches index.manifests
+  listed_reaches (Err e) = Reaches-done _ (skipped_any (Source Referrers) (Err e))
+
+  referrers_reach : Reaches I (answer shelf) (OrMemory of_memory AnyPart) (referrers_source meaning.trust digest ctx source a)
+  unfolding referrers_source
+  referrers_reach = Reaches-bind _ (Reaches-stays (listing_stays meaning s image a accepted shelf valid.asked moment digest)) (λ r u. listed_reaches r)
 
   -- ---- a referrer that stands
 
@@ -336,22 +317,26 @@ module _ {V : Type 0} {H : V → Type 0} (meaning : Meaning V H) (s : Settings) 
     unfolding image_made
     entry_image m = words_give Pull (digest_reference source x) (pull_gives home valid.short a can m (digest_reference source x) x (bundle_type ∷ []) signed.bundles (at_referrer x) points_entry)
 
-    entry_gives : (part : Part) → Gives I (answer shelf) Stood (referrer_by meaning.trust digest ctx (digest_reference source x) a x part true)
-    entry_gives part =
-        Gives-caught (λ r. Done (behind part (Referrer x) (referrer_part meaning.trust digest r)))
+    entry_gives : Gives I (answer shelf) Stood (referrer_by meaning.trust digest ctx (digest_reference source x) a x true)
+    entry_gives =
+        Gives-caught (λ r. Done (or_skipped (Referrer x) (referrer_part meaning.trust digest r)))
         (image_given s registry a shelf (digest_reference source x) (at_referrer x) (bundle_type ∷ []) moment entry_image)
-        (λ pulled same. Gives-done (Ok (appended part (bundles_part meaning.trust digest pulled.layers))) (has_right (stands_by meaning) part.collected (bundles_part meaning.trust digest pulled.layers).collected (subst (λ (layers : List ImageLayer). Has (stands_by meaning) (bundles_part meaning.trust digest layers).collected) (sym same) bundles_stand)))
+        (λ pulled same. Gives-done (Ok (bundles_part meaning.trust digest pulled.layers)) (subst (λ (layers : List ImageLayer). Has (stands_by meaning) (bundles_part meaning.trust digest layers).collected) (sym same) bundles_stand))
 
-    row_gives : (part : Part) → Gives I (answer shelf) Stood (referrer_row meaning.trust digest ctx source a x part)
+    row_gives : Gives I (answer shelf) Stood (referrer_row meaning.trust digest ctx source a x)
     unfolding referrer_row
-    row_gives part = subst (λ b. Gives I (answer shelf) Stood (referrer_by meaning.trust digest ctx (digest_reference source x) a x part b)) (sym signed.entry_reads) (entry_gives part)
+    row_gives = subst (λ b. Gives I (answer shelf) Stood (referrer_by meaning.trust digest ctx (digest_reference source x) a x b)) (sym signed.entry_reads) entry_gives
 
-    -- from any part, as far as that entry, and then on
-    each_stands : (xs : List ImageIndexEntry) (k : ℕ) (part : Part) → k < length xs → slice_index_or xs k signed.entry ≡ signed.entry → Reaches I (answer shelf) (OrMemory of_memory Stood) (referrers_row meaning.trust digest ctx source a xs part)
+    -- as far as that entry, and then on
+    each_stands : (xs : List ImageIndexEntry) (k : ℕ) → k < length xs → slice_index_or xs k signed.entry ≡ signed.entry → Reaches I (answer shelf) (OrMemory of_memory Stood) (referrers_row meaning.trust digest ctx source a xs)
     unfolding referrers_row
-    each_stands [] k part lt is = absurd (omega (arith, lt))
-    each_stands (y ∷ xs) zero part lt is = Reaches-after _ (subst (λ (z : ImageIndexEntry). Gives I (answer shelf) Stood (referrer_row meaning.trust digest ctx source a z.digest part)) (sym is) (row_gives part)) (λ more holds. each_reaches Stood stood_grows xs more holds)
-    each_stands (y ∷ xs) (suc k) part lt is = Reaches-next _ (any_row y part) (λ more u. each_stands xs k more (omega (arith, lt)) is)
+    each_stands [] k lt is = absurd (omega (arith, lt))
+    each_stands (y ∷ ys) zero lt is =
+        Reaches-after _ (subst (λ (z : ImageIndexEntry). Gives I (answer shelf) Stood (referrer_row meaning.trust digest ctx source a z.digest)) (sym is) row_gives) (λ one holds.
+        Reaches-next _ (each_reaches ys) (λ rest u. Reaches-done (Ok (appended one rest)) (has_left (stands_by meaning) one.collected rest.collected holds)))
+    each_stands (y ∷ ys) (suc k) lt is =
+        Reaches-next _ (any_row y.digest) (λ one u.
+        Reaches-next _ (each_stands ys k (omega (arith, lt)) is) (λ rest holds. Reaches-done (Ok (appended one rest)) (has_right (stands_by meaning) one.collected rest.collected holds)))
 
     listing : (m : ℕ) → Gives J (answer shelf) (λ (index : OciImageIndex). index ≡ signed.index) (referrers_made (within s m) source a None)
     unfolding referrers_made
@@ -360,13 +345,13 @@ module _ {V : Type 0} {H : V → Type 0} (meaning : Meaning V H) (s : Settings) 
     listing_gives : Gives I (answer shelf) (λ (index : OciImageIndex). index ≡ signed.index) (referrers_call ctx source a None)
     listing_gives = referrers_given s registry a shelf source at_digest None moment listing
 
-    listed_stands : (part : Part) (r : Result OciImageIndex SigstoreError) → Yields (λ (index : OciImageIndex). index ≡ signed.index) r → Reaches I (answer shelf) (OrMemory of_memory Stood) (listed_row meaning.trust digest ctx source a part r)
-    listed_stands part (Ok index) is = subst (λ (i : OciImageIndex). Reaches I (answer shelf) (OrMemory of_memory Stood) (referrers_row meaning.trust digest ctx source a i.manifests part)) (sym is) (each_stands signed.index.manifests signed.among.0 part signed.among.1 signed.among.2)
-    listed_stands part (Err e) is = absurd is
+    listed_stands : (r : Result OciImageIndex SigstoreError) → Yields (λ (index : OciImageIndex). index ≡ signed.index) r → Reaches I (answer shelf) (OrMemory of_memory Stood) (listed_row meaning.trust digest ctx source a r)
+    listed_stands (Ok index) is = subst (λ (i : OciImageIndex). Reaches I (answer shelf) (OrMemory of_memory Stood) (referrers_row meaning.trust digest ctx source a i.manifests)) (sym is) (each_stands signed.index.manifests signed.among.0 signed.among.1 signed.among.2)
+    listed_stands (Err e) is = absurd is
 
-    referrers_stand : (part : Part) → Reaches I (answer shelf) (OrMemory of_memory Stood) (referrers_source meaning.trust digest ctx source a part)
+    referrers_stand : Reaches I (answer shelf) (OrMemory of_memory Stood) (referrers_source meaning.trust digest ctx source a)
     unfolding referrers_source
-    referrers_stand part = Reaches-bind _ (Reaches-gives listing_gives) (λ r is. listed_stands part r is)
+    referrers_stand = Reaches-bind _ (Reaches-gives listing_gives) (λ r is. listed_stands r is)
 
   -- ---- the search
 
@@ -377,9 +362,9 @@ module _ {V : Type 0} {H : V → Type 0} (meaning : Meaning V H) (s : Settings) 
   abbrev Signed : Type 0
   Signed = ((reads_back (tag_reference image digest) ≡ true) × SignedByTag meaning digest shelf) ⊎ SignedByReferrer meaning s image digest shelf
 
-  both_reach : Signed → Reaches I (answer shelf) (OrMemory of_memory Found) (tag_source meaning.trust ctx image a digest >>= λ tag. referrers_source meaning.trust digest ctx source a tag >>= λ found. Done (Ok (trusted_layers digest found)))
-  both_reach (inl (tag_reads, signed)) = Reaches-after _ (source_gives tag_reads signed) (λ tag is. Reaches-next _ (referrers_reach tag is) (λ found stands. Reaches-done (Ok (trusted_layers digest found)) (refl, stands)))
-  both_reach (inr signed) = Reaches-next _ source_reaches (λ tag u. Reaches-next _ (referrers_stand signed tag) (λ found stands. Reaches-done (Ok (trusted_layers digest found)) (refl, stands)))
+  both_reach : Signed → Reaches I (answer shelf) (OrMemory of_memory Found) (tag_source meaning.trust ctx image a digest >>= λ tag. referrers_source meaning.trust digest ctx source a >>= λ more. Done (Ok (trusted_layers digest (appended tag more))))
+  both_reach (inl (tag_reads, signed)) = Reaches-after _ (source_gives tag_reads signed) (λ tag is. Reaches-next _ referrers_reach (λ more u. Reaches-done (Ok (trusted_layers digest (appended tag more))) (refl, has_left (stands_by meaning) tag.collected more.collected is)))
+  both_reach (inr signed) = Reaches-next _ source_reaches (λ tag u. Reaches-next _ (referrers_stand signed) (λ more stands. Reaches-done (Ok (trusted_layers digest (appended tag more))) (refl, has_right (stands_by meaning) tag.collected more.collected stands)))
 
   digest_step : (m : ℕ) → Gives J (answer shelf) (λ (d : List ℕ). d ≡ digest) (digest_made (within s m) image a)
   unfolding digest_made
@@ -389,7 +374,7 @@ module _ {V : Type 0} {H : V → Type 0} (meaning : Meaning V H) (s : Settings) 
   unfolding searched
   search_reaches signed =
       Reaches-after _ (digest_given s registry a shelf image at_image moment digest_step) (λ d known.
-      subst (λ (t : List ℕ). Reaches I (answer shelf) (OrMemory of_memory Found) (Done (reading_back (digest_reference image t)) >> (tag_source meaning.trust ctx image a t >>= λ tag. referrers_source meaning.trust t ctx (digest_reference image t) a tag >>= λ found. Done (Ok (trusted_layers t found))))) (sym known)
+      subst (λ (t : List ℕ). Reaches I (answer shelf) (OrMemory of_memory Found) (Done (reading_back (digest_reference image t)) >> (tag_source meaning.trust ctx image a t >>= λ tag. referrers_source meaning.trust t ctx (digest_reference image t) a >>= λ more. Done (Ok (trusted_layers t (appended tag more)))))) (sym known)
       (Reaches-after _ (Gives-done (reading_back source) (yields_ok (λ u. Unit {0}) (reading_back source) tt (ap (or_not_valid source) digest_back) tt)) (λ u read. both_reach signed)))
 
   -- ---- the image

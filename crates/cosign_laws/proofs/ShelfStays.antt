@@ -9,20 +9,20 @@ use Rattle.oci_auth.specs.declared.memory.Memory.{Memory}
 use Rattle.oci_manifests.specs.declared.document.OciManifest.{OciManifest}
 use Rattle.oci_manifests.specs.declared.document.OciManifest.TheVariants.{Image, ImageIndex}
 use Rattle.oci_manifests.specs.declared.index.OciImageIndex.{OciImageIndex}
-use Rattle.oci_manifests.specs.declared.index_entry.ImageIndexEntry.{ImageIndexEntry}
+use Rattle.oci_descriptors.specs.declared.index_entry.ImageIndexEntry.{ImageIndexEntry}
 use Rattle.oci_manifests.specs.declared.manifest.OciImageManifest.{OciImageManifest}
-use Rattle.oci_manifests.specs.declared.descriptor.OciDescriptor.{OciDescriptor}
+use Rattle.oci_descriptors.specs.declared.descriptor.OciDescriptor.{OciDescriptor}
 use Rattle.oci_manifests.specs.declared.blob.ImageLayer.{ImageLayer}
 use Rattle.oci_transport.specs.declared.message.Request.{Request}
 use Rattle.oci_transport.specs.declared.message.Answer.{Answer}
 use Rattle.oci_protocol.specs.Proto.{Proto, Done}
 use Rattle.oci_link.specs.Table.{answer}
 use Rattle.oci_link.specs.declared.shelf.Shelf.{Shelf}
-use Rattle.engine_requests.specs.Contexts.{Context}
-use Rattle.engine_requests.specs.Index.{entry_found, entry_reference}
+use Rattle.engine_terms.specs.Contexts.{Context}
+use Rattle.engine_answers.specs.Index.{entry_found, entry_reference}
 use Rattle.engine_requests.specs.Requests.{manifest_types}
 use Rattle.engine_requests.specs.Sources.{Layer, described}
-use Rattle.engine_requests.specs.declared.settings.Settings.{Settings}
+use Rattle.engine_terms.specs.declared.settings.Settings.{Settings}
 use Rattle.engine_rows.specs.Rows.{Row as Engine}
 use Rattle.engine_rows.specs.Images.{layers_accepted, layer_of}
 use Rattle.sig_answers.specs.declared.answers.Answers.{Answers}
@@ -42,13 +42,12 @@ use Rattle.shelf_laws.proofs.Tokens.{given_gives}
 use Rattle.cosign_layers.specs.Standing.{Meaning}
 use Rattle.cosign_rows.specs.Image.{document_in, entry_in, layers_row, blobs_row, with_image, entry_call, entry_row, manifest_row, image_row}
 use Rattle.cosign_rows.specs.References.{tag_reference, digest_reference, reading_back}
-use Rattle.cosign_rows.specs.Search.{payload_type, tag_layers, or_skipped, tag_by, tag_source, behind, bundle_type, referrer_part, referrer_by, referrer_row, referrers_row, listed_row, referrers_source, searched}
+use Rattle.cosign_rows.specs.Search.{payload_type, tag_layers, or_skipped, tag_by, tag_source, bundle_type, referrer_part, referrer_by, referrer_row, referrers_row, listed_row, referrers_source, searched}
 use Rattle.cosign_rows.specs.Settled.{AreRight}
 use Rattle.cosign_rows.specs.Shelves.{IsAsked}
 use Rattle.cosign_rows.specs.Verified.{constrained, is_unconstrained, readable, as_whole, part_of, standing, after_search, verified}
-use Rattle.cosign_rows.specs.declared.found.Part.{Part}
 use Rattle.cosign_rows.specs.declared.found.SourceKind.TheVariants.{Tag}
-use Rattle.cosign_rows.specs.declared.found.Skipped.TheVariants.{Referrer}
+use Rattle.cosign_rows.specs.declared.found.Skipped.TheVariants.{Source, Referrer}
 use Rattle.cosign_rows.specs.declared.found.TrustedLayers.{TrustedLayers}
 use Rattle.cosign_laws.proofs.ShelfCalls.{digest_settled, manifest_settled, image_settled, referrers_settled}
 
@@ -132,7 +131,7 @@ module _ {V : Type 0} {H : V → Type 0} (meaning : Meaning V H) (s : Settings) 
 
     tag_by_stays : (b : Bool) → Settles (tag_by meaning.trust d ctx (tag_reference image d) a b)
     tag_by_stays false = Stays-done _
-    tag_by_stays true = Stays-bind (λ r. Done (or_skipped Tag r)) tag_stays (λ r. Stays-done _)
+    tag_by_stays true = Stays-bind (λ r. Done (or_skipped (Source Tag) r)) tag_stays (λ r. Stays-done _)
 
     tag_source_stays : Settles (tag_source meaning.trust ctx image a d)
     unfolding tag_source
@@ -148,22 +147,24 @@ module _ {V : Type 0} {H : V → Type 0} (meaning : Meaning V H) (s : Settings) 
     pub referrer_stays : (x : List ℕ) → Settles (image_call ctx (digest_reference source x) a (bundle_type ∷ []))
     referrer_stays x = image_settled s registry a shelf (digest_reference source x) (referrer_at asked d x) (bundle_type ∷ []) moment (pulled (digest_reference source x) (referrer_at asked d x) (bundle_type ∷ []))
 
-    referrer_by_stays : (x : List ℕ) (part : Part) (b : Bool) → Settles (referrer_by meaning.trust d ctx (digest_reference source x) a x part b)
-    referrer_by_stays x part false = Stays-done _
-    referrer_by_stays x part true = Stays-bind (λ r. Done (behind part (Referrer x) (referrer_part meaning.trust d r))) (referrer_stays x) (λ r. Stays-done _)
+    referrer_by_stays : (x : List ℕ) (b : Bool) → Settles (referrer_by meaning.trust d ctx (digest_reference source x) a x b)
+    referrer_by_stays x false = Stays-done _
+    referrer_by_stays x true = Stays-bind (λ r. Done (or_skipped (Referrer x) (referrer_part meaning.trust d r))) (referrer_stays x) (λ r. Stays-done _)
 
-    referrers_row_stays : (xs : List ImageIndexEntry) (part : Part) → Settles (referrers_row meaning.trust d ctx source a xs part)
+    referrers_row_stays : (xs : List ImageIndexEntry) → Settles (referrers_row meaning.trust d ctx source a xs)
     unfolding referrers_row referrer_row
-    referrers_row_stays [] part = Stays-done _
-    referrers_row_stays (x ∷ xs) part = Stays-next _ (referrer_by_stays x.digest part (reads_back (digest_reference source x.digest))) (λ more. referrers_row_stays xs more)
+    referrers_row_stays [] = Stays-done _
+    referrers_row_stays (x ∷ xs) =
+        Stays-next _ (referrer_by_stays x.digest (reads_back (digest_reference source x.digest))) (λ one.
+        Stays-next _ (referrers_row_stays xs) (λ rest. Stays-done _))
 
-    listed_stays : (part : Part) (r : Result OciImageIndex SigstoreError) → Settles (listed_row meaning.trust d ctx source a part r)
-    listed_stays part (Ok index) = referrers_row_stays index.manifests part
-    listed_stays part (Err e) = Stays-done _
+    listed_stays : (r : Result OciImageIndex SigstoreError) → Settles (listed_row meaning.trust d ctx source a r)
+    listed_stays (Ok index) = referrers_row_stays index.manifests
+    listed_stays (Err e) = Stays-done _
 
-    referrers_source_stays : (part : Part) → Settles (referrers_source meaning.trust d ctx source a part)
+    referrers_source_stays : Settles (referrers_source meaning.trust d ctx source a)
     unfolding referrers_source
-    referrers_source_stays part = Stays-bind (listed_row meaning.trust d ctx source a part) listing_stays (λ r. listed_stays part r)
+    referrers_source_stays = Stays-bind (listed_row meaning.trust d ctx source a) listing_stays listed_stays
 
   searched_stays : Settles (searched meaning.trust ctx image a)
   unfolding searched
@@ -171,7 +172,7 @@ module _ {V : Type 0} {H : V → Type 0} (meaning : Meaning V H) (s : Settings) 
       Stays-next _ (digest_settled s registry a shelf image (image_at asked) moment digest_step) (λ d.
       Stays-next _ (Stays-done (reading_back (digest_reference image d))) (λ u.
       Stays-next _ (tag_source_stays d) (λ tag.
-      Stays-next _ (referrers_source_stays d tag) (λ found. Stays-done _))))
+      Stays-next _ (referrers_source_stays d) (λ more. Stays-done _))))
 
   -- ---- the image
 

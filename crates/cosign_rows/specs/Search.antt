@@ -8,23 +8,22 @@ use Rattle.oci_auth.specs.declared.auth.RegistryAuth.{RegistryAuth}
 use Rattle.oci_manifests.specs.declared.document.OciManifest.{OciManifest}
 use Rattle.oci_manifests.specs.declared.document.OciManifest.TheVariants.{Image, ImageIndex}
 use Rattle.oci_manifests.specs.declared.index.OciImageIndex.{OciImageIndex}
-use Rattle.oci_manifests.specs.declared.index_entry.ImageIndexEntry.{ImageIndexEntry}
+use Rattle.oci_descriptors.specs.declared.index_entry.ImageIndexEntry.{ImageIndexEntry}
 use Rattle.oci_protocol.specs.Proto.{Done, bind, ◌>>=◌, ◌>>◌}
-use Rattle.engine_requests.specs.Contexts.{Context}
+use Rattle.engine_terms.specs.Contexts.{Context}
 use Rattle.engine_rows.specs.declared.image.ImageData.{ImageData}
 use Rattle.sig_calls.specs.declared.error.SigstoreError.{SigstoreError}
 use Rattle.sig_calls.specs.Errors.{is_memory}
 use Rattle.sig_calls.specs.Clients.{Row}
 use Rattle.sig_calls.specs.Calls.{digest_call, manifest_call, image_call, referrers_call}
 use Rattle.cosign_layers.specs.Trust.{Trust}
-use Rattle.cosign_rows.specs.Part.{skipping, appended, descriptors_part, bundles_part}
+use Rattle.cosign_rows.specs.Part.{nothing, skipping, appended, descriptors_part, bundles_part}
 use Rattle.cosign_rows.specs.References.{tag_reference, digest_reference, reading_back}
 use Rattle.cosign_rows.specs.declared.found.Part.{Part}
 use Rattle.cosign_rows.specs.declared.found.SkipCause.{SkipCause}
 use Rattle.cosign_rows.specs.declared.found.SkipCause.TheVariants.{NotAReference, FoundIndex, Refused}
 use Rattle.cosign_rows.specs.declared.found.Skipped.{Skipped}
 use Rattle.cosign_rows.specs.declared.found.Skipped.TheVariants.{Source, Referrer}
-use Rattle.cosign_rows.specs.declared.found.SourceKind.{SourceKind}
 use Rattle.cosign_rows.specs.declared.found.SourceKind.TheVariants.{Tag, Referrers}
 use Rattle.cosign_rows.specs.declared.found.TrustedLayers.{TrustedLayers}
 
@@ -51,26 +50,21 @@ tag_layers trust d s tag a = do
   image ← image_call s tag a (payload_type ∷ [])
   Done (Ok (document_part trust d document.0 image))
 
--- a refused source is skipped; want of memory is not
-abbrev pub or_skipped : SourceKind → Result Part SigstoreError → Result Part SigstoreError
-or_skipped kind (Ok part) = Ok part
-or_skipped kind (Err e) = if is_memory e then Err e else Ok (skipping (Source kind (Refused e)))
+-- what was refused is skipped at its place; want of memory is not
+abbrev pub or_skipped : (SkipCause → Skipped) → Result Part SigstoreError → Result Part SigstoreError
+or_skipped place (Ok part) = Ok part
+or_skipped place (Err e) = if is_memory e then Err e else Ok (skipping (place (Refused e)))
 
 -- the signature tag as a source, where its reference reads back
 abbrev pub tag_by : Trust → List ℕ → Context → Reference → RegistryAuth → Bool → Row Part
 tag_by trust d s tag a false = Done (Ok (skipping (Source Tag (NotAReference (whole_text tag)))))
-tag_by trust d s tag a true = bind (tag_layers trust d s tag a) (λ r. Done (or_skipped Tag r))
+tag_by trust d s tag a true = bind (tag_layers trust d s tag a) (λ r. Done (or_skipped (Source Tag) r))
 
 -- the signature tag of digest d as a source
 unfoldable pub tag_source : Trust → Context → Reference → RegistryAuth → List ℕ → Row Part
 tag_source trust s image a d = tag_by trust d s (tag_reference image d) a (reads_back (tag_reference image d))
 
 -- ---- the referrers
-
--- behind what is there; a refusal is skipped at its place, and want of memory is not
-abbrev pub behind : Part → (SkipCause → Skipped) → Result Part SigstoreError → Result Part SigstoreError
-behind part place (Ok more) = Ok (appended part more)
-behind part place (Err e) = if is_memory e then Err e else Ok (appended part (skipping (place (Refused e))))
 
 -- the media type of bundles
 abbrev pub bundle_type : List ℕ
@@ -81,37 +75,36 @@ abbrev pub referrer_part : Trust → List ℕ → Result ImageData SigstoreError
 referrer_part trust d (Ok image) = Ok (bundles_part trust d image.layers)
 referrer_part trust d (Err e) = Err e
 
--- the referrer of this digest, behind what is there, where its reference reads back
-abbrev pub referrer_by : Trust → List ℕ → Context → Reference → RegistryAuth → List ℕ → Part → Bool → Row Part
-referrer_by trust d s referrer a digest part false =
-    Done (Ok (appended part (skipping (Referrer digest (NotAReference (whole_text referrer))))))
-referrer_by trust d s referrer a digest part true =
+-- the referrer of this digest, where its reference reads back
+abbrev pub referrer_by : Trust → List ℕ → Context → Reference → RegistryAuth → List ℕ → Bool → Row Part
+referrer_by trust d s referrer a digest false =
+    Done (Ok (skipping (Referrer digest (NotAReference (whole_text referrer)))))
+referrer_by trust d s referrer a digest true =
     bind (image_call s referrer a (bundle_type ∷ []))
-    (λ r. Done (behind part (Referrer digest) (referrer_part trust d r)))
+    (λ r. Done (or_skipped (Referrer digest) (referrer_part trust d r)))
 
 -- a referrer of the source, in its repository
-unfoldable pub referrer_row : Trust → List ℕ → Context → Reference → RegistryAuth → List ℕ → Part → Row Part
-referrer_row trust d s source a digest part =
-    let referrer = digest_reference source digest in
-    referrer_by trust d s referrer a digest part (reads_back referrer)
+unfoldable pub referrer_row : Trust → List ℕ → Context → Reference → RegistryAuth → List ℕ → Row Part
+referrer_row trust d s source a digest =
+    let referrer = digest_reference source digest in referrer_by trust d s referrer a digest (reads_back referrer)
 
--- each referrer in order
-unfoldable pub referrers_row : Trust → List ℕ → Context → Reference → RegistryAuth → List ImageIndexEntry → Part
-    → Row Part
-referrers_row trust d s source a [] part = Done (Ok part)
-referrers_row trust d s source a (x ∷ xs) part = do
-  more ← referrer_row trust d s source a x.digest part
-  referrers_row trust d s source a xs more
+-- what each referrer gives, in order
+unfoldable pub referrers_row : Trust → List ℕ → Context → Reference → RegistryAuth → List ImageIndexEntry → Row Part
+referrers_row trust d s source a [] = Done (Ok nothing)
+referrers_row trust d s source a (x ∷ xs) = do
+  one ← referrer_row trust d s source a x.digest
+  rest ← referrers_row trust d s source a xs
+  Done (Ok (appended one rest))
 
 -- the referrers that were listed; a refused listing is skipped
-abbrev pub listed_row : Trust → List ℕ → Context → Reference → RegistryAuth → Part
-    → Result OciImageIndex SigstoreError → Row Part
-listed_row trust d s source a part (Ok index) = referrers_row trust d s source a index.manifests part
-listed_row trust d s source a part (Err e) = Done (behind part (Source Referrers) (Err e))
+abbrev pub listed_row : Trust → List ℕ → Context → Reference → RegistryAuth → Result OciImageIndex SigstoreError
+    → Row Part
+listed_row trust d s source a (Ok index) = referrers_row trust d s source a index.manifests
+listed_row trust d s source a (Err e) = Done (or_skipped (Source Referrers) (Err e))
 
--- what refers to digest d, by which this reference is, as a source, behind what is there
-unfoldable pub referrers_source : Trust → List ℕ → Context → Reference → RegistryAuth → Part → Row Part
-referrers_source trust d s source a part = bind (referrers_call s source a None) (listed_row trust d s source a part)
+-- what refers to digest d, by which this reference is, as a source
+unfoldable pub referrers_source : Trust → List ℕ → Context → Reference → RegistryAuth → Row Part
+referrers_source trust d s source a = bind (referrers_call s source a None) (listed_row trust d s source a)
 
 -- ---- the search
 
@@ -124,5 +117,5 @@ searched trust s image a = do
   digest ← digest_call s image a
   Done (reading_back (digest_reference image digest))
   tag ← tag_source trust s image a digest
-  found ← referrers_source trust digest s (digest_reference image digest) a tag
-  Done (Ok (trusted_layers digest found))
+  more ← referrers_source trust digest s (digest_reference image digest) a
+  Done (Ok (trusted_layers digest (appended tag more)))

@@ -6,7 +6,7 @@ use Rattle.std.proofs.lemmas.Slice.Eq.{bytes_eq-Decides}
 use Rattle.oci_digests.specs.Names.{name_of, names, names_by, digest_text}
 use Rattle.oci_digests.specs.declared.digester.Algorithm.{Algorithm}
 use Rattle.oci_digests.specs.declared.digester.Algorithm.TheVariants as algorithms
-use Rattle.oci_manifests.specs.declared.descriptor.OciDescriptor.{OciDescriptor}
+use Rattle.oci_descriptors.specs.declared.descriptor.OciDescriptor.{OciDescriptor}
 use Rattle.oci_manifests.specs.declared.blob.ImageLayer.{ImageLayer}
 use Rattle.cosign_search.specs.LayerTexts.{BeginsOtherwise, Serves, Tell, is_among, is_text, layer_digests, text_by}
 use Rattle.cosign_rows.specs.Part.{named_layer}

@@ -1,3 +1,4 @@
 pub mod BundleParts
+pub mod Gathering
 pub mod LayerTexts
 pub mod ReferrerRows

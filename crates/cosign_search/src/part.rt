@@ -15,8 +15,9 @@ use cosign_layers::{
 };
 use cosign_rows::{Part, Skipped, SourceKind};
 use json_values::{Annotations, Copied, List, Text};
+use oci_descriptors::OciDescriptor;
 use oci_digests::{Algorithm, digest_text};
-use oci_manifests::{ImageLayer, OciDescriptor};
+use oci_manifests::ImageLayer;
 use std::alloc::{AllocError, Global};
 
 /// Which algorithms the digests of descriptors begin with.

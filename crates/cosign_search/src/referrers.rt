@@ -1,24 +1,25 @@
 //! The images that refer to a digest, as a source of signatures.
 ghost use Rattle.std.specs.Prelude.{◌≡◌, [], ◌∷◌, Err, IfOk};
 ghost use Rattle.oci_names.specs.References.{reads_back};
-ghost use Rattle.engine_requests.specs.Contexts.{within};
-ghost use Rattle.engine_requests.specs.declared.settings.Settings.{Settings};
+ghost use Rattle.engine_terms.specs.Contexts.{within};
+ghost use Rattle.engine_terms.specs.declared.settings.Settings.{Settings};
 ghost use Rattle.cosign_layers.specs.Trust.{trust_of};
 ghost use Rattle.sig_calls.specs.Calls.{image_call};
-ghost use Rattle.sig_calls.specs.Clients.{Made};
+ghost use Rattle.sig_calls.specs.Clients.{Fulfils};
 ghost use Rattle.sig_calls.specs.Errors.{is_memory, Says};
 ghost use Rattle.cosign_rows.specs.Part.{appended, bundles_part, skipping};
-ghost use Rattle.cosign_rows.specs.Search.{behind, bundle_type, referrer_part, referrer_by, referrer_row};
+ghost use Rattle.cosign_rows.specs.Search.{bundle_type, or_skipped, referrer_part, referrer_by, referrer_row};
 ghost use Rattle.cosign_rows.specs.Search.{referrers_row, referrers_source};
 ghost use Rattle.cosign_rows.specs.declared.found.Skipped.TheVariants.{Source, Referrer};
 ghost use Rattle.cosign_rows.specs.declared.found.SourceKind.TheVariants.{Referrers};
+ghost use Rattle.cosign_search.specs.Gathered.{gathered, put_behind};
 
 use crate::bundles::add_bundles;
 use cosign_layers::{Offline, SignatureVerifier, Trusted};
 use cosign_rows::{Asked, Part, Referred, SkipCause, Skipped, SourceKind, digest_reference};
 use engine_rows::ImageData;
 use json_values::{List, Text};
-use oci_manifests::ImageIndexEntry;
+use oci_descriptors::ImageIndexEntry;
 use oci_transport::Transport;
 use sig_calls::{ClientCapabilities, SigstoreError};
 use std::alloc::{AllocError, Global};
@@ -40,7 +41,7 @@ fn pull_bundles<C: ClientCapabilities, T: Transport>(
     transport: &mut T,
     referrer: &Asked<'_>,
 ) -> Result<ImageData, SigstoreError>
-    ensures { (s : Settings) → Made is_memory s
+    ensures { (s : Settings) → Fulfils is_memory s
         (image_call (within s referrer.now.moment) referrer.now.image.now referrer.now.auth.now (bundle_type ∷ []))
         (C.state client.old) (C.state client.new) (T.state transport.old) (T.state transport.new) result }
 {
@@ -78,14 +79,14 @@ fn add_pulled<V: SignatureVerifier, O: Offline>(
     add_bundles(alloc, trusted, source, layers, part)
 }
 
-// A referrer that was not pulled is skipped.
+// A referrer that was not pulled is skipped, behind what is there.
 fn skip_referrer(
     alloc: Global,
     digest: &str,
     error: SigstoreError,
     part: Part,
 ) -> Result<Part, SigstoreError>
-    ensures { Says result (behind part (Referrer digest.now) (Err error)) }
+    ensures { Says result (put_behind part (or_skipped (Referrer digest.now) (Err error))) }
 {
     if error.is_memory() {
         return Err(error);
@@ -105,8 +106,8 @@ fn add_referrer<V: SignatureVerifier, O: Offline>(
     image: Result<ImageData, SigstoreError>,
     part: Part,
 ) -> Result<Part, SigstoreError>
-    ensures { Says result (behind part (Referrer digest.now)
-        (referrer_part (trust_of V.valid O.vouched trusted.now) source.now image)) }
+    ensures { Says result (put_behind part (or_skipped (Referrer digest.now)
+        (referrer_part (trust_of V.valid O.vouched trusted.now) source.now image))) }
 {
     match image {
         Ok(image) => {
@@ -117,7 +118,7 @@ fn add_referrer<V: SignatureVerifier, O: Offline>(
     }
 }
 
-// A referrer by its reference, where that reads back.
+// A referrer by its reference, where that reads back, behind what is there.
 fn referrer_by<C: ClientCapabilities, T: Transport, V: SignatureVerifier, O: Offline>(
     alloc: Global,
     client: &mut C,
@@ -127,10 +128,10 @@ fn referrer_by<C: ClientCapabilities, T: Transport, V: SignatureVerifier, O: Off
     digest: &str,
     part: Part,
 ) -> Result<Part, SigstoreError>
-    ensures { (s : Settings) → Made is_memory s
-        (referrer_by (trust_of V.valid O.vouched referred.now.trusted.now) referred.now.digest.now
-        (within s referrer.now.moment) referrer.now.image.now referrer.now.auth.now digest.now part
-        (reads_back referrer.now.image.now))
+    ensures { (s : Settings) → Fulfils is_memory s
+        (gathered part (referrer_by (trust_of V.valid O.vouched referred.now.trusted.now) referred.now.digest.now
+        (within s referrer.now.moment) referrer.now.image.now referrer.now.auth.now digest.now
+        (reads_back referrer.now.image.now)))
         (C.state client.old) (C.state client.new) (T.state transport.old) (T.state transport.new) result }
 {
     let reads_back = referrer.image.reads_back(alloc)?;
@@ -152,7 +153,7 @@ fn referrer_by<C: ClientCapabilities, T: Transport, V: SignatureVerifier, O: Off
     Ok(part)
 }
 
-// A referrer by its digest, in the repository of what it refers to.
+// A referrer by its digest, in the repository of what it refers to, behind what is there.
 fn referrer<C: ClientCapabilities, T: Transport, V: SignatureVerifier, O: Offline>(
     alloc: Global,
     client: &mut C,
@@ -161,9 +162,9 @@ fn referrer<C: ClientCapabilities, T: Transport, V: SignatureVerifier, O: Offlin
     digest: &str,
     part: Part,
 ) -> Result<Part, SigstoreError>
-    ensures { (s : Settings) → Made is_memory s
-        (referrer_row (trust_of V.valid O.vouched referred.now.trusted.now) referred.now.digest.now
-        (within s referred.now.moment) referred.now.image.now referred.now.auth.now digest.now part)
+    ensures { (s : Settings) → Fulfils is_memory s
+        (gathered part (referrer_row (trust_of V.valid O.vouched referred.now.trusted.now) referred.now.digest.now
+        (within s referred.now.moment) referred.now.image.now referred.now.auth.now digest.now))
         (C.state client.old) (C.state client.new) (T.state transport.old) (T.state transport.new) result }
 {
     let reference = digest_reference(alloc, referred.image, digest)?;
@@ -175,7 +176,7 @@ fn referrer<C: ClientCapabilities, T: Transport, V: SignatureVerifier, O: Offlin
     referrer_by(alloc, client, transport, &asked, referred, digest, part)
 }
 
-// Each referrer, in their order.
+// Each referrer, in their order, behind what is there.
 fn each_referrer<C: ClientCapabilities, T: Transport, V: SignatureVerifier, O: Offline>(
     alloc: Global,
     client: &mut C,
@@ -184,9 +185,9 @@ fn each_referrer<C: ClientCapabilities, T: Transport, V: SignatureVerifier, O: O
     entries: &[ImageIndexEntry],
     mut part: Part,
 ) -> Result<Part, SigstoreError>
-    ensures { (s : Settings) → Made is_memory s
-        (referrers_row (trust_of V.valid O.vouched referred.now.trusted.now) referred.now.digest.now
-        (within s referred.now.moment) referred.now.image.now referred.now.auth.now entries.now part)
+    ensures { (s : Settings) → Fulfils is_memory s
+        (gathered part (referrers_row (trust_of V.valid O.vouched referred.now.trusted.now) referred.now.digest.now
+        (within s referred.now.moment) referred.now.image.now referred.now.auth.now entries.now))
         (C.state client.old) (C.state client.new) (T.state transport.old) (T.state transport.new) result }
 {
     for entry in entries {
@@ -202,9 +203,9 @@ fn each_referrer<C: ClientCapabilities, T: Transport, V: SignatureVerifier, O: O
     Ok(part)
 }
 
-// A refused listing is skipped.
+// A refused listing is skipped, behind what is there.
 fn skip_listing(part: Part, refused: SigstoreError) -> Result<Part, SigstoreError>
-    ensures { Says result (behind part (Source Referrers) (Err refused)) }
+    ensures { Says result (put_behind part (or_skipped (Source Referrers) (Err refused))) }
 {
     if refused.is_memory() {
         return Err(refused);
@@ -227,9 +228,9 @@ pub(crate) fn referrers_source<
     referred: &Referred<'_, V, O>,
     part: Part,
 ) -> Result<Part, SigstoreError>
-    ensures { (s : Settings) → Made is_memory s
-        (referrers_source (trust_of V.valid O.vouched referred.now.trusted.now) referred.now.digest.now
-        (within s referred.now.moment) referred.now.image.now referred.now.auth.now part)
+    ensures { (s : Settings) → Fulfils is_memory s
+        (gathered part (referrers_source (trust_of V.valid O.vouched referred.now.trusted.now) referred.now.digest.now
+        (within s referred.now.moment) referred.now.image.now referred.now.auth.now))
         (C.state client.old) (C.state client.new) (T.state transport.old) (T.state transport.new) result }
 {
     let listed = client.pull_referrers(

@@ -1,13 +1,14 @@
 //! The search for the signatures of an image.
 ghost use Rattle.std.specs.Prelude.{◌≡◌, [], ◌∷◌, IfOk};
 ghost use Rattle.oci_names.specs.References.{reads_back};
-ghost use Rattle.engine_requests.specs.Contexts.{within};
-ghost use Rattle.engine_requests.specs.declared.settings.Settings.{Settings};
+ghost use Rattle.engine_terms.specs.Contexts.{within};
+ghost use Rattle.engine_terms.specs.declared.settings.Settings.{Settings};
 ghost use Rattle.cosign_layers.specs.Trust.{trust_of};
 ghost use Rattle.sig_calls.specs.Errors.{is_memory, Says};
-ghost use Rattle.sig_calls.specs.Clients.{Made};
+ghost use Rattle.sig_calls.specs.Clients.{Fulfils};
 ghost use Rattle.cosign_rows.specs.Search.{document_part, pulled_part, payload_type, or_skipped};
 ghost use Rattle.cosign_rows.specs.Search.{searched, tag_by, tag_layers, tag_source};
+ghost use Rattle.cosign_rows.specs.declared.found.Skipped.TheVariants.{Source};
 
 use crate::part::{descriptors_part, skipping};
 use crate::referrers::referrers_source;
@@ -24,7 +25,7 @@ use sig_calls::{ClientCapabilities, SigstoreError};
 use std::alloc::{AllocError, Global};
 
 /// The media type of the layers that cosign signs.
-const PAYLOAD_TYPE: &str = "application/vnd.dev.cosign.simplesigning.v1+json";
+const SIMPLE_SIGNING_TYPE: &str = "application/vnd.dev.cosign.simplesigning.v1+json";
 
 // What the document under the tag and the layers of its image give.
 fn document_part<V: SignatureVerifier, O: Offline>(
@@ -72,7 +73,7 @@ fn payload_types(alloc: Global) -> Result<List<Text>, AllocError>
     ensures { IfOk result (λ types. types ≡ payload_type ∷ []) }
 {
     let mut types = List::new(alloc);
-    types.push(Text::new(alloc, PAYLOAD_TYPE)?)?;
+    types.push(Text::new(alloc, SIMPLE_SIGNING_TYPE)?)?;
     Ok(types)
 }
 
@@ -85,7 +86,7 @@ fn tag_layers<C: ClientCapabilities, T: Transport, V: SignatureVerifier, O: Offl
     trusted: &Trusted<'_, V, O>,
     digest: &str,
 ) -> Result<Part, SigstoreError>
-    ensures { (s : Settings) → Made is_memory s (tag_layers (trust_of V.valid O.vouched trusted.now)
+    ensures { (s : Settings) → Fulfils is_memory s (tag_layers (trust_of V.valid O.vouched trusted.now)
         digest.now (within s tag.now.moment) tag.now.image.now tag.now.auth.now)
         (C.state client.old) (C.state client.new) (T.state transport.old) (T.state transport.new) result }
 {
@@ -108,7 +109,7 @@ fn or_skipped(
     kind: SourceKind,
     part: Result<Part, SigstoreError>,
 ) -> Result<Part, SigstoreError>
-    ensures { Says result (or_skipped kind part) }
+    ensures { Says result (or_skipped (Source kind) part) }
 {
     match part {
         Ok(part) => Ok(part),
@@ -132,7 +133,7 @@ fn tag_by<C: ClientCapabilities, T: Transport, V: SignatureVerifier, O: Offline>
     trusted: &Trusted<'_, V, O>,
     digest: &str,
 ) -> Result<Part, SigstoreError>
-    ensures { (s : Settings) → Made is_memory s (tag_by (trust_of V.valid O.vouched trusted.now)
+    ensures { (s : Settings) → Fulfils is_memory s (tag_by (trust_of V.valid O.vouched trusted.now)
         digest.now (within s tag.now.moment) tag.now.image.now tag.now.auth.now (reads_back tag.now.image.now))
         (C.state client.old) (C.state client.new) (T.state transport.old) (T.state transport.new) result }
 {
@@ -156,7 +157,7 @@ fn tag_source<C: ClientCapabilities, T: Transport, V: SignatureVerifier, O: Offl
     trusted: &Trusted<'_, V, O>,
     digest: &str,
 ) -> Result<Part, SigstoreError>
-    ensures { (s : Settings) → Made is_memory s (tag_source (trust_of V.valid O.vouched trusted.now)
+    ensures { (s : Settings) → Fulfils is_memory s (tag_source (trust_of V.valid O.vouched trusted.now)
         (within s asked.now.moment) asked.now.image.now asked.now.auth.now digest.now)
         (C.state client.old) (C.state client.new) (T.state transport.old) (T.state transport.new) result }
 {
@@ -177,7 +178,7 @@ pub fn search<C: ClientCapabilities, T: Transport, V: SignatureVerifier, O: Offl
     asked: &Asked<'_>,
     trusted: &Trusted<'_, V, O>,
 ) -> Result<TrustedLayers, SigstoreError>
-    ensures { (s : Settings) → Made is_memory s (searched (trust_of V.valid O.vouched trusted.now)
+    ensures { (s : Settings) → Fulfils is_memory s (searched (trust_of V.valid O.vouched trusted.now)
         (within s asked.now.moment) asked.now.image.now asked.now.auth.now)
         (C.state client.old) (C.state client.new) (T.state transport.old) (T.state transport.new) result }
 {

@@ -1,4 +1,3 @@
-use Rattle.std.proofs.Common.{refl}
 use Rattle.std.proofs.lemmas.List.{drop_all}
 use Rattle.cosign_rows.proofs.Exits.{and_then, refused}
 use Rattle.cosign_search.proofs.ReferrerRows.{referrers_end, referrers_next}

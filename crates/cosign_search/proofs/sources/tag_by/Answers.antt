@@ -1,5 +1,6 @@
 use Rattle.std.proofs.Common.{refl, sym, ◌∙◌}
 use Rattle.cosign_rows.specs.Search.{or_skipped}
+use Rattle.cosign_rows.specs.declared.found.Skipped.TheVariants.{Source}
 use Rattle.cosign_rows.specs.declared.found.SourceKind.TheVariants.{Tag}
 use Rattle.cosign_rows.proofs.Exits.{wanting, done, said_of}
 use Rattle.cosign_search.proofs.sources.tag_by.Goals as goal
@@ -10,7 +11,7 @@ returns-in_err-reads_back g c = λ s. wanting _ refl c.from_residual.ensures.1
 pub returns-then-reads_back : goal.returns-then-reads_back
 returns-then-reads_back g c = λ s.
     rw (sym c.in_ok-reads_back.ensures.value ∙ c.if-reads_back.true)
-    (said_of (or_skipped Tag) c.tag_layers-part.result (λ e is. rw is refl) (c.tag_layers-part.ensures s) c.or_skipped.ensures)
+    (said_of (or_skipped (Source Tag)) c.tag_layers-part.result (λ e is. rw is refl) (c.tag_layers-part.ensures s) c.or_skipped.ensures)
 
 pub returns-in_err-text : goal.returns-in_err-text
 returns-in_err-text g c = λ s. wanting _ refl c.from_residual-in_err-text.ensures.1

@@ -1,0 +1,16 @@
+-- What a source gives, behind the part that is there.
+use Rattle.std.specs.Prelude.{Result, Ok, Err}
+use Rattle.oci_protocol.specs.Proto.{Done, bind}
+use Rattle.sig_calls.specs.declared.error.SigstoreError.{SigstoreError}
+use Rattle.sig_calls.specs.Clients.{Row}
+use Rattle.cosign_rows.specs.Part.{appended}
+use Rattle.cosign_rows.specs.declared.found.Part.{Part}
+
+-- an answer goes behind the part that is there
+abbrev pub put_behind : Part → Result Part SigstoreError → Result Part SigstoreError
+put_behind part (Ok more) = Ok (appended part more)
+put_behind part (Err e) = Err e
+
+-- so does what a row answers
+abbrev pub gathered : Part → Row Part → Row Part
+gathered part row = bind row (λ r. Done (put_behind part r))
