@@ -202,3 +202,16 @@ fn no_token(alloc: Global) -> bool {
 fn a_registry_without_a_challenge_asks_for_no_token(rt: HostRuntime) {
     assert!(rt; no_token(rt.alloc()));
 }
+
+fn keeps_tokens_for(alloc: Global, seconds: u64) -> bool {
+    let Ok(mut client) = Client::default(alloc) else {
+        return false;
+    };
+    client.tokens.default_expiration_secs = seconds;
+    client.tokens.default_expiration_secs == seconds
+}
+
+#[test]
+fn tokens_are_a_part_of_a_client(rt: HostRuntime) {
+    assert!(rt; keeps_tokens_for(rt.alloc(), 5));
+}

@@ -126,3 +126,48 @@ fn is_config(alloc: Global) -> bool {
 fn a_manifest_comes_with_its_configuration_as_text(rt: HostRuntime) {
     assert!(rt; is_config(rt.alloc()));
 }
+
+// The digest of the index that led to the image.
+fn index_digest(alloc: Global, given: &[(&str, &str)]) -> Option<Text> {
+    let mut script = script(alloc, given).ok()?;
+    let (mut client, image) = begun(alloc, linux_amd64(alloc))?;
+    let auth = RegistryAuth::Anonymous;
+    let found = client
+        .pull_image_manifest_and_list_digest(alloc, &mut script, 100, &image, &auth)
+        .ok()?;
+    let (_manifest, _digest, index) = found;
+    index
+}
+
+// The same beside the configuration.
+fn index_digest_with_configuration(alloc: Global, given: &[(&str, &str)]) -> Option<Text> {
+    let mut script = script(alloc, given).ok()?;
+    let (mut client, image) = begun(alloc, linux_amd64(alloc))?;
+    let auth = RegistryAuth::Anonymous;
+    let found = client
+        .pull_manifest_and_config_and_list_digest(alloc, &mut script, 100, &image, &auth)
+        .ok()?;
+    let (_manifest, _digest, _config, index) = found;
+    index
+}
+
+fn is_the_index(found: Option<Text>) -> bool {
+    match found {
+        Some(digest) => digest.as_str() == INDEX_DIGEST,
+        None => false,
+    }
+}
+
+#[test]
+fn the_digest_of_the_index_is_told(rt: HostRuntime) {
+    let given = [
+        ("", ""),
+        (INDEX_DIGEST, INDEX),
+        ("", ""),
+        (MANIFEST_DIGEST, MANIFEST),
+        ("", ""),
+        (CONFIG_DIGEST, "{}"),
+    ];
+    assert!(rt; is_the_index(index_digest(rt.alloc(), given.split_at(4).0)));
+    assert!(rt; is_the_index(index_digest_with_configuration(rt.alloc(), given.as_slice())));
+}

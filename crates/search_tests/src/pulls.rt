@@ -1,11 +1,13 @@
 // The search for signatures, and the verified pull.
-use cosign_client::{Client, ClientBuilder, PullRefusal, VerifiedImage, check_links};
+use cosign_client::{
+    Client, ClientBuilder, PullRefusal, TrustedLayers, VerifiedImage, check_links,
+};
 use cosign_layers::{
     AnnotationVerifier, Constraint, NoCertificates, PullPolicy, SignedRow, TableVerifier,
 };
 use json_values::{Annotations, Blob, List, Text};
 use oci_transport::Script;
-use sig_registry::{Auth, OciReference};
+use sig_registry::{Auth, OciReference, SigstoreError};
 use std::alloc::{AllocError, Global};
 use test_answers::{CONFIG_DIGEST, LAYER_DIGEST, LAYER_TYPE, MANIFEST, MANIFEST_DIGEST, script};
 
@@ -57,10 +59,9 @@ const ANSWERS: [(&str, &str); 19] = [
     (LAYER_DIGEST, "hello world"),
 ];
 
-// What a pull is made of.
+// What a pull is asked with.
 #[derive(Drop)]
 struct Asked {
-    client: Client,
     image: OciReference,
     accepted: List<Text>,
     policy: PullPolicy,
@@ -97,14 +98,12 @@ fn accepted(alloc: Global) -> Result<List<Text>, AllocError> {
     Ok(accepted)
 }
 
-fn terms(alloc: Global) -> Option<Asked> {
+fn all_asked(alloc: Global) -> Option<Asked> {
     let image = OciReference::parse(alloc, IMAGE).ok()?;
-    let client = ClientBuilder::new().build(alloc).ok()?;
     let accepted = accepted(alloc).ok()?;
-    let policy = policy(alloc).ok()?;
     let verifier = verifier(alloc).ok()?;
+    let policy = policy(alloc).ok()?;
     Some(Asked {
-        client,
         image,
         accepted,
         policy,
@@ -112,12 +111,18 @@ fn terms(alloc: Global) -> Option<Asked> {
     })
 }
 
+// Each function below holds one value of many parts and lends it to the next.
+fn client(alloc: Global) -> Option<Client> {
+    ClientBuilder::new().build(alloc).ok()
+}
+
 fn pull(
     alloc: Global,
+    client: &mut Client,
     script: &mut Script,
-    asked: &mut Asked,
+    asked: &Asked,
 ) -> Result<VerifiedImage, PullRefusal> {
-    asked.client.verified_pull(
+    client.verified_pull(
         alloc,
         script,
         100,
@@ -145,12 +150,30 @@ fn is_linked(
     }
 }
 
-fn links(alloc: Global) -> Option<(bool, bool)> {
-    let mut script = script(alloc, &ANSWERS).ok()?;
+fn links_over(
+    alloc: Global,
+    client: &mut Client,
+    script: &mut Script,
+    asked: &Asked,
+) -> Option<(bool, bool)> {
     let other = OciReference::parse(alloc, OTHER).ok()?;
-    let mut asked = terms(alloc)?;
-    let found = pull(alloc, &mut script, &mut asked);
-    Some(is_linked(&found, &asked, &other))
+    let found = pull(alloc, client, script, asked);
+    Some(is_linked(&found, asked, &other))
+}
+
+fn links_of(alloc: Global, client: &mut Client, asked: &Asked) -> Option<(bool, bool)> {
+    let mut script = script(alloc, &ANSWERS).ok()?;
+    links_over(alloc, client, &mut script, asked)
+}
+
+fn links_by(alloc: Global, client: &mut Client) -> Option<(bool, bool)> {
+    let asked = all_asked(alloc)?;
+    links_of(alloc, client, &asked)
+}
+
+fn links(alloc: Global) -> Option<(bool, bool)> {
+    let mut client = client(alloc)?;
+    links_by(alloc, &mut client)
 }
 
 #[test]
@@ -159,30 +182,58 @@ fn an_image_comes_where_its_layer_stands_and_its_links_check(rt: HostRuntime) {
 }
 
 // How many layers were collected, and how many causes were skipped.
-fn searched(alloc: Global, script: &mut Script) -> Option<(usize, usize)> {
-    let mut asked = terms(alloc)?;
-    let found = asked
-        .client
-        .trusted_signature_layers(
-            alloc,
-            script,
-            100,
-            &Auth::Anonymous,
-            &asked.image,
-            &asked.verifier,
-            &NoCertificates,
-        )
-        .ok()?;
-    Some((
-        found.collected.as_slice().len(),
-        found.skipped.as_slice().len(),
-    ))
+fn counts(found: &Result<TrustedLayers, SigstoreError>) -> Option<(usize, usize)> {
+    match found {
+        Ok(found) => Some((
+            found.collected.as_slice().len(),
+            found.skipped.as_slice().len(),
+        )),
+        Err(_) => None,
+    }
+}
+
+// What was found is let go where nothing is known of it.
+fn let_go(_found: Result<TrustedLayers, SigstoreError>) {}
+
+fn searched(
+    alloc: Global,
+    client: &mut Client,
+    script: &mut Script,
+    asked: &Asked,
+) -> Option<(usize, usize)> {
+    let found = client.trusted_signature_layers(
+        alloc,
+        script,
+        100,
+        &Auth::Anonymous,
+        &asked.image,
+        &asked.verifier,
+        &NoCertificates,
+    );
+    let counted = counts(&found);
+    let_go(found);
+    counted
+}
+
+fn search_of(
+    alloc: Global,
+    client: &mut Client,
+    asked: &Asked,
+    count: usize,
+) -> Option<(usize, usize)> {
+    let given = ANSWERS.get(..count)?;
+    let mut script = script(alloc, given).ok()?;
+    searched(alloc, client, &mut script, asked)
+}
+
+fn search_by(alloc: Global, client: &mut Client, count: usize) -> Option<(usize, usize)> {
+    let asked = all_asked(alloc)?;
+    search_of(alloc, client, &asked, count)
 }
 
 fn search(alloc: Global, count: usize) -> Option<(usize, usize)> {
-    let given = ANSWERS.get(..count)?;
-    let mut script = script(alloc, given).ok()?;
-    searched(alloc, &mut script)
+    let mut client = client(alloc)?;
+    search_by(alloc, &mut client, count)
 }
 
 #[test]
@@ -191,19 +242,28 @@ fn a_search_collects_the_layers_under_the_tag(rt: HostRuntime) {
 }
 
 // The tag under which the signatures of the answered digest stand.
-fn triangulated(alloc: Global, script: &mut Script) -> Option<bool> {
-    let mut asked = terms(alloc)?;
-    let (tag, _) = asked
-        .client
-        .triangulate(alloc, script, 100, &asked.image, &Auth::Anonymous)
-        .ok()?;
-    Some(tag.tag()? == SIGNATURE_TAG)
+fn is_tag(
+    alloc: Global,
+    client: &mut Client,
+    script: &mut Script,
+    image: &OciReference,
+) -> Option<bool> {
+    match client.triangulate(alloc, script, 100, image, &Auth::Anonymous) {
+        Ok(found) => Some(found.0.tag()? == SIGNATURE_TAG),
+        Err(_) => None,
+    }
+}
+
+fn triangulate_by(alloc: Global, client: &mut Client) -> Option<bool> {
+    let given = ANSWERS.get(..2)?;
+    let mut script = script(alloc, given).ok()?;
+    let image = OciReference::parse(alloc, IMAGE).ok()?;
+    is_tag(alloc, client, &mut script, &image)
 }
 
 fn triangulate(alloc: Global) -> Option<bool> {
-    let given = ANSWERS.get(..2)?;
-    let mut script = script(alloc, given).ok()?;
-    triangulated(alloc, &mut script)
+    let mut client = client(alloc)?;
+    triangulate_by(alloc, &mut client)
 }
 
 #[test]

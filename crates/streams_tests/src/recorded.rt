@@ -2,10 +2,11 @@
 ghost use Rattle.std.specs.Prelude.{IfOk};
 ghost use Rattle.oci_transport.specs.Pieces.{NoneEmpty};
 
-use engine_requests::{Call, ClientProtocol, LayerDescriptor, OciDistributionError, Settings};
+use engine_requests::LayerDescriptor;
 use engine_streams::{
     BlobResponse, ByteRange, SizedStream, pull_blob_stream, pull_blob_stream_partial,
 };
+use engine_terms::{Call, ClientProtocol, OciDistributionError, Settings};
 use json_values::{Blob, List, Text};
 use oci_auth::Memory;
 use oci_names::Reference;
