@@ -2,7 +2,7 @@
 """Writes the recorded cases below this folder: TABLE/NAME with its stdin and stdout, its args where the word is another one
 than `pull`, and its status where that is not 0.
 
-They follow from the rules of the README and of docs/ARCHITECTURE.md alone: digests are computed here, and nothing is
+They follow from the rules that the READMEs of pull_case, pull_report and pull_run state and from the OCI specifications alone: digests are computed here, and nothing is
 taken from what the program writes. `tests/rows/run` runs the program over them.
 """
 import base64

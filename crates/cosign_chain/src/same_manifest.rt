@@ -5,7 +5,8 @@ ghost use Rattle.cosign_chain.specs.SameManifest.{same_descriptor, same_manifest
 
 use crate::links::same_annotations;
 use json_values::{List, Text};
-use oci_manifests::{OciDescriptor, OciImageManifest};
+use oci_descriptors::OciDescriptor;
+use oci_manifests::OciImageManifest;
 
 pub(crate) fn same_manifest(a: &OciImageManifest, b: &OciImageManifest) -> bool
     ensures { result ≡ same_manifest a.now b.now }

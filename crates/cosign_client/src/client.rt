@@ -1,6 +1,6 @@
 //! The client that users hold.
 ghost use Rattle.std.specs.Prelude.{◌≡◌, true, false, Some, Err, IfOk, IfErr, IsTrue};
-ghost use Rattle.engine_requests.specs.Contexts.{within};
+ghost use Rattle.engine_terms.specs.Contexts.{within};
 ghost use Rattle.oci_link.specs.declared.shelf.Shelf.{Shelf};
 ghost use Rattle.oci_names.specs.References.{whole_text, reads_back};
 ghost use Rattle.oci_protocol.specs.Ends.{UnlessMemory};

@@ -2,7 +2,7 @@
 use Rattle.std.proofs.Common.{◌≡◌, ◌⊎◌, inl, inr, ℕ, Bool, true, false, IsTrue, List, Option, IsSomeAnd, Result, Ok, Err, IfOk, IfErr, refl, sym, ap, ◌∙◌, subst}
 use Rattle.std.specs.Prelude.{MatchBool}
 use Rattle.cosign_layers.specs.Checks.{Input, Spelled, content_checked, signature_checked, entry_checked, certificate_checked, layer_with, layer_read}
-use Rattle.cosign_layers.specs.Layer.{IsSignature, IsEntry, IsCertificate, LayerOf, Named}
+use Rattle.cosign_layers.specs.Layer.{IsSignature, IsEntry, IsCertificate, LayerOf, IsAboutImage}
 use Rattle.cosign_layers.specs.Read.{IsAbout, ContentRejected, SignatureRejected, EntryRejected, CertificateRejected, Rejected, RejectedUnlessMemory, input_of, Gives, HasOneOutcome}
 use Rattle.cosign_layers.specs.Rejection.{Says, is_memory}
 use Rattle.cosign_layers.specs.Shown.{is_about}
@@ -74,7 +74,7 @@ module _ (trust : Trust) (d : List ℕ) where
     bundle = layer.bundle;
   }
 
-  made_of : (layer : SignatureLayer) → LayerOf trust layer → Named layer d → Made (input_of layer) layer
+  made_of : (layer : SignatureLayer) → LayerOf trust layer → IsAboutImage layer d → Made (input_of layer) layer
   made_of layer l n =
       let about : is_about d l.shows ≡ true = subst (λ o. IsSomeAnd o (λ t. IsTrue (is_about d t))) l.content n in (
         l.shows,

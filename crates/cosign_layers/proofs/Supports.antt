@@ -5,7 +5,7 @@ use Rattle.std.proofs.lemmas.List.Sums.{AllPass-from_list_all, list_all-from_All
 use Rattle.std.specs.Option.{option_map_or}
 use Rattle.base64.specs.Engines.{standard}
 use Rattle.base64.specs.GeneralPurpose.{decoded_of}
-use Rattle.cosign_layers.specs.Layer.{LayerOf, Named}
+use Rattle.cosign_layers.specs.Layer.{LayerOf, IsAboutImage}
 use Rattle.cosign_layers.specs.Standing.{Meaning, Owns, signs, SignedUnder, is_signed, Signed, is_accepted, stands, StandsFor, Supports, text_of}
 use Rattle.cosign_layers.specs.Trust.{Valid}
 use Rattle.cosign_layers.specs.declared.certificate.CertificateSignature.{CertificateSignature}
@@ -57,7 +57,7 @@ module _ {V : Type 0} {H : V → Type 0} (valid : Valid) (policy : PullPolicy V 
 
 -- where the rest is given, the test answers whether the layer stands for an image
 pub stands_for : {V : Type 0} {H : V → Type 0} (meaning : Meaning V H) (layer : SignatureLayer) (d : List ℕ)
-    → LayerOf meaning.trust layer → Named layer d → 0 < length meaning.policy.constraints
+    → LayerOf meaning.trust layer → IsAboutImage layer d → 0 < length meaning.policy.constraints
     → IsTrue (stands meaning.trust.valid meaning.policy meaning.own layer) ↔ StandsFor meaning d layer
 stands_for meaning layer d layer_of is_named constrained =
     (λ e. record { layer_of = layer_of; is_named = is_named; constrained = constrained; supports = supports _ _ _ layer e }, λ s. stands_by _ _ _ layer s.supports)

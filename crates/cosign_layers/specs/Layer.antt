@@ -59,5 +59,5 @@ pub record LayerOf (trust : Trust) (layer : SignatureLayer) : Type 0 where
   pub certificate : IsCertificate trust layer.bundle shows.certificate layer.certificate_signature
 
 -- the layer is about the image of this digest: a payload by its digest, a bundle by a subject of its statement
-abbrev pub Named : SignatureLayer → List ℕ → Type 0
-Named layer d = IsSomeAnd (shown layer.kind layer.content layer.annotations) (λ s. IsTrue (is_about d s))
+abbrev pub IsAboutImage : SignatureLayer → List ℕ → Type 0
+IsAboutImage layer d = IsSomeAnd (shown layer.kind layer.content layer.annotations) (λ s. IsTrue (is_about d s))

@@ -5,7 +5,7 @@ use Rattle.base64.specs.Engines.{standard}
 use Rattle.base64.specs.GeneralPurpose.{decoded_of}
 use Rattle.oci_digests.specs.Names.{Names}
 use Rattle.cosign_layers.specs.Checks.{Input}
-use Rattle.cosign_layers.specs.Layer.{LayerOf, Named, IsSignature, IsEntry, is_logged, evidence}
+use Rattle.cosign_layers.specs.Layer.{LayerOf, IsAboutImage, IsSignature, IsEntry, is_logged, evidence}
 use Rattle.cosign_layers.specs.LogEntry.{LogSigned, log_text}
 use Rattle.cosign_layers.specs.Rejection.{is_memory}
 use Rattle.cosign_layers.specs.Shown.{shown, is_about}
@@ -110,7 +110,7 @@ input_of layer = record {
 pub record Gives (trust : Trust) (d : List ℕ) (input : Input) (layer : SignatureLayer) : Type 0 where
   pub from : input_of layer ≡ input
   pub layer_of : LayerOf trust layer
-  pub is_named : Named layer d
+  pub is_named : IsAboutImage layer d
 
 -- the input gives one layer for the image, or fails one check first, and never both
 pub record HasOneOutcome (trust : Trust) (d : List ℕ) (input : Input) : Type 0 where

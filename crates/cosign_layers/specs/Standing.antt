@@ -7,7 +7,7 @@ use Rattle.std.specs.declared.dyn_box.DynBox.{DynBox}
 use Rattle.base64.specs.Engines.{standard}
 use Rattle.base64.specs.GeneralPurpose.{decoded_of}
 use Rattle.cosign_layers.specs.Constraint.{accepts}
-use Rattle.cosign_layers.specs.Layer.{LayerOf, Named}
+use Rattle.cosign_layers.specs.Layer.{LayerOf, IsAboutImage}
 use Rattle.cosign_layers.specs.Envelope.{signed_text}
 use Rattle.cosign_layers.specs.Trust.{Trust, Valid}
 use Rattle.cosign_layers.specs.declared.certificate.CertificateSignature.{CertificateSignature}
@@ -78,6 +78,6 @@ pub record Supports {V : Type 0} {H : V → Type 0} (valid : Valid) (policy : Pu
 pub record StandsFor {V : Type 0} {H : V → Type 0} (meaning : Meaning V H) (d : List ℕ)
     (layer : SignatureLayer) : Type 0 where
   pub layer_of : LayerOf meaning.trust layer
-  pub is_named : Named layer d
+  pub is_named : IsAboutImage layer d
   pub constrained : 0 < length meaning.policy.constraints
   pub supports : Supports meaning.trust.valid meaning.policy meaning.own layer

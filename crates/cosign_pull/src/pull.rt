@@ -1,30 +1,30 @@
 //! The image of a digest for which a signature stands.
 ghost use Rattle.std.specs.Prelude.{◌≡◌, IfOk};
-ghost use Rattle.engine_requests.specs.Contexts.{within};
+ghost use Rattle.engine_terms.specs.Contexts.{within};
 ghost use Rattle.oci_names.specs.References.{digest_of, whole_text};
-ghost use Rattle.engine_requests.specs.declared.settings.Settings.{Settings};
-ghost use Rattle.engine_requests.specs.Errors.{Says as SaysEngine};
+ghost use Rattle.engine_terms.specs.declared.settings.Settings.{Settings};
+ghost use Rattle.engine_terms.specs.Errors.{Says as SaysEngine};
 ghost use Rattle.engine_requests.specs.Requests.{listed, manifest_types};
-ghost use Rattle.engine_requests.specs.Index.{entry_found};
+ghost use Rattle.engine_answers.specs.Index.{entry_found};
 ghost use Rattle.sig_calls.specs.Errors.{is_memory, worded, Says};
 ghost use Rattle.sig_calls.specs.declared.wording.Called.TheVariants.{Pull};
-ghost use Rattle.sig_calls.specs.Clients.{Made};
+ghost use Rattle.sig_calls.specs.Clients.{Fulfils};
 ghost use Rattle.cosign_rows.specs.Image.{named_by_reference, document_in, entry_in, layers_row, blobs_row};
 ghost use Rattle.cosign_rows.specs.Image.{with_image, entry_call, entry_row, manifest_row};
 ghost use Rattle.cosign_rows.specs.Image.{after_document, image_row};
 
 use cosign_rows::{Asked, Pulled, PulledManifest};
-use engine_requests::{
-    OciDistributionError, entry_found, entry_manifest, entry_reference, read_document,
-};
+use engine_answers::{entry_found, entry_manifest, entry_reference, read_document};
 use engine_rows::{config_of, layer_of, layers_accepted};
+use engine_terms::OciDistributionError;
 use json_values::{Blob, Copied, List, Text};
+use oci_descriptors::{
+    IMAGE_MANIFEST_LIST_MEDIA_TYPE, IMAGE_MANIFEST_MEDIA_TYPE, ImageIndexEntry,
+    OCI_IMAGE_INDEX_MEDIA_TYPE, OCI_IMAGE_MEDIA_TYPE, OciDescriptor,
+};
 use oci_digests::{DigestError, validate_digest};
 use oci_manifests::blob::Config;
-use oci_manifests::{
-    IMAGE_MANIFEST_LIST_MEDIA_TYPE, IMAGE_MANIFEST_MEDIA_TYPE, ImageIndexEntry, ImageLayer,
-    OCI_IMAGE_INDEX_MEDIA_TYPE, OCI_IMAGE_MEDIA_TYPE, OciDescriptor, OciImageManifest, OciManifest,
-};
+use oci_manifests::{ImageLayer, OciImageManifest, OciManifest};
 use oci_names::Reference;
 use oci_platforms::PlatformResolver;
 use oci_transport::Transport;
@@ -97,7 +97,7 @@ fn pull_layers<C: ClientCapabilities, T: Transport>(
     descriptors: &[OciDescriptor],
     mut layers: List<ImageLayer>,
 ) -> Result<List<ImageLayer>, SigstoreError>
-    ensures { (s : Settings) → Made is_memory s
+    ensures { (s : Settings) → Fulfils is_memory s
         (layers_row (within s moment) source.now descriptors.now layers)
         (C.state client.old) (C.state client.new) (T.state transport.old) (T.state transport.new) result }
 {
@@ -119,7 +119,7 @@ fn pull_blobs<C: ClientCapabilities, T: Transport>(
     accepted: &[Text],
     manifest: &OciImageManifest,
 ) -> Result<(Config, List<ImageLayer>), SigstoreError>
-    ensures { (s : Settings) → Made is_memory s
+    ensures { (s : Settings) → Fulfils is_memory s
         (blobs_row (within s moment) source.now accepted.now manifest.now)
         (C.state client.old) (C.state client.new) (T.state transport.old) (T.state transport.new) result }
 {
@@ -204,7 +204,7 @@ fn pull_entry_document<C: ClientCapabilities, T: Transport>(
     source: &Reference,
     entry: &str,
 ) -> Result<(Blob, Text), SigstoreError>
-    ensures { (s : Settings) → Made is_memory s
+    ensures { (s : Settings) → Fulfils is_memory s
         (entry_call (within s asked.now.moment) source.now asked.now.auth.now entry.now)
         (C.state client.old) (C.state client.new) (T.state transport.old) (T.state transport.new) result }
 {
@@ -230,7 +230,7 @@ fn pull_entry<C: ClientCapabilities, T: Transport>(
     source: &Reference,
     entries: &[ImageIndexEntry],
 ) -> Result<PulledManifest, SigstoreError>
-    ensures { (s : Settings) → Made is_memory s
+    ensures { (s : Settings) → Fulfils is_memory s
         (entry_row (within s asked.now.moment) source.now asked.now.auth.now entries.now)
         (C.state client.old) (C.state client.new) (T.state transport.old) (T.state transport.new) result }
 {
@@ -256,7 +256,7 @@ fn pull_chosen<C: ClientCapabilities, T: Transport>(
     first: &Blob,
     document: OciManifest,
 ) -> Result<PulledManifest, SigstoreError>
-    ensures { (s : Settings) → Made is_memory s
+    ensures { (s : Settings) → Fulfils is_memory s
         (manifest_row (within s asked.now.moment) source.now asked.now.auth.now first.now document)
         (C.state client.old) (C.state client.new) (T.state transport.old) (T.state transport.new) result }
 {
@@ -286,7 +286,7 @@ fn after_document<C: ClientCapabilities, T: Transport>(
     accepted: &[Text],
     first: Blob,
 ) -> Result<Pulled, SigstoreError>
-    ensures { (s : Settings) → Made is_memory s
+    ensures { (s : Settings) → Fulfils is_memory s
         (after_document (within s asked.now.moment) asked.now.image.now source.now asked.now.auth.now
         accepted.now first)
         (C.state client.old) (C.state client.new) (T.state transport.old) (T.state transport.new) result }
@@ -316,7 +316,7 @@ pub fn pull_image<C: ClientCapabilities, T: Transport>(
     source: &Reference,
     accepted: &[Text],
 ) -> Result<Pulled, SigstoreError>
-    ensures { (s : Settings) → Made is_memory s
+    ensures { (s : Settings) → Fulfils is_memory s
         (image_row (within s asked.now.moment) asked.now.image.now source.now asked.now.auth.now accepted.now)
         (C.state client.old) (C.state client.new) (T.state transport.old) (T.state transport.new) result }
 {

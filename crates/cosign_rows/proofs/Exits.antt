@@ -7,14 +7,14 @@ use Rattle.oci_transport.specs.Link.{Link}
 use Rattle.oci_protocol.specs.Proto.{Proto, Done, bind, unless_refused, ◌>>=◌}
 use Rattle.oci_protocol.specs.Runs.{Meets, Breaks, Performs}
 use Rattle.oci_protocol.proofs.Laws.{Meets-next, Meets-refused, Meets-ok, Meets-err, Meets-memory, Meets-caught, Breaks-first, Breaks-start, Performs-done}
-use Rattle.engine_requests.specs.Contexts.{Context}
-use Rattle.engine_requests.specs.declared.settings.Settings.{Settings}
+use Rattle.engine_terms.specs.Contexts.{Context}
+use Rattle.engine_terms.specs.declared.settings.Settings.{Settings}
 use Rattle.oci_auth.specs.declared.auth.RegistryAuth.{RegistryAuth}
 use Rattle.sig_calls.specs.Calls.{digest_call}
 use Rattle.sig_calls.specs.declared.error.SigstoreError.{SigstoreError}
 use Rattle.sig_calls.specs.declared.error.SigstoreError.TheVariants as sigstore
-use Rattle.engine_requests.specs.declared.error.OciDistributionError.{OciDistributionError}
-use Rattle.engine_requests.specs.Errors.{is_memory as engine_is_memory, Says as SaysEngine}
+use Rattle.engine_terms.specs.declared.error.OciDistributionError.{OciDistributionError}
+use Rattle.engine_terms.specs.Errors.{is_memory as engine_is_memory, Says as SaysEngine}
 use Rattle.sig_calls.specs.declared.wording.Called.{Called}
 use Rattle.cosign_rows.specs.declared.refusal.PullRefusal.{PullRefusal}
 use Rattle.cosign_rows.specs.Refusal.{is_memory as of_refusal, refused_as, Says as SaysWhole}
@@ -30,34 +30,34 @@ use Rattle.oci_names.specs.declared.reference.Reference.{Reference}
 use Rattle.oci_names.specs.References.{registry_of, repository_of, mirror_of, tag_of, digest_of}
 use Rattle.sig_calls.specs.declared.reference.OciReference.{OciReference}
 use Rattle.sig_calls.specs.Errors.{is_memory, Says, worded}
-use Rattle.sig_calls.specs.Clients.{Kept, Client, Made}
+use Rattle.sig_calls.specs.Clients.{Kept, Client, Fulfils}
 
 -- a step that answered, and then what its answer leads to
 pub and_then : {A B E : Type 0} {om : E → Bool} {s : Settings} {p : Proto Kept (Result A E)} (f : A → Proto Kept (Result B E)) {c d e : Client} {old mid new : Link} {a : A} {r : Result B E}
-    → Made om s p c d old mid (Ok a) → Made om s (f a) d e mid new r → Made om s (p >>= f) c e old new r
+    → Fulfils om s p c d old mid (Ok a) → Fulfils om s (f a) d e mid new r → Fulfils om s (p >>= f) c e old new r
 and_then f first second = record { made = λ at. let one = first.made at in let two = second.made one.0 in (two.0, Meets-next f one.1 two.1) }
 
 -- a step that was refused, at the exit of a `?`
 pub refused : {A B E : Type 0} {om : E → Bool} {s : Settings} {p : Proto Kept (Result A E)} (f : A → Proto Kept (Result B E)) {c d : Client} {old new : Link} {x : E} {r : Result B E}
-    → Made om s p c d old new (Err x) → IsErrAnd r (λ y. y ≡ x) → Made om s (p >>= f) c d old new r
+    → Fulfils om s p c d old new (Err x) → IsErrAnd r (λ y. y ≡ x) → Fulfils om s (p >>= f) c d old new r
 refused f {r = r} first is = let at = err_from_is_err_and r is in rw (at.1, at.2) (record { made = λ h. let one = first.made h in (one.0, Meets-refused f one.1) })
 
 -- memory was wanting between two calls
-pub wanting : {A E : Type 0} {om : E → Bool} {s : Settings} {p : Proto Kept (Result A E)} {c : Client} {link : Link} (x : E) {r : Result A E} → om x ≡ true → IsErrAnd r (λ y. y ≡ x) → Made om s p c c link link r
+pub wanting : {A E : Type 0} {om : E → Bool} {s : Settings} {p : Proto Kept (Result A E)} {c : Client} {link : Link} (x : E) {r : Result A E} → om x ≡ true → IsErrAnd r (λ y. y ≡ x) → Fulfils om s p c c link link r
 wanting {om = om} {p = p} {c = c} {link = link} x {r = r} memory is = let at = err_from_is_err_and r is in rw (at.1, at.2) (record { made = λ h. (h, Meets-memory om p link c.kept x memory) })
 
 -- a row that was refused, at the exit of a `?`
-pub passed : {A E : Type 0} {om : E → Bool} {s : Settings} {p : Proto Kept (Result A E)} {c d : Client} {old new : Link} {x : E} {r : Result A E} → Made om s p c d old new (Err x) → IsErrAnd r (λ y. y ≡ x) → Made om s p c d old new r
+pub passed : {A E : Type 0} {om : E → Bool} {s : Settings} {p : Proto Kept (Result A E)} {c d : Client} {old new : Link} {x : E} {r : Result A E} → Fulfils om s p c d old new (Err x) → IsErrAnd r (λ y. y ≡ x) → Fulfils om s p c d old new r
 passed {r = r} first is = let at = err_from_is_err_and r is in rw (at.1, at.2) first
 
-pub done : {A E : Type 0} {om : E → Bool} {s : Settings} {c : Client} {link : Link} {a : A} → Made om s (Done (Ok a)) c c link link (Ok a)
+pub done : {A E : Type 0} {om : E → Bool} {s : Settings} {c : Client} {link : Link} {a : A} → Fulfils om s (Done (Ok a)) c c link link (Ok a)
 done {om = om} {c = c} {link = link} {a = a} = record { made = λ h. (h, Meets-ok om link c.kept a) }
 
-pub failed : {A E : Type 0} {om : E → Bool} {s : Settings} {c : Client} {link : Link} {x : E} → om x ≡ false → Made {A = A} om s (Done (Err x)) c c link link (Err x)
+pub failed : {A E : Type 0} {om : E → Bool} {s : Settings} {c : Client} {link : Link} {x : E} → om x ≡ false → Fulfils {A = A} om s (Done (Err x)) c c link link (Err x)
 failed {om = om} {c = c} {link = link} {x = x} h = record { made = λ at. (at, Meets-err om link c.kept x h) }
 
 -- a step with no call
-pub said : {A : Type 0} {s : Settings} (r : Result A SigstoreError) {w : Result A SigstoreError} {c : Client} {link : Link} → Says r w → Made is_memory s (Done w) c c link link r
+pub said : {A : Type 0} {s : Settings} (r : Result A SigstoreError) {w : Result A SigstoreError} {c : Client} {link : Link} → Says r w → Fulfils is_memory s (Done w) c c link link r
 said (Ok a) h = rw h done
 said {A} (Err e) {w = w} {c = c} {link = link} h = record { made = λ at. (at, record { outcome = refusing (is_memory e) h }) } where
   refusing : (b : Bool) → MatchBool b (Unit {0}) (w ≡ Err e) → MatchBool b (Breaks {A = Result A SigstoreError} (Done w) link link c.kept c.kept) (Performs (Done w) link link c.kept c.kept (Err e))
@@ -66,7 +66,7 @@ said {A} (Err e) {w = w} {c = c} {link = link} h = record { made = λ at. (at, r
 
 -- a call that answered, and what the row makes of it
 pub caught : {A B E F : Type 0} {ox : E → Bool} {om : F → Bool} {s : Settings} {p : Proto Kept (Result A E)} (f : Result A E → Proto Kept (Result B F)) {c d e : Client} {old mid new : Link} {a : A} {r : Result B F}
-    → Made ox s p c d old mid (Ok a) → Made om s (f (Ok a)) d e mid new r → Made om s (bind p f) c e old new r
+    → Fulfils ox s p c d old mid (Ok a) → Fulfils om s (f (Ok a)) d e mid new r → Fulfils om s (bind p f) c e old new r
 caught f first second = record { made = λ at. let one = first.made at in let two = second.made one.0 in (two.0, Meets-caught f (one.1).outcome two.1) }
 
 performed : {A E : Type 0} (ox : E → Bool) {p : Proto Kept (Result A E)} {old new : Link} {k l : Kept} (x : E) (b : Bool) → b ≡ ox x → b ≡ false → MatchBool b (Breaks p old new k l) (Performs p old new k l (Err x)) → Performs p old new k l (Err x)
@@ -75,7 +75,7 @@ performed ox x true is other h = absurd (cc other)
 
 -- a call that was refused, and what the row makes of that
 pub caught_refusal : {A B E F : Type 0} {ox : E → Bool} {om : F → Bool} {s : Settings} {p : Proto Kept (Result A E)} (f : Result A E → Proto Kept (Result B F)) {c d e : Client} {old mid new : Link} {x : E} {r : Result B F}
-    → Made ox s p c d old mid (Err x) → ox x ≡ false → Made om s (f (Err x)) d e mid new r → Made om s (bind p f) c e old new r
+    → Fulfils ox s p c d old mid (Err x) → ox x ≡ false → Fulfils om s (f (Err x)) d e mid new r → Fulfils om s (bind p f) c e old new r
 caught_refusal {ox = ox} f {x = x} first other second = record { made = λ at. let one = first.made at in let two = second.made one.0 in (two.0, Meets-caught f (performed ox x (ox x) refl other (one.1).outcome) two.1) }
 
 broken : {A E : Type 0} {p : Proto Kept (Result A E)} {old new : Link} {k l : Kept} (x : E) (b : Bool) → b ≡ true → MatchBool b (Breaks p old new k l) (Performs p old new k l (Err x)) → Breaks p old new k l
@@ -84,7 +84,7 @@ broken x false is h = absurd (cc is)
 
 -- a call that memory cut off
 pub cut_off : {A B E F : Type 0} {ox : E → Bool} {om : F → Bool} {s : Settings} {p : Proto Kept (Result A E)} (f : Result A E → Proto Kept (Result B F)) {c d : Client} {old new : Link} {x : E} {y : F}
-    → Made ox s p c d old new (Err x) → ox x ≡ true → om y ≡ true → Made om s (bind p f) c d old new (Err y)
+    → Fulfils ox s p c d old new (Err x) → ox x ≡ true → om y ≡ true → Fulfils om s (bind p f) c d old new (Err y)
 cut_off {ox = ox} f {x = x} first is memory = record { made = λ at. let one = first.made at in (one.0, record { outcome = rw memory (Breaks-first f (broken x (ox x) is (one.1).outcome)) }) }
 
 true_false : true ≡ false → ⊥
@@ -96,27 +96,27 @@ wants (Err e) = is_memory e
 
 -- a call that was refused, and a step with no call that the row makes of it, where want of memory stays what it is
 pub said_refusal : {A B : Type 0} {s : Settings} {p : Proto Kept (Result A SigstoreError)} (f : Result A SigstoreError → Proto Kept (Result B SigstoreError)) {c d : Client} {old new : Link} {e : SigstoreError} {w t : Result B SigstoreError}
-    → f (Err e) ≡ Done w → (is_memory e ≡ true → w ≡ Err e) → Made is_memory s p c d old new (Err e) → Says t w → Made is_memory s (bind p f) c d old new t
+    → f (Err e) ≡ Done w → (is_memory e ≡ true → w ≡ Err e) → Fulfils is_memory s p c d old new (Err e) → Says t w → Fulfils is_memory s (bind p f) c d old new t
 said_refusal {A} {B} {s} {p} f {c} {d} {old} {new} {e} {w} {t} is stays first says = by_memory (is_memory e) refl where
-  wanted : (t : Result B SigstoreError) → is_memory e ≡ true → Says t (Err e) → Made is_memory s (bind p f) c d old new t
+  wanted : (t : Result B SigstoreError) → is_memory e ≡ true → Says t (Err e) → Fulfils is_memory s (bind p f) c d old new t
   wanted (Ok b) memory h = absurd (cc (sym memory ∙ ap wants h))
   wanted (Err y) memory h = by_cause (is_memory y) refl h where
-    by_cause : (b : Bool) → is_memory y ≡ b → MatchBool b (Unit {0}) (◌≡◌ {A = Result B SigstoreError} (Err e) (Err y)) → Made is_memory s (bind p f) c d old new (Err y)
+    by_cause : (b : Bool) → is_memory y ≡ b → MatchBool b (Unit {0}) (◌≡◌ {A = Result B SigstoreError} (Err e) (Err y)) → Fulfils is_memory s (bind p f) c d old new (Err y)
     by_cause true same h = cut_off f first memory same
     by_cause false other h = absurd (cc (sym memory ∙ ap wants h ∙ other))
 
-  by_memory : (b : Bool) → is_memory e ≡ b → Made is_memory s (bind p f) c d old new t
+  by_memory : (b : Bool) → is_memory e ≡ b → Fulfils is_memory s (bind p f) c d old new t
   by_memory true memory = wanted t memory (rw (stays memory) at says)
   by_memory false other = caught_refusal f first other (rw is (said t says))
 
 -- an answer or a refusal, and what a step with no call makes of it, where want of memory stays what it is
 pub said_of : {A B : Type 0} {s : Settings} {p : Proto Kept (Result A SigstoreError)} (f : Result A SigstoreError → Result B SigstoreError) {c d : Client} {old new : Link} (r : Result A SigstoreError) {t : Result B SigstoreError}
-    → ((e : SigstoreError) → is_memory e ≡ true → f (Err e) ≡ Err e) → Made is_memory s p c d old new r → Says t (f r) → Made is_memory s (bind p (λ x. Done (f x))) c d old new t
+    → ((e : SigstoreError) → is_memory e ≡ true → f (Err e) ≡ Err e) → Fulfils is_memory s p c d old new r → Says t (f r) → Fulfils is_memory s (bind p (λ x. Done (f x))) c d old new t
 said_of f (Ok a) {t = t} stays first says = caught (λ x. Done (f x)) first (said t says)
 said_of f (Err e) stays first says = said_refusal (λ x. Done (f x)) refl (stays e) first says
 
 -- a step with no call, which asks what the client's settings are
-pub said_at : {A : Type 0} {s : Settings} (w : Settings → Result A SigstoreError) (r : Result A SigstoreError) {c : Client} {link : Link} → Says r (w c.settings) → Made is_memory s (Done (w s)) c c link link r
+pub said_at : {A : Type 0} {s : Settings} (w : Settings → Result A SigstoreError) (r : Result A SigstoreError) {c : Client} {link : Link} → Says r (w c.settings) → Fulfils is_memory s (Done (w s)) c c link link r
 said_at {s = s} w r {c = c} {link = link} h = record { made = λ at. (said r (subst (λ t. Says r (w t)) at h)).made at }
 
 -- want of memory speaks of no image
@@ -129,12 +129,12 @@ with_stays text sigstore.WantOfMemory h = refl
 
 -- the same, where the row goes on with an answer alone
 pub said_next : {A B : Type 0} {s : Settings} {p : Proto Kept (Result A SigstoreError)} (f : A → B) (g : Result A SigstoreError → Result B SigstoreError) {c d : Client} {old new : Link} (r : Result A SigstoreError) {t : Result B SigstoreError}
-    → ((a : A) → g (Ok a) ≡ Ok (f a)) → ((e : SigstoreError) → g (Err e) ≡ Err e) → Made is_memory s p c d old new r → Says t (g r) → Made is_memory s (p >>= (λ a. Done (Ok (f a)))) c d old new t
+    → ((a : A) → g (Ok a) ≡ Ok (f a)) → ((e : SigstoreError) → g (Err e) ≡ Err e) → Fulfils is_memory s p c d old new r → Says t (g r) → Fulfils is_memory s (p >>= (λ a. Done (Ok (f a)))) c d old new t
 said_next f g (Ok a) {t = t} works stays first says = caught (unless_refused (λ a. Done (Ok (f a)))) first (said t (subst (Says t) (works a) says))
 said_next f g (Err e) {t = t} works stays first says = said_refusal (unless_refused (λ a. Done (Ok (f a)))) refl (λ is. refl) first (subst (Says t) (stays e) says)
 
 -- a step of the whole with no call
-pub said_whole : {A : Type 0} {s : Settings} (r : Result A PullRefusal) {w : Result A PullRefusal} {c : Client} {link : Link} → SaysWhole r w → Made of_refusal s (Done w) c c link link r
+pub said_whole : {A : Type 0} {s : Settings} (r : Result A PullRefusal) {w : Result A PullRefusal} {c : Client} {link : Link} → SaysWhole r w → Fulfils of_refusal s (Done w) c c link link r
 said_whole (Ok a) h = rw h done
 said_whole {A} (Err e) {w = w} {c = c} {link = link} h = record { made = λ at. (at, record { outcome = refusing (of_refusal e) h }) } where
   refusing : (b : Bool) → MatchBool b (Unit {0}) (w ≡ Err e) → MatchBool b (Breaks {A = Result A PullRefusal} (Done w) link link c.kept c.kept) (Performs (Done w) link link c.kept c.kept (Err e))
@@ -157,9 +157,9 @@ other_as (sigstore.RegistryPullManifestError image error) h = refl
 
 -- a part that was refused, as the refusal of the whole
 pub refused_whole : {A B : Type 0} {s : Settings} {p : Proto Kept (Result A SigstoreError)} (f : Result A SigstoreError → Proto Kept (Result B PullRefusal)) {c d : Client} {old new : Link} {x : SigstoreError}
-    → f (Err x) ≡ Done (Err (refused_as x)) → Made is_memory s p c d old new (Err x) → Made of_refusal s (bind p f) c d old new (Err (refused_as x))
+    → f (Err x) ≡ Done (Err (refused_as x)) → Fulfils is_memory s p c d old new (Err x) → Fulfils of_refusal s (bind p f) c d old new (Err (refused_as x))
 refused_whole {A} {B} {s} {p} f {c} {d} {old} {new} {x} is first = by_memory (is_memory x) refl where
-  by_memory : (b : Bool) → is_memory x ≡ b → Made of_refusal s (bind p f) c d old new (Err (refused_as x))
+  by_memory : (b : Bool) → is_memory x ≡ b → Fulfils of_refusal s (bind p f) c d old new (Err (refused_as x))
   by_memory true memory = cut_off f first memory (memory_as x memory)
   by_memory false other = caught_refusal f first other (rw is (failed (other_as x other)))
 
@@ -178,7 +178,7 @@ in_words_said {A} called text (Err e) w t h says = by_memory (engine_is_memory e
   by_memory true is h = any t (rw is at says)
   by_memory false is h = rw h says
 
-pub worded_said : {A : Type 0} {s : Settings} (called : Called) (text : List ℕ) (r w : Result A OciDistributionError) (t : Result A SigstoreError) {c : Client} {link : Link} → SaysEngine r w → Says t (worded called text r) → Made is_memory s (Done (worded called text w)) c c link link t
+pub worded_said : {A : Type 0} {s : Settings} (called : Called) (text : List ℕ) (r w : Result A OciDistributionError) (t : Result A SigstoreError) {c : Client} {link : Link} → SaysEngine r w → Says t (worded called text r) → Fulfils is_memory s (Done (worded called text w)) c c link link t
 worded_said called text r w t h says = said t (in_words_said called text r w t h says)
 
 -- memory was wanting before anything was asked
@@ -186,18 +186,18 @@ pub meets_wanting : {A E : Type 0} {om : E → Bool} {p : Proto Kept (Result A E
 meets_wanting {om = om} {p = p} {k = k} {link = link} x {r = r} memory is = let at = err_from_is_err_and r is in rw (at.1, at.2) (Meets-memory om p link k x memory)
 
 -- a part that was answered, as a part of the whole
-pub part_answered : {A : Type 0} {s : Settings} {p : Proto Kept (Result A SigstoreError)} {c d : Client} {old new : Link} {a : A} → Made is_memory s p c d old new (Ok a) → Made of_refusal s (part_of p) c d old new (Ok a)
+pub part_answered : {A : Type 0} {s : Settings} {p : Proto Kept (Result A SigstoreError)} {c d : Client} {old new : Link} {a : A} → Fulfils is_memory s p c d old new (Ok a) → Fulfils of_refusal s (part_of p) c d old new (Ok a)
 unfolding part_of
 part_answered first = caught (λ r. Done (as_whole r)) first done
 
 -- and one that was refused
-pub part_refused : {A : Type 0} {s : Settings} {p : Proto Kept (Result A SigstoreError)} {c d : Client} {old new : Link} {x : SigstoreError} → Made is_memory s p c d old new (Err x) → Made of_refusal s (part_of p) c d old new (Err (refused_as x))
+pub part_refused : {A : Type 0} {s : Settings} {p : Proto Kept (Result A SigstoreError)} {c d : Client} {old new : Link} {x : SigstoreError} → Fulfils is_memory s p c d old new (Err x) → Fulfils of_refusal s (part_of p) c d old new (Err (refused_as x))
 unfolding part_of
 part_refused first = refused_whole (λ r. Done (as_whole r)) refl first
 
 -- the image that was pulled, or its refusal, as the answer of the whole
 pub stood_then : {s : Settings} {p : Proto Kept (Result Pulled SigstoreError)} (stood : Standing) {c d : Client} {old new : Link} (r : Result Pulled SigstoreError) {t : Result VerifiedImage PullRefusal}
-    → Made is_memory s p c d old new r → t ≡ stood_image stood r → Made of_refusal s (part_of p >>= (λ pulled. Done (Ok (verified_image stood pulled)))) c d old new t
+    → Fulfils is_memory s p c d old new r → t ≡ stood_image stood r → Fulfils of_refusal s (part_of p >>= (λ pulled. Done (Ok (verified_image stood pulled)))) c d old new t
 stood_then stood (Ok pulled) first is = rw is (and_then _ (part_answered first) done)
 stood_then stood (Err e) first is = rw is (record { made = λ at. let one = (part_refused first).made at in (one.0, Meets-refused _ one.1) })
 
@@ -236,6 +236,6 @@ shown_refusal x (Ok found) h = absurd h
 shown_refusal x (Err e) h = h
 
 -- the reference of the tag of the digest that was answered
-pub tag_made : {t : Settings} (s : Context) (image : Reference) (a : RegistryAuth) {c d : Client} {old new : Link} (digest : List ℕ) (tag : Reference) → Made is_memory t (digest_call s image a) c d old new (Ok digest) → tag ≡ tag_reference image digest → Made is_memory t (triangulated s image a) c d old new (Ok (tag, digest))
+pub tag_made : {t : Settings} (s : Context) (image : Reference) (a : RegistryAuth) {c d : Client} {old new : Link} (digest : List ℕ) (tag : Reference) → Fulfils is_memory t (digest_call s image a) c d old new (Ok digest) → tag ≡ tag_reference image digest → Fulfils is_memory t (triangulated s image a) c d old new (Ok (tag, digest))
 unfolding triangulated
 tag_made s image a digest tag first is = and_then _ first (rw is done)

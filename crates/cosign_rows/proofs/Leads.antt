@@ -1,11 +1,11 @@
 -- What a loop over calls knows of its row.
 use Rattle.std.proofs.Common.{Result}
 use Rattle.oci_transport.specs.Link.{Link}
-use Rattle.engine_requests.specs.declared.settings.Settings.{Settings}
+use Rattle.engine_terms.specs.declared.settings.Settings.{Settings}
 use Rattle.sig_calls.specs.declared.error.SigstoreError.{SigstoreError}
 use Rattle.sig_calls.specs.Errors.{is_memory}
-use Rattle.sig_calls.specs.Clients.{Client, Row, Made}
+use Rattle.sig_calls.specs.Clients.{Client, Row, Fulfils}
 
 -- what was done from one client to another leads from one row to another
 pub record Leads {A : Type 0} (s : Settings) (p q : Row A) (c d : Client) (old mid : Link) : Type 0 where
-  pub made : (e : Client) (new : Link) (r : Result A SigstoreError) → Made is_memory s q d e mid new r → Made is_memory s p c e old new r
+  pub made : (e : Client) (new : Link) (r : Result A SigstoreError) → Fulfils is_memory s q d e mid new r → Fulfils is_memory s p c e old new r

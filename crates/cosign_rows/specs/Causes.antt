@@ -4,7 +4,7 @@ use Rattle.oci_names.specs.declared.reference.Reference.{Reference}
 use Rattle.oci_names.specs.References.{whole_text, reads_back}
 use Rattle.oci_auth.specs.declared.auth.RegistryAuth.{RegistryAuth}
 use Rattle.oci_transport.specs.declared.message.Exchange.{Exchange}
-use Rattle.engine_requests.specs.Contexts.{Context}
+use Rattle.engine_terms.specs.Contexts.{Context}
 use Rattle.sig_calls.specs.declared.error.SigstoreError.{SigstoreError}
 use Rattle.sig_calls.specs.declared.error.SigstoreError.TheVariants as sigstore
 use Rattle.sig_calls.specs.Calls.{digest_call}
@@ -37,7 +37,7 @@ SearchCause s image a start c end (sigstore.RegistryPullManifestError name e) = 
 SearchCause s image a start c end sigstore.WantOfMemory = Unit {0}
 
 -- the image itself does not read back, and nothing was asked
-pub record Unread (image : Reference) (start : Point) (c : List Exchange) (end : Point) (text : List ℕ)
+pub record UnreadReference (image : Reference) (start : Point) (c : List Exchange) (end : Point) (text : List ℕ)
     : Type 0 where
   pub unread : reads_back image ≡ false
   pub text_is : text ≡ whole_text image
@@ -74,7 +74,7 @@ abbrev pub PullCause : {V : Type 0} {H : V → Type 0} → Meaning V H → Conte
 PullCause meaning s image a accepted start c end refusal.EmptyPolicy =
     (is_unconstrained meaning.policy ≡ true) × Silent start c end
 PullCause meaning s image a accepted start c end (refusal.OciReferenceNotValidError text) =
-    Unread image start c end text ⊎ NoReference s image a start c end text
+    UnreadReference image start c end text ⊎ NoReference s image a start c end text
 PullCause meaning s image a accepted start c end (refusal.RegistryFetchManifestError name e) =
     Ran (digest_call s image a) start c end (Err (sigstore.RegistryFetchManifestError name e))
 PullCause meaning s image a accepted start c end (refusal.RegistryPullError name e) =

@@ -3,8 +3,8 @@ use Rattle.std.specs.Prelude.{◌≡◌, Bool, true, false, Option, Some, None, 
 use Rattle.json_values.specs.Counts.{Rose}
 use Rattle.json_values.specs.Refusals as Refusals
 use Rattle.oci_transport.specs.Link.{Link}
-use Rattle.engine_requests.specs.declared.error.OciDistributionError.{OciDistributionError}
-use Rattle.engine_requests.specs.declared.error.OciDistributionError.TheVariants.{TransportFault, SinkFault}
+use Rattle.engine_terms.specs.declared.error.OciDistributionError.{OciDistributionError}
+use Rattle.engine_terms.specs.declared.error.OciDistributionError.TheVariants.{TransportFault, SinkFault}
 use Rattle.sig_calls.specs.declared.error.SigstoreError.{SigstoreError}
 use Rattle.sig_calls.specs.declared.error.SigstoreError.TheVariants as sigstore
 use Rattle.cosign_rows.specs.declared.refusal.PullRefusal.{PullRefusal}

@@ -6,8 +6,8 @@ use Rattle.oci_auth.specs.declared.auth.RegistryAuth.{RegistryAuth}
 use Rattle.oci_auth.specs.declared.memory.Memory.{Memory}
 use Rattle.oci_link.specs.Table.{answer}
 use Rattle.oci_link.specs.declared.shelf.Shelf.{Shelf}
-use Rattle.engine_requests.specs.Contexts.{within}
-use Rattle.engine_requests.specs.declared.settings.Settings.{Settings}
+use Rattle.engine_terms.specs.Contexts.{within}
+use Rattle.engine_terms.specs.declared.settings.Settings.{Settings}
 use Rattle.shelf_laws.specs.Comes.{ComesTo}
 use Rattle.shelf_laws.specs.Home.{IsAt, Settled}
 use Rattle.sig_settings.specs.Keys.{manifest_key, pull_key, referrers_key}

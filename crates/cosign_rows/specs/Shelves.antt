@@ -7,10 +7,10 @@ use Rattle.oci_names.specs.References.{repository_of, digest_of, tag_of, resolve
 use Rattle.oci_auth.specs.declared.auth.RegistryAuth.{RegistryAuth}
 use Rattle.oci_digests.specs.Names.{name_of, digest_text}
 use Rattle.oci_digests.specs.declared.digester.Algorithm.TheVariants.{Sha256}
-use Rattle.oci_manifests.specs.declared.descriptor.OciDescriptor.{OciDescriptor}
+use Rattle.oci_descriptors.specs.declared.descriptor.OciDescriptor.{OciDescriptor}
 use Rattle.oci_manifests.specs.declared.blob.ImageLayer.{ImageLayer}
 use Rattle.oci_manifests.specs.declared.index.OciImageIndex.{OciImageIndex}
-use Rattle.oci_manifests.specs.declared.index_entry.ImageIndexEntry.{ImageIndexEntry}
+use Rattle.oci_descriptors.specs.declared.index_entry.ImageIndexEntry.{ImageIndexEntry}
 use Rattle.oci_manifests.specs.declared.manifest.OciImageManifest.{OciImageManifest}
 use Rattle.oci_transport.specs.Headers.{is_header_value}
 use Rattle.oci_transport.specs.Link.{Link}
@@ -20,7 +20,7 @@ use Rattle.oci_link.specs.State.{answering}
 use Rattle.oci_link.specs.Table.{digest_named}
 use Rattle.oci_link.specs.declared.shelf.Shelf.{Shelf}
 use Rattle.engine_requests.specs.Addresses.{manifest_name}
-use Rattle.engine_requests.specs.declared.settings.Settings.{Settings}
+use Rattle.engine_terms.specs.declared.settings.Settings.{Settings}
 use Rattle.shelf_laws.specs.Home.{IsWrittenPlainly, CanBeShown}
 use Rattle.shelf_laws.specs.Shelves.{IsShort, HasManifest, HasBlobs, ImageOn, Lists, layers_on}
 use Rattle.cosign_layers.specs.Standing.{Meaning, StandsFor}

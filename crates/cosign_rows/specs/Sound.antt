@@ -4,8 +4,8 @@ use Rattle.oci_names.specs.declared.reference.Reference.{Reference}
 use Rattle.oci_auth.specs.declared.auth.RegistryAuth.{RegistryAuth}
 use Rattle.oci_transport.specs.declared.message.Exchange.{Exchange}
 use Rattle.oci_manifests.specs.declared.blob.ImageLayer.{ImageLayer}
-use Rattle.engine_requests.specs.Contexts.{Context}
-use Rattle.engine_laws.specs.Answered.{Answered, Body}
+use Rattle.engine_terms.specs.Contexts.{Context}
+use Rattle.engine_laws.specs.Answered.{DigestAnswered, Body}
 use Rattle.sig_settings.specs.Keys.{manifest_key}
 use Rattle.sig_calls.specs.Caching.{known}
 use Rattle.sig_calls.specs.Calls.{digests}
@@ -26,7 +26,7 @@ Fresh kept s image a digest = known digests (manifest_key image a) s.moment kept
 
 -- the digest was answered for the image in this conversation, or the client that began it still gave it
 abbrev pub AnsweredOrFresh : Kept → Context → Reference → RegistryAuth → List Exchange → List ℕ → Type 0
-AnsweredOrFresh kept s image a c digest = Answered s.settings image c digest ⊎ Fresh kept s image a digest
+AnsweredOrFresh kept s image a c digest = DigestAnswered s.settings image c digest ⊎ Fresh kept s image a digest
 
 -- the image's digest was answered for it, in this conversation or still by the client that began it, which kept this,
 -- and in this conversation each document and blob is the body of an answer

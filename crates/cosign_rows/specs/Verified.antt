@@ -4,7 +4,7 @@ use Rattle.oci_names.specs.declared.reference.Reference.{Reference}
 use Rattle.oci_names.specs.References.{whole_text, reads_back}
 use Rattle.oci_auth.specs.declared.auth.RegistryAuth.{RegistryAuth}
 use Rattle.oci_protocol.specs.Proto.{Proto, Done, bind, ◌>>=◌, ◌>>◌}
-use Rattle.engine_requests.specs.Contexts.{Context}
+use Rattle.engine_terms.specs.Contexts.{Context}
 use Rattle.sig_calls.specs.declared.error.SigstoreError.{SigstoreError}
 use Rattle.sig_calls.specs.Clients.{Kept, Row}
 use Rattle.cosign_layers.specs.Constraint.{has_no_item}

@@ -1,7 +1,7 @@
 //! Why an image was not pulled.
 use crate::found::Skipped;
 use cosign_layers::SignatureLayer;
-use engine_requests::OciDistributionError;
+use engine_terms::OciDistributionError;
 use json_values::{Copied, List, Text, copy_all, row};
 use sig_calls::SigstoreError;
 use std::alloc::{AllocError, AllocFailed, Global};

@@ -1,9 +1,9 @@
 //! The whole pull, whatever the client.
 ghost use Rattle.std.specs.Prelude.{◌≡◌, true, false, Err, IfOk, IsTrue, find};
-ghost use Rattle.engine_requests.specs.Contexts.{within};
-ghost use Rattle.engine_requests.specs.declared.settings.Settings.{Settings};
+ghost use Rattle.engine_terms.specs.Contexts.{within};
+ghost use Rattle.engine_terms.specs.declared.settings.Settings.{Settings};
 ghost use Rattle.oci_names.specs.References.{reads_back};
-ghost use Rattle.sig_calls.specs.Clients.{Made};
+ghost use Rattle.sig_calls.specs.Clients.{Fulfils};
 ghost use Rattle.sig_settings.specs.Auths.{registry_auth};
 ghost use Rattle.cosign_layers.specs.Standing.{stands};
 ghost use Rattle.cosign_rows.specs.Refusal.{is_memory, Says};
@@ -148,7 +148,7 @@ fn pull_stood<C: ClientCapabilities, T: Transport>(
     accepted: &[Text],
     standing: Standing,
 ) -> Result<VerifiedImage, PullRefusal>
-    ensures { (s : Settings) → Made is_memory s
+    ensures { (s : Settings) → Fulfils is_memory s
         (after_standing (within s asked.now.moment) asked.now.image.now asked.now.auth.now accepted.now standing)
         (C.state client.old) (C.state client.new) (T.state transport.old) (T.state transport.new) result }
 {
@@ -167,7 +167,7 @@ fn pull_standing<C: ClientCapabilities, T: Transport, V: SignatureVerifier, O: O
     terms: &Terms<'_, V, O>,
     found: TrustedLayers,
 ) -> Result<VerifiedImage, PullRefusal>
-    ensures { (s : Settings) → Made is_memory s
+    ensures { (s : Settings) → Fulfils is_memory s
         (after_search (meaning_of V.valid O.vouched (λ b. accepts (b.vtable, b.value)) terms.now)
         (within s asked.now.moment) asked.now.image.now asked.now.auth.now terms.now.accepted.now found)
         (C.state client.old) (C.state client.new) (T.state transport.old) (T.state transport.new) result }
@@ -211,7 +211,7 @@ pub fn pull_verified<C: ClientCapabilities, T: Transport, V: SignatureVerifier, 
     auth: &Auth,
     terms: &Terms<'_, V, O>,
 ) -> Result<VerifiedImage, PullRefusal>
-    ensures run { (s : Settings) → Made is_memory s
+    ensures run { (s : Settings) → Fulfils is_memory s
         (verified (meaning_of V.valid O.vouched (λ b. accepts (b.vtable, b.value)) terms.now)
         (within s moment) image.now (registry_auth auth.now) terms.now.accepted.now)
         (C.state client.old) (C.state client.new) (T.state transport.old) (T.state transport.new) result }

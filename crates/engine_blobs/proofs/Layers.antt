@@ -4,16 +4,16 @@ use Rattle.std.proofs.Math.Seq.{drop-cons}
 use Rattle.oci_transport.specs.Link.{Link}
 use Rattle.oci_names.specs.declared.reference.Reference.{Reference}
 use Rattle.oci_auth.specs.declared.memory.Memory.{Memory}
-use Rattle.oci_manifests.specs.declared.descriptor.OciDescriptor.{OciDescriptor}
+use Rattle.oci_descriptors.specs.declared.descriptor.OciDescriptor.{OciDescriptor}
 use Rattle.oci_manifests.specs.declared.blob.ImageLayer.{ImageLayer}
 use Rattle.oci_protocol.specs.Proto.{◌>>=◌}
 use Rattle.oci_protocol.specs.Runs.{Meets}
-use Rattle.engine_requests.specs.Contexts.{Context}
+use Rattle.engine_terms.specs.Contexts.{Context}
 use Rattle.engine_requests.specs.Sources.{Layer, described}
-use Rattle.engine_requests.specs.declared.error.OciDistributionError.{OciDistributionError}
-use Rattle.engine_requests.specs.Errors.{is_memory}
+use Rattle.engine_terms.specs.declared.error.OciDistributionError.{OciDistributionError}
+use Rattle.engine_terms.specs.Errors.{is_memory}
 use Rattle.engine_rows.specs.Rows.{Row}
-use Rattle.engine_steps.proofs.Exits.{done}
+use Rattle.engine_rows.proofs.Exits.{done}
 use Rattle.engine_rows.specs.Pulls.{held_blob}
 use Rattle.engine_rows.specs.Images.{layer_of, pull_layers}
 

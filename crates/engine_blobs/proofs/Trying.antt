@@ -8,20 +8,20 @@ use Rattle.oci_auth.specs.declared.memory.Memory.{Memory}
 use Rattle.oci_protocol.specs.Proto.{Done, ◌>>=◌}
 use Rattle.oci_protocol.specs.Runs.{Meets}
 use Rattle.oci_protocol.proofs.Laws.{Meets-memory, Meets-refused}
-use Rattle.engine_requests.specs.declared.settings.Settings.{Settings}
-use Rattle.engine_requests.specs.declared.error.OciDistributionError.{OciDistributionError}
-use Rattle.engine_requests.specs.declared.error.OciDistributionError.TheVariants as refusal
+use Rattle.engine_terms.specs.declared.settings.Settings.{Settings}
+use Rattle.engine_terms.specs.declared.error.OciDistributionError.{OciDistributionError}
+use Rattle.engine_terms.specs.declared.error.OciDistributionError.TheVariants as refusal
 use Rattle.engine_requests.specs.declared.sources.Place.{Place}
 use Rattle.engine_requests.specs.declared.sources.Place.TheVariants.{Web, Unfit}
-use Rattle.engine_requests.specs.Errors.{is_memory, Says}
+use Rattle.engine_terms.specs.Errors.{is_memory, Says}
 use Rattle.engine_requests.specs.Requests.{manifest_types}
 use Rattle.engine_requests.specs.Sources.{place_of, with_place, places_of, asked_at}
 use Rattle.oci_transport.specs.declared.message.Method.TheVariants.{Get}
 use Rattle.engine_rows.specs.Rows.{Row}
 use Rattle.engine_rows.specs.Blobs.{Destination, IntoSink, IntoMemory, attempt, Spills}
 use Rattle.engine_rows.specs.Offers.{offer, tried, Offered, OfferedInto}
-use Rattle.engine_steps.proofs.Attempts.{spills_wanting, spills_next}
-use Rattle.engine_steps.proofs.Exits.{said, refused, and_then}
+use Rattle.engine_attempts.proofs.Attempts.{spills_wanting, spills_next}
+use Rattle.engine_rows.proofs.Exits.{said, refused, and_then}
 use Rattle.engine_blobs.proofs.Layers.{at_next}
 use Rattle.engine_blobs.proofs.NoSink.{Calm, request_calm, done_calm, spills_refused}
 

@@ -1,18 +1,17 @@
 // Blobs, into a sink or into memory.
 ghost use Rattle.oci_auth.specs.declared.memory.Memory.{Memory};
 ghost use Rattle.oci_protocol.specs.Runs.{Meets};
-ghost use Rattle.engine_requests.specs.Contexts.{context_of};
-ghost use Rattle.engine_requests.specs.Errors.{is_memory};
+ghost use Rattle.engine_terms.specs.Contexts.{context_of};
+ghost use Rattle.engine_terms.specs.Errors.{is_memory};
 ghost use Rattle.engine_requests.specs.Sources.{layer_in, places_of};
 ghost use Rattle.engine_rows.specs.Blobs.{IntoSink, IntoMemory, Spills};
 ghost use Rattle.engine_rows.specs.Offers.{tried};
 ghost use Rattle.engine_rows.specs.Pulls.{pull_blob, held_blob};
 
-use engine_requests::{
-    Call, LayerDescriptor, MANIFEST_TYPES, OciDistributionError, Settings, asked_at, blob_url,
-    place_of,
-};
-use engine_steps::{Target, attempt, held, held_offer, offer, prepared};
+use engine_attempts::{attempt, held, held_offer, offer};
+use engine_requests::{LayerDescriptor, MANIFEST_TYPES, asked_at, blob_url, place_of};
+use engine_steps::{Target, prepared};
+use engine_terms::{Call, OciDistributionError, Settings};
 use json_values::{Blob, Sink, Text};
 use oci_auth::{Memory, RegistryOperation};
 use oci_transport::{Method, Request, Transport};

@@ -10,15 +10,15 @@ use Rattle.oci_manifests.specs.declared.index.OciImageIndex.{OciImageIndex}
 use Rattle.oci_protocol.specs.Proto.{Done, bind}
 use Rattle.oci_protocol.specs.Runs.{Meets, Breaks, Performs}
 use Rattle.oci_protocol.proofs.Laws.{Breaks-first}
-use Rattle.engine_requests.specs.declared.error.OciDistributionError.{OciDistributionError}
-use Rattle.engine_requests.specs.declared.error.OciDistributionError.TheVariants as refusal
-use Rattle.engine_requests.specs.Errors.{is_memory, Says}
-use Rattle.engine_requests.specs.Contexts.{Context}
-use Rattle.engine_requests.specs.Referrers.{referrers_in, tagged_index}
-use Rattle.engine_requests.specs.declared.answers.Got.{Got}
+use Rattle.engine_terms.specs.declared.error.OciDistributionError.{OciDistributionError}
+use Rattle.engine_terms.specs.declared.error.OciDistributionError.TheVariants as refusal
+use Rattle.engine_terms.specs.Errors.{is_memory, Says}
+use Rattle.engine_terms.specs.Contexts.{Context}
+use Rattle.engine_answers.specs.Referrers.{referrers_in, tagged_index}
+use Rattle.engine_answers.specs.declared.answers.Got.{Got}
 use Rattle.engine_rows.specs.Referrers.{referrers_tagged, referrers_by}
 use Rattle.engine_rows.specs.Rows.{Row}
-use Rattle.engine_steps.proofs.Exits.{caught, caught_refusal, said}
+use Rattle.engine_rows.proofs.Exits.{caught, caught_refusal, said}
 
 memory_is : (e : OciDistributionError) → is_memory e ≡ true → e ≡ refusal.WantOfMemory
 memory_is refusal.WantOfMemory is = refl

@@ -2,17 +2,16 @@
 ghost use Rattle.std.specs.Prelude.{◌≡◌};
 ghost use Rattle.oci_auth.specs.declared.memory.Memory.{Memory};
 ghost use Rattle.oci_protocol.specs.Runs.{Meets};
-ghost use Rattle.engine_requests.specs.Contexts.{context_of};
-ghost use Rattle.engine_requests.specs.Errors.{is_memory, Says};
+ghost use Rattle.engine_terms.specs.Contexts.{context_of};
+ghost use Rattle.engine_terms.specs.Errors.{is_memory, Says};
 ghost use Rattle.engine_rows.specs.Pulls.{document, manifest_document, pull_manifest_raw};
 ghost use Rattle.engine_rows.specs.Pulls.{digest_by, fetch_manifest_digest, pull_manifest, manifest_asked};
 
-use engine_requests::{
-    Call, MANIFEST_TYPES, OciDistributionError, accepted, document_in, fits_reference,
-    manifest_url, read_document,
-};
-use engine_rows::Named;
+use engine_answers::{accepted, document_in, fits_reference, read_document};
+use engine_requests::{MANIFEST_TYPES, manifest_url};
+use engine_rows::NamedAnswer;
 use engine_steps::{Target, named_after, prepared, whole};
+use engine_terms::{Call, OciDistributionError};
 use json_values::{Blob, Text};
 use oci_auth::{Memory, RegistryAuth, RegistryOperation, store};
 use oci_manifests::OciManifest;
@@ -90,18 +89,18 @@ fn digest_by<T: Transport>(
     memory: &mut Memory,
     call: &Call,
     url: &Url,
-    named: Named,
+    named: NamedAnswer,
 ) -> Result<Text, OciDistributionError>
     ensures { Meets is_memory (digest_by (context_of call.now) call.now.image.now url.now named)
         (T.state transport.old) (T.state transport.new) memory.old memory.new result }
 {
     match named {
-        Named::ByHeader(digest, got) => {
-            let _body = accepted(alloc, got)?;
+        NamedAnswer::ByHeader(digest, got) => {
+            let _body = accepted(alloc, 200, got)?;
             let digest = fits_reference(alloc, digest, call.image)?;
             Ok(digest)
         }
-        Named::Unnamed => {
+        NamedAnswer::Unnamed => {
             let found = document(alloc, transport, memory, call, url, MANIFEST_TYPES)?;
             Ok(found.1)
         }

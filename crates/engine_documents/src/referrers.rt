@@ -2,17 +2,16 @@
 ghost use Rattle.std.specs.Prelude.{◌≡◌, option_copied};
 ghost use Rattle.oci_auth.specs.declared.memory.Memory.{Memory};
 ghost use Rattle.oci_protocol.specs.Runs.{Meets};
-ghost use Rattle.engine_requests.specs.Contexts.{context_of};
-ghost use Rattle.engine_requests.specs.Errors.{is_memory};
+ghost use Rattle.engine_terms.specs.Contexts.{context_of};
+ghost use Rattle.engine_terms.specs.Errors.{is_memory};
 ghost use Rattle.engine_rows.specs.Referrers.{referrers_asked, referrers_tagged, referrers_by};
 ghost use Rattle.engine_rows.specs.Referrers.{pull_referrers};
 
 use crate::documents::manifest_asked;
-use engine_requests::{
-    Call, Got, MANIFEST_TYPES, OciDistributionError, digest_given, fallback_reference,
-    referrers_in, referrers_url, tagged_index,
-};
+use engine_answers::{Got, fallback_reference, referrers_in, tagged_index};
+use engine_requests::{MANIFEST_TYPES, digest_given, referrers_url};
 use engine_steps::{Target, prepared, whole};
+use engine_terms::{Call, OciDistributionError};
 use oci_auth::{Memory, RegistryOperation};
 use oci_manifests::OciImageIndex;
 use oci_transport::{Method, Transport};

@@ -21,20 +21,20 @@ use Rattle.oci_protocol.specs.Proto.{Unread, Reply, Headed, Answered, Failed, To
 use Rattle.oci_protocol.specs.Runs.{head_part, Runs}
 use Rattle.oci_protocol.specs.Shows.{Shows, WhereOk, Heard}
 use Rattle.oci_protocol.proofs.Showing.{done_run, Shows-more, Shows-next, Shows-step}
-use Rattle.engine_requests.specs.declared.blobs.Expected.{Expected}
-use Rattle.engine_requests.specs.declared.blobs.Plan.{Plan}
-use Rattle.engine_requests.specs.declared.blobs.Plan.TheVariants as plan
-use Rattle.engine_requests.specs.Contexts.{Context}
-use Rattle.engine_requests.specs.declared.settings.Settings.{Settings}
+use Rattle.engine_answers.specs.declared.blobs.Expected.{Expected}
+use Rattle.engine_answers.specs.declared.blobs.Plan.{Plan}
+use Rattle.engine_answers.specs.declared.blobs.Plan.TheVariants as plan
+use Rattle.engine_terms.specs.Contexts.{Context}
+use Rattle.engine_terms.specs.declared.settings.Settings.{Settings}
 use Rattle.engine_requests.specs.declared.sources.Place.{Place}
 use Rattle.engine_requests.specs.Sources.{Layer, places_of}
-use Rattle.engine_requests.specs.declared.error.OciDistributionError.{OciDistributionError}
-use Rattle.engine_requests.specs.declared.error.OciDistributionError.TheVariants as refusal
-use Rattle.engine_requests.specs.Errors.{◌>>◌ as ◌before◌}
+use Rattle.engine_terms.specs.declared.error.OciDistributionError.{OciDistributionError}
+use Rattle.engine_terms.specs.declared.error.OciDistributionError.TheVariants as refusal
+use Rattle.engine_terms.specs.Errors.{◌>>◌ as ◌before◌}
 use Rattle.engine_requests.specs.Addresses.{blob_text, url_read}
 use Rattle.engine_requests.specs.Requests.{manifest_types}
-use Rattle.engine_requests.specs.Answers.{is_success}
-use Rattle.engine_requests.specs.Blobs.{digest_expected, given_expected, pouring, plan_by, planned, plan_in, plan_of, compared, given_compared, both_compared}
+use Rattle.engine_answers.specs.Answers.{is_success}
+use Rattle.engine_answers.specs.Blobs.{digest_expected, given_expected, pouring, plan_by, planned, plan_in, plan_of, compared, given_compared, both_compared}
 use Rattle.engine_rows.specs.Rows.{prepared}
 use Rattle.engine_rows.specs.Blobs.{Destination, IntoSink, IntoMemory, reading_into, reading_by, blob_reading, unread_by, read_by, blob_reply}
 use Rattle.engine_rows.specs.Offers.{tried}

@@ -17,11 +17,11 @@ use Rattle.oci_protocol.specs.Runs.{Meets, Told}
 use Rattle.oci_protocol.specs.Safe.{Safe}
 use Rattle.oci_protocol.proofs.Safety.{Safe-bind}
 use Rattle.engine_requests.specs.Sources.{Layer}
-use Rattle.engine_requests.specs.Contexts.{Context}
+use Rattle.engine_terms.specs.Contexts.{Context}
 use Rattle.engine_requests.specs.Requests.{manifest_types}
-use Rattle.engine_requests.specs.declared.error.OciDistributionError.{OciDistributionError}
-use Rattle.engine_requests.specs.Errors.{is_memory}
-use Rattle.engine_requests.specs.declared.settings.Settings.{Settings}
+use Rattle.engine_terms.specs.declared.error.OciDistributionError.{OciDistributionError}
+use Rattle.engine_terms.specs.Errors.{is_memory}
+use Rattle.engine_terms.specs.declared.settings.Settings.{Settings}
 use Rattle.engine_rows.specs.Rows.{Row, store, token_step, kept_text, token_given}
 use Rattle.engine_rows.specs.Blobs.{Destination, IntoSink, Spills}
 use Rattle.engine_rows.specs.Pulls.{fetch_manifest_digest, pull_manifest_raw, pull_manifest, blob_to, pull_blob}

@@ -10,19 +10,19 @@ use Rattle.oci_auth.specs.declared.auth.RegistryAuth.{RegistryAuth}
 use Rattle.oci_auth.specs.declared.memory.Memory.{Memory}
 use Rattle.oci_protocol.specs.Runs.{Meets, Told}
 use Rattle.oci_protocol.proofs.Showing.{Meets-shows-ok}
-use Rattle.engine_requests.specs.Contexts.{Context}
+use Rattle.engine_terms.specs.Contexts.{Context}
 use Rattle.engine_requests.specs.Sources.{Layer}
-use Rattle.engine_requests.specs.declared.error.OciDistributionError.{OciDistributionError}
-use Rattle.engine_requests.specs.Errors.{is_memory}
+use Rattle.engine_terms.specs.declared.error.OciDistributionError.{OciDistributionError}
+use Rattle.engine_terms.specs.Errors.{is_memory}
 use Rattle.engine_rows.specs.Blobs.{Destination, IntoSink, Spills}
 use Rattle.engine_rows.specs.Pulls.{fetch_manifest_digest, pull_manifest_raw, blob_to, pull_blob}
-use Rattle.engine_laws.specs.Answered.{Answered, Body, LastBody, Document, TookBlob}
+use Rattle.engine_laws.specs.Answered.{DigestAnswered, Body, LastBody, Document, TookBlob}
 use Rattle.engine_laws.proofs.DocumentAnswers.{raw_shows}
 use Rattle.engine_laws.proofs.DigestAnswers.{digest_shows}
 use Rattle.engine_laws.proofs.BlobAnswers.{Blob, blob_shows}
 
-pub digest_answered : (s : Context) (image : Reference) (a : RegistryAuth) {old new : Link} {k l : Memory} {r : Result (List ℕ) OciDistributionError} → Meets is_memory (fetch_manifest_digest s image a) old new k l r → IfOk r (λ d. Told (λ c. Answered s.settings image c d) old new)
-digest_answered s image a met = Meets-shows-ok (λ m c n d. Answered s.settings image c d) (digest_shows s image a) met
+pub digest_answered : (s : Context) (image : Reference) (a : RegistryAuth) {old new : Link} {k l : Memory} {r : Result (List ℕ) OciDistributionError} → Meets is_memory (fetch_manifest_digest s image a) old new k l r → IfOk r (λ d. Told (λ c. DigestAnswered s.settings image c d) old new)
+digest_answered s image a met = Meets-shows-ok (λ m c n d. DigestAnswered s.settings image c d) (digest_shows s image a) met
 
 raw_told : (s : Context) (image : Reference) (a : RegistryAuth) (types : List ℕ) {old new : Link} {k l : Memory} {r : Result (List ℕ × List ℕ) OciDistributionError} → Meets is_memory (pull_manifest_raw s image a types) old new k l r → IfOk r (λ found. Told (λ c. Document image c found.0 found.1) old new)
 raw_told s image a types met = Meets-shows-ok (λ m c n found. Document image c found.0 found.1) (raw_shows s image a types) met

@@ -24,10 +24,11 @@ use Rattle.oci_protocol.specs.Runs.{Meets, Told}
 use Rattle.oci_protocol.specs.Safe.{Safe}
 use Rattle.oci_protocol.proofs.Lifting.{Safe-lifted}
 use Rattle.oci_protocol.proofs.Safety.{Safe-bind}
-use Rattle.engine_requests.specs.Addresses.{scheme_for, registry_text, base_text}
-use Rattle.engine_requests.specs.Contexts.{Context}
+use Rattle.engine_requests.specs.Addresses.{registry_text, base_text}
+use Rattle.engine_terms.specs.Schemes.{scheme_for}
+use Rattle.engine_terms.specs.Contexts.{Context}
 use Rattle.engine_requests.specs.Tokens.{allowed, realm_url, with_service}
-use Rattle.engine_requests.specs.declared.settings.Settings.{Settings}
+use Rattle.engine_terms.specs.declared.settings.Settings.{Settings}
 use Rattle.engine_laws.specs.Confined.{ToRegistry, ToRealm, MayCarry, Confined, KeptOrAdded, StoredOrHanded, Within}
 use Rattle.engine_laws.specs.Held.{Entry, pulling, IsAuth, IsHeld}
 use Rattle.engine_laws.proofs.Confining.{each_more}

@@ -17,7 +17,7 @@ use Rattle.oci_transport.specs.declared.message.Exchange.{Exchange}
 use Rattle.oci_transport.specs.declared.message.Method.{Method}
 use Rattle.oci_auth.specs.Credentials.{authorization_of}
 use Rattle.oci_auth.specs.declared.token_type.RegistryTokenType.{RegistryTokenType}
-use Rattle.engine_requests.specs.declared.settings.Settings.{Settings}
+use Rattle.engine_terms.specs.declared.settings.Settings.{Settings}
 use Rattle.engine_requests.specs.Requests.{with_accept, with_token, request_of}
 use Rattle.engine_laws.specs.Confined.{ToRegistry, MayCarry, Each, Confined}
 use Rattle.engine_laws.specs.Held.{Entry, IsHeld}

@@ -19,25 +19,25 @@ use Rattle.oci_protocol.specs.Shows.{Shows, WhereOk, Heard}
 use Rattle.oci_protocol.proofs.Showing.{done_run, Shows-more, Shows-next, Shows-step, Shows-last, Shows-follow}
 use Rattle.oci_auth.specs.declared.memory.Memory.{Memory}
 use Rattle.oci_auth.specs.declared.token_type.RegistryOperation.TheVariants.{Pull}
-use Rattle.engine_requests.specs.declared.answers.Got.{Got}
-use Rattle.engine_requests.specs.Contexts.{Context}
-use Rattle.engine_requests.specs.declared.settings.Settings.{Settings}
-use Rattle.engine_requests.specs.declared.error.OciDistributionError.{OciDistributionError}
-use Rattle.engine_requests.specs.declared.error.OciDistributionError.TheVariants as refusal
+use Rattle.engine_answers.specs.declared.answers.Got.{Got}
+use Rattle.engine_terms.specs.Contexts.{Context}
+use Rattle.engine_terms.specs.declared.settings.Settings.{Settings}
+use Rattle.engine_terms.specs.declared.error.OciDistributionError.{OciDistributionError}
+use Rattle.engine_terms.specs.declared.error.OciDistributionError.TheVariants as refusal
 use Rattle.engine_requests.specs.Addresses.{manifest_text, url_read}
 use Rattle.engine_requests.specs.Requests.{manifest_types}
-use Rattle.engine_requests.specs.Answers.{accepted, header_digest, agreed, fits_reference}
-use Rattle.engine_rows.specs.declared.named.Named.{Named}
-use Rattle.engine_rows.specs.declared.named.Named.TheVariants as named
+use Rattle.engine_answers.specs.Answers.{accepted, header_digest, agreed, fits_reference}
+use Rattle.engine_rows.specs.declared.named.NamedAnswer.{NamedAnswer}
+use Rattle.engine_rows.specs.declared.named.NamedAnswer.TheVariants as named
 use Rattle.engine_rows.specs.Rows.{store, reading_named, named_reading, unread_named, read_named, named_reply, named_after, prepared}
 use Rattle.engine_rows.specs.Pulls.{document, digest_by, fetch_manifest_digest}
-use Rattle.engine_laws.specs.Answered.{NoneAsks, LedTo, FirstAsked, ByHeader, ByDocument, Answered as Digest}
+use Rattle.engine_laws.specs.Answered.{NoneAsks, LedTo, FirstAsked, ByHeader, ByDocument, DigestAnswered as Digest}
 use Rattle.engine_laws.proofs.PreparedRequests.{asks_of, quiet_store, Prepared, prepared_shows}
 use Rattle.engine_laws.proofs.DocumentAnswers.{led_of, first_asked, first_later, accepted_is, digest_ok, names_of, Found, document_shows, url_is}
 
 -- ---- the answer whose header names a digest, or none
 
-abbrev Names : Request → List Exchange → Named → Type 0
+abbrev Names : Request → List Exchange → NamedAnswer → Type 0
 Names request c (named.ByHeader digest got) = LedTo request c got.answer × (header_digest got.answer.headers ≡ Ok (Some digest))
 Names request c named.Unnamed = (answer : Answer) × LedTo request c answer × (header_digest answer.headers ≡ Ok None)
 
@@ -51,7 +51,7 @@ read_where request limit m after c got (Ok (Some digest)) is some led = rw appen
 read_where request limit m after c got (Ok None) is some led = absurd (some refl)
 read_where request limit m after c got (Err e) is some led = tt
 
-named_run : (request : Request) (limit : ℕ) (k l : Memory) (m after o : ℕ) (c d : List Exchange) (last : Request) (reply : Reply) (r : Result Named OciDistributionError) → Heard 10 request (named_reading limit) m c after last reply → Runs (named_reply last reply) k after d o l r → WhereOk (λ m c n x. Names request c x) m (c ++ d) o r
+named_run : (request : Request) (limit : ℕ) (k l : Memory) (m after o : ℕ) (c d : List Exchange) (last : Request) (reply : Reply) (r : Result NamedAnswer OciDistributionError) → Heard 10 request (named_reading limit) m c after last reply → Runs (named_reply last reply) k after d o l r → WhereOk (λ m c n x. Names request c x) m (c ++ d) o r
 unfolding named_reading
 named_run request limit k l m after o c d last (Headed head) r h run =
     let b = h.replies.reply_is in
@@ -87,7 +87,7 @@ ok_same : (a b : List ℕ) → ◌≡◌ {A = Result (List ℕ) OciDistributionE
 ok_same a b is = cc is
 
 -- what comes after an answer
-abbrev After : Reference → List ℕ → Named → List Exchange → List ℕ → Type 0
+abbrev After : Reference → List ℕ → NamedAnswer → List Exchange → List ℕ → Type 0
 After image address (named.ByHeader digest got) d x = (d ≡ []) × (got.answer.status ≡ 200) × (x ≡ digest)
 After image address named.Unnamed d x = ByDocument image address x d
 
@@ -96,8 +96,8 @@ by_document {image} {found = found} f =
     let v = f.validly in
     record { get = f.get; body = record { status = v.status; header = v.header; header_is = v.header_is; digest = v.validates.answer; names = names_of f.get.answer.body v.header (digest_of image) found.1 v.validates } }
 
-after_shows : (s : Context) (image : Reference) (url : Parts) (x : Named) → Shows (WhereOk (λ m c n d. After image (serialize url) x c d)) (digest_by s image url x)
-after_shows s image url (named.ByHeader digest got) = Shows-step (WhereOk (λ m c n d. After image (serialize url) (named.ByHeader digest got) c d)) (accepted got.url got.answer) (λ answer. Done (fits_reference digest (digest_of image)))
+after_shows : (s : Context) (image : Reference) (url : Parts) (x : NamedAnswer) → Shows (WhereOk (λ m c n d. After image (serialize url) x c d)) (digest_by s image url x)
+after_shows s image url (named.ByHeader digest got) = Shows-step (WhereOk (λ m c n d. After image (serialize url) (named.ByHeader digest got) c d)) (accepted 200 got.url got.answer) (λ answer. Done (fits_reference digest (digest_of image)))
     (λ answer is. Shows-last (λ m c n d. After image (serialize url) (named.ByHeader digest got) c d) (λ m c n e. Unit {0}) (fits_reference digest (digest_of image)) (λ d fits m. (refl, (accepted_is got.url got.answer answer is).0, fits_is digest (digest_of image) d fits)) (λ e is m. tt))
     (λ e is m. tt)
 after_shows s image url named.Unnamed = Shows-next (λ m c n found. Found image (serialize url) c found) (λ m c n d. After image (serialize url) named.Unnamed c d) (document s image url manifest_types) (λ found. Done (Ok found.1)) (document_shows s image url manifest_types)
@@ -112,7 +112,7 @@ record DigestRead (image : Reference) (address : List ℕ) (request : Request) (
   led : LedTo request asked answer
   digest : ByHeader d answer ⊎ ((header_digest answer.headers ≡ Ok None) × ByDocument image address d after)
 
-read_digest : (image : Reference) (address : List ℕ) (request : Request) (x : Named) (c d : List Exchange) (digest : List ℕ) → Names request c x → After image address x d digest → DigestRead image address request (c ++ d) digest
+read_digest : (image : Reference) (address : List ℕ) (request : Request) (x : NamedAnswer) (c d : List Exchange) (digest : List ℕ) → Names request c x → After image address x d digest → DigestRead image address request (c ++ d) digest
 read_digest image address request (named.ByHeader given got) c d digest names after = record {
   asked = c;
   after = d;
@@ -123,7 +123,7 @@ read_digest image address request (named.ByHeader given got) c d digest names af
 }
 read_digest image address request named.Unnamed c d digest names after = record { asked = c; after = d; split = refl; answer = names.0; led = names.1; digest = inr (names.2, after) }
 
-digest_where : (image : Reference) (address : List ℕ) (request : Request) (x : Named) (c : List Exchange) → Names request c x → (m start n : ℕ) (d : List Exchange) (r : Result (List ℕ) OciDistributionError) → WhereOk (λ m c n t. After image address x c t) start d n r → WhereOk (λ m c n t. DigestRead image address request c t) m (c ++ d) n r
+digest_where : (image : Reference) (address : List ℕ) (request : Request) (x : NamedAnswer) (c : List Exchange) → Names request c x → (m start n : ℕ) (d : List Exchange) (r : Result (List ℕ) OciDistributionError) → WhereOk (λ m c n t. After image address x c t) start d n r → WhereOk (λ m c n t. DigestRead image address request c t) m (c ++ d) n r
 digest_where image address request x c names m start n d (Ok t) after = read_digest image address request x c d t names after
 digest_where image address request x c names m start n d (Err e) after = tt
 

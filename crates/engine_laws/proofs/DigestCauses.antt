@@ -17,16 +17,16 @@ use Rattle.oci_protocol.specs.Proto.{Piped, limit_of, Reply, Headed, Answered, F
 use Rattle.oci_protocol.specs.Runs.{Runs}
 use Rattle.oci_protocol.specs.Shows.{Shows, ByAnswer, Heard}
 use Rattle.oci_protocol.proofs.Showing.{done_run, Shows-more, Shows-each, Shows-step, Shows-last, Shows-follow}
-use Rattle.engine_requests.specs.declared.answers.Got.{Got}
-use Rattle.engine_requests.specs.Contexts.{Context}
-use Rattle.engine_requests.specs.declared.settings.Settings.{Settings}
-use Rattle.engine_requests.specs.declared.error.OciDistributionError.{OciDistributionError}
-use Rattle.engine_requests.specs.declared.error.OciDistributionError.TheVariants as refusal
+use Rattle.engine_answers.specs.declared.answers.Got.{Got}
+use Rattle.engine_terms.specs.Contexts.{Context}
+use Rattle.engine_terms.specs.declared.settings.Settings.{Settings}
+use Rattle.engine_terms.specs.declared.error.OciDistributionError.{OciDistributionError}
+use Rattle.engine_terms.specs.declared.error.OciDistributionError.TheVariants as refusal
 use Rattle.engine_requests.specs.Addresses.{manifest_text, url_read}
 use Rattle.engine_requests.specs.Requests.{manifest_types}
-use Rattle.engine_requests.specs.Answers.{accepted, header_digest, agreed, fits_reference}
-use Rattle.engine_rows.specs.declared.named.Named.{Named}
-use Rattle.engine_rows.specs.declared.named.Named.TheVariants as named
+use Rattle.engine_answers.specs.Answers.{accepted, header_digest, agreed, fits_reference}
+use Rattle.engine_rows.specs.declared.named.NamedAnswer.{NamedAnswer}
+use Rattle.engine_rows.specs.declared.named.NamedAnswer.TheVariants as named
 use Rattle.engine_rows.specs.Rows.{store, reading_named, named_reading, unread_named, read_named, named_reply, named_after, prepared}
 use Rattle.engine_rows.specs.Pulls.{document, digest_by, fetch_manifest_digest}
 use Rattle.engine_laws.specs.Causes.{ManifestUrl, LastAnswer, AnswerCause, OwnDigest}
@@ -36,7 +36,7 @@ use Rattle.engine_laws.proofs.EarlyCauses.{prepared_causes, store_causes}
 use Rattle.engine_laws.proofs.DocumentCauses.{answer_cause, cause_later, header_refused, not_accepted, heard_answer, heard_failed, heard_long, Accepted, OwnCause, document_causes, early_shown, url_cause}
 
 -- the last answer, where its header names a digest
-abbrev NamedLast : ℕ → List Exchange → ℕ → Named → Type 0
+abbrev NamedLast : ℕ → List Exchange → ℕ → NamedAnswer → Type 0
 NamedLast m c n (named.ByHeader digest got) = LastAnswer c got.url got.answer × (header_digest got.answer.headers ≡ Ok (Some digest))
 NamedLast m c n named.Unnamed = Unit {0}
 
@@ -59,7 +59,7 @@ piped_never limit n (Ok (Some digest)) is = cc is
 piped_never limit n (Ok None) is = cc is
 piped_never limit n (Err e) is = cc is
 
-named_run : (s : Settings) (image : Reference) (request : Request) → first_of (codes "accept") request.headers ≡ Some manifest_types → (k l : Memory) (m after o : ℕ) (c d : List Exchange) (last : Request) (reply : Reply) (r : Result Named OciDistributionError) → Heard 10 request (named_reading s.max_body_bytes) m c after last reply → Runs (named_reply last reply) k after d o l r → ByAnswer NamedLast (OwnCause s image manifest_types) m (c ++ d) o r
+named_run : (s : Settings) (image : Reference) (request : Request) → first_of (codes "accept") request.headers ≡ Some manifest_types → (k l : Memory) (m after o : ℕ) (c d : List Exchange) (last : Request) (reply : Reply) (r : Result NamedAnswer OciDistributionError) → Heard 10 request (named_reading s.max_body_bytes) m c after last reply → Runs (named_reply last reply) k after d o l r → ByAnswer NamedLast (OwnCause s image manifest_types) m (c ++ d) o r
 unfolding named_reading
 named_run s image request accepts k l m after o c d last (Headed head) r h run =
     let b = h.replies.reply_is in
@@ -96,8 +96,8 @@ document_digest : (s : Context) (image : Reference) (url : Parts) → Shows (ByA
 document_digest s image url = Shows-each (λ m c n found. Accepted c found.0) Any (OwnCause s.settings image manifest_types) (document s image url manifest_types) (λ found. Done (Ok found.1)) (document_causes s image url manifest_types)
     (λ m n c found h. Shows-last (λ start d o x. Unit {0}) (λ start d o e. OwnCause s.settings image manifest_types m (c ++ d) o e) (Ok found.1) (λ x is o. tt) (λ e is o. absurd (cc is)))
 
-by_causes : (s : Context) (image : Reference) (url : Parts) (m n : ℕ) (c : List Exchange) (x : Named) → NamedLast m c n x → Shows (λ start d o r. ByAnswer Any (OwnCause s.settings image manifest_types) m (c ++ d) o r) (digest_by s image url x)
-by_causes s image url m n c (named.ByHeader digest got) h = Shows-step (λ start d o r. ByAnswer Any (OwnCause s.settings image manifest_types) m (c ++ d) o r) (accepted got.url got.answer) (λ answer. Done (fits_reference digest (digest_of image)))
+by_causes : (s : Context) (image : Reference) (url : Parts) (m n : ℕ) (c : List Exchange) (x : NamedAnswer) → NamedLast m c n x → Shows (λ start d o r. ByAnswer Any (OwnCause s.settings image manifest_types) m (c ++ d) o r) (digest_by s image url x)
+by_causes s image url m n c (named.ByHeader digest got) h = Shows-step (λ start d o r. ByAnswer Any (OwnCause s.settings image manifest_types) m (c ++ d) o r) (accepted 200 got.url got.answer) (λ answer. Done (fits_reference digest (digest_of image)))
     (λ answer is. Shows-last (λ start d o x. Unit {0}) (λ start d o e. OwnCause s.settings image manifest_types m (c ++ d) o e) (fits_reference digest (digest_of image)) (λ x is o. tt) (λ e is o. at_last o e (fits_refused image got.answer got.url digest (digest_of image) e refl h.1 is)))
     (λ e is o. at_last o e (not_accepted (OwnDigest image) got.url got.answer e is)) where
       at_last : (o : ℕ) (e : OciDistributionError) → AnswerCause (OwnDigest image) got.url got.answer e → OwnCause s.settings image manifest_types m (c ++ []) o e

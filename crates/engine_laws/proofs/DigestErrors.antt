@@ -10,9 +10,9 @@ use Rattle.oci_digests.specs.Checks.{is_header_text, header_digest as digest_in,
 use Rattle.oci_digests.specs.declared.digester.Algorithm.{Algorithm}
 use Rattle.oci_digests.specs.declared.error.DigestError.{DigestError}
 use Rattle.oci_digests.specs.declared.error.DigestError.TheVariants.{InvalidHeader, MissingAlgorithm, UnsupportedAlgorithm, VerificationError, WantOfMemory}
-use Rattle.engine_requests.specs.declared.error.OciDistributionError.{OciDistributionError}
-use Rattle.engine_requests.specs.declared.error.OciDistributionError.TheVariants as refusal
-use Rattle.engine_requests.specs.Answers.{or_digest_error, header_digest, agreed}
+use Rattle.engine_terms.specs.declared.error.OciDistributionError.{OciDistributionError}
+use Rattle.engine_terms.specs.declared.error.OciDistributionError.TheVariants as refusal
+use Rattle.engine_answers.specs.Answers.{or_digest_error, header_digest, agreed}
 use Rattle.engine_laws.specs.Causes.{Claimed, DigestCause}
 
 -- why a text names no algorithm

@@ -25,14 +25,14 @@ use Rattle.oci_protocol.specs.Runs.{head_part, Runs}
 use Rattle.oci_protocol.specs.Follow.{Trail, IsFinal}
 use Rattle.oci_protocol.specs.Shows.{Shows, WhereOk, Heard}
 use Rattle.oci_protocol.proofs.Showing.{done_run, Shows-more, Shows-next, Shows-step, Shows-last, Shows-follow}
-use Rattle.engine_requests.specs.declared.answers.Got.{Got}
-use Rattle.engine_requests.specs.Contexts.{Context}
-use Rattle.engine_requests.specs.declared.settings.Settings.{Settings}
-use Rattle.engine_requests.specs.declared.error.OciDistributionError.{OciDistributionError}
-use Rattle.engine_requests.specs.declared.error.OciDistributionError.TheVariants as refusal
-use Rattle.engine_requests.specs.Errors.{◌>>=◌ as ◌into◌}
+use Rattle.engine_answers.specs.declared.answers.Got.{Got}
+use Rattle.engine_terms.specs.Contexts.{Context}
+use Rattle.engine_terms.specs.declared.settings.Settings.{Settings}
+use Rattle.engine_terms.specs.declared.error.OciDistributionError.{OciDistributionError}
+use Rattle.engine_terms.specs.declared.error.OciDistributionError.TheVariants as refusal
+use Rattle.engine_terms.specs.Errors.{◌>>=◌ as ◌into◌}
 use Rattle.engine_requests.specs.Addresses.{manifest_text, url_or, url_read}
-use Rattle.engine_requests.specs.Answers.{accepted, refused_answer, or_digest_error, header_digest, body_digest, answer_digest, document_in}
+use Rattle.engine_answers.specs.Answers.{accepted, refused_answer, or_digest_error, header_digest, body_digest, answer_digest, document_in}
 use Rattle.engine_rows.specs.Rows.{store, whole, whole_reply, prepared}
 use Rattle.engine_rows.specs.Pulls.{manifest_document, document, pull_manifest_raw}
 use Rattle.engine_laws.specs.Answered.{Asks, NoneAsks, LedTo, FirstAsked, Body, Document}
@@ -101,9 +101,9 @@ body_first first = subst (λ c. Body c first.answer.body) (sym first.split) (bod
 status_is : (status : ℕ) → nat_eq status 200 ≡ true → status ≡ 200
 status_is status h = grind (arith, nat_tests, h)
 
-pub accepted_is : (url : List ℕ) (answer a : Answer) → accepted url answer ≡ Ok a → (answer.status ≡ 200) × (a ≡ answer)
+pub accepted_is : (url : List ℕ) (answer a : Answer) → accepted 200 url answer ≡ Ok a → (answer.status ≡ 200) × (a ≡ answer)
 accepted_is url answer a = by_test (nat_eq answer.status 200) refl where
-  by_test : (b : Bool) → nat_eq answer.status 200 ≡ b → (if b then Ok answer else Err (refused_answer url answer)) ≡ Ok a → (answer.status ≡ 200) × (a ≡ answer)
+  by_test : (b : Bool) → nat_eq answer.status 200 ≡ b → (if b then Ok answer else Err (refused_answer 200 url answer)) ≡ Ok a → (answer.status ≡ 200) × (a ≡ answer)
   by_test true test is = (status_is answer.status test, cc is)
   by_test false test is = absurd (cc is)
 
@@ -131,7 +131,7 @@ pub record Validly (image : Reference) (answer : Answer) (found : List ℕ × Li
 
 validly_of : (image : Reference) (got : Got) (found : List ℕ × List ℕ) → document_in image got ≡ Ok found → Validly image got.answer found
 validly_of image got found is =
-    let first = into_ok (accepted got.url got.answer) (λ answer. answer_digest image answer into λ digest. Ok (answer.body, digest)) found is in
+    let first = into_ok (accepted 200 got.url got.answer) (λ answer. answer_digest image answer into λ digest. Ok (answer.body, digest)) found is in
     let good = accepted_is got.url got.answer first.0 first.1 in
     let here : (answer_digest image got.answer into λ digest. Ok (got.answer.body, digest)) ≡ Ok found = subst (λ (a : Answer). (answer_digest image a into λ digest. Ok (a.body, digest)) ≡ Ok found) good.1 first.2 in
     let second = into_ok (answer_digest image got.answer) (λ digest. Ok (got.answer.body, digest)) found here in

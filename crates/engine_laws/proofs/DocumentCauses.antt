@@ -13,7 +13,7 @@ use Rattle.oci_names.specs.declared.reference.Reference.{Reference}
 use Rattle.oci_names.specs.References.{digest_of}
 use Rattle.oci_digests.specs.Checks.{header_digest as digest_in, validated}
 use Rattle.oci_digests.specs.declared.error.DigestError.{DigestError}
-use Rattle.oci_manifests.specs.declared.envelope.OciEnvelope.{OciEnvelope}
+use Rattle.oci_errors.specs.declared.envelope.OciEnvelope.{OciEnvelope}
 use Rattle.oci_auth.specs.declared.auth.RegistryAuth.{RegistryAuth}
 use Rattle.oci_auth.specs.declared.memory.Memory.{Memory}
 use Rattle.oci_auth.specs.declared.token_type.RegistryOperation.TheVariants.{Pull}
@@ -22,16 +22,16 @@ use Rattle.oci_protocol.specs.Runs.{head_part, Runs}
 use Rattle.oci_protocol.specs.Follow.{Trail, IsFinal}
 use Rattle.oci_protocol.specs.Shows.{Shows, ByAnswer, Heard}
 use Rattle.oci_protocol.proofs.Showing.{done_run, Shows-more, Shows-each, Shows-step, Shows-last, Shows-follow}
-use Rattle.engine_requests.specs.declared.answers.Got.{Got}
-use Rattle.engine_requests.specs.Contexts.{Context}
-use Rattle.engine_requests.specs.declared.settings.Settings.{Settings}
-use Rattle.engine_requests.specs.declared.error.GenericCause.TheVariants.{HeaderText}
-use Rattle.engine_requests.specs.declared.error.SpecViolation.TheVariants.{Status}
-use Rattle.engine_requests.specs.declared.error.OciDistributionError.{OciDistributionError}
-use Rattle.engine_requests.specs.declared.error.OciDistributionError.TheVariants as refusal
-use Rattle.engine_requests.specs.Errors.{◌>>=◌ as ◌into◌}
+use Rattle.engine_answers.specs.declared.answers.Got.{Got}
+use Rattle.engine_terms.specs.Contexts.{Context}
+use Rattle.engine_terms.specs.declared.settings.Settings.{Settings}
+use Rattle.engine_terms.specs.declared.error.GenericCause.TheVariants.{HeaderText}
+use Rattle.engine_terms.specs.declared.error.SpecViolation.TheVariants.{Status}
+use Rattle.engine_terms.specs.declared.error.OciDistributionError.{OciDistributionError}
+use Rattle.engine_terms.specs.declared.error.OciDistributionError.TheVariants as refusal
+use Rattle.engine_terms.specs.Errors.{◌>>=◌ as ◌into◌}
 use Rattle.engine_requests.specs.Addresses.{manifest_text, url_read}
-use Rattle.engine_requests.specs.Answers.{is_success, is_client_error, envelope_in, by_envelope, refused_answer, accepted, header_digest, body_digest, answer_digest, document_in}
+use Rattle.engine_answers.specs.Answers.{is_success, is_client_error, envelope_in, by_envelope, refused_answer, accepted, header_digest, body_digest, answer_digest, document_in}
 use Rattle.engine_rows.specs.Rows.{Row, store, whole, whole_reply, prepared}
 use Rattle.engine_rows.specs.Pulls.{document, manifest_document, pull_manifest_raw}
 use Rattle.engine_laws.specs.Causes.{ManifestUrl, LastAsked, LastAnswer, LastFailed, LastTooLong, IsClientError, DigestCause, AnswerCause, ByLast, OwnDigest}
@@ -128,14 +128,14 @@ by_401 Given address answer true test not_ok = (refl, status_is answer.status 40
 by_401 Given address answer false test not_ok = by_success Given address answer (is_success answer.status) refl not_ok (status_other answer.status 401 test)
 
 -- an answer of another status than 200 is refused for it
-pub status_cause : (Given : List ℕ → Type 0) (address : List ℕ) (answer : Answer) → answer.status ≢ 200 → AnswerCause Given address answer (refused_answer address answer)
+pub status_cause : (Given : List ℕ → Type 0) (address : List ℕ) (answer : Answer) → answer.status ≢ 200 → AnswerCause Given address answer (refused_answer 200 address answer)
 status_cause Given address answer not_ok = by_401 Given address answer (nat_eq answer.status 401) refl not_ok
 
-accepted_cause : (Given : List ℕ → Type 0) (address : List ℕ) (answer : Answer) (e : OciDistributionError) (b : Bool) → nat_eq answer.status 200 ≡ b → ◌≡◌ {A = Result Answer OciDistributionError} (if b then Ok answer else Err (refused_answer address answer)) (Err e) → AnswerCause Given address answer e
+accepted_cause : (Given : List ℕ → Type 0) (address : List ℕ) (answer : Answer) (e : OciDistributionError) (b : Bool) → nat_eq answer.status 200 ≡ b → ◌≡◌ {A = Result Answer OciDistributionError} (if b then Ok answer else Err (refused_answer 200 address answer)) (Err e) → AnswerCause Given address answer e
 accepted_cause Given address answer e true test is = absurd (cc is)
-accepted_cause Given address answer e false test is = let same : refused_answer address answer ≡ e = cc is in subst (AnswerCause Given address answer) same (status_cause Given address answer (status_other answer.status 200 test))
+accepted_cause Given address answer e false test is = let same : refused_answer 200 address answer ≡ e = cc is in subst (AnswerCause Given address answer) same (status_cause Given address answer (status_other answer.status 200 test))
 
-pub not_accepted : (Given : List ℕ → Type 0) (address : List ℕ) (answer : Answer) (e : OciDistributionError) → accepted address answer ≡ Err e → AnswerCause Given address answer e
+pub not_accepted : (Given : List ℕ → Type 0) (address : List ℕ) (answer : Answer) (e : OciDistributionError) → accepted 200 address answer ≡ Err e → AnswerCause Given address answer e
 not_accepted Given address answer e is = accepted_cause Given address answer e (nat_eq answer.status 200) refl is
 
 -- ---- documents
@@ -169,7 +169,7 @@ after_digest : (image : Reference) (address : List ℕ) (answer : Answer) (e : O
 after_digest image address answer e (inl is) = of_digest image address answer e (into_err (header_digest answer.headers) (λ header. body_digest answer.body header (digest_of image)) e is)
 after_digest image address answer e (inr h) = absurd (cc (h.2))
 
-of_document : (image : Reference) (got : Got) (e : OciDistributionError) → (accepted got.url got.answer ≡ Err e) ⊎ ((answer : Answer) × (accepted got.url got.answer ≡ Ok answer) × (◌into◌ {B = List ℕ × List ℕ} (answer_digest image answer) (λ digest. Ok (answer.body, digest)) ≡ Err e)) → AnswerCause (OwnDigest image) got.url got.answer e
+of_document : (image : Reference) (got : Got) (e : OciDistributionError) → (accepted 200 got.url got.answer ≡ Err e) ⊎ ((answer : Answer) × (accepted 200 got.url got.answer ≡ Ok answer) × (◌into◌ {B = List ℕ × List ℕ} (answer_digest image answer) (λ digest. Ok (answer.body, digest)) ≡ Err e)) → AnswerCause (OwnDigest image) got.url got.answer e
 of_document image got e (inl is) = not_accepted (OwnDigest image) got.url got.answer e is
 of_document image got e (inr h) =
     let same = (accepted_is got.url got.answer h.0 h.1).1 in
@@ -177,7 +177,7 @@ of_document image got e (inr h) =
 
 -- the document rule refused it
 pub document_cause : (image : Reference) (got : Got) (e : OciDistributionError) → document_in image got ≡ Err e → AnswerCause (OwnDigest image) got.url got.answer e
-document_cause image got e is = of_document image got e (into_err (accepted got.url got.answer) (λ answer. answer_digest image answer into λ digest. Ok (answer.body, digest)) e is)
+document_cause image got e is = of_document image got e (into_err (accepted 200 got.url got.answer) (λ answer. answer_digest image answer into λ digest. Ok (answer.body, digest)) e is)
 
 -- ---- whole answers
 
@@ -232,7 +232,7 @@ Accepted c bytes = ByLast (λ address answer. (answer.status ≡ 200) × (bytes 
 
 found_accepted : (image : Reference) (got : Got) (found : List ℕ × List ℕ) (c : List Exchange) → LastAnswer c got.url got.answer → document_in image got ≡ Ok found → Accepted c found.0
 found_accepted image got found c last is =
-    let first = into_good (accepted got.url got.answer) (λ answer. answer_digest image answer into λ digest. Ok (answer.body, digest)) found is in
+    let first = into_good (accepted 200 got.url got.answer) (λ answer. answer_digest image answer into λ digest. Ok (answer.body, digest)) found is in
     let good = accepted_is got.url got.answer first.0 first.1 in
     let second = into_good (answer_digest image first.0) (λ digest. Ok (first.0.body, digest)) found first.2 in
     let pair = ok_same (first.0.body, second.0) found second.2 in

@@ -16,35 +16,35 @@ use Rattle.oci_digests.specs.declared.error.DigestError.TheVariants.{Verificatio
 use Rattle.oci_auth.specs.declared.auth.RegistryAuth.{RegistryAuth}
 use Rattle.oci_auth.specs.declared.memory.Memory.{Memory}
 use Rattle.oci_auth.specs.declared.token_type.RegistryOperation.TheVariants.{Pull}
-use Rattle.oci_manifests.specs.declared.descriptor.OciDescriptor.{OciDescriptor}
+use Rattle.oci_descriptors.specs.declared.descriptor.OciDescriptor.{OciDescriptor}
 use Rattle.oci_manifests.specs.declared.blob.ImageLayer.{ImageLayer}
 use Rattle.oci_protocol.specs.Proto.{Reply, Headed, Answered, Failed, TooLong, SinkFailed, Done, read_within, ◌>>=◌}
 use Rattle.oci_protocol.specs.Runs.{head_part}
 use Rattle.oci_protocol.specs.Safe.{Safe}
-use Rattle.engine_requests.specs.Contexts.{Context}
-use Rattle.engine_requests.specs.declared.settings.Settings.{Settings}
-use Rattle.engine_requests.specs.declared.answers.Got.{Got}
-use Rattle.engine_requests.specs.declared.blobs.Expected.{Expected}
-use Rattle.engine_requests.specs.declared.blobs.Plan.{Plan}
-use Rattle.engine_requests.specs.declared.blobs.Plan.TheVariants as plan
-use Rattle.engine_requests.specs.declared.error.GenericCause.TheVariants.{HeaderText}
-use Rattle.engine_requests.specs.declared.error.OciDistributionError.{OciDistributionError}
-use Rattle.engine_requests.specs.declared.error.OciDistributionError.TheVariants as refusal
+use Rattle.engine_terms.specs.Contexts.{Context}
+use Rattle.engine_terms.specs.declared.settings.Settings.{Settings}
+use Rattle.engine_answers.specs.declared.answers.Got.{Got}
+use Rattle.engine_answers.specs.declared.blobs.Expected.{Expected}
+use Rattle.engine_answers.specs.declared.blobs.Plan.{Plan}
+use Rattle.engine_answers.specs.declared.blobs.Plan.TheVariants as plan
+use Rattle.engine_terms.specs.declared.error.GenericCause.TheVariants.{HeaderText}
+use Rattle.engine_terms.specs.declared.error.OciDistributionError.{OciDistributionError}
+use Rattle.engine_terms.specs.declared.error.OciDistributionError.TheVariants as refusal
 use Rattle.engine_requests.specs.Addresses.{manifest_text, blob_text}
-use Rattle.engine_requests.specs.Answers.{accepted, agreed, fits_reference, header_digest, document_in, is_error}
-use Rattle.engine_requests.specs.Blobs.{plan_of, compared, given_compared, both_compared}
-use Rattle.engine_requests.specs.Documents.{document_read}
+use Rattle.engine_answers.specs.Answers.{accepted, agreed, fits_reference, header_digest, document_in, is_error}
+use Rattle.engine_answers.specs.Blobs.{plan_of, compared, given_compared, both_compared}
+use Rattle.engine_answers.specs.Documents.{document_read}
 use Rattle.engine_requests.specs.Requests.{manifest_types, request_of}
 use Rattle.engine_requests.specs.Sources.{Layer, described, places_of, asked_at}
 use Rattle.engine_requests.specs.declared.sources.Place.{Place}
 use Rattle.engine_requests.specs.declared.sources.Place.TheVariants.{Web, Unfit}
-use Rattle.engine_rows.specs.declared.named.Named.{Named}
-use Rattle.engine_rows.specs.declared.named.Named.TheVariants as named
+use Rattle.engine_rows.specs.declared.named.NamedAnswer.{NamedAnswer}
+use Rattle.engine_rows.specs.declared.named.NamedAnswer.TheVariants as named
 use Rattle.engine_rows.specs.Rows.{Row, store, whole_reply, whole, named_reading, unread_named, read_named, named_reply, named_after, prepared}
 use Rattle.engine_rows.specs.Blobs.{Destination, IntoMemory, blob_reading, unread_by, read_by, blob_reply, attempt}
 use Rattle.engine_rows.specs.Offers.{offer_reading, offer_reply, offer, tried}
 use Rattle.engine_rows.specs.Pulls.{document, digest_by, manifest_document, pull_manifest_raw, fetch_manifest_digest, pull_manifest, blob_to, held_blob}
-use Rattle.engine_requests.specs.Index.{entry_found, entry_manifest, entry_reference, config_text}
+use Rattle.engine_answers.specs.Index.{entry_found, entry_manifest, entry_reference, config_text}
 use Rattle.engine_rows.specs.Manifests.{pull_entry, manifest_by, pull_image_manifest_and_list_digest, pull_image_manifest, pull_manifest_and_config_and_list_digest, pull_manifest_and_config}
 use Rattle.engine_rows.specs.Images.{layers_accepted, layer_of, pull_layers, pull}
 use Rattle.oci_manifests.specs.declared.document.OciManifest.{OciManifest}
@@ -172,10 +172,10 @@ agreed_plain : (digest own : List ℕ) (o : Option (List ℕ)) → Plain (fits_r
 agreed_plain digest own None = tt
 agreed_plain digest own (Some text) = digest_plain (agreed digest text (parts_of digest) (parts_of text))
 
-by_sound : (s : Context) (image : Reference) (k : Memory) (handed : Option RegistryAuth) (url : Parts) (n : Named) (l : Memory) (c : List Exchange) → Keeps (pulling k s image handed) l c → Sound (pulling k s image handed) s.settings manifest_types l c (digest_by s image url n)
+by_sound : (s : Context) (image : Reference) (k : Memory) (handed : Option RegistryAuth) (url : Parts) (n : NamedAnswer) (l : Memory) (c : List Exchange) → Keeps (pulling k s image handed) l c → Sound (pulling k s image handed) s.settings manifest_types l c (digest_by s image url n)
 by_sound s image k handed url (named.ByHeader digest got) l c keeps =
     let x = pulling k s image handed in
-    plain_step x s.settings manifest_types (accepted got.url got.answer) _ l c (accepted_plain got.url got.answer) (λ answer is. plain_last x s.settings manifest_types (fits_reference digest (digest_of image)) l c (agreed_plain digest digest (digest_of image)) keeps)
+    plain_step x s.settings manifest_types (accepted 200 got.url got.answer) _ l c (accepted_plain got.url got.answer) (λ answer is. plain_last x s.settings manifest_types (fits_reference digest (digest_of image)) l c (agreed_plain digest digest (digest_of image)) keeps)
 by_sound s image k handed url named.Unnamed l c keeps =
     let x = pulling k s image handed in
     safe_next x s.settings manifest_types (document s image url manifest_types) _ l c (document_sound s image k handed url manifest_types l c keeps) (λ l c found keeps. plain_last x s.settings manifest_types (Ok found.1) l c tt keeps)

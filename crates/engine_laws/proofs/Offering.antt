@@ -9,10 +9,10 @@ use Rattle.oci_protocol.specs.Proto.{Unread, limit_of, Reply, Headed, Answered, 
 use Rattle.oci_protocol.specs.Runs.{head_part, Runs, Replies}
 use Rattle.oci_protocol.specs.Shows.{Shows, Heard}
 use Rattle.oci_protocol.proofs.Showing.{Shows-step, Shows-follow}
-use Rattle.engine_requests.specs.declared.settings.Settings.{Settings}
-use Rattle.engine_requests.specs.declared.error.OciDistributionError.{OciDistributionError}
+use Rattle.engine_terms.specs.declared.settings.Settings.{Settings}
+use Rattle.engine_terms.specs.declared.error.OciDistributionError.{OciDistributionError}
 use Rattle.engine_requests.specs.declared.sources.Place.{Place}
-use Rattle.engine_requests.specs.Answers.{is_error}
+use Rattle.engine_answers.specs.Answers.{is_error}
 use Rattle.engine_requests.specs.Sources.{asked_at}
 use Rattle.engine_rows.specs.Blobs.{Destination, blob_reading, blob_reply, attempt}
 use Rattle.engine_rows.specs.Offers.{offer_reading, offer_reply, offer, tried}

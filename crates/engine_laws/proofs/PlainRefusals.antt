@@ -8,24 +8,24 @@ use Rattle.oci_manifests.specs.Types.{is_manifest_type}
 use Rattle.oci_manifests.specs.Document.{document_of}
 use Rattle.oci_manifests.specs.declared.versioned.Versioned.{Versioned}
 use Rattle.oci_manifests.specs.declared.document.OciManifest.{OciManifest}
-use Rattle.oci_manifests.specs.declared.envelope.OciEnvelope.{OciEnvelope}
+use Rattle.oci_errors.specs.declared.envelope.OciEnvelope.{OciEnvelope}
 use Rattle.oci_transport.specs.declared.message.Answer.{Answer}
 use Rattle.oci_names.specs.declared.reference.Reference.{Reference}
-use Rattle.engine_requests.specs.declared.answers.Got.{Got}
-use Rattle.engine_requests.specs.declared.error.SpecViolation.TheVariants.{Status}
-use Rattle.engine_requests.specs.declared.error.OciDistributionError.{OciDistributionError}
-use Rattle.engine_requests.specs.declared.error.OciDistributionError.TheVariants as refusal
-use Rattle.engine_requests.specs.Answers.{is_success, is_client_error, envelope_in, by_envelope, refused_answer, accepted, or_digest_error, header_digest, answer_digest, document_in}
-use Rattle.engine_requests.specs.Documents.{plain_of, type_checked, version_checked, versioned_in, or_unread, reads_twice, tables_read, document_read}
-use Rattle.engine_requests.specs.Index.{entry_named, entry_found, entry_manifest, config_text}
+use Rattle.engine_answers.specs.declared.answers.Got.{Got}
+use Rattle.engine_terms.specs.declared.error.SpecViolation.TheVariants.{Status}
+use Rattle.engine_terms.specs.declared.error.OciDistributionError.{OciDistributionError}
+use Rattle.engine_terms.specs.declared.error.OciDistributionError.TheVariants as refusal
+use Rattle.engine_answers.specs.Answers.{is_success, is_client_error, envelope_in, by_envelope, refused_answer, accepted, or_digest_error, header_digest, answer_digest, document_in}
+use Rattle.engine_answers.specs.Documents.{plain_of, type_checked, version_checked, versioned_in, or_unread, reads_twice, tables_read, document_read}
+use Rattle.engine_answers.specs.Index.{entry_named, entry_found, entry_manifest, config_text}
 use Rattle.engine_rows.specs.Images.{is_accepted, all_accepted, layers_accepted}
 use Rattle.oci_platforms.specs.Promise.{lists, resolved}
 use Rattle.oci_platforms.specs.declared.promise.ResolverPromise.{ResolverPromise}
-use Rattle.oci_manifests.specs.declared.index_entry.ImageIndexEntry.{ImageIndexEntry}
-use Rattle.oci_manifests.specs.declared.descriptor.OciDescriptor.{OciDescriptor}
+use Rattle.oci_descriptors.specs.declared.index_entry.ImageIndexEntry.{ImageIndexEntry}
+use Rattle.oci_descriptors.specs.declared.descriptor.OciDescriptor.{OciDescriptor}
 use Rattle.oci_manifests.specs.declared.document.OciManifest.TheVariants.{Image, ImageIndex}
-use Rattle.engine_requests.specs.declared.error.GenericCause.TheVariants.{ConfigNotText, HeaderText}
-use Rattle.engine_requests.specs.Errors.{◌>>=◌ as ◌into◌}
+use Rattle.engine_terms.specs.declared.error.GenericCause.TheVariants.{ConfigNotText, HeaderText}
+use Rattle.engine_terms.specs.Errors.{◌>>=◌ as ◌into◌}
 
 -- the refusal is neither a fault of the sink nor a value that cannot stand in a header
 abbrev pub IsPlain : OciDistributionError → Type 0
@@ -47,7 +47,7 @@ listed_plain : (url : List ℕ) (answer : Answer) (o : Option OciEnvelope) → I
 listed_plain url answer (Some envelope) = tt
 listed_plain url answer None = tt
 
-pub refused_plain : (url : List ℕ) (answer : Answer) → IsPlain (refused_answer url answer)
+pub refused_plain : (url : List ℕ) (answer : Answer) → IsPlain (refused_answer 200 url answer)
 refused_plain url answer = by_status (nat_eq answer.status 401) (is_success answer.status) (is_client_error answer.status) where
   by_status : (a b c : Bool) → IsPlain (if a then refusal.UnauthorizedError url else (if b then refusal.SpecViolationError (Status 200 answer.status url) else (if c then by_envelope url answer (envelope_in answer.body) else refusal.ServerError answer.status url answer.body)))
   by_status true b c = tt
@@ -55,9 +55,9 @@ refused_plain url answer = by_status (nat_eq answer.status 401) (is_success answ
   by_status false false true = listed_plain url answer (envelope_in answer.body)
   by_status false false false = tt
 
-pub accepted_plain : (url : List ℕ) (answer : Answer) → Plain (accepted url answer)
+pub accepted_plain : (url : List ℕ) (answer : Answer) → Plain (accepted 200 url answer)
 accepted_plain url answer = by_test (nat_eq answer.status 200) where
-  by_test : (b : Bool) → Plain {A = Answer} (if b then Ok answer else Err (refused_answer url answer))
+  by_test : (b : Bool) → Plain {A = Answer} (if b then Ok answer else Err (refused_answer 200 url answer))
   by_test true = tt
   by_test false = refused_plain url answer
 
@@ -66,7 +66,7 @@ digest_plain (Ok a) = tt
 digest_plain (Err e) = tt
 
 pub found_plain : (image : Reference) (got : Got) → Plain (document_in image got)
-found_plain image got = into_plain (accepted got.url got.answer) _ (accepted_plain got.url got.answer) (λ answer.
+found_plain image got = into_plain (accepted 200 got.url got.answer) _ (accepted_plain got.url got.answer) (λ answer.
     into_plain (answer_digest image answer) _ (into_plain (header_digest answer.headers) _ (digest_plain _) (λ header. digest_plain _)) (λ digest. tt))
 
 -- ---- documents

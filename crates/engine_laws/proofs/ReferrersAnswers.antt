@@ -8,14 +8,14 @@ use Rattle.oci_auth.specs.declared.token_type.RegistryOperation.TheVariants.{Pul
 use Rattle.oci_protocol.specs.Proto.{Done, ◌>>=◌}
 use Rattle.oci_protocol.specs.Shows.{Shows, ByAnswer}
 use Rattle.oci_protocol.proofs.Showing.{Shows-done, Shows-more, Shows-each, Shows-step}
-use Rattle.engine_requests.specs.Contexts.{Context}
+use Rattle.engine_terms.specs.Contexts.{Context}
 use Rattle.engine_requests.specs.Addresses.{manifest_text, url_read}
-use Rattle.engine_requests.specs.Documents.{document_read}
+use Rattle.engine_answers.specs.Documents.{document_read}
 use Rattle.engine_requests.specs.Requests.{manifest_types}
-use Rattle.engine_requests.specs.declared.answers.Got.{Got}
-use Rattle.engine_requests.specs.declared.settings.Settings.{Settings}
-use Rattle.engine_requests.specs.declared.error.OciDistributionError.{OciDistributionError}
-use Rattle.engine_requests.specs.Referrers.{referrers_text, referrers_url, with_artifact_type}
+use Rattle.engine_answers.specs.declared.answers.Got.{Got}
+use Rattle.engine_terms.specs.declared.settings.Settings.{Settings}
+use Rattle.engine_terms.specs.declared.error.OciDistributionError.{OciDistributionError}
+use Rattle.engine_requests.specs.ReferrerLists.{referrers_text, referrers_url, with_artifact_type}
 use Rattle.engine_rows.specs.Rows.{whole, prepared}
 use Rattle.engine_rows.specs.Pulls.{document, manifest_document, manifest_asked}
 use Rattle.engine_rows.specs.Referrers.{referrers_asked}

@@ -10,7 +10,7 @@ use Rattle.oci_names.specs.declared.reference.Reference.{Reference}
 use Rattle.oci_names.specs.References.{digest_of}
 use Rattle.oci_auth.specs.declared.memory.Memory.{Memory}
 use Rattle.oci_manifests.specs.Document.{document_of}
-use Rattle.oci_manifests.specs.declared.envelope.OciEnvelope.{OciEnvelope}
+use Rattle.oci_errors.specs.declared.envelope.OciEnvelope.{OciEnvelope}
 use Rattle.oci_manifests.specs.declared.document.OciManifest.{OciManifest}
 use Rattle.oci_manifests.specs.declared.document.OciManifest.TheVariants.{Image, ImageIndex}
 use Rattle.oci_manifests.specs.declared.index.OciImageIndex.{OciImageIndex}
@@ -20,18 +20,19 @@ use Rattle.oci_protocol.specs.Shows.{Shows, ByAnswer}
 use Rattle.oci_protocol.specs.Ends.{Ends}
 use Rattle.oci_protocol.proofs.Ending.{Runs-ends-safe}
 use Rattle.oci_protocol.proofs.Parts.{Parts, Runs-parts}
-use Rattle.engine_requests.specs.Contexts.{Context}
-use Rattle.engine_requests.specs.declared.answers.Got.{Got}
-use Rattle.engine_requests.specs.declared.settings.Settings.{Settings}
-use Rattle.engine_requests.specs.declared.error.GenericCause.TheVariants.{HeaderText, NoDigest}
-use Rattle.engine_requests.specs.declared.error.SpecViolation.TheVariants.{Status, ReferrersTag}
-use Rattle.engine_requests.specs.declared.error.OciDistributionError.{OciDistributionError}
-use Rattle.engine_requests.specs.declared.error.OciDistributionError.TheVariants as refusal
-use Rattle.engine_requests.specs.Errors.{is_memory}
-use Rattle.engine_requests.specs.Answers.{is_success, is_client_error, envelope_in, by_envelope, refused_answer, accepted}
-use Rattle.engine_requests.specs.Documents.{plain_of, or_unread, reads_twice, tables_read}
+use Rattle.engine_terms.specs.Contexts.{Context}
+use Rattle.engine_answers.specs.declared.answers.Got.{Got}
+use Rattle.engine_terms.specs.declared.settings.Settings.{Settings}
+use Rattle.engine_terms.specs.declared.error.GenericCause.TheVariants.{HeaderText, NoDigest}
+use Rattle.engine_terms.specs.declared.error.SpecViolation.TheVariants.{Status, ReferrersTag}
+use Rattle.engine_terms.specs.declared.error.OciDistributionError.{OciDistributionError}
+use Rattle.engine_terms.specs.declared.error.OciDistributionError.TheVariants as refusal
+use Rattle.engine_terms.specs.Errors.{is_memory}
+use Rattle.engine_answers.specs.Answers.{is_success, is_client_error, envelope_in, by_envelope, refused_answer, accepted}
+use Rattle.engine_answers.specs.Documents.{plain_of, or_unread, reads_twice, tables_read}
 use Rattle.engine_requests.specs.Requests.{manifest_types}
-use Rattle.engine_requests.specs.Referrers.{digest_given, index_in, index_read, referrers_in, referrers_tag, fallback_reference, no_referrers, is_absent, tag_index, tagged_index}
+use Rattle.engine_answers.specs.Referrers.{index_in, index_read, referrers_in, referrers_tag, fallback_reference, no_referrers, is_absent, tag_index, tagged_index}
+use Rattle.engine_requests.specs.ReferrerLists.{digest_given}
 use Rattle.engine_rows.specs.Pulls.{manifest_asked}
 use Rattle.engine_rows.specs.Referrers.{referrers_asked, referrers_tagged, referrers_by, pull_referrers}
 use Rattle.engine_laws.specs.Causes.{Cause, AnswerCause, DocumentCause, LastAnswer, LastFailed, BadHeader, OwnDigest, ManifestUrl}
@@ -66,7 +67,7 @@ envelope_status : (url : List ℕ) (answer : Answer) (o : Option OciEnvelope) �
 envelope_status url answer (Some envelope) = tt
 envelope_status url answer None = tt
 
-refused_status : (url : List ℕ) (answer : Answer) → IsOfStatus (refused_answer url answer)
+refused_status : (url : List ℕ) (answer : Answer) → IsOfStatus (refused_answer 200 url answer)
 refused_status url answer = by_status (nat_eq answer.status 401) (is_success answer.status) (is_client_error answer.status) where
   by_status : (a b c : Bool) → IsOfStatus (if a then refusal.UnauthorizedError url else (if b then refusal.SpecViolationError (Status 200 answer.status url) else (if c then by_envelope url answer (envelope_in answer.body) else refusal.ServerError answer.status url answer.body)))
   by_status true b c = tt
@@ -74,9 +75,9 @@ refused_status url answer = by_status (nat_eq answer.status 401) (is_success ans
   by_status false false true = envelope_status url answer (envelope_in answer.body)
   by_status false false false = tt
 
-accepted_status : (url : List ℕ) (answer : Answer) → OfStatus (accepted url answer)
+accepted_status : (url : List ℕ) (answer : Answer) → OfStatus (accepted 200 url answer)
 accepted_status url answer = by_test (nat_eq answer.status 200) where
-  by_test : (b : Bool) → OfStatus {A = Answer} (if b then Ok answer else Err (refused_answer url answer))
+  by_test : (b : Bool) → OfStatus {A = Answer} (if b then Ok answer else Err (refused_answer 200 url answer))
   by_test true = tt
   by_test false = refused_status url answer
 
@@ -120,7 +121,7 @@ by_body s image digest Bad c n address answer e last of h = absurd of
 
 -- the list's answer was refused
 list_refused : (s : Settings) (image : Reference) (digest : List ℕ) (Bad : List Exchange → Type 0) (c : List Exchange) (n : ℕ) (got : Got) (e : OciDistributionError) → LastAnswer c got.url got.answer → got.answer.status ≢ 404
-    → (accepted got.url got.answer ≡ Err e) ⊎ ((answer : Answer) × (accepted got.url got.answer ≡ Ok answer) × (index_read answer.body ≡ Err e)) → Cause (ListUrl s image digest) ListAnswer Bad s c n e
+    → (accepted 200 got.url got.answer ≡ Err e) ⊎ ((answer : Answer) × (accepted 200 got.url got.answer ≡ Ok answer) × (index_read answer.body ≡ Err e)) → Cause (ListUrl s image digest) ListAnswer Bad s c n e
 list_refused s image digest Bad c n got e last other (inl is) =
     let P : Result Answer OciDistributionError → Type 0 = OfStatus in
     by_status s image digest Bad c n got.url got.answer e last (subst P is (accepted_status got.url got.answer)) other (not_accepted (λ text. ⊥) got.url got.answer e is)
@@ -214,7 +215,7 @@ with_digest k s image digest kind l m n c e digest_is run = by_answer parts.answ
   by_status got false other runs rest =
       let over = runs_done (referrers_in got) parts.between parts.count parts.second n l (Err e) rest in
       let last = (asked_causes s image digest kind).shows k parts.between m parts.count parts.first (Ok got) runs in
-      listed (list_refused s.settings image digest (BadHeader x s.settings manifest_types) parts.first parts.count got e last (status_other got.answer.status 404 other) (into_err (accepted got.url got.answer) (λ answer. index_read answer.body) e over.2)) over.0 over.1
+      listed (list_refused s.settings image digest (BadHeader x s.settings manifest_types) parts.first parts.count got e last (status_other got.answer.status 404 other) (into_err (accepted 200 got.url got.answer) (λ answer. index_read answer.body) e over.2)) over.0 over.1
   by_status got true missing runs rest =
       let last = (asked_causes s image digest kind).shows k parts.between m parts.count parts.first (Ok got) runs in
       from_tag x s.settings c n e (record {

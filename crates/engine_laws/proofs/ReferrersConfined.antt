@@ -14,15 +14,16 @@ use Rattle.oci_protocol.specs.Proto.{Done, bind, unless_refused, ◌>>=◌}
 use Rattle.oci_protocol.specs.Runs.{Runs, Meets, Told}
 use Rattle.oci_protocol.specs.Safe.{Safe}
 use Rattle.oci_protocol.proofs.Safety.{Safe-bind}
-use Rattle.engine_requests.specs.Contexts.{Context}
+use Rattle.engine_terms.specs.Contexts.{Context}
 use Rattle.engine_requests.specs.Addresses.{manifest_text, url_read}
-use Rattle.engine_requests.specs.Documents.{document_read}
+use Rattle.engine_answers.specs.Documents.{document_read}
 use Rattle.engine_requests.specs.Requests.{manifest_types}
-use Rattle.engine_requests.specs.declared.answers.Got.{Got}
-use Rattle.engine_requests.specs.declared.error.OciDistributionError.{OciDistributionError}
-use Rattle.engine_requests.specs.Errors.{is_memory}
-use Rattle.engine_requests.specs.declared.settings.Settings.{Settings}
-use Rattle.engine_requests.specs.Referrers.{digest_given, referrers_url, referrers_in, fallback_reference, tagged_index}
+use Rattle.engine_answers.specs.declared.answers.Got.{Got}
+use Rattle.engine_terms.specs.declared.error.OciDistributionError.{OciDistributionError}
+use Rattle.engine_terms.specs.Errors.{is_memory}
+use Rattle.engine_terms.specs.declared.settings.Settings.{Settings}
+use Rattle.engine_answers.specs.Referrers.{referrers_in, fallback_reference, tagged_index}
+use Rattle.engine_requests.specs.ReferrerLists.{digest_given, referrers_url}
 use Rattle.engine_rows.specs.Rows.{Row, prepared, token_given}
 use Rattle.engine_rows.specs.Pulls.{manifest_document, manifest_asked}
 use Rattle.engine_rows.specs.Referrers.{referrers_asked, referrers_tagged, referrers_by, pull_referrers}

@@ -10,13 +10,14 @@ use Rattle.oci_auth.specs.declared.memory.Memory.{Memory}
 use Rattle.oci_manifests.specs.declared.document.OciManifest.{OciManifest}
 use Rattle.oci_manifests.specs.declared.document.OciManifest.TheVariants.{Image, ImageIndex}
 use Rattle.oci_manifests.specs.declared.index.OciImageIndex.{OciImageIndex}
-use Rattle.engine_requests.specs.declared.answers.Got.{Got}
-use Rattle.engine_requests.specs.declared.settings.Settings.{Settings}
-use Rattle.engine_requests.specs.declared.error.OciDistributionError.{OciDistributionError}
+use Rattle.engine_answers.specs.declared.answers.Got.{Got}
+use Rattle.engine_terms.specs.declared.settings.Settings.{Settings}
+use Rattle.engine_terms.specs.declared.error.OciDistributionError.{OciDistributionError}
 use Rattle.engine_requests.specs.Addresses.{url_or, url_read}
-use Rattle.engine_requests.specs.Answers.{accepted}
-use Rattle.engine_requests.specs.Documents.{plain_of, tables_read}
-use Rattle.engine_requests.specs.Referrers.{digest_given, referrers_text, referrers_url, with_artifact_type, index_in, index_read, referrers_in, no_referrers, is_absent, tag_index, tagged_index}
+use Rattle.engine_answers.specs.Answers.{accepted}
+use Rattle.engine_answers.specs.Documents.{plain_of, tables_read}
+use Rattle.engine_answers.specs.Referrers.{index_in, index_read, referrers_in, no_referrers, is_absent, tag_index, tagged_index}
+use Rattle.engine_requests.specs.ReferrerLists.{digest_given, referrers_text, referrers_url, with_artifact_type}
 use Rattle.engine_laws.specs.Held.{Entry}
 use Rattle.engine_laws.proofs.KeptTokens.{Keeps}
 use Rattle.engine_laws.proofs.PlainRefusals.{Plain, into_plain, accepted_plain, tables_plain}
@@ -43,7 +44,7 @@ index_plain : (body : List ℕ) → Plain (index_read body)
 index_plain body = into_plain (tables_read body (plain_of (json_of body))) (index_in body) (tables_plain body) (one_plain body)
 
 pub list_plain : (got : Got) → Plain (referrers_in got)
-list_plain got = into_plain (accepted got.url got.answer) (λ answer. index_read answer.body) (accepted_plain got.url got.answer) (λ answer. index_plain answer.body)
+list_plain got = into_plain (accepted 200 got.url got.answer) (λ answer. index_read answer.body) (accepted_plain got.url got.answer) (λ answer. index_plain answer.body)
 
 tag_plain : (digest : List ℕ) (kind : Option (List ℕ)) (document : OciManifest) → Plain (tag_index digest kind document)
 tag_plain digest kind (ImageIndex index) = tt

@@ -9,12 +9,12 @@ use Rattle.oci_auth.specs.declared.token_type.RegistryOperation.TheVariants.{Pul
 use Rattle.oci_protocol.specs.Proto.{Done, bind, unless_refused, ◌>>=◌}
 use Rattle.oci_protocol.specs.Ends.{Ends}
 use Rattle.engine_requests.specs.Addresses.{url_or, url_read}
-use Rattle.engine_requests.specs.Contexts.{Context}
-use Rattle.engine_requests.specs.Errors.{◌>>=◌ as ◌into◌}
-use Rattle.engine_requests.specs.Referrers.{digest_given, referrers_text, referrers_url, with_artifact_type}
+use Rattle.engine_terms.specs.Contexts.{Context}
+use Rattle.engine_terms.specs.Errors.{◌>>=◌ as ◌into◌}
+use Rattle.engine_requests.specs.ReferrerLists.{digest_given, referrers_text, referrers_url, with_artifact_type}
 use Rattle.engine_requests.specs.Requests.{manifest_types}
-use Rattle.engine_requests.specs.declared.error.OciDistributionError.{OciDistributionError}
-use Rattle.engine_requests.specs.declared.error.OciDistributionError.TheVariants as refusal
+use Rattle.engine_terms.specs.declared.error.OciDistributionError.{OciDistributionError}
+use Rattle.engine_terms.specs.declared.error.OciDistributionError.TheVariants as refusal
 use Rattle.engine_rows.specs.Rows.{Row, whole, prepared}
 use Rattle.engine_rows.specs.Referrers.{referrers_asked, referrers_by, pull_referrers}
 use Rattle.engine_laws.specs.Causes.{IsEarly, HasBadHeader}

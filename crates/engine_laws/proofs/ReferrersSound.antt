@@ -10,13 +10,14 @@ use Rattle.oci_auth.specs.declared.auth.RegistryAuth.{RegistryAuth}
 use Rattle.oci_auth.specs.declared.memory.Memory.{Memory}
 use Rattle.oci_auth.specs.declared.token_type.RegistryOperation.TheVariants.{Pull}
 use Rattle.oci_protocol.specs.Proto.{Done}
-use Rattle.engine_requests.specs.Contexts.{Context}
+use Rattle.engine_terms.specs.Contexts.{Context}
 use Rattle.engine_requests.specs.Requests.{manifest_types}
-use Rattle.engine_requests.specs.declared.answers.Got.{Got}
-use Rattle.engine_requests.specs.declared.error.GenericCause.TheVariants.{HeaderText}
-use Rattle.engine_requests.specs.declared.error.OciDistributionError.{OciDistributionError}
-use Rattle.engine_requests.specs.declared.error.OciDistributionError.TheVariants as refusal
-use Rattle.engine_requests.specs.Referrers.{digest_given, referrers_in, fallback_reference}
+use Rattle.engine_answers.specs.declared.answers.Got.{Got}
+use Rattle.engine_terms.specs.declared.error.GenericCause.TheVariants.{HeaderText}
+use Rattle.engine_terms.specs.declared.error.OciDistributionError.{OciDistributionError}
+use Rattle.engine_terms.specs.declared.error.OciDistributionError.TheVariants as refusal
+use Rattle.engine_answers.specs.Referrers.{referrers_in, fallback_reference}
+use Rattle.engine_requests.specs.ReferrerLists.{digest_given}
 use Rattle.engine_rows.specs.Rows.{Row}
 use Rattle.engine_rows.specs.Referrers.{referrers_asked, referrers_tagged, referrers_by, pull_referrers}
 use Rattle.engine_laws.specs.Confined.{ToRegistry, ToRealm, MayCarry}

@@ -28,15 +28,15 @@ use Rattle.oci_protocol.specs.Follow.{follow}
 use Rattle.oci_protocol.specs.Runs.{Replies}
 use Rattle.oci_protocol.specs.Safe.{Safe}
 use Rattle.oci_protocol.proofs.Safety.{Safe-bind, Safe-follow, Safe-once}
-use Rattle.engine_requests.specs.Contexts.{within}
-use Rattle.engine_requests.specs.declared.settings.Settings.{Settings}
-use Rattle.engine_requests.specs.declared.answers.Got.{Got}
-use Rattle.engine_requests.specs.declared.error.GenericCause.TheVariants.{HeaderText}
-use Rattle.engine_requests.specs.declared.error.OciDistributionError.{OciDistributionError}
-use Rattle.engine_requests.specs.declared.error.OciDistributionError.TheVariants as refusal
+use Rattle.engine_terms.specs.Contexts.{within}
+use Rattle.engine_terms.specs.declared.settings.Settings.{Settings}
+use Rattle.engine_answers.specs.declared.answers.Got.{Got}
+use Rattle.engine_terms.specs.declared.error.GenericCause.TheVariants.{HeaderText}
+use Rattle.engine_terms.specs.declared.error.OciDistributionError.{OciDistributionError}
+use Rattle.engine_terms.specs.declared.error.OciDistributionError.TheVariants as refusal
 use Rattle.engine_requests.specs.declared.tokens.Wanted.{Wanted}
 use Rattle.engine_requests.specs.declared.tokens.Wanted.TheVariants as wants
-use Rattle.engine_requests.specs.Errors.{◌>>=◌ as ◌into◌}
+use Rattle.engine_terms.specs.Errors.{◌>>=◌ as ◌into◌}
 use Rattle.engine_requests.specs.Addresses.{url_or, url_read, base_text, registry_text}
 use Rattle.engine_requests.specs.Requests.{with_header, with_accept, with_token, headers_of, request_of, bare_request}
 use Rattle.engine_requests.specs.Tokens.{wanted, realm_request, token_read}
@@ -253,17 +253,17 @@ own_carried : (x : Entry) (s : Settings) (a : RegistryAuth) (c : List Exchange) 
 own_carried x s a c request None is known realm = tt
 own_carried x s a c request (Some token) is known realm = (record { goes = inr realm; token = token; held = inl (a, known, is); value_is = refl }, tt)
 
-abbrev Named : Entry → Settings → BearerChallenge → List Exchange → Type 0
-Named x s challenge c = (url : Parts) → request_url challenge.realm ≡ Some url → (request : Request) → request.method ≡ Get → request.url ≡ serialize (realm_url x.image x.operation challenge.service url) → ToRealm s x.image x.operation c request
+abbrev NamedRealm : Entry → Settings → BearerChallenge → List Exchange → Type 0
+NamedRealm x s challenge c = (url : Parts) → request_url challenge.realm ≡ Some url → (request : Request) → request.method ≡ Get → request.url ≡ serialize (realm_url x.image x.operation challenge.service url) → ToRealm s x.image x.operation c request
 
-realm_confined : (x : Entry) (s : Settings) (a : RegistryAuth) (challenge : BearerChallenge) (url : Parts) (c : List Exchange) (request : Request) → IsAuth x a → Named x s challenge c → request_url challenge.realm ≡ Some url → realm_request s x.image a x.operation challenge.service url ≡ Ok request → Confined x s c request
+realm_confined : (x : Entry) (s : Settings) (a : RegistryAuth) (challenge : BearerChallenge) (url : Parts) (c : List Exchange) (request : Request) → IsAuth x a → NamedRealm x s challenge c → request_url challenge.realm ≡ Some url → realm_request s x.image a x.operation challenge.service url ≡ Ok request → Confined x s c request
 unfolding realm_request
 realm_confined x s a challenge url c request known named url_is is =
     let to = realm_url x.image x.operation challenge.service url in
     subst (Each (MayCarry x s c request)) (sym (request_values s Get to None (own_token a) request is))
     (own_carried x s a c request (own_token a) refl known (named url url_is request (request_method_is s Get to None (own_token a) request is) (request_url_is s Get to None (own_token a) request is)))
 
-realm_safe : (x : Entry) (s : Settings) (a : RegistryAuth) (challenge : BearerChallenge) (l : Memory) (c : List Exchange) → IsAuth x a → Named x s challenge c → Keeps x l c → Safe (Carries x s) (Keeps x) (Asked x) l c (realm_asked s x.image a x.operation challenge)
+realm_safe : (x : Entry) (s : Settings) (a : RegistryAuth) (challenge : BearerChallenge) (l : Memory) (c : List Exchange) → IsAuth x a → NamedRealm x s challenge c → Keeps x l c → Safe (Carries x s) (Keeps x) (Asked x) l c (realm_asked s x.image a x.operation challenge)
 unfolding realm_asked
 realm_safe x s a challenge l c known named keeps = kept_step x s (Asked x) (url_read challenge.realm) _ l c (λ e. keeps) (λ url is. kept_step x s (Asked x) (realm_request s x.image a x.operation challenge.service url) _ l c (λ e. keeps) (λ request made.
     Safe-bind (Carries x s) (Keeps x) (Answers x) (Asked x) (whole 0 request s.max_body_bytes) (unless_refused (λ got. Done (token_read got.answer))) l c
@@ -274,7 +274,7 @@ own_shown : (x : Entry) (c : List Exchange) (a : RegistryAuth) (token : Option R
 own_shown x c a None known is = tt
 own_shown x c a (Some token) known is = inl (a, known, is)
 
-fetched_safe : (x : Entry) (s : Settings) (a : RegistryAuth) (w : Wanted) (l : Memory) (c : List Exchange) → IsAuth x a → ((challenge : BearerChallenge) → w ≡ wants.Token challenge → Named x s challenge c) → Keeps x l c → Safe (Carries x s) (Keeps x) (Asked x) l c (fetched s x.image a x.operation w)
+fetched_safe : (x : Entry) (s : Settings) (a : RegistryAuth) (w : Wanted) (l : Memory) (c : List Exchange) → IsAuth x a → ((challenge : BearerChallenge) → w ≡ wants.Token challenge → NamedRealm x s challenge c) → Keeps x l c → Safe (Carries x s) (Keeps x) (Asked x) l c (fetched s x.image a x.operation w)
 fetched_safe x s a wants.Nothing l c known named keeps = safe_done x s (Asked x) l c _ (keeps, tt)
 fetched_safe x s a wants.Credentials l c known named keeps = safe_done x s (Asked x) l c _ (keeps, own_shown x c a (own_token a) known refl)
 fetched_safe x s a (wants.Token challenge) l c known named keeps = realm_safe x s a challenge l c known (named challenge refl) keeps

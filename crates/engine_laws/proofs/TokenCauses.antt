@@ -29,15 +29,15 @@ use Rattle.oci_protocol.specs.Proto.{Reading, limit_of, Reply, Headed, Answered,
 use Rattle.oci_protocol.specs.Runs.{Runs, Meets, Told, head_part}
 use Rattle.oci_protocol.specs.Shows.{Shows, ByAnswer, Heard}
 use Rattle.oci_protocol.proofs.Showing.{done_run, Shows-done, Shows-more, Shows-each, Shows-step, Shows-last, Shows-recall, Shows-keep, Shows-follow}
-use Rattle.engine_requests.specs.Contexts.{Context}
-use Rattle.engine_requests.specs.declared.settings.Settings.{Settings}
-use Rattle.engine_requests.specs.declared.answers.Got.{Got}
-use Rattle.engine_requests.specs.declared.error.GenericCause.TheVariants.{HeaderText}
-use Rattle.engine_requests.specs.declared.error.OciDistributionError.{OciDistributionError}
-use Rattle.engine_requests.specs.declared.error.OciDistributionError.TheVariants as refusal
+use Rattle.engine_terms.specs.Contexts.{Context}
+use Rattle.engine_terms.specs.declared.settings.Settings.{Settings}
+use Rattle.engine_answers.specs.declared.answers.Got.{Got}
+use Rattle.engine_terms.specs.declared.error.GenericCause.TheVariants.{HeaderText}
+use Rattle.engine_terms.specs.declared.error.OciDistributionError.{OciDistributionError}
+use Rattle.engine_terms.specs.declared.error.OciDistributionError.TheVariants as refusal
 use Rattle.engine_requests.specs.declared.tokens.Wanted.{Wanted}
 use Rattle.engine_requests.specs.declared.tokens.Wanted.TheVariants as wants
-use Rattle.engine_requests.specs.Errors.{is_memory, ◌>>=◌ as ◌into◌}
+use Rattle.engine_terms.specs.Errors.{is_memory, ◌>>=◌ as ◌into◌}
 use Rattle.engine_requests.specs.Addresses.{url_or, url_read, base_text}
 use Rattle.engine_requests.specs.Requests.{with_header, with_accept, with_token, headers_of, request_of, bare_request}
 use Rattle.engine_requests.specs.Tokens.{wanted, realm_url, realm_request, decoded, token_read}

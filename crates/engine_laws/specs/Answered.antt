@@ -16,9 +16,9 @@ use Rattle.oci_digests.specs.Names.{Names, digest_text}
 use Rattle.oci_digests.specs.declared.digester.Algorithm.TheVariants.{Sha256}
 use Rattle.oci_protocol.specs.Runs.{head_part, Told}
 use Rattle.oci_protocol.specs.Follow.{Trail, IsFinal}
-use Rattle.engine_requests.specs.declared.settings.Settings.{Settings}
+use Rattle.engine_terms.specs.declared.settings.Settings.{Settings}
 use Rattle.engine_requests.specs.Addresses.{manifest_text}
-use Rattle.engine_requests.specs.Answers.{header_digest}
+use Rattle.engine_answers.specs.Answers.{header_digest}
 
 -- a request by which a token is asked for: the registry's `/v2/` or a realm, by GET, which lists no types
 pub record OfTokenExchange (request : Request) : Type 0 where
@@ -81,7 +81,7 @@ pub record ByDocument (image : Reference) (address d : List ℕ) (c : List Excha
   pub body : ByBody image d get.answer
 
 -- the registry answered that the image has this digest
-pub record Answered (s : Settings) (image : Reference) (c : List Exchange) (d : List ℕ) : Type 0 where
+pub record DigestAnswered (s : Settings) (image : Reference) (c : List Exchange) (d : List ℕ) : Type 0 where
   pub url : Parts
   pub address : request_url (manifest_text s image) ≡ Some url
   pub head : FirstAsked Head (serialize url) c

@@ -22,25 +22,25 @@ use Rattle.oci_digests.specs.declared.error.DigestError.TheVariants as digest_re
 use Rattle.oci_manifests.specs.declared.document.OciManifest.TheVariants.{Image, ImageIndex}
 use Rattle.oci_manifests.specs.declared.manifest.OciImageManifest.{OciImageManifest}
 use Rattle.oci_manifests.specs.declared.index.OciImageIndex.{OciImageIndex}
-use Rattle.oci_manifests.specs.declared.descriptor.OciDescriptor.{OciDescriptor}
+use Rattle.oci_descriptors.specs.declared.descriptor.OciDescriptor.{OciDescriptor}
 use Rattle.oci_platforms.specs.Promise.{lists, resolved}
 use Rattle.oci_platforms.specs.declared.promise.ResolverPromise.{ResolverPromise}
 use Rattle.oci_protocol.specs.Runs.{head_part}
 use Rattle.oci_protocol.specs.Ends.{UnlessMemory}
 use Rattle.oci_protocol.specs.Follow.{Trail, IsFinal}
-use Rattle.engine_requests.specs.declared.settings.Settings.{Settings}
-use Rattle.engine_requests.specs.declared.error.GenericCause.TheVariants.{ConfigNotText, HeaderText}
-use Rattle.engine_requests.specs.declared.error.SpecViolation.TheVariants.{Status}
-use Rattle.engine_requests.specs.declared.error.OciDistributionError.{OciDistributionError}
-use Rattle.engine_requests.specs.declared.error.OciDistributionError.TheVariants as refusal
+use Rattle.engine_terms.specs.declared.settings.Settings.{Settings}
+use Rattle.engine_terms.specs.declared.error.GenericCause.TheVariants.{ConfigNotText, HeaderText}
+use Rattle.engine_terms.specs.declared.error.SpecViolation.TheVariants.{Status}
+use Rattle.engine_terms.specs.declared.error.OciDistributionError.{OciDistributionError}
+use Rattle.engine_terms.specs.declared.error.OciDistributionError.TheVariants as refusal
 use Rattle.engine_requests.specs.Addresses.{registry_text, manifest_text, blob_text}
-use Rattle.engine_requests.specs.Answers.{is_success, is_client_error, envelope_in, header_digest}
-use Rattle.engine_requests.specs.Errors.{is_memory}
-use Rattle.engine_requests.specs.Documents.{document_read}
+use Rattle.engine_answers.specs.Answers.{is_success, is_client_error, envelope_in, header_digest}
+use Rattle.engine_terms.specs.Errors.{is_memory}
+use Rattle.engine_answers.specs.Documents.{document_read}
 use Rattle.engine_requests.specs.Sources.{Layer, described, place_of}
 use Rattle.engine_requests.specs.declared.sources.Place.TheVariants.{Unfit}
 use Rattle.engine_rows.specs.Blobs.{Destination, IntoSink, IntoMemory}
-use Rattle.engine_requests.specs.Index.{entry_reference}
+use Rattle.engine_answers.specs.Index.{entry_reference}
 use Rattle.engine_rows.specs.Images.{is_accepted}
 use Rattle.engine_laws.specs.Answered.{Body, LastBody}
 use Rattle.engine_laws.specs.Held.{Entry, IsHeld}

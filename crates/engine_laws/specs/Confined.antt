@@ -22,7 +22,7 @@ use Rattle.oci_protocol.specs.Runs.{head_part}
 use Rattle.oci_protocol.specs.Safe.{EachAfter}
 use Rattle.engine_requests.specs.Addresses.{registry_text, base_text}
 use Rattle.engine_requests.specs.Tokens.{wanted, realm_url}
-use Rattle.engine_requests.specs.declared.settings.Settings.{Settings}
+use Rattle.engine_terms.specs.declared.settings.Settings.{Settings}
 use Rattle.engine_requests.specs.declared.tokens.Wanted.TheVariants.{Token}
 use Rattle.engine_laws.specs.Held.{Entry, IsHeld}
 

@@ -12,7 +12,7 @@ use Rattle.oci_auth.specs.declared.memory.Memory.{Memory}
 use Rattle.oci_auth.specs.declared.token_type.RegistryOperation.{RegistryOperation}
 use Rattle.oci_auth.specs.declared.token_type.RegistryOperation.TheVariants.{Pull}
 use Rattle.oci_auth.specs.declared.token_type.RegistryTokenType.{RegistryTokenType}
-use Rattle.engine_requests.specs.Contexts.{Context}
+use Rattle.engine_terms.specs.Contexts.{Context}
 use Rattle.engine_requests.specs.Tokens.{token_read}
 
 -- what a call begins with: what the client keeps, the image, what is done with it, the moment, and

@@ -7,14 +7,15 @@ use Rattle.oci_names.specs.References.{digest_of}
 use Rattle.oci_auth.specs.declared.memory.Memory.{Memory}
 use Rattle.oci_manifests.specs.declared.document.OciManifest.TheVariants.{Image}
 use Rattle.oci_manifests.specs.declared.manifest.OciImageManifest.{OciImageManifest}
-use Rattle.engine_requests.specs.declared.settings.Settings.{Settings}
-use Rattle.engine_requests.specs.declared.error.GenericCause.TheVariants.{NoDigest}
-use Rattle.engine_requests.specs.declared.error.SpecViolation.TheVariants.{ReferrersTag}
-use Rattle.engine_requests.specs.declared.error.OciDistributionError.{OciDistributionError}
-use Rattle.engine_requests.specs.declared.error.OciDistributionError.TheVariants as refusal
+use Rattle.engine_terms.specs.declared.settings.Settings.{Settings}
+use Rattle.engine_terms.specs.declared.error.GenericCause.TheVariants.{NoDigest}
+use Rattle.engine_terms.specs.declared.error.SpecViolation.TheVariants.{ReferrersTag}
+use Rattle.engine_terms.specs.declared.error.OciDistributionError.{OciDistributionError}
+use Rattle.engine_terms.specs.declared.error.OciDistributionError.TheVariants as refusal
 use Rattle.engine_requests.specs.Addresses.{registry_text}
-use Rattle.engine_requests.specs.Documents.{document_read}
-use Rattle.engine_requests.specs.Referrers.{referrers_text, referrers_tag, fallback_reference, index_read, is_absent}
+use Rattle.engine_answers.specs.Documents.{document_read}
+use Rattle.engine_answers.specs.Referrers.{referrers_tag, fallback_reference, index_read, is_absent}
+use Rattle.engine_requests.specs.ReferrerLists.{referrers_text}
 use Rattle.engine_requests.specs.Requests.{manifest_types}
 use Rattle.engine_laws.specs.Held.{Entry}
 use Rattle.engine_laws.specs.Confined.{Within}

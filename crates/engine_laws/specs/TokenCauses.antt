@@ -15,10 +15,10 @@ use Rattle.oci_protocol.specs.Runs.{head_part}
 use Rattle.engine_requests.specs.Addresses.{base_text}
 use Rattle.engine_requests.specs.Tokens.{wanted}
 use Rattle.engine_requests.specs.declared.tokens.Wanted.TheVariants.{Token}
-use Rattle.engine_requests.specs.declared.settings.Settings.{Settings}
-use Rattle.engine_requests.specs.declared.error.GenericCause.TheVariants.{HeaderText}
-use Rattle.engine_requests.specs.declared.error.OciDistributionError.{OciDistributionError}
-use Rattle.engine_requests.specs.declared.error.OciDistributionError.TheVariants as refusal
+use Rattle.engine_terms.specs.declared.settings.Settings.{Settings}
+use Rattle.engine_terms.specs.declared.error.GenericCause.TheVariants.{HeaderText}
+use Rattle.engine_terms.specs.declared.error.OciDistributionError.{OciDistributionError}
+use Rattle.engine_terms.specs.declared.error.OciDistributionError.TheVariants as refusal
 
 -- this is so of the last exchange
 pub record LastIs (P : Exchange → Type 0) (c : List Exchange) : Type 0 where

@@ -1,8 +1,8 @@
 // Whole images.
 ghost use Rattle.oci_auth.specs.declared.memory.Memory.{Memory};
 ghost use Rattle.oci_protocol.specs.Runs.{Meets};
-ghost use Rattle.engine_requests.specs.Contexts.{context_of};
-ghost use Rattle.engine_requests.specs.Errors.{is_memory};
+ghost use Rattle.engine_terms.specs.Contexts.{context_of};
+ghost use Rattle.engine_terms.specs.Errors.{is_memory};
 ghost use Rattle.engine_pull.specs.Parts.{Parts, LeadsTo};
 ghost use Rattle.engine_rows.specs.Images.{pull_layers, pull};
 ghost use Rattle.engine_rows.specs.Rows.{Row};
@@ -10,12 +10,14 @@ ghost use Rattle.engine_rows.specs.declared.image.ImageData.{ImageData as ImageO
 
 use crate::manifests::pull_image_manifest_and_list_digest;
 use engine_blobs::pulled_blob;
-use engine_requests::{AsLayerDescriptor, Call, OciDistributionError};
+use engine_requests::AsLayerDescriptor;
 use engine_rows::{ImageData, config_of, layer_of, layers_accepted};
+use engine_terms::{Call, OciDistributionError};
 use json_values::{List, Text};
 use oci_auth::{Memory, RegistryAuth};
+use oci_descriptors::OciDescriptor;
 use oci_manifests::blob::Config;
-use oci_manifests::{ImageLayer, OciDescriptor, OciImageManifest};
+use oci_manifests::{ImageLayer, OciImageManifest};
 use oci_transport::Transport;
 use std::alloc::Global;
 

@@ -2,18 +2,17 @@
 ghost use Rattle.std.specs.Prelude.{◌≡◌};
 ghost use Rattle.oci_manifests.specs.declared.document.OciManifest.TheVariants.{ImageIndex};
 ghost use Rattle.oci_protocol.specs.Runs.{Meets};
-ghost use Rattle.engine_requests.specs.Contexts.{context_of};
-ghost use Rattle.engine_requests.specs.Errors.{is_memory};
+ghost use Rattle.engine_terms.specs.Contexts.{context_of};
+ghost use Rattle.engine_terms.specs.Errors.{is_memory};
 ghost use Rattle.engine_rows.specs.Manifests.{pull_entry, manifest_by, pull_image_manifest};
 ghost use Rattle.engine_rows.specs.Manifests.{pull_image_manifest_and_list_digest, pull_manifest_and_config};
 ghost use Rattle.engine_rows.specs.Manifests.{pull_manifest_and_config_and_list_digest};
 
+use engine_answers::{config_text, entry_found, entry_manifest, entry_reference};
 use engine_blobs::pulled_blob;
 use engine_documents::pull_manifest;
-use engine_requests::{
-    AsLayerDescriptor, Call, OciDistributionError, config_text, entry_found, entry_manifest,
-    entry_reference,
-};
+use engine_requests::AsLayerDescriptor;
+use engine_terms::{Call, OciDistributionError};
 use json_values::Text;
 use oci_auth::{Memory, RegistryAuth};
 use oci_manifests::{OciImageIndex, OciImageManifest, OciManifest};

@@ -1,3 +1,1 @@
-pub mod ConfigTexts
 pub mod Handing
-pub mod Tables

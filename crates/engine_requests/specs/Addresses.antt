@@ -1,25 +1,13 @@
 -- The URLs of requests (OCI distribution specification, "Endpoints").
-use Rattle.std.specs.Prelude.{ℕ, Bool, true, false, List, [], ◌∷◌, ◌++◌, Option, Some, None, Result, Ok, Err}
-use Rattle.std.specs.Prelude.{codes, bytes_eq, if◌then◌else◌}
+use Rattle.std.specs.Prelude.{ℕ, List, [], ◌++◌, Option, Some, None, Result, Ok, Err, codes}
 use Rattle.url.specs.Parts.{Parts}
 use Rattle.oci_transport.specs.Urls.{request_url}
 use Rattle.oci_names.specs.declared.reference.Reference.{Reference}
 use Rattle.oci_names.specs.References.{repository_of, tag_of, digest_of, namespace_of, resolved_registry}
-use Rattle.engine_requests.specs.declared.settings.ClientProtocol.{ClientProtocol}
-use Rattle.engine_requests.specs.declared.settings.ClientProtocol.TheVariants.{Http, Https, HttpsExcept}
-use Rattle.engine_requests.specs.declared.settings.Settings.{Settings}
-use Rattle.engine_requests.specs.declared.error.OciDistributionError.{OciDistributionError}
-use Rattle.engine_requests.specs.declared.error.OciDistributionError.TheVariants as refusal
-
-abbrev pub is_listed : List ℕ → List (List ℕ) → Bool
-is_listed registry [] = false
-is_listed registry (r ∷ rs) = if bytes_eq r registry then true else is_listed registry rs
-
--- the scheme of a registry's URLs
-abbrev pub scheme_for : ClientProtocol → List ℕ → List ℕ
-scheme_for Http registry = codes "http"
-scheme_for Https registry = codes "https"
-scheme_for (HttpsExcept registries) registry = if is_listed registry registries then codes "http" else codes "https"
+use Rattle.engine_terms.specs.Schemes.{scheme_for}
+use Rattle.engine_terms.specs.declared.settings.Settings.{Settings}
+use Rattle.engine_terms.specs.declared.error.OciDistributionError.{OciDistributionError}
+use Rattle.engine_terms.specs.declared.error.OciDistributionError.TheVariants as refusal
 
 abbrev pub registry_text : Settings → Reference → List ℕ
 registry_text s image = scheme_for s.protocol (resolved_registry image) ++ codes "://" ++ resolved_registry image

@@ -1,11 +1,6 @@
 pub mod Addresses
-pub mod Answers
-pub mod Blobs
-pub mod Contexts
-pub mod Documents
-pub mod Errors
-pub mod Index
-pub mod Referrers
+pub mod Constants
+pub mod ReferrerLists
 pub mod Requests
 pub mod Sources
 pub mod Tokens

@@ -20,11 +20,11 @@ use Rattle.oci_transport.specs.declared.message.Request.{Request}
 use Rattle.oci_transport.specs.declared.message.Answer.{Answer}
 use Rattle.oci_transport.specs.declared.message.AnswerHead.{AnswerHead}
 use Rattle.oci_transport.specs.declared.message.Method.TheVariants.{Get}
-use Rattle.engine_requests.specs.declared.settings.Settings.{Settings}
+use Rattle.engine_terms.specs.declared.settings.Settings.{Settings}
 use Rattle.engine_requests.specs.declared.tokens.Wanted.{Wanted}
 use Rattle.engine_requests.specs.declared.tokens.Wanted.TheVariants.{Nothing, Credentials, Token}
-use Rattle.engine_requests.specs.declared.error.OciDistributionError.{OciDistributionError}
-use Rattle.engine_requests.specs.declared.error.OciDistributionError.TheVariants as refusal
+use Rattle.engine_terms.specs.declared.error.OciDistributionError.{OciDistributionError}
+use Rattle.engine_terms.specs.declared.error.OciDistributionError.TheVariants as refusal
 use Rattle.engine_requests.specs.Requests.{request_of}
 
 -- ---- challenges

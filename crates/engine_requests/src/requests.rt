@@ -1,11 +1,11 @@
 // What a request carries.
 ghost use Rattle.std.specs.Prelude.{◌≡◌, ◌++◌, flat_map, IfOk, OnOk, IsTrue, option_copied, Ok};
 ghost use Rattle.http_header.specs.FieldName.{is_header_name};
-ghost use Rattle.engine_requests.specs.Errors.{Says};
+ghost use Rattle.engine_terms.specs.Errors.{Says};
 ghost use Rattle.engine_requests.specs.Requests.{behind, listed, with_header, with_accept};
 ghost use Rattle.engine_requests.specs.Requests.{with_token, headers_of, request_of};
 
-use crate::{GenericCause, OciDistributionError, Settings};
+use engine_terms::{GenericCause, OciDistributionError, Settings};
 use json_values::{Blob, Copied, Text};
 use oci_auth::RegistryTokenType;
 use oci_transport::{HeaderError, Headers, Method, Request};

@@ -1,13 +1,12 @@
 // Where a blob may be: at the registry by its digest, and at the URLs that its descriptor lists.
 ghost use Rattle.std.specs.Prelude.{◌≡◌, IfOk};
-ghost use Rattle.engine_requests.specs.Errors.{Says};
+ghost use Rattle.engine_terms.specs.Errors.{Says};
 ghost use Rattle.engine_requests.specs.Sources.{by_scheme, place_of, asked_at};
 
-use crate::OciDistributionError;
 use crate::requests::{MANIFEST_TYPES, request_of};
-use crate::settings::Settings;
+use engine_terms::{OciDistributionError, Settings};
 use json_values::{List, Text};
-use oci_manifests::OciDescriptor;
+use oci_descriptors::OciDescriptor;
 use oci_transport::{Method, Request};
 use std::alloc::{AllocError, Global};
 use url::{ParseError, Url};

@@ -2,14 +2,13 @@
 ghost use Rattle.std.specs.Prelude.{◌≡◌, ◌∷◌, [], Some, IfOk};
 ghost use Rattle.url.specs.Setters.{append_query_pairs};
 ghost use Rattle.oci_auth.specs.Tokens.{token_of};
-ghost use Rattle.engine_requests.specs.Errors.{Says};
+ghost use Rattle.engine_terms.specs.Errors.{Says};
 ghost use Rattle.engine_requests.specs.Tokens.{wanted_in, wanted, allowed, scope_of, with_scope};
 ghost use Rattle.engine_requests.specs.Tokens.{with_service, realm_url, realm_request, decoded};
 ghost use Rattle.engine_requests.specs.Tokens.{token_read};
 
 use crate::requests::request_of;
-use crate::token_body::TokenBody;
-use crate::{OciDistributionError, Settings};
+use engine_terms::{OciDistributionError, Settings, TokenBody};
 use http_challenges::{BearerChallenge, ChallengeError};
 use json_values::{Blob, Text};
 use oci_auth::{RegistryAuth, RegistryOperation, RegistryToken, RegistryTokenType, TokenError};

@@ -12,13 +12,13 @@ use Rattle.oci_protocol.specs.Proto.{Reading, Unread, Within, Piped, Reply, Head
 use Rattle.oci_protocol.specs.Proto.{SinkFailed, Done}
 use Rattle.oci_protocol.specs.Follow.{follow}
 use Rattle.oci_protocol.specs.Runs.{Meets, Told, head_part}
-use Rattle.engine_requests.specs.declared.error.OciDistributionError.{OciDistributionError}
-use Rattle.engine_requests.specs.declared.error.OciDistributionError.TheVariants as refusal
-use Rattle.engine_requests.specs.declared.blobs.Plan.{Plan}
-use Rattle.engine_requests.specs.declared.blobs.Plan.TheVariants as plan
-use Rattle.engine_requests.specs.Errors.{is_memory, ◌>>◌}
-use Rattle.engine_requests.specs.Answers.{refused_answer, is_success}
-use Rattle.engine_requests.specs.Blobs.{plan_of, both_compared}
+use Rattle.engine_terms.specs.declared.error.OciDistributionError.{OciDistributionError}
+use Rattle.engine_terms.specs.declared.error.OciDistributionError.TheVariants as refusal
+use Rattle.engine_answers.specs.declared.blobs.Plan.{Plan}
+use Rattle.engine_answers.specs.declared.blobs.Plan.TheVariants as plan
+use Rattle.engine_terms.specs.Errors.{is_memory, ◌>>◌}
+use Rattle.engine_answers.specs.Answers.{refused_answer, is_success}
+use Rattle.engine_answers.specs.Blobs.{plan_of, both_compared}
 use Rattle.engine_rows.specs.Rows.{Row}
 
 -- where a blob goes: piece by piece into a sink, or whole into memory
@@ -48,7 +48,7 @@ unread_by (plan.Pour given own) = Ok []
 
 -- what is made of an answer that was read
 abbrev pub read_by : List ℕ → Answer → Plan → Result (List ℕ) OciDistributionError
-read_by url answer plan.Judge = Err (refused_answer url answer)
+read_by url answer plan.Judge = Err (refused_answer 200 url answer)
 read_by url answer (plan.Pour given own) = both_compared given own answer.body >> Ok answer.body
 -- never
 read_by url answer (plan.Refuse e) = Err (refusal.DigestError e)

@@ -6,8 +6,8 @@ use Rattle.oci_manifests.specs.declared.document.OciManifest.{OciManifest}
 use Rattle.oci_manifests.specs.declared.document.OciManifest.TheVariants.{Image, ImageIndex}
 use Rattle.oci_manifests.specs.declared.manifest.OciImageManifest.{OciImageManifest}
 use Rattle.oci_protocol.specs.Proto.{Done, ◌>>=◌}
-use Rattle.engine_requests.specs.Contexts.{Context}
-use Rattle.engine_requests.specs.Index.{entry_found, entry_manifest, entry_reference, config_text}
+use Rattle.engine_terms.specs.Contexts.{Context}
+use Rattle.engine_answers.specs.Index.{entry_found, entry_manifest, entry_reference, config_text}
 use Rattle.engine_requests.specs.Sources.{described}
 use Rattle.engine_rows.specs.Rows.{Row}
 use Rattle.engine_rows.specs.Pulls.{pull_manifest, held_blob}

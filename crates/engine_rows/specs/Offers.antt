@@ -10,11 +10,11 @@ use Rattle.oci_auth.specs.declared.memory.Memory.{Memory}
 use Rattle.oci_protocol.specs.Proto.{Reading, Unread, Reply, Headed, Done, ◌>>=◌}
 use Rattle.oci_protocol.specs.Follow.{follow}
 use Rattle.oci_protocol.specs.Runs.{Meets}
-use Rattle.engine_requests.specs.Answers.{is_error}
-use Rattle.engine_requests.specs.Errors.{is_memory}
+use Rattle.engine_answers.specs.Answers.{is_error}
+use Rattle.engine_terms.specs.Errors.{is_memory}
 use Rattle.engine_requests.specs.Sources.{asked_at}
-use Rattle.engine_requests.specs.declared.settings.Settings.{Settings}
-use Rattle.engine_requests.specs.declared.error.OciDistributionError.{OciDistributionError}
+use Rattle.engine_terms.specs.declared.settings.Settings.{Settings}
+use Rattle.engine_terms.specs.declared.error.OciDistributionError.{OciDistributionError}
 use Rattle.engine_requests.specs.declared.sources.Place.{Place}
 use Rattle.engine_rows.specs.Blobs.{Destination, blob_reading, blob_reply, attempt, Spills}
 use Rattle.engine_rows.specs.Rows.{Row}

@@ -9,14 +9,14 @@ use Rattle.oci_auth.specs.declared.auth.RegistryAuth.{RegistryAuth}
 use Rattle.oci_auth.specs.declared.token_type.RegistryOperation.TheVariants.{Pull}
 use Rattle.oci_manifests.specs.declared.document.OciManifest.{OciManifest}
 use Rattle.oci_protocol.specs.Proto.{Done, ◌>>=◌, ◌>>◌}
-use Rattle.engine_requests.specs.Contexts.{Context}
+use Rattle.engine_terms.specs.Contexts.{Context}
 use Rattle.engine_requests.specs.Addresses.{manifest_text, blob_text, url_read}
 use Rattle.engine_requests.specs.Requests.{manifest_types}
-use Rattle.engine_requests.specs.Answers.{accepted, document_in, fits_reference}
-use Rattle.engine_requests.specs.Documents.{document_read}
+use Rattle.engine_answers.specs.Answers.{accepted, document_in, fits_reference}
+use Rattle.engine_answers.specs.Documents.{document_read}
 use Rattle.engine_requests.specs.Sources.{Layer, places_of}
-use Rattle.engine_rows.specs.declared.named.Named.{Named}
-use Rattle.engine_rows.specs.declared.named.Named.TheVariants.{ByHeader, Unnamed}
+use Rattle.engine_rows.specs.declared.named.NamedAnswer.{NamedAnswer}
+use Rattle.engine_rows.specs.declared.named.NamedAnswer.TheVariants.{ByHeader, Unnamed}
 use Rattle.engine_rows.specs.Rows.{Row, store, whole, named_after, prepared}
 use Rattle.engine_rows.specs.Blobs.{Destination, IntoSink, IntoMemory}
 use Rattle.engine_rows.specs.Offers.{tried}
@@ -41,9 +41,9 @@ pull_manifest_raw s image a types = do
   manifest_document s image types
 
 -- the digest that the answer's header names, else that of the document
-abbrev pub digest_by : Context → Reference → Parts → Named → Row (List ℕ)
+abbrev pub digest_by : Context → Reference → Parts → NamedAnswer → Row (List ℕ)
 digest_by s image url (ByHeader digest got) = do
-  Done (accepted got.url got.answer)
+  Done (accepted 200 got.url got.answer)
   Done (fits_reference digest (digest_of image))
 digest_by s image url Unnamed = do
   found ← document s image url manifest_types

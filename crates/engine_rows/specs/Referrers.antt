@@ -6,10 +6,11 @@ use Rattle.oci_names.specs.References.{digest_of}
 use Rattle.oci_auth.specs.declared.token_type.RegistryOperation.TheVariants.{Pull}
 use Rattle.oci_manifests.specs.declared.index.OciImageIndex.{OciImageIndex}
 use Rattle.oci_protocol.specs.Proto.{Done, bind, ◌>>=◌}
-use Rattle.engine_requests.specs.Contexts.{Context}
-use Rattle.engine_requests.specs.declared.answers.Got.{Got}
+use Rattle.engine_terms.specs.Contexts.{Context}
+use Rattle.engine_answers.specs.declared.answers.Got.{Got}
 use Rattle.engine_requests.specs.Requests.{manifest_types}
-use Rattle.engine_requests.specs.Referrers.{digest_given, referrers_url, referrers_in, fallback_reference, tagged_index}
+use Rattle.engine_answers.specs.Referrers.{referrers_in, fallback_reference, tagged_index}
+use Rattle.engine_requests.specs.ReferrerLists.{digest_given, referrers_url}
 use Rattle.engine_rows.specs.Rows.{Row, whole, prepared}
 use Rattle.engine_rows.specs.Pulls.{manifest_asked}
 

@@ -27,19 +27,19 @@ use Rattle.oci_protocol.specs.Proto.{Reading, Unread, Within, Reply, Headed, Ans
 use Rattle.oci_protocol.specs.Proto.{SinkFailed, read_within, read_none, Proto, Done, Recall, Keep, bind}
 use Rattle.oci_protocol.specs.Proto.{◌>>=◌, ◌>>◌}
 use Rattle.oci_protocol.specs.Follow.{follow}
-use Rattle.engine_requests.specs.declared.answers.Got.{Got}
-use Rattle.engine_requests.specs.declared.settings.Settings.{Settings}
-use Rattle.engine_requests.specs.declared.error.OciDistributionError.{OciDistributionError}
-use Rattle.engine_requests.specs.declared.error.OciDistributionError.TheVariants as refusal
+use Rattle.engine_answers.specs.declared.answers.Got.{Got}
+use Rattle.engine_terms.specs.declared.settings.Settings.{Settings}
+use Rattle.engine_terms.specs.declared.error.OciDistributionError.{OciDistributionError}
+use Rattle.engine_terms.specs.declared.error.OciDistributionError.TheVariants as refusal
 use Rattle.engine_requests.specs.Addresses.{registry_text, base_text, url_read}
-use Rattle.engine_requests.specs.Contexts.{Context}
+use Rattle.engine_terms.specs.Contexts.{Context}
 use Rattle.engine_requests.specs.Requests.{request_of}
 use Rattle.engine_requests.specs.Tokens.{wanted, realm_request, token_read}
 use Rattle.engine_requests.specs.declared.tokens.Wanted.{Wanted}
 use Rattle.engine_requests.specs.declared.tokens.Wanted.TheVariants as wants
-use Rattle.engine_requests.specs.Answers.{header_digest}
-use Rattle.engine_rows.specs.declared.named.Named.{Named}
-use Rattle.engine_rows.specs.declared.named.Named.TheVariants.{ByHeader, Unnamed}
+use Rattle.engine_answers.specs.Answers.{header_digest}
+use Rattle.engine_rows.specs.declared.named.NamedAnswer.{NamedAnswer}
+use Rattle.engine_rows.specs.declared.named.NamedAnswer.TheVariants.{ByHeader, Unnamed}
 
 abbrev pub Row : Type 0 → Type 0
 Row A = Proto Memory (Result A OciDistributionError)
@@ -75,17 +75,17 @@ reading_named limit (Err e) = Unread
 unfoldable pub named_reading : ℕ → AnswerHead → Reading
 named_reading limit head = reading_named limit (header_digest head.headers)
 
-abbrev pub unread_named : Result (Option (List ℕ)) OciDistributionError → Result Named OciDistributionError
+abbrev pub unread_named : Result (Option (List ℕ)) OciDistributionError → Result NamedAnswer OciDistributionError
 unread_named (Ok digest) = Ok Unnamed
 unread_named (Err e) = Err e
 
-abbrev pub read_named : Got → Result (Option (List ℕ)) OciDistributionError → Result Named OciDistributionError
+abbrev pub read_named : Got → Result (Option (List ℕ)) OciDistributionError → Result NamedAnswer OciDistributionError
 read_named got (Ok (Some digest)) = Ok (ByHeader digest got)
 -- never
 read_named got (Ok None) = Ok Unnamed
 read_named got (Err e) = Err e
 
-abbrev pub named_reply : Request → Reply → Row Named
+abbrev pub named_reply : Request → Reply → Row NamedAnswer
 named_reply last (Headed head) = Done (unread_named (header_digest head.headers))
 named_reply last (Answered answer) = Done (read_named (record { url = last.url; answer = answer })
     (header_digest answer.headers))
@@ -94,7 +94,7 @@ named_reply last Failed = Done (Err refusal.TransportFault)
 named_reply last SinkFailed = Done (Err refusal.SinkFault)
 
 -- the whole last answer, where its header names a digest
-unfoldable pub named_after : ℕ → Request → ℕ → Row Named
+unfoldable pub named_after : ℕ → Request → ℕ → Row NamedAnswer
 named_after times request limit = follow times request (named_reading limit) named_reply
 
 -- ---- what is kept

@@ -1,13 +1,14 @@
 // A whole image: what is made of its documents and blobs.
 ghost use Rattle.std.specs.Prelude.{◌≡◌, IfOk};
-ghost use Rattle.engine_requests.specs.Errors.{Says};
+ghost use Rattle.engine_terms.specs.Errors.{Says};
 ghost use Rattle.engine_rows.specs.Images.{image_manifest, is_accepted, all_accepted};
 ghost use Rattle.engine_rows.specs.Images.{layers_accepted, layer_of, config_of};
 
-use engine_requests::OciDistributionError;
+use engine_terms::OciDistributionError;
 use json_values::{Blob, Copied, List, Text, copied, copy_all, row};
+use oci_descriptors::OciDescriptor;
 use oci_manifests::blob::Config;
-use oci_manifests::{ImageLayer, OciDescriptor, OciImageManifest, OciManifest};
+use oci_manifests::{ImageLayer, OciImageManifest, OciManifest};
 use std::alloc::{AllocError, Global};
 
 /// What a pull of an image answers.

@@ -4,6 +4,8 @@
 
 mod image;
 mod named;
+mod reached;
 
 pub use image::{ImageData, config_of, image_manifest, layer_of, layers_accepted};
-pub use named::Named;
+pub use named::NamedAnswer;
+pub use reached::got_of;

@@ -11,9 +11,9 @@ use Rattle.oci_protocol.specs.Follow.{Reaches, Misses, Cuts}
 use Rattle.oci_protocol.specs.Runs.{Meets}
 use Rattle.oci_protocol.proofs.Laws.{Meets-ok, Meets-err}
 use Rattle.oci_protocol.proofs.Following.{reached_headed, reached_answered, reached_long, reached_failed, reached_cut, missed, cut}
-use Rattle.engine_requests.specs.declared.error.OciDistributionError.TheVariants as refusal
+use Rattle.engine_terms.specs.declared.error.OciDistributionError.TheVariants as refusal
 use Rattle.oci_auth.specs.declared.memory.Memory.{Memory}
-use Rattle.engine_requests.specs.Errors.{is_memory}
+use Rattle.engine_terms.specs.Errors.{is_memory}
 use Rattle.engine_rows.specs.Rows.{whole, whole_reply, head_after, head_reply}
 use Rattle.engine_steps.specs.Untaken.{Untaken}
 

@@ -1,4 +1,2 @@
-pub mod Attempts
-pub mod Exits
 pub mod HelperTrees
 pub mod NamedTree

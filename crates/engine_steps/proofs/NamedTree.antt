@@ -14,20 +14,20 @@ use Rattle.oci_protocol.specs.Runs.{Meets}
 use Rattle.oci_protocol.proofs.Laws.{Meets-err}
 use Rattle.oci_protocol.proofs.Following.{reached_headed, reached_answered, reached_long, reached_failed, reached_cut, missed, cut}
 use Rattle.oci_protocol.proofs.Extending.{Steady-none}
-use Rattle.engine_requests.specs.declared.error.OciDistributionError.{OciDistributionError}
-use Rattle.engine_requests.specs.declared.error.OciDistributionError.TheVariants as refusal
-use Rattle.engine_requests.specs.Errors.{is_memory, Says}
-use Rattle.engine_requests.specs.Answers.{header_digest}
-use Rattle.engine_rows.specs.declared.named.Named.{Named}
-use Rattle.engine_rows.specs.declared.named.Named.TheVariants.{ByHeader}
+use Rattle.engine_terms.specs.declared.error.OciDistributionError.{OciDistributionError}
+use Rattle.engine_terms.specs.declared.error.OciDistributionError.TheVariants as refusal
+use Rattle.engine_terms.specs.Errors.{is_memory, Says}
+use Rattle.engine_answers.specs.Answers.{header_digest}
+use Rattle.engine_rows.specs.declared.named.NamedAnswer.{NamedAnswer}
+use Rattle.engine_rows.specs.declared.named.NamedAnswer.TheVariants.{ByHeader}
 use Rattle.engine_rows.specs.Rows.{named_after, named_reading, reading_named, unread_named, read_named, named_reply}
-use Rattle.engine_steps.proofs.Exits.{said}
+use Rattle.engine_rows.proofs.Exits.{said}
 
 -- the header names no digest, or one that is refused
-unread_met : (d e : Result (Option (List ℕ)) OciDistributionError) (r : Result Named OciDistributionError) (link : Link) (k : Memory) → d ≡ e → Says r (unread_named e) → Meets is_memory (Done (unread_named d)) link link k k r
+unread_met : (d e : Result (Option (List ℕ)) OciDistributionError) (r : Result NamedAnswer OciDistributionError) (link : Link) (k : Memory) → d ≡ e → Says r (unread_named e) → Meets is_memory (Done (unread_named d)) link link k k r
 unread_met d e r link k is says = said r (rw is says)
 
-pub named_unread : (times : ℕ) (request : Request) (limit : ℕ) (head : AnswerHead) (last : Request) (old new : Link) (k : Memory) (d : Result (Option (List ℕ)) OciDistributionError) (r : Result Named OciDistributionError) → Reaches times request head last old new → header_digest head.headers ≡ d → reading_named limit d ≡ Unread → Says r (unread_named d) → Meets is_memory (named_after times request limit) old new k k r
+pub named_unread : (times : ℕ) (request : Request) (limit : ℕ) (head : AnswerHead) (last : Request) (old new : Link) (k : Memory) (d : Result (Option (List ℕ)) OciDistributionError) (r : Result NamedAnswer OciDistributionError) → Reaches times request head last old new → header_digest head.headers ≡ d → reading_named limit d ≡ Unread → Says r (unread_named d) → Meets is_memory (named_after times request limit) old new k k r
 unfolding named_after named_reading
 named_unread times request limit head last old new k d r reach is unread says = reached_headed times request (named_reading limit) named_reply head last reach (ap (reading_named limit) is ∙ unread) (unread_met (header_digest head.headers) d r new k is says)
 
@@ -67,7 +67,7 @@ unfolding named_after
 cut_at times request limit head last old new k e reach of_memory = reached_cut is_memory times request (named_reading limit) named_reply head last k e reach (omega arith) refl (Steady-none new) of_memory
 
 -- the header is refused, or memory was wanting to read it
-pub named_refused : (times : ℕ) (request : Request) (limit : ℕ) (head : AnswerHead) (last : Request) (old new : Link) (k : Memory) (e : OciDistributionError) (r : Result Named OciDistributionError) → Reaches times request head last old new → Says {A = Option (List ℕ)} (Err e) (header_digest head.headers) → IsErrAnd r (λ x. x ≡ e) → Meets is_memory (named_after times request limit) old new k k r
+pub named_refused : (times : ℕ) (request : Request) (limit : ℕ) (head : AnswerHead) (last : Request) (old new : Link) (k : Memory) (e : OciDistributionError) (r : Result NamedAnswer OciDistributionError) → Reaches times request head last old new → Says {A = Option (List ℕ)} (Err e) (header_digest head.headers) → IsErrAnd r (λ x. x ≡ e) → Meets is_memory (named_after times request limit) old new k k r
 named_refused times request limit head last old new k e r reach says is = let at = err_from_is_err_and r is in rw (at.1, at.2) (by_memory (is_memory e) refl says) where
   by_memory : (b : Bool) → is_memory e ≡ b → MatchBool b (Unit {0}) (header_digest head.headers ≡ Err e) → Meets is_memory (named_after times request limit) old new k k (Err e)
   by_memory true of_memory says = cut_at times request limit head last old new k e reach of_memory

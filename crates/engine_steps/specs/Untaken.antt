@@ -3,8 +3,8 @@ use Rattle.std.specs.Prelude.{◌≡◌, List, [], ◌∷◌, ◌++◌, ℕ, Som
 use Rattle.oci_transport.specs.Link.{Link, answer_of}
 use Rattle.oci_transport.specs.declared.message.AnswerHead.{AnswerHead}
 use Rattle.oci_transport.specs.declared.message.Exchange.{Exchange}
-use Rattle.engine_rows.specs.declared.named.Named.{Named}
-use Rattle.engine_rows.specs.declared.named.Named.TheVariants.{ByHeader, Unnamed}
+use Rattle.engine_rows.specs.declared.named.NamedAnswer.{NamedAnswer}
+use Rattle.engine_rows.specs.declared.named.NamedAnswer.TheVariants.{ByHeader, Unnamed}
 
 -- where exchanges are told, the last one was answered with this head, and its whole body is left
 pub record Untaken (head : AnswerHead) (old new : Link) : Type 0 where
@@ -15,6 +15,6 @@ pub record Untaken (head : AnswerHead) (old new : Link) : Type 0 where
   pub rest : (before : List Exchange) → old.told ≡ Some before → new.rest ≡ Some body
 
 -- nothing is taken of an answer whose header names no digest
-abbrev pub UntakenUnnamed : Named → Link → Link → Type 0
+abbrev pub UntakenUnnamed : NamedAnswer → Link → Link → Type 0
 UntakenUnnamed (ByHeader digest got) old new = Unit {0}
 UntakenUnnamed Unnamed old new = (head : AnswerHead) × Untaken head old new

@@ -3,12 +3,13 @@ ghost use Rattle.std.specs.Prelude.{◌≡◌, IfOk};
 ghost use Rattle.oci_auth.specs.declared.memory.Memory.{Memory};
 ghost use Rattle.oci_transport.specs.Link.{answer_of};
 ghost use Rattle.oci_protocol.specs.Runs.{Meets};
-ghost use Rattle.engine_requests.specs.Errors.{is_memory};
+ghost use Rattle.engine_terms.specs.Errors.{is_memory};
 ghost use Rattle.engine_rows.specs.Rows.{whole, head_after, named_after};
 ghost use Rattle.engine_steps.specs.Untaken.{Untaken, UntakenUnnamed};
 
-use engine_requests::{Got, OciDistributionError, header_digest};
-use engine_rows::Named;
+use engine_answers::{Got, header_digest};
+use engine_rows::NamedAnswer;
+use engine_terms::OciDistributionError;
 use json_values::{Blob, Copied};
 use oci_protocol::{Reached, reach};
 use oci_transport::{Answer, AnswerHead, BodyError, LinkError, Request, Transport, read_body};
@@ -29,25 +30,6 @@ pub(crate) fn with_body(reached: Reached, body: Blob) -> Got
             body,
         },
     }
-}
-
-// The same of an answer that is still of use, where a copy of its head can be made.
-pub(crate) fn got_of(alloc: Global, reached: &Reached, body: Blob) -> Result<Got, AllocError>
-    ensures { IfOk result (λ got. got ≡ record {
-      url = reached.now.request.url;
-      answer = answer_of reached.now.head body;
-    }) }
-{
-    let url = reached.request.url.copy(alloc)?;
-    let headers = reached.head.headers.copy(alloc)?;
-    Ok(Got {
-        url,
-        answer: Answer {
-            status: reached.head.status,
-            headers,
-            body,
-        },
-    })
 }
 
 /// The whole last answer to a request that may be followed so often.
@@ -102,7 +84,7 @@ pub fn named_after<T: Transport>(
     times: u64,
     request: &Request,
     limit: u64,
-) -> Result<Named, OciDistributionError>
+) -> Result<NamedAnswer, OciDistributionError>
     ensures run { (k : Memory) → Meets is_memory (named_after times request.now limit)
         (T.state transport.old) (T.state transport.new) k k result }
     ensures untaken { IfOk result (λ named. UntakenUnnamed named
@@ -114,10 +96,10 @@ pub fn named_after<T: Transport>(
         Err(LinkError::WantOfMemory) => return Err(OciDistributionError::WantOfMemory),
     };
     let Some(digest) = header_digest(alloc, &reached.head.headers)? else {
-        return Ok(Named::Unnamed);
+        return Ok(NamedAnswer::Unnamed);
     };
     match read_body(alloc, transport, limit) {
-        Ok(body) => Ok(Named::ByHeader(digest, with_body(reached, body))),
+        Ok(body) => Ok(NamedAnswer::ByHeader(digest, with_body(reached, body))),
         Err(BodyError::TransportFault) => Err(OciDistributionError::TransportFault),
         Err(BodyError::BodyTooLong) => Err(OciDistributionError::BodyTooLong),
         Err(BodyError::WantOfMemory) => Err(OciDistributionError::WantOfMemory),

@@ -2,12 +2,12 @@
 ghost use Rattle.std.specs.Prelude.{◌≡◌, IfOk};
 ghost use Rattle.oci_auth.specs.Caches.{key_of};
 ghost use Rattle.oci_protocol.specs.Runs.{Meets};
-ghost use Rattle.engine_requests.specs.Contexts.{context_of};
-ghost use Rattle.engine_requests.specs.Errors.{is_memory};
+ghost use Rattle.engine_terms.specs.Contexts.{context_of};
+ghost use Rattle.engine_terms.specs.Errors.{is_memory};
 ghost use Rattle.engine_rows.specs.Rows.{shown_text, kept_text, token_given};
 
 use crate::tokens::token_step;
-use engine_requests::{Call, OciDistributionError};
+use engine_terms::{Call, OciDistributionError};
 use json_values::Text;
 use oci_auth::{Memory, RegistryAuth, RegistryOperation, RegistryTokenType, store};
 use oci_transport::Transport;

@@ -4,16 +4,17 @@ ghost use Rattle.url.specs.Parts.{serialize};
 ghost use Rattle.oci_auth.specs.declared.memory.Memory.{Memory};
 ghost use Rattle.oci_transport.specs.Urls.{request_url};
 ghost use Rattle.oci_protocol.specs.Runs.{Meets};
-ghost use Rattle.engine_requests.specs.Contexts.{context_of};
-ghost use Rattle.engine_requests.specs.Errors.{is_memory};
+ghost use Rattle.engine_terms.specs.Contexts.{context_of};
+ghost use Rattle.engine_terms.specs.Errors.{is_memory};
 ghost use Rattle.engine_rows.specs.Rows.{realm_asked, fetched, registry_asked, token_step, passed_over};
 ghost use Rattle.engine_rows.specs.Rows.{token_asked, token_for, authorized, goes_to, prepared};
 
 use crate::asking::{head_after, whole};
 use engine_requests::{
-    Call, OciDistributionError, Wanted, base_url, read_challenge, read_url, realm_request,
-    registry_address, request_of, token_read,
+    Wanted, base_url, read_challenge, read_url, realm_request, registry_address, request_of,
+    token_read,
 };
+use engine_terms::{Call, OciDistributionError};
 use http_challenges::BearerChallenge;
 use json_values::Copied;
 use oci_auth::{Memory, RegistryAuth, RegistryOperation, RegistryTokenType};

@@ -2,7 +2,7 @@
 use Rattle.std.proofs.Common.{◌≡◌, ℕ, List, [], ◌∷◌, ◌++◌, Some, None, Result, Ok, refl, sym, ap, subst, ◌∙◌, append_assoc, append-nil}
 use Rattle.std.specs.List.{concat}
 use Rattle.oci_transport.specs.Link.{Link}
-use Rattle.engine_requests.specs.declared.error.OciDistributionError.{OciDistributionError}
+use Rattle.engine_terms.specs.declared.error.OciDistributionError.{OciDistributionError}
 use Rattle.engine_streams.specs.Streams.{compared, opening_of, IsOpen, Next}
 use Rattle.engine_streams.specs.Joined.{Gives, IsFront, IsAll, PiecesAreFront, PiecesAreWhole}
 use Rattle.engine_streams.specs.declared.head.Opening.{Opening}

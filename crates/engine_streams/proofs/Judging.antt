@@ -12,11 +12,11 @@ use Rattle.oci_protocol.specs.Follow.{Reaches, Misses, Cuts}
 use Rattle.oci_protocol.specs.Runs.{Meets}
 use Rattle.oci_protocol.proofs.Laws.{Meets-err}
 use Rattle.oci_protocol.proofs.Following.{reached_headed, reached_answered, reached_long, reached_failed, reached_cut, missed, cut}
-use Rattle.engine_requests.specs.declared.error.OciDistributionError.{OciDistributionError}
-use Rattle.engine_requests.specs.declared.error.OciDistributionError.TheVariants as refusal
-use Rattle.engine_requests.specs.Errors.{is_memory, Says}
-use Rattle.engine_requests.specs.Answers.{is_error}
-use Rattle.engine_steps.proofs.Exits.{said}
+use Rattle.engine_terms.specs.declared.error.OciDistributionError.{OciDistributionError}
+use Rattle.engine_terms.specs.declared.error.OciDistributionError.TheVariants as refusal
+use Rattle.engine_terms.specs.Errors.{is_memory, Says}
+use Rattle.engine_answers.specs.Answers.{is_error}
+use Rattle.engine_rows.proofs.Exits.{said}
 use Rattle.engine_steps.proofs.HelperTrees.{reached_untaken}
 use Rattle.engine_streams.specs.Heads.{opening, is_streamed}
 use Rattle.engine_streams.specs.Rows.{reading_unless, judged_reading, judged_reply, judged, streams, streams_or_passes, some_opening, opening_unless_error, Refuses, IsLeft}

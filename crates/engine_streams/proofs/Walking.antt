@@ -9,14 +9,14 @@ use Rattle.oci_auth.specs.Memory.{fresh}
 use Rattle.oci_auth.specs.declared.memory.Memory.{Memory}
 use Rattle.oci_protocol.specs.Runs.{Meets, Told}
 use Rattle.oci_protocol.proofs.Extending.{Extends-none, Extends-more}
-use Rattle.engine_requests.specs.declared.error.OciDistributionError.{OciDistributionError}
-use Rattle.engine_requests.specs.declared.settings.Settings.{Settings}
+use Rattle.engine_terms.specs.declared.error.OciDistributionError.{OciDistributionError}
+use Rattle.engine_terms.specs.declared.settings.Settings.{Settings}
 use Rattle.engine_requests.specs.declared.sources.Place.{Place}
-use Rattle.engine_requests.specs.Errors.{is_memory, Says}
+use Rattle.engine_terms.specs.Errors.{is_memory, Says}
 use Rattle.engine_requests.specs.Sources.{place_of, with_place, places_of}
 use Rattle.engine_rows.specs.Rows.{Row}
-use Rattle.engine_steps.proofs.Attempts.{meets_told}
-use Rattle.engine_steps.proofs.Exits.{and_then, refused, said, done}
+use Rattle.engine_rows.proofs.Exits.{meets_told}
+use Rattle.engine_rows.proofs.Exits.{and_then, refused, said, done}
 use Rattle.engine_streams.specs.Rows.{asked, offered, ranged_at, tried, IsLeft}
 use Rattle.engine_streams.specs.declared.head.Opening.{Opening}
 use Rattle.engine_streams.specs.declared.range.ByteRange.{ByteRange}

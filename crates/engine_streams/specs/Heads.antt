@@ -6,11 +6,11 @@ use Rattle.std.specs.List.{list_all}
 use Rattle.std.specs.Str.Parse.{digits_value}
 use Rattle.oci_transport.specs.Headers.{Fields, first_of}
 use Rattle.oci_transport.specs.declared.message.AnswerHead.{AnswerHead}
-use Rattle.engine_requests.specs.Answers.{header_digest, is_success, or_digest_error}
-use Rattle.engine_requests.specs.Blobs.{digest_expected}
-use Rattle.engine_requests.specs.Errors.{◌>>=◌}
-use Rattle.engine_requests.specs.declared.blobs.Expected.{Expected}
-use Rattle.engine_requests.specs.declared.error.OciDistributionError.{OciDistributionError}
+use Rattle.engine_answers.specs.Answers.{header_digest, is_success, or_digest_error}
+use Rattle.engine_answers.specs.Blobs.{digest_expected}
+use Rattle.engine_terms.specs.Errors.{◌>>=◌}
+use Rattle.engine_answers.specs.declared.blobs.Expected.{Expected}
+use Rattle.engine_terms.specs.declared.error.OciDistributionError.{OciDistributionError}
 use Rattle.engine_streams.specs.Ranges.{is_part}
 use Rattle.engine_streams.specs.declared.head.Digests.{Digests}
 use Rattle.engine_streams.specs.declared.head.Opening.{Opening}

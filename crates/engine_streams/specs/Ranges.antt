@@ -2,10 +2,10 @@
 use Rattle.std.specs.Prelude.{ℕ, ◌+◌, ◌-◌, ◌^◌, List, ◌++◌, Bool, false, ◌==◌, Option, Some, None, Result, Ok, Err}
 use Rattle.std.specs.Prelude.{codes, decimal, nat_lt, if◌then◌else◌}
 use Rattle.oci_transport.specs.declared.message.Request.{Request}
-use Rattle.engine_requests.specs.declared.error.GenericCause.TheVariants.{RangeOverflow}
-use Rattle.engine_requests.specs.declared.error.OciDistributionError.{OciDistributionError}
-use Rattle.engine_requests.specs.declared.error.OciDistributionError.TheVariants as refusal
-use Rattle.engine_requests.specs.Errors.{◌>>=◌}
+use Rattle.engine_terms.specs.declared.error.GenericCause.TheVariants.{RangeOverflow}
+use Rattle.engine_terms.specs.declared.error.OciDistributionError.{OciDistributionError}
+use Rattle.engine_terms.specs.declared.error.OciDistributionError.TheVariants as refusal
+use Rattle.engine_terms.specs.Errors.{◌>>=◌}
 use Rattle.engine_requests.specs.Requests.{with_header}
 use Rattle.engine_streams.specs.declared.range.ByteRange.{ByteRange}
 

@@ -12,14 +12,14 @@ use Rattle.oci_protocol.specs.Proto.{Reading, Unread, Within, Reply, Headed, Ans
 use Rattle.oci_protocol.specs.Proto.{Done, ◌>>=◌}
 use Rattle.oci_protocol.specs.Follow.{follow}
 use Rattle.engine_requests.specs.Addresses.{blob_text, url_read}
-use Rattle.engine_requests.specs.Answers.{is_error, refused_answer}
-use Rattle.engine_requests.specs.Contexts.{Context}
-use Rattle.engine_requests.specs.Errors.{is_memory, ◌>>=◌ as ◌into◌}
+use Rattle.engine_answers.specs.Answers.{is_error, refused_answer}
+use Rattle.engine_terms.specs.Contexts.{Context}
+use Rattle.engine_terms.specs.Errors.{is_memory, ◌>>=◌ as ◌into◌}
 use Rattle.engine_requests.specs.Requests.{manifest_types}
 use Rattle.engine_requests.specs.Sources.{Layer, places_of, asked_at}
-use Rattle.engine_requests.specs.declared.error.OciDistributionError.{OciDistributionError}
-use Rattle.engine_requests.specs.declared.error.OciDistributionError.TheVariants as refusal
-use Rattle.engine_requests.specs.declared.settings.Settings.{Settings}
+use Rattle.engine_terms.specs.declared.error.OciDistributionError.{OciDistributionError}
+use Rattle.engine_terms.specs.declared.error.OciDistributionError.TheVariants as refusal
+use Rattle.engine_terms.specs.declared.settings.Settings.{Settings}
 use Rattle.engine_requests.specs.declared.sources.Place.{Place}
 use Rattle.engine_rows.specs.Rows.{Row, prepared}
 use Rattle.engine_steps.specs.Untaken.{Untaken}
@@ -45,7 +45,7 @@ judged_reading limit takes head = reading_unless limit (takes head)
 
 abbrev pub judged_reply : {A : Type 0} → (AnswerHead → Result A OciDistributionError) → Request → Reply → Row A
 judged_reply made last (Headed head) = Done (made head)
-judged_reply made last (Answered answer) = Done (Err (refused_answer last.url answer))
+judged_reply made last (Answered answer) = Done (Err (refused_answer 200 last.url answer))
 judged_reply made last TooLong = Done (Err refusal.BodyTooLong)
 judged_reply made last Failed = Done (Err refusal.TransportFault)
 -- never: the body goes into no sink
@@ -155,4 +155,4 @@ Refuses limit url head old new e =
     ⊎ ((e ≡ refusal.TransportFault) × Rose old.faults new.faults)
     ⊎ ((e ≡ refusal.BodyTooLong) × ((rest : List ℕ) → old.rest ≡ Some rest → limit < length rest))
     ⊎ ((body : List ℕ) × (length body ≤ limit) × ((rest : List ℕ) → old.rest ≡ Some rest → body ≡ rest)
-    × (e ≡ refused_answer url (answer_of head body)))
+    × (e ≡ refused_answer 200 url (answer_of head body)))

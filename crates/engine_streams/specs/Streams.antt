@@ -3,9 +3,9 @@ use Rattle.std.specs.Prelude.{◌≡◌, ◌<◌, ℕ, ◌+◌, List, [], ◌++�
 use Rattle.json_values.specs.Counts.{Rose}
 use Rattle.oci_transport.specs.Link.{Link, Takes}
 use Rattle.oci_digests.specs.Both.{BothHold}
-use Rattle.engine_requests.specs.Blobs.{both_compared, given_algorithm}
-use Rattle.engine_requests.specs.declared.error.OciDistributionError.{OciDistributionError}
-use Rattle.engine_requests.specs.declared.error.OciDistributionError.TheVariants as refusal
+use Rattle.engine_answers.specs.Blobs.{both_compared, given_algorithm}
+use Rattle.engine_terms.specs.declared.error.OciDistributionError.{OciDistributionError}
+use Rattle.engine_terms.specs.declared.error.OciDistributionError.TheVariants as refusal
 use Rattle.engine_streams.specs.declared.head.Digests.{Digests}
 use Rattle.engine_streams.specs.declared.head.Opening.{Opening}
 use Rattle.engine_streams.specs.declared.stream.Check.{Check}

@@ -3,15 +3,15 @@ ghost use Rattle.std.specs.Prelude.{◌≡◌, ◌≤◌, IfOk, IfSome};
 ghost use Rattle.oci_auth.specs.declared.memory.Memory.{Memory};
 ghost use Rattle.oci_transport.specs.Link.{Steady};
 ghost use Rattle.oci_protocol.specs.Runs.{Meets};
-ghost use Rattle.engine_requests.specs.Errors.{is_memory, Says};
+ghost use Rattle.engine_terms.specs.Errors.{is_memory, Says};
 ghost use Rattle.engine_requests.specs.Sources.{places_of};
 ghost use Rattle.engine_streams.specs.Rows.{asked, offered, tried, ranged_at, IsLeft, Refuses};
 
 use crate::head::{Opening, is_streamed, read_head};
 use crate::range::{ByteRange, onward, with_range};
-use engine_requests::{
-    Got, OciDistributionError, Place, Settings, asked_at, is_error, place_of, refused_answer,
-};
+use engine_answers::{Got, is_error, refused_answer};
+use engine_requests::{Place, asked_at, place_of};
+use engine_terms::{OciDistributionError, Settings};
 use json_values::Text;
 use oci_protocol::{Reached, reach};
 use oci_transport::{Answer, AnswerHead, BodyError, LinkError, Request, Transport, read_body};
@@ -35,6 +35,7 @@ fn refused<T: Transport>(
     match read_body(alloc, transport, limit) {
         Ok(body) => refused_answer(
             alloc,
+            200,
             Got {
                 url: request.url,
                 answer: Answer {

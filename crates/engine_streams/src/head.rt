@@ -2,14 +2,13 @@
 ghost use Rattle.std.specs.Prelude.{◌≡◌, IfOk};
 ghost use Rattle.std.specs.List.{list_all};
 ghost use Rattle.oci_transport.specs.Headers.{first_of};
-ghost use Rattle.engine_requests.specs.Errors.{Says};
+ghost use Rattle.engine_terms.specs.Errors.{Says};
 ghost use Rattle.engine_streams.specs.Heads.{is_digit, is_decimal, decimal_of, content_length, expected, given};
 ghost use Rattle.engine_streams.specs.Heads.{unless_part, opening, is_streamed};
 
 use crate::range::{ByteRange, is_part};
-use engine_requests::{
-    Expected, OciDistributionError, digest_expected, header_digest, is_success, of_digest,
-};
+use engine_answers::{Expected, digest_expected, header_digest, is_success, of_digest};
+use engine_terms::OciDistributionError;
 use json_values::Text;
 use oci_transport::{AnswerHead, Headers};
 use std::alloc::Global;

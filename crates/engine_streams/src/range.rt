@@ -1,9 +1,10 @@
 // Which bytes of a blob are asked for.
 ghost use Rattle.std.specs.Prelude.{◌≡◌, IfOk};
-ghost use Rattle.engine_requests.specs.Errors.{Says};
+ghost use Rattle.engine_terms.specs.Errors.{Says};
 ghost use Rattle.engine_streams.specs.Ranges.{onward_text, text_by, range_text, onward, with_range, is_part};
 
-use engine_requests::{GenericCause, OciDistributionError, with_header};
+use engine_requests::with_header;
+use engine_terms::{GenericCause, OciDistributionError};
 use json_values::{Text, write_decimal};
 use oci_transport::Request;
 use std::alloc::{AllocError, Global};

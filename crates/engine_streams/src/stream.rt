@@ -2,12 +2,13 @@
 ghost use Rattle.std.specs.Prelude.{◌≡◌, ◌≤◌, ◌<◌, ◌++◌, [], List, ℕ, length, Ok, Err, None, IfOk, IfErr, OnErr, ◌⊎◌};
 ghost use Rattle.json_values.specs.Counts.{Rose};
 ghost use Rattle.oci_transport.specs.Link.{Steady, Takes};
-ghost use Rattle.engine_requests.specs.Errors.{Says};
+ghost use Rattle.engine_terms.specs.Errors.{Says};
 ghost use Rattle.engine_streams.specs.Streams.{Hashed, compared, digests_of, opening_of, IsOpen, HasEnded};
 ghost use Rattle.engine_streams.specs.Streams.{HasFailed, Next, GivesFront};
 
 use crate::head::{Digests, Opening};
-use engine_requests::{OciDistributionError, both_compared, digesters};
+use engine_answers::{both_compared, digesters};
+use engine_terms::OciDistributionError;
 use json_values::{Blob, Text};
 use oci_digests::Digesters;
 use oci_transport::{LinkError, Transport};

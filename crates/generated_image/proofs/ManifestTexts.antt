@@ -8,10 +8,10 @@ use Rattle.serde_json.specs.Data.{Data, Items, no_members}
 use Rattle.serde_json.specs.Written.{compact_text, members_text}
 use Rattle.json_values.specs.JsonText.{json_of}
 use Rattle.oci_digests.specs.Checks.{is_header_text}
-use Rattle.oci_manifests.specs.declared.descriptor.OciDescriptor.{OciDescriptor}
+use Rattle.oci_descriptors.specs.declared.descriptor.OciDescriptor.{OciDescriptor}
 use Rattle.oci_manifests.specs.declared.document.OciManifest.TheVariants.{Image}
 use Rattle.oci_manifests.specs.declared.manifest.OciImageManifest.{OciImageManifest}
-use Rattle.engine_requests.specs.Documents.{document_read}
+use Rattle.engine_answers.specs.Documents.{document_read}
 use Rattle.shelf_laws.proofs.DigestTexts.{all_append}
 use Rattle.generated_image.specs.Texts.{sha256_text, layer_contents, layer_type, payload_type, config_type, config_content, descriptor_text, descriptor_of, manifest_around, joined, plain_manifest, image_text, payload_text, signature_note, signatures_text}
 use Rattle.generated_image.proofs.Lengths.{layers_within, digest_within}

@@ -14,20 +14,20 @@ use Rattle.serde_json.proofs.Numbers.{number_of-decimal}
 use Rattle.json_values.specs.JsonText.{json_of}
 use Rattle.json_values.specs.Places.{by_bytes}
 use Rattle.json_tables.specs.Reading.{◌>>=◌, items_by}
-use Rattle.oci_manifests.specs.Descriptor.{descriptor_of}
+use Rattle.oci_descriptors.specs.Descriptor.{descriptor_of}
 use Rattle.oci_manifests.specs.Document.{document_of, one_of}
 use Rattle.oci_manifests.specs.Index.{index_of}
 use Rattle.oci_manifests.specs.Manifest.{manifest_of}
 use Rattle.oci_manifests.specs.Versioned.{versioned_of}
-use Rattle.oci_manifests.specs.declared.descriptor.OciDescriptor.{OciDescriptor}
+use Rattle.oci_descriptors.specs.declared.descriptor.OciDescriptor.{OciDescriptor}
 use Rattle.oci_manifests.specs.declared.document.OciManifest.{OciManifest}
 use Rattle.oci_manifests.specs.declared.document.OciManifest.TheVariants.{Image}
 use Rattle.oci_manifests.specs.declared.index.OciImageIndex.{OciImageIndex}
 use Rattle.oci_manifests.specs.declared.manifest.OciImageManifest.{OciImageManifest}
-use Rattle.engine_requests.specs.Documents.{document_read, document_from, plain_of, version_checked, tables_read, or_unread}
-use Rattle.engine_requests.specs.Errors.{◌>>◌ as ◌and_then◌}
-use Rattle.engine_requests.specs.declared.error.OciDistributionError.{OciDistributionError}
-use Rattle.engine_requests.specs.declared.error.OciDistributionError.TheVariants as refusal
+use Rattle.engine_answers.specs.Documents.{document_read, document_from, plain_of, version_checked, tables_read, or_unread}
+use Rattle.engine_terms.specs.Errors.{◌>>◌ as ◌and_then◌}
+use Rattle.engine_terms.specs.declared.error.OciDistributionError.{OciDistributionError}
+use Rattle.engine_terms.specs.declared.error.OciDistributionError.TheVariants as refusal
 use Rattle.generated_image.proofs.Spelled.{descriptor_data, items, manifest_data}
 
 -- ---- descriptors

@@ -10,13 +10,13 @@ use Rattle.sha2.specs.Sha256.{sha256}
 use Rattle.json_values.specs.Places.{by_bytes}
 use Rattle.oci_digests.specs.Names.{Names}
 use Rattle.oci_digests.specs.declared.digester.Algorithm.TheVariants.{Sha256}
-use Rattle.oci_manifests.specs.declared.descriptor.OciDescriptor.{OciDescriptor}
+use Rattle.oci_descriptors.specs.declared.descriptor.OciDescriptor.{OciDescriptor}
 use Rattle.oci_manifests.specs.declared.document.OciManifest.TheVariants.{Image}
 use Rattle.oci_manifests.specs.declared.manifest.OciImageManifest.{OciImageManifest}
 use Rattle.oci_link.specs.declared.shelf.Shelf.{Shelf}
 use Rattle.oci_link.specs.declared.shelf.ShelfDocument.{ShelfDocument}
-use Rattle.engine_requests.specs.Documents.{document_read}
-use Rattle.engine_requests.specs.declared.settings.Settings.{Settings}
+use Rattle.engine_answers.specs.Documents.{document_read}
+use Rattle.engine_terms.specs.declared.settings.Settings.{Settings}
 use Rattle.shelf_laws.specs.Shelves.{IsShort, HasDocument, HasBlob, HasLayer, HasBlobs, HasManifest, ImageOn}
 use Rattle.generated_image.specs.Shelf.{with_each, manifest_document, tag_for, payload_of, generated_shelf, HasTwoDigests}
 use Rattle.generated_image.specs.Texts.{sha256_text, layer_contents, layer_type, payload_type, config_type, config_content, descriptor_of, joined, image_text, payload_text, signature_note, signatures_text}

@@ -3,7 +3,7 @@ use Rattle.std.proofs.Common.{◌≡◌, ℕ, Bool, List, [], ◌∷◌, ◌++�
 use Rattle.json_values.specs.Tray.{Tray, Adds}
 use Rattle.json_values.proofs.Sinks.{adds_more}
 use Rattle.oci_manifests.specs.declared.blob.ImageLayer.{ImageLayer}
-use Rattle.oci_manifests.specs.declared.descriptor.OciDescriptor.{OciDescriptor}
+use Rattle.oci_descriptors.specs.declared.descriptor.OciDescriptor.{OciDescriptor}
 use Rattle.cosign_chain.specs.declared.image.VerifiedImage.{VerifiedImage}
 use Rattle.live_host.specs.Heads.{item_head}
 use Rattle.live_host.specs.Items.{Sent, WereTold, blobs_sent, config_sent, image_sent, index_sent, layers_sent, manifest_sent, pulled_sent}

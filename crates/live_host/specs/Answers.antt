@@ -4,8 +4,8 @@ use Rattle.std.specs.List.{list_any, find}
 use Rattle.std.specs.Ordering.{int_eq}
 use Rattle.cosign_layers.specs.declared.certificate.Evidence.{Evidence}
 use Rattle.cosign_layers.specs.declared.certificate.Vouched.{Vouched}
-use Rattle.live_host.specs.declared.answers.Answered.{Answered}
-use Rattle.live_host.specs.declared.answers.Answered.TheVariants.{Signature, Certificate}
+use Rattle.live_host.specs.declared.answers.HostAnswer.{HostAnswer}
+use Rattle.live_host.specs.declared.answers.HostAnswer.TheVariants.{Signature, Certificate}
 use Rattle.live_host.specs.declared.answers.Answers.{Answers}
 use Rattle.live_host.specs.declared.answers.CertificateAnswer.{CertificateAnswer}
 use Rattle.live_host.specs.declared.answers.SignatureAnswer.{SignatureAnswer}
@@ -15,7 +15,7 @@ abbrev pub calls_valid : List ℕ → List ℕ → List ℕ → SignatureAnswer 
 calls_valid key message signature a =
     a.valid && bytes_eq a.key key && bytes_eq a.signature signature && bytes_eq a.message message
 
-abbrev pub is_valid_by : List ℕ → List ℕ → List ℕ → Answered → Bool
+abbrev pub is_valid_by : List ℕ → List ℕ → List ℕ → HostAnswer → Bool
 is_valid_by key message signature (Signature a) = calls_valid key message signature a
 is_valid_by key message signature (Certificate a) = false
 
@@ -29,11 +29,11 @@ vouches e a =
     bytes_eq a.evidence.certificate e.certificate && int_eq a.evidence.integrated_time e.integrated_time
     && is_some a.vouched
 
-abbrev pub is_vouched_by : Evidence → Answered → Bool
+abbrev pub is_vouched_by : Evidence → HostAnswer → Bool
 is_vouched_by e (Certificate a) = vouches e a
 is_vouched_by e (Signature a) = false
 
-abbrev pub vouched_in : Option Answered → Option Vouched
+abbrev pub vouched_in : Option HostAnswer → Option Vouched
 vouched_in (Some (Certificate a)) = a.vouched
 vouched_in _ = None
 

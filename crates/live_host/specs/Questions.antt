@@ -7,8 +7,8 @@ use Rattle.cosign_layers.specs.declared.certificate.Vouched.{Vouched}
 use Rattle.live_host.specs.Heads.{verify_head, judge_head}
 use Rattle.live_host.specs.Names.{frame_named}
 use Rattle.live_host.specs.Wire.{Wire, Asks}
-use Rattle.live_host.specs.declared.answers.Answered.{Answered}
-use Rattle.live_host.specs.declared.answers.Answered.TheVariants.{Signature, Certificate}
+use Rattle.live_host.specs.declared.answers.HostAnswer.{HostAnswer}
+use Rattle.live_host.specs.declared.answers.HostAnswer.TheVariants.{Signature, Certificate}
 
 -- the frame `verified`
 unfoldable pub verified_of : Data → Option Bool
@@ -35,19 +35,19 @@ answer_of d = do
   optional vouched_of (codes "vouched") d
 
 -- this question went out, and this answer came in
-abbrev pub WasAsked : Answered → Wire → Wire → Type 0
+abbrev pub WasAsked : HostAnswer → Wire → Wire → Type 0
 WasAsked (Signature a) old new =
     Asks (verify_head a.key a.signature (length a.message)) a.message verified_of a.valid old new
 WasAsked (Certificate a) old new =
     Asks (judge_head a.evidence.certificate a.evidence.integrated_time) [] answer_of a.vouched old new
 
 -- one after another
-abbrev pub WereAsked : List Answered → Wire → Wire → Type 0
+abbrev pub WereAsked : List HostAnswer → Wire → Wire → Type 0
 WereAsked [] old new = old ≡ new
 WereAsked (a ∷ more) old new = (between : Wire) × WasAsked a old between × WereAsked more between new
 
 -- these were asked behind those
-pub record AsksMore (before after : List Answered) (old new : Wire) : Type 0 where
-  pub more : List Answered
+pub record AsksMore (before after : List HostAnswer) (old new : Wire) : Type 0 where
+  pub more : List HostAnswer
   pub behind : after ≡ before ++ more
   pub asked : WereAsked more old new

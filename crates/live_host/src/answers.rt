@@ -25,7 +25,7 @@ pub struct CertificateAnswer {
 
 /// A question, and what the host answered.
 #[derive(Drop)]
-pub enum Answered {
+pub enum HostAnswer {
     Signature(SignatureAnswer),
     Certificate(CertificateAnswer),
 }
@@ -34,7 +34,7 @@ pub enum Answered {
 /// the host vouched for.
 #[derive(Drop)]
 pub struct Answers {
-    pub list: List<Answered>,
+    pub list: List<HostAnswer>,
 }
 
 impl SignatureVerifier for Answers {
@@ -48,7 +48,7 @@ impl SignatureVerifier for Answers {
     }
 }
 
-fn is_valid_in(answers: &[Answered], key: &[u8], message: &[u8], signature: &[u8]) -> bool
+fn is_valid_in(answers: &[HostAnswer], key: &[u8], message: &[u8], signature: &[u8]) -> bool
     ensures { result ≡ list_any (is_valid_by key.now message.now signature.now) answers.now }
 {
     answers
@@ -56,12 +56,12 @@ fn is_valid_in(answers: &[Answered], key: &[u8], message: &[u8], signature: &[u8
         .any(|answer| is_valid_by(answer, key, message, signature))
 }
 
-fn is_valid_by(answer: &Answered, key: &[u8], message: &[u8], signature: &[u8]) -> bool
+fn is_valid_by(answer: &HostAnswer, key: &[u8], message: &[u8], signature: &[u8]) -> bool
     ensures { result ≡ is_valid_by key.now message.now signature.now answer.now }
 {
     match answer {
-        Answered::Signature(answer) => calls_valid(answer, key, message, signature),
-        Answered::Certificate(_) => false,
+        HostAnswer::Signature(answer) => calls_valid(answer, key, message, signature),
+        HostAnswer::Certificate(_) => false,
     }
 }
 
@@ -88,7 +88,7 @@ impl Offline for Answers {
 }
 
 // The first answer that vouches for the certificate at the time.
-fn find_vouched<'a>(answers: &'a [Answered], evidence: &Evidence) -> Option<&'a Answered>
+fn find_vouched<'a>(answers: &'a [HostAnswer], evidence: &Evidence) -> Option<&'a HostAnswer>
     ensures { option_map (λ answer. answer.now) result ≡ find (is_vouched_by evidence.now) answers.now }
 {
     answers
@@ -96,12 +96,12 @@ fn find_vouched<'a>(answers: &'a [Answered], evidence: &Evidence) -> Option<&'a 
         .find(|answer| is_vouched_by(answer, evidence))
 }
 
-fn is_vouched_by(answer: &Answered, evidence: &Evidence) -> bool
+fn is_vouched_by(answer: &HostAnswer, evidence: &Evidence) -> bool
     ensures { result ≡ is_vouched_by evidence.now answer.now }
 {
     match answer {
-        Answered::Certificate(answer) => vouches(answer, evidence),
-        Answered::Signature(_) => false,
+        HostAnswer::Certificate(answer) => vouches(answer, evidence),
+        HostAnswer::Signature(_) => false,
     }
 }
 
@@ -113,10 +113,10 @@ fn vouches(answer: &CertificateAnswer, evidence: &Evidence) -> bool
         && answer.vouched.is_some()
 }
 
-fn vouched_in(alloc: Global, answer: &Answered) -> Result<Option<Vouched>, AllocError>
+fn vouched_in(alloc: Global, answer: &HostAnswer) -> Result<Option<Vouched>, AllocError>
     ensures { IfOk result (λ found. found ≡ vouched_in (Some answer.now)) }
 {
-    let Answered::Certificate(answer) = answer else {
+    let HostAnswer::Certificate(answer) = answer else {
         return Ok(None);
     };
     answer.vouched.copy(alloc)

@@ -9,7 +9,8 @@ use crate::heads::item_head;
 use crate::media_type::media_type_of;
 use crate::streams::{HostError, Streams, tell};
 use json_values::{Blob, Sink, Text};
-use oci_manifests::{ImageLayer, OciDescriptor};
+use oci_descriptors::OciDescriptor;
+use oci_manifests::ImageLayer;
 use pull_edge::Source;
 use std::alloc::Global;
 

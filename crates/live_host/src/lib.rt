@@ -12,7 +12,7 @@ mod names;
 mod questions;
 mod streams;
 
-pub use answers::{Answered, Answers, CertificateAnswer, SignatureAnswer};
+pub use answers::{Answers, CertificateAnswer, HostAnswer, SignatureAnswer};
 pub use everyone::Everyone;
 pub use heads::{begin_head, item_head, judge_head, pulled_head, refused_head, verify_head};
 pub use image::give_image;

@@ -8,7 +8,7 @@ ghost use Rattle.live_host.specs.Questions.{verified_of, vouched_of, answer_of, 
 ghost use Rattle.live_host.specs.HostErrors.{HostCause};
 ghost use Rattle.live_host.specs.Wire.{wire, Asks};
 
-use crate::answers::{Answered, Answers, CertificateAnswer, SignatureAnswer};
+use crate::answers::{Answers, CertificateAnswer, HostAnswer, SignatureAnswer};
 use crate::heads::{judge_head, verify_head};
 use crate::names::is_frame;
 use crate::streams::{HostError, Streams, hear, tell};
@@ -110,8 +110,8 @@ fn signature_answer(
     message: &Blob,
     signature: &Blob,
     valid: bool,
-) -> Result<Answered, AllocError>
-    ensures { IfOk result (λ answer. answer ≡ Answered.Signature (record {
+) -> Result<HostAnswer, AllocError>
+    ensures { IfOk result (λ answer. answer ≡ HostAnswer.Signature (record {
       key = key.now;
       message = message.now;
       signature = signature.now;
@@ -121,7 +121,7 @@ fn signature_answer(
     let key = key.copy(alloc)?;
     let message = message.copy(alloc)?;
     let signature = signature.copy(alloc)?;
-    Ok(Answered::Signature(SignatureAnswer {
+    Ok(HostAnswer::Signature(SignatureAnswer {
         key,
         message,
         signature,
@@ -134,13 +134,13 @@ fn certificate_answer(
     alloc: Global,
     evidence: &Evidence,
     vouched: &Option<Vouched>,
-) -> Result<Answered, AllocError>
+) -> Result<HostAnswer, AllocError>
     ensures { IfOk result (λ answer.
-        answer ≡ Answered.Certificate (record { evidence = evidence.now; vouched = vouched.now })) }
+        answer ≡ HostAnswer.Certificate (record { evidence = evidence.now; vouched = vouched.now })) }
 {
     let evidence = evidence.copy(alloc)?;
     let vouched = vouched.copy(alloc)?;
-    Ok(Answered::Certificate(CertificateAnswer { evidence, vouched }))
+    Ok(HostAnswer::Certificate(CertificateAnswer { evidence, vouched }))
 }
 
 // Asks about one signature, and keeps the answer.
@@ -150,7 +150,7 @@ fn ask_key<S: Source, K: Sink>(
     key: &Blob,
     message: &Blob,
     signature: &Blob,
-    answers: &mut List<Answered>,
+    answers: &mut List<HostAnswer>,
 ) -> Result<(), HostError>
     ensures asked { OnOk result (AsksMore answers.old answers.new
         (wire S.state K.state streams.old) (wire S.state K.state streams.new)) }
@@ -169,7 +169,7 @@ fn ask_keys<S: Source, K: Sink>(
     keys: &[Blob],
     message: &Blob,
     signature: &Blob,
-    answers: &mut List<Answered>,
+    answers: &mut List<HostAnswer>,
 ) -> Result<(), HostError>
     ensures asked { OnOk result
         (AsksMore answers.old answers.new (wire S.state K.state streams.old) (wire S.state K.state streams.new)) }
@@ -188,7 +188,7 @@ fn ask_vouched<S: Source, K: Sink>(
     evidence: &Evidence,
     message: &Blob,
     signature: &Blob,
-    answers: &mut List<Answered>,
+    answers: &mut List<HostAnswer>,
 ) -> Result<(), HostError>
     ensures asked { OnOk result
         (AsksMore answers.old answers.new (wire S.state K.state streams.old) (wire S.state K.state streams.new)) }
@@ -210,7 +210,7 @@ fn ask_log<S: Source, K: Sink>(
     streams: &mut Streams<S, K>,
     log_keys: &LogKeys,
     layer: &SignatureLayer,
-    answers: &mut List<Answered>,
+    answers: &mut List<HostAnswer>,
 ) -> Result<(), HostError>
     ensures asked { OnOk result (AsksMore answers.old answers.new
         (wire S.state K.state streams.old) (wire S.state K.state streams.new)) }
@@ -264,7 +264,7 @@ fn ask_layer<S: Source, K: Sink>(
     keys: &[Blob],
     log_keys: &LogKeys,
     layer: &SignatureLayer,
-    answers: &mut List<Answered>,
+    answers: &mut List<HostAnswer>,
 ) -> Result<(), HostError>
     ensures asked { OnOk result (AsksMore answers.old answers.new
         (wire S.state K.state streams.old) (wire S.state K.state streams.new)) }

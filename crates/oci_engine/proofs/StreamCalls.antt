@@ -8,12 +8,12 @@ use Rattle.oci_protocol.specs.Proto.{Done}
 use Rattle.oci_protocol.specs.Runs.{Meets, Told}
 use Rattle.oci_protocol.specs.Shows.{Shows, ByAnswer}
 use Rattle.oci_protocol.proofs.Showing.{Shows-done, Shows-each}
-use Rattle.engine_requests.specs.Contexts.{Context}
-use Rattle.engine_requests.specs.Errors.{is_memory}
+use Rattle.engine_terms.specs.Contexts.{Context}
+use Rattle.engine_terms.specs.Errors.{is_memory}
 use Rattle.engine_requests.specs.Requests.{manifest_types}
 use Rattle.engine_requests.specs.Sources.{Layer}
-use Rattle.engine_requests.specs.declared.error.OciDistributionError.{OciDistributionError}
-use Rattle.engine_requests.specs.declared.error.OciDistributionError.TheVariants as refusal
+use Rattle.engine_terms.specs.declared.error.OciDistributionError.{OciDistributionError}
+use Rattle.engine_terms.specs.declared.error.OciDistributionError.TheVariants as refusal
 use Rattle.engine_laws.specs.Causes.{BlobUrl, BadHeader}
 use Rattle.engine_laws.specs.Confined.{Within}
 use Rattle.engine_laws.specs.Held.{pulling}

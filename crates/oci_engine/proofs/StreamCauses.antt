@@ -22,17 +22,17 @@ use Rattle.oci_protocol.specs.Runs.{Runs, Meets, Told, head_part}
 use Rattle.oci_protocol.specs.Shows.{Shows, ByAnswer, Heard}
 use Rattle.oci_protocol.proofs.Showing.{done_run, Shows-done, Shows-more, Shows-each, Shows-step, Shows-follow}
 use Rattle.engine_requests.specs.Addresses.{blob_text, url_read}
-use Rattle.engine_requests.specs.Answers.{header_digest, is_error, is_success, or_digest_error, refused_answer}
-use Rattle.engine_requests.specs.Blobs.{digest_expected}
-use Rattle.engine_requests.specs.Contexts.{Context}
-use Rattle.engine_requests.specs.Errors.{is_memory, ◌>>=◌ as ◌into◌}
+use Rattle.engine_answers.specs.Answers.{header_digest, is_error, is_success, or_digest_error, refused_answer}
+use Rattle.engine_answers.specs.Blobs.{digest_expected}
+use Rattle.engine_terms.specs.Contexts.{Context}
+use Rattle.engine_terms.specs.Errors.{is_memory, ◌>>=◌ as ◌into◌}
 use Rattle.engine_requests.specs.Requests.{manifest_types, with_header}
 use Rattle.engine_requests.specs.Sources.{Layer, place_of, places_of, asked_at}
-use Rattle.engine_requests.specs.declared.blobs.Expected.{Expected}
-use Rattle.engine_requests.specs.declared.error.GenericCause.TheVariants.{HeaderText, RangeOverflow}
-use Rattle.engine_requests.specs.declared.error.OciDistributionError.{OciDistributionError}
-use Rattle.engine_requests.specs.declared.error.OciDistributionError.TheVariants as refusal
-use Rattle.engine_requests.specs.declared.settings.Settings.{Settings}
+use Rattle.engine_answers.specs.declared.blobs.Expected.{Expected}
+use Rattle.engine_terms.specs.declared.error.GenericCause.TheVariants.{HeaderText, RangeOverflow}
+use Rattle.engine_terms.specs.declared.error.OciDistributionError.{OciDistributionError}
+use Rattle.engine_terms.specs.declared.error.OciDistributionError.TheVariants as refusal
+use Rattle.engine_terms.specs.declared.settings.Settings.{Settings}
 use Rattle.engine_requests.specs.declared.sources.Place.{Place}
 use Rattle.engine_requests.specs.declared.sources.Place.TheVariants.{Web, Unfit}
 use Rattle.engine_rows.specs.Rows.{Row, prepared}
@@ -93,8 +93,8 @@ judged_causes {A} T s digest takes made request accepts other cause = Shows-foll
       (subst (λ x. ByAnswer (Any {A = A}) (Shown T s digest) m x after (made head)) (sym (append-nil c)) (by_made m after c last.url head b.0 (made head) refl (heard_answer h manifest_types accepts (answer_of head b.0) b.1 h.settles))) run
   by_reply k l m after o c d last (Answered answer) r h run =
       let b = h.replies.reply_is in
-      done_run (λ start d o r. ByAnswer (Any {A = A}) (Shown T s digest) m (c ++ d) o r) (Err (refused_answer last.url answer)) k l after o d r
-      (subst (λ x. ByAnswer (Any {A = A}) (Shown T s digest) m x after (Err (refused_answer last.url answer))) (sym (append-nil c)) (answer_cause T (AskedDigest digest) s manifest_types after c last.url answer (refused_answer last.url answer) (heard_answer h manifest_types accepts answer b.1 h.settles) (status_cause (AskedDigest digest) last.url answer (other (head_part answer) (reads_not s.max_body_bytes b.0 (takes (head_part answer)) b.2))))) run
+      done_run (λ start d o r. ByAnswer (Any {A = A}) (Shown T s digest) m (c ++ d) o r) (Err (refused_answer 200 last.url answer)) k l after o d r
+      (subst (λ x. ByAnswer (Any {A = A}) (Shown T s digest) m x after (Err (refused_answer 200 last.url answer))) (sym (append-nil c)) (answer_cause T (AskedDigest digest) s manifest_types after c last.url answer (refused_answer 200 last.url answer) (heard_answer h manifest_types accepts answer b.1 h.settles) (status_cause (AskedDigest digest) last.url answer (other (head_part answer) (reads_not s.max_body_bytes b.0 (takes (head_part answer)) b.2))))) run
   by_reply k l m after o c d last Failed r h run = done_run (λ start d o r. ByAnswer (Any {A = A}) (Shown T s digest) m (c ++ d) o r) (Err refusal.TransportFault) k l after o d r (rw append-nil (heard_failed h manifest_types accepts)) run
   by_reply k l m after o c d last TooLong r h run = done_run (λ start d o r. ByAnswer (Any {A = A}) (Shown T s digest) m (c ++ d) o r) (Err refusal.BodyTooLong) k l after o d r (rw append-nil (heard_long h manifest_types s.max_body_bytes accepts (λ n head is. limit_is s.max_body_bytes n (takes head) is))) run
   by_reply k l m after o c d last SinkFailed r h run = let b = h.replies.reply_is in absurd (never_piped s.max_body_bytes b.1 (takes (head_part b.0)) b.3)

@@ -16,12 +16,12 @@ use Rattle.oci_transport.specs.declared.message.Request.{Request}
 use Rattle.oci_transport.specs.declared.message.Method.{Method}
 use Rattle.oci_auth.specs.Credentials.{authorization_of}
 use Rattle.oci_auth.specs.declared.token_type.RegistryTokenType.{RegistryTokenType}
-use Rattle.engine_requests.specs.Errors.{◌>>=◌ as ◌into◌}
+use Rattle.engine_terms.specs.Errors.{◌>>=◌ as ◌into◌}
 use Rattle.engine_requests.specs.Requests.{with_header, with_token, request_of}
-use Rattle.engine_requests.specs.declared.error.GenericCause.TheVariants.{RangeOverflow}
-use Rattle.engine_requests.specs.declared.error.OciDistributionError.{OciDistributionError}
-use Rattle.engine_requests.specs.declared.error.OciDistributionError.TheVariants as refusal
-use Rattle.engine_requests.specs.declared.settings.Settings.{Settings}
+use Rattle.engine_terms.specs.declared.error.GenericCause.TheVariants.{RangeOverflow}
+use Rattle.engine_terms.specs.declared.error.OciDistributionError.{OciDistributionError}
+use Rattle.engine_terms.specs.declared.error.OciDistributionError.TheVariants as refusal
+use Rattle.engine_terms.specs.declared.settings.Settings.{Settings}
 use Rattle.engine_laws.proofs.PreparedRequests.{with_ok, accept_none, made_of}
 use Rattle.engine_laws.proofs.ShownTokens.{agent_entries, refused_value}
 use Rattle.engine_streams.specs.Heads.{is_digit}

@@ -20,15 +20,15 @@ use Rattle.oci_protocol.specs.Safe.{Safe}
 use Rattle.oci_protocol.proofs.Ends.{Ends-any, Ends-bind}
 use Rattle.oci_protocol.proofs.Safety.{Safe-bind}
 use Rattle.engine_requests.specs.Addresses.{blob_text}
-use Rattle.engine_requests.specs.Answers.{refused_answer, header_digest, is_error}
-use Rattle.engine_requests.specs.Contexts.{Context}
-use Rattle.engine_requests.specs.Errors.{◌>>=◌ as ◌into◌}
+use Rattle.engine_answers.specs.Answers.{refused_answer, header_digest, is_error}
+use Rattle.engine_terms.specs.Contexts.{Context}
+use Rattle.engine_terms.specs.Errors.{◌>>=◌ as ◌into◌}
 use Rattle.engine_requests.specs.Requests.{with_header, manifest_types, request_of}
 use Rattle.engine_requests.specs.Sources.{Layer, places_of, asked_at}
-use Rattle.engine_requests.specs.declared.error.GenericCause.TheVariants.{RangeOverflow}
-use Rattle.engine_requests.specs.declared.error.OciDistributionError.{OciDistributionError}
-use Rattle.engine_requests.specs.declared.error.OciDistributionError.TheVariants as refusal
-use Rattle.engine_requests.specs.declared.settings.Settings.{Settings}
+use Rattle.engine_terms.specs.declared.error.GenericCause.TheVariants.{RangeOverflow}
+use Rattle.engine_terms.specs.declared.error.OciDistributionError.{OciDistributionError}
+use Rattle.engine_terms.specs.declared.error.OciDistributionError.TheVariants as refusal
+use Rattle.engine_terms.specs.declared.settings.Settings.{Settings}
 use Rattle.engine_requests.specs.declared.sources.Place.{Place}
 use Rattle.engine_requests.specs.declared.sources.Place.TheVariants.{Web, Unfit}
 use Rattle.engine_rows.specs.Rows.{Row, authorized, prepared}
@@ -54,7 +54,7 @@ unfolding judged
 judged_sound x s types limit takes made request l c plain sent keeps = safe_follow x s (Ended x s types) 10 request (judged_reading limit takes) (judged_reply made) l c sent keeps (λ last d e before after other reply h replies. by_reply last reply (d ++ e ∷ []) h) where
   by_reply : (last : Request) (reply : Reply) (d : List Exchange) → Keeps x l d → Sound x s types l d (judged_reply made last reply)
   by_reply last (Headed head) d h = plain_last x s types (made head) l d (plain head) h
-  by_reply last (Answered answer) d h = plain_last x s types (Err (refused_answer last.url answer)) l d (refused_plain last.url answer) h
+  by_reply last (Answered answer) d h = plain_last x s types (Err (refused_answer 200 last.url answer)) l d (refused_plain last.url answer) h
   by_reply last Failed d h = safe_done x s (Ended x s types) l d (Err refusal.TransportFault) tt
   by_reply last TooLong d h = safe_done x s (Ended x s types) l d (Err refusal.BodyTooLong) tt
   by_reply last SinkFailed d h = safe_done x s (Ended x s types) l d (Err refusal.SinkFault) tt

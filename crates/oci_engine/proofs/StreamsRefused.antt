@@ -13,13 +13,13 @@ use Rattle.oci_protocol.specs.Proto.{Done, bind, unless_refused, ◌>>=◌}
 use Rattle.oci_protocol.specs.Runs.{Meets}
 use Rattle.oci_protocol.specs.Ends.{Ends}
 use Rattle.engine_requests.specs.Addresses.{blob_text, url_read}
-use Rattle.engine_requests.specs.Contexts.{Context}
-use Rattle.engine_requests.specs.Errors.{is_memory, ◌>>=◌ as ◌into◌}
+use Rattle.engine_terms.specs.Contexts.{Context}
+use Rattle.engine_terms.specs.Errors.{is_memory, ◌>>=◌ as ◌into◌}
 use Rattle.engine_requests.specs.Requests.{manifest_types}
 use Rattle.engine_requests.specs.Sources.{Layer, places_of}
-use Rattle.engine_requests.specs.declared.error.GenericCause.TheVariants.{RangeOverflow}
-use Rattle.engine_requests.specs.declared.error.OciDistributionError.{OciDistributionError}
-use Rattle.engine_requests.specs.declared.error.OciDistributionError.TheVariants as refusal
+use Rattle.engine_terms.specs.declared.error.GenericCause.TheVariants.{RangeOverflow}
+use Rattle.engine_terms.specs.declared.error.OciDistributionError.{OciDistributionError}
+use Rattle.engine_terms.specs.declared.error.OciDistributionError.TheVariants as refusal
 use Rattle.engine_rows.specs.Rows.{Row, prepared}
 use Rattle.engine_laws.specs.Causes.{IsEarly, HasBadHeader, IsRefusedAs}
 use Rattle.engine_laws.proofs.ExactRefusals.{Only, after_refusal, handed_on, no_url, url_first, early_on, prepared_bad, met_only, met_early}

@@ -1,7 +1,7 @@
 -- What a client is made of.
 use Rattle.std.specs.Prelude.{false, None, codes}
-use Rattle.engine_requests.specs.declared.settings.ClientProtocol.TheVariants.{Https}
-use Rattle.engine_requests.specs.declared.settings.Settings.{Settings}
+use Rattle.engine_terms.specs.declared.settings.ClientProtocol.TheVariants.{Https}
+use Rattle.engine_terms.specs.declared.settings.Settings.{Settings}
 use Rattle.oci_engine.specs.declared.config.ClientConfig.{ClientConfig}
 
 abbrev pub settings_of : ClientConfig → Settings

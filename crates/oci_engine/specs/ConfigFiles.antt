@@ -2,8 +2,8 @@
 use Rattle.std.specs.Prelude.{ℕ, List, Option, Some, None, Result, Ok, Err}
 use Rattle.oci_config.specs.Conversion.{file_in}
 use Rattle.oci_config.specs.declared.file.ConfigFile.{ConfigFile}
-use Rattle.engine_requests.specs.declared.error.OciDistributionError.{OciDistributionError}
-use Rattle.engine_requests.specs.declared.error.OciDistributionError.TheVariants.{ConfigConversionError}
+use Rattle.engine_terms.specs.declared.error.OciDistributionError.{OciDistributionError}
+use Rattle.engine_terms.specs.declared.error.OciDistributionError.TheVariants.{ConfigConversionError}
 
 abbrev pub or_unread : List ℕ → Option ConfigFile → Result ConfigFile OciDistributionError
 or_unread content None = Err (ConfigConversionError content)

@@ -4,10 +4,10 @@ use Rattle.oci_transport.specs.declared.message.Exchange.{Exchange}
 use Rattle.oci_names.specs.declared.reference.Reference.{Reference}
 use Rattle.engine_requests.specs.Requests.{manifest_types}
 use Rattle.engine_requests.specs.Sources.{Layer}
-use Rattle.engine_requests.specs.declared.error.GenericCause.TheVariants.{RangeOverflow}
-use Rattle.engine_requests.specs.declared.error.OciDistributionError.{OciDistributionError}
-use Rattle.engine_requests.specs.declared.error.OciDistributionError.TheVariants as refusal
-use Rattle.engine_requests.specs.declared.settings.Settings.{Settings}
+use Rattle.engine_terms.specs.declared.error.GenericCause.TheVariants.{RangeOverflow}
+use Rattle.engine_terms.specs.declared.error.OciDistributionError.{OciDistributionError}
+use Rattle.engine_terms.specs.declared.error.OciDistributionError.TheVariants as refusal
+use Rattle.engine_terms.specs.declared.settings.Settings.{Settings}
 use Rattle.engine_laws.specs.Causes.{Cause, AnswerCause, AskedDigest, BlobUrl}
 use Rattle.engine_streams.specs.declared.range.ByteRange.{ByteRange}
 use Rattle.oci_engine.specs.Refusals.{BadHeaderOf}

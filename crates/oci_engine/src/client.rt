@@ -5,7 +5,7 @@ ghost use Rattle.oci_digests.specs.Names.{Names};
 ghost use Rattle.oci_names.specs.References.{digest_of};
 ghost use Rattle.oci_protocol.specs.Runs.{Meets, Told};
 ghost use Rattle.engine_requests.specs.Addresses.{manifest_text, blob_text};
-ghost use Rattle.engine_requests.specs.Errors.{is_memory};
+ghost use Rattle.engine_terms.specs.Errors.{is_memory};
 ghost use Rattle.engine_requests.specs.Requests.{listed, manifest_types};
 ghost use Rattle.engine_rows.specs.Blobs.{IntoSink, IntoMemory, Spills};
 ghost use Rattle.engine_rows.specs.Rows.{token_given};
@@ -13,7 +13,7 @@ ghost use Rattle.oci_auth.specs.Memory.{fresh, stored};
 ghost use Rattle.engine_rows.specs.Pulls.{fetch_manifest_digest, pull_manifest, pull_manifest_raw};
 ghost use Rattle.engine_rows.specs.Pulls.{pull_blob, held_blob};
 ghost use Rattle.engine_rows.specs.Images.{pull};
-ghost use Rattle.engine_laws.specs.Answered.{Answered, Body, LastBody, TookBlob};
+ghost use Rattle.engine_laws.specs.Answered.{DigestAnswered, Body, LastBody, TookBlob};
 ghost use Rattle.engine_laws.specs.Causes.{HasBadHeader, IsEarly};
 ghost use Rattle.oci_engine.specs.Clients.{settings_of, default_config};
 ghost use Rattle.oci_engine.specs.Confinement.{Stays, StaysFor};
@@ -24,8 +24,9 @@ ghost use Rattle.engine_laws.specs.TokenCauses.{TokenCause};
 
 use crate::config::ClientConfig;
 use crate::source::ClientConfigSource;
-use engine_requests::{AsLayerDescriptor, Call, OciDistributionError, Settings};
+use engine_requests::AsLayerDescriptor;
 use engine_rows::ImageData;
+use engine_terms::{Call, OciDistributionError, Settings};
 use json_values::{Blob, Sink, Text};
 use oci_auth::{Memory, RegistryAuth, RegistryOperation};
 use oci_manifests::OciManifest;
@@ -33,6 +34,7 @@ use oci_names::Reference;
 use oci_platforms::PlatformResolver;
 use oci_transport::Transport;
 use std::alloc::{AllocError, Global};
+use std::ops::{Deref, DerefMut};
 
 /// A client of registries. Each call makes the requests of its row over the transport that it is handed.
 #[derive(Drop)]
@@ -40,6 +42,25 @@ pub struct Client {
     pub settings: Settings,
     /// What is kept between the calls.
     pub memory: Memory,
+}
+
+/// What a client keeps is read and set as its own: `client.tokens`, `client.credentials`.
+impl Deref for Client {
+    type Target = Memory;
+
+    ghost deref_gives = { λ client memory. memory ≡ client.memory };
+
+    fn deref(&self) -> &Memory {
+        &self.memory
+    }
+}
+
+impl DerefMut for Client {
+    ghost deref_mut_gives = { λ client memory. memory ≡ client.memory };
+
+    fn deref_mut(&mut self) -> &mut Memory {
+        &mut self.memory
+    }
 }
 
 impl Client {
@@ -158,7 +179,7 @@ impl Client {
         ensures settings { self.new.settings ≡ self.old.settings }
         ensures confined { Stays self.old self.new moment image.now (Some auth.now)
             (T.state transport.old) (T.state transport.new) }
-        ensures answered { IfOk result (λ d. Told (λ c. Answered self.old.settings image.now c d)
+        ensures answered { IfOk result (λ d. Told (λ c. DigestAnswered self.old.settings image.now c d)
             (T.state transport.old) (T.state transport.new)) }
         ensures causes { RefusedFor (DigestRefused self.old moment image.now auth.now)
             (T.state transport.old) (T.state transport.new) result }

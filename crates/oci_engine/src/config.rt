@@ -2,7 +2,7 @@
 ghost use Rattle.std.specs.Prelude.{◌≡◌, IfOk};
 ghost use Rattle.oci_engine.specs.Clients.{default_config};
 
-use engine_requests::ClientProtocol;
+use engine_terms::ClientProtocol;
 use json_values::Text;
 use oci_platforms::PlatformResolver;
 use std::alloc::{AllocError, Global};

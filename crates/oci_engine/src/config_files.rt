@@ -1,8 +1,8 @@
 // Configurations as configuration files.
-ghost use Rattle.engine_requests.specs.Errors.{Says};
+ghost use Rattle.engine_terms.specs.Errors.{Says};
 ghost use Rattle.oci_engine.specs.ConfigFiles.{config_file};
 
-use engine_requests::OciDistributionError;
+use engine_terms::OciDistributionError;
 use json_values::Copied;
 use oci_config::{ConfigError, ConfigFile};
 use oci_manifests::blob::Config;

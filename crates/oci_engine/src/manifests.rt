@@ -2,7 +2,7 @@
 ghost use Rattle.std.specs.Prelude.{◌≡◌, Some};
 ghost use Rattle.oci_protocol.specs.Runs.{Meets};
 ghost use Rattle.engine_requests.specs.Addresses.{manifest_text};
-ghost use Rattle.engine_requests.specs.Errors.{is_memory};
+ghost use Rattle.engine_terms.specs.Errors.{is_memory};
 ghost use Rattle.engine_requests.specs.Requests.{manifest_types};
 ghost use Rattle.engine_rows.specs.Manifests.{pull_image_manifest, pull_image_manifest_and_list_digest};
 ghost use Rattle.engine_rows.specs.Manifests.{pull_manifest_and_config, pull_manifest_and_config_and_list_digest};
@@ -12,7 +12,7 @@ ghost use Rattle.oci_engine.specs.Refusals.{RefusedFor, FaultCounted, UrlRefused
 ghost use Rattle.oci_engine.specs.Refusals.{FoundRefused, ConfigRefused};
 
 use crate::client::Client;
-use engine_requests::{Call, OciDistributionError};
+use engine_terms::{Call, OciDistributionError};
 use json_values::Text;
 use oci_auth::RegistryAuth;
 use oci_manifests::OciImageManifest;

@@ -2,8 +2,8 @@
 ghost use Rattle.std.specs.Prelude.{◌≡◌, IfSome, option_copied};
 ghost use Rattle.oci_names.specs.References.{digest_of};
 ghost use Rattle.oci_protocol.specs.Runs.{Meets};
-ghost use Rattle.engine_requests.specs.Errors.{is_memory};
-ghost use Rattle.engine_requests.specs.Referrers.{referrers_text};
+ghost use Rattle.engine_terms.specs.Errors.{is_memory};
+ghost use Rattle.engine_requests.specs.ReferrerLists.{referrers_text};
 ghost use Rattle.engine_requests.specs.Requests.{manifest_types};
 ghost use Rattle.engine_rows.specs.Referrers.{pull_referrers};
 ghost use Rattle.engine_laws.specs.Causes.{HasBadHeader, IsEarly};
@@ -12,7 +12,7 @@ ghost use Rattle.oci_engine.specs.Refusals.{RefusedFor, FaultCounted, UrlRefused
 ghost use Rattle.oci_engine.specs.Refusals.{ReferrersRefused, DigestWanted};
 
 use crate::client::Client;
-use engine_requests::{Call, OciDistributionError};
+use engine_terms::{Call, OciDistributionError};
 use oci_manifests::OciImageIndex;
 use oci_names::Reference;
 use oci_transport::Transport;

@@ -2,7 +2,7 @@
 ghost use Rattle.std.specs.Prelude.{◌≡◌, [], Some, None, IfOk};
 ghost use Rattle.oci_protocol.specs.Runs.{Meets};
 ghost use Rattle.engine_requests.specs.Addresses.{blob_text};
-ghost use Rattle.engine_requests.specs.Errors.{is_memory};
+ghost use Rattle.engine_terms.specs.Errors.{is_memory};
 ghost use Rattle.engine_requests.specs.Requests.{manifest_types};
 ghost use Rattle.engine_streams.specs.Rows.{blob_stream, blob_stream_partial, opening_in, response_in};
 ghost use Rattle.engine_streams.specs.Rows.{stream_in, IsLeft};
@@ -13,8 +13,9 @@ ghost use Rattle.oci_engine.specs.Refusals.{RefusedFor, FaultCounted, UrlRefused
 ghost use Rattle.oci_engine.specs.StreamRefusals.{StreamRefused, Overflows, Fits, range_of};
 
 use crate::client::Client;
-use engine_requests::{AsLayerDescriptor, Call, GenericCause, OciDistributionError};
+use engine_requests::AsLayerDescriptor;
 use engine_streams::{BlobResponse, ByteRange, SizedStream};
+use engine_terms::{Call, GenericCause, OciDistributionError};
 use oci_names::Reference;
 use oci_transport::Transport;
 use std::alloc::Global;

@@ -3,7 +3,7 @@ use Rattle.std.specs.Prelude.{ℕ, List, [], Option, None, map, length, pos, cod
 use Rattle.json_tables.specs.Reading.{Map}
 use Rattle.oci_digests.specs.Names.{digest_text}
 use Rattle.oci_digests.specs.declared.digester.Algorithm.TheVariants.{Sha256}
-use Rattle.oci_manifests.specs.declared.descriptor.OciDescriptor.{OciDescriptor}
+use Rattle.oci_descriptors.specs.declared.descriptor.OciDescriptor.{OciDescriptor}
 use Rattle.oci_manifests.specs.declared.manifest.OciImageManifest.{OciImageManifest}
 use Rattle.oci_manifests.specs.declared.blob.ImageLayer.{ImageLayer}
 use Rattle.oci_manifests.specs.declared.blob.Config.{Config}
@@ -16,17 +16,6 @@ descriptor_for content media_type annotations = record {
   size = pos (length content);
   urls = None;
   annotations = annotations;
-  artifact_type = None;
-}
-
--- the descriptor of nothing, of the type of OCI's configurations
-abbrev pub empty_descriptor : OciDescriptor
-empty_descriptor = record {
-  media_type = codes "application/vnd.oci.image.config.v1+json";
-  digest = [];
-  size = pos 0;
-  urls = None;
-  annotations = None;
   artifact_type = None;
 }
 

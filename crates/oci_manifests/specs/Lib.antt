@@ -1,16 +1,8 @@
-pub mod AnnotationNames
 pub mod Blob
 pub mod Built
-pub mod Descriptor
 pub mod Document
-pub mod Envelope
-pub mod ErrorCode
 pub mod Headers
 pub mod Index
-pub mod IndexEntry
-pub mod LayerTypes
 pub mod Manifest
-pub mod MediaTypes
-pub mod Platform
 pub mod Types
 pub mod Versioned

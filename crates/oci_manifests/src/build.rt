@@ -1,31 +1,13 @@
 //! Manifests that are made of layers and a configuration.
 ghost use Rattle.std.specs.Prelude.{◌≡◌, [], None, IfOk, map};
-ghost use Rattle.oci_manifests.specs.Built.{descriptor_for, empty_descriptor, manifest_with, layer_descriptor, built};
+ghost use Rattle.oci_manifests.specs.Built.{descriptor_for, manifest_with, layer_descriptor, built};
+ghost use Rattle.oci_descriptors.specs.Descriptor.{empty_descriptor};
 
 use crate::blob::{Config, ImageLayer};
-use crate::descriptor::OciDescriptor;
 use crate::manifest::OciImageManifest;
-use crate::media_types::IMAGE_CONFIG_MEDIA_TYPE;
 use json_values::{Annotations, Blob, Copied, List, Text};
+use oci_descriptors::OciDescriptor;
 use std::alloc::{AllocError, Global};
-
-impl OciDescriptor {
-    /// The descriptor of nothing, of the type of OCI's configurations.
-    pub fn default(alloc: Global) -> Result<OciDescriptor, AllocError>
-        ensures { IfOk result (λ descriptor. descriptor ≡ empty_descriptor) }
-    {
-        let media_type = Text::new(alloc, IMAGE_CONFIG_MEDIA_TYPE)?;
-        let digest = Text::new(alloc, "")?;
-        Ok(OciDescriptor {
-            media_type,
-            digest,
-            size: 0,
-            urls: None,
-            annotations: None,
-            artifact_type: None,
-        })
-    }
-}
 
 impl OciImageManifest {
     /// Schema version 2, the default descriptor as configuration, and nothing else.

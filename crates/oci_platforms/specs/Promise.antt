@@ -2,7 +2,7 @@
 use Rattle.std.specs.Prelude.{◌≡◌, ℕ, Bool, false, ◌&&◌, List, Option, Some, None, bytes_eq}
 use Rattle.std.specs.List.{find, list_any, Any as AnyOf}
 use Rattle.std.specs.Option.{option_map, option_map_or}
-use Rattle.oci_manifests.specs.declared.index_entry.ImageIndexEntry.{ImageIndexEntry}
+use Rattle.oci_descriptors.specs.declared.index_entry.ImageIndexEntry.{ImageIndexEntry}
 use Rattle.oci_platforms.specs.declared.promise.ResolverPromise.{ResolverPromise}
 use Rattle.oci_platforms.specs.declared.promise.ResolverPromise.TheVariants.{FirstMatch, Fixed, Any}
 

@@ -4,7 +4,7 @@ ghost use Rattle.oci_platforms.specs.Promise.{Picks, lists, picks};
 
 use crate::resolvers::first_entry;
 use json_values::{Copied, Text};
-use oci_manifests::ImageIndexEntry;
+use oci_descriptors::ImageIndexEntry;
 use oci_names::{Arch, Os};
 use std::alloc::{AllocError, Global};
 

@@ -6,7 +6,7 @@ ghost use Rattle.oci_platforms.specs.declared.promise.ResolverPromise.TheVariant
 use crate::promise::ResolverPromise;
 use crate::resolvers::current_platform_resolver;
 use json_values::{Copied, Text};
-use oci_manifests::ImageIndexEntry;
+use oci_descriptors::ImageIndexEntry;
 use oci_names::{Arch, Os};
 use std::alloc::{AllocError, Global};
 use std::marker::Model;

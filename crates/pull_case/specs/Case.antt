@@ -10,8 +10,8 @@ use Rattle.json_tables.specs.Reading.{at_name, only}
 use Rattle.json_tables.specs.Bytes.{bytes_of}
 use Rattle.oci_names.specs.References.{reference_of}
 use Rattle.oci_auth.specs.declared.auth.RegistryAuth.TheVariants.{Anonymous}
-use Rattle.engine_requests.specs.declared.settings.ClientProtocol.{ClientProtocol}
-use Rattle.engine_requests.specs.declared.settings.ClientProtocol.TheVariants.{Http, Https}
+use Rattle.engine_terms.specs.declared.settings.ClientProtocol.{ClientProtocol}
+use Rattle.engine_terms.specs.declared.settings.ClientProtocol.TheVariants.{Http, Https}
 use Rattle.pull_case.specs.Auth.{auth_of}
 use Rattle.pull_case.specs.Constraint.{constraint_of}
 use Rattle.pull_case.specs.Members.{unless_absent, number_of, passing}

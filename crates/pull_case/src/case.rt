@@ -7,7 +7,7 @@ use crate::members::{Moments, ReferenceText};
 use crate::platform::Platform;
 use crate::registry::{Registry, read_registry};
 use cosign_layers::{LogKeys, SignedRow, TableJudge};
-use engine_requests::ClientProtocol;
+use engine_terms::ClientProtocol;
 use json_tables::{ReadError, Reads, only, read_plain, read_row};
 use json_values::{Blob, List, Text, row};
 use oci_auth::RegistryAuth;

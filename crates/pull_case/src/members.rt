@@ -2,12 +2,12 @@
 ghost use Rattle.std.specs.Prelude.{◌≡◌, IfOk, Some, is_ok, option_map};
 ghost use Rattle.json_tables.specs.Reading.{present};
 ghost use Rattle.oci_names.specs.References.{reference_of};
-ghost use Rattle.engine_requests.specs.declared.settings.ClientProtocol.TheVariants.{Https};
+ghost use Rattle.engine_terms.specs.declared.settings.ClientProtocol.TheVariants.{Https};
 ghost use Rattle.pull_case.specs.Case.{reference_text_of, protocol_named, protocol_of, moments_of};
 ghost use Rattle.pull_case.specs.Members.{number_of};
 
 use crate::entries::{Entry, Usual};
-use engine_requests::ClientProtocol;
+use engine_terms::ClientProtocol;
 use json_tables::{Member, ReadError, Reads, present};
 use json_values::{List, Text};
 use oci_names::{ParseError, Reference};

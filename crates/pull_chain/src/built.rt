@@ -14,9 +14,10 @@ use cosign_layers::{
 use engine_rows::{config_of, layer_of};
 use json_tables::read_plain;
 use json_values::{Blob, Copied, List, Text, copy_all, row};
+use oci_descriptors::OciDescriptor;
 use oci_digests::sha256_digest;
 use oci_manifests::blob::Config;
-use oci_manifests::{ImageLayer, OciDescriptor, OciImageManifest};
+use oci_manifests::{ImageLayer, OciImageManifest};
 use std::alloc::{AllocError, Global};
 
 // The document of the manifest: that of the entry, else the first one.

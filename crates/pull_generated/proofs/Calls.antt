@@ -8,7 +8,7 @@ use Rattle.oci_auth.specs.declared.auth.RegistryAuth.TheVariants.{Anonymous}
 use Rattle.oci_protocol.specs.Runs.{Meets}
 use Rattle.oci_protocol.proofs.Laws.{Meets-memory}
 use Rattle.oci_transport.specs.Link.{Link}
-use Rattle.engine_requests.specs.Contexts.{within}
+use Rattle.engine_terms.specs.Contexts.{within}
 use Rattle.oci_link.specs.declared.shelf.Shelf.{Shelf}
 use Rattle.shelf_laws.proofs.Tokens.{fresh_settled}
 use Rattle.sig_calls.specs.Clients.{Kept, Client}

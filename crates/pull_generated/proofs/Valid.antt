@@ -26,7 +26,7 @@ use Rattle.oci_digests.proofs.Equal.{named}
 use Rattle.oci_names.specs.References.{reads_back}
 use Rattle.oci_auth.specs.declared.auth.RegistryAuth.TheVariants.{Anonymous}
 use Rattle.oci_manifests.specs.declared.blob.ImageLayer.{ImageLayer}
-use Rattle.oci_manifests.specs.declared.descriptor.OciDescriptor.{OciDescriptor}
+use Rattle.oci_descriptors.specs.declared.descriptor.OciDescriptor.{OciDescriptor}
 use Rattle.oci_transport.specs.Urls.{request_url}
 use Rattle.oci_link.specs.Leads.{entry_leads, redirects_lead}
 use Rattle.engine_rows.specs.Images.{layer_of}

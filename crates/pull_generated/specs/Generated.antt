@@ -6,9 +6,9 @@ use Rattle.oci_auth.specs.Memory.{fresh as nothing_kept}
 use Rattle.oci_auth.specs.declared.auth.RegistryAuth.TheVariants.{Anonymous}
 use Rattle.oci_protocol.specs.Runs.{Meets, Told}
 use Rattle.oci_transport.specs.Link.{Link}
-use Rattle.engine_requests.specs.Contexts.{Context, within}
-use Rattle.engine_requests.specs.declared.settings.ClientProtocol.TheVariants.{Http}
-use Rattle.engine_requests.specs.declared.settings.Settings.{Settings}
+use Rattle.engine_terms.specs.Contexts.{Context, within}
+use Rattle.engine_terms.specs.declared.settings.ClientProtocol.TheVariants.{Http}
+use Rattle.engine_terms.specs.declared.settings.Settings.{Settings}
 use Rattle.sig_calls.specs.Clients.{Kept}
 use Rattle.cosign_layers.specs.Standing.{Meaning, Owns, meaning}
 use Rattle.cosign_layers.specs.Trust.{Trust, trust}

@@ -9,7 +9,7 @@ use Rattle.oci_protocol.specs.Proto.{Proto}
 use Rattle.oci_protocol.specs.Runs.{Runs, Performs, Meets, Told}
 use Rattle.oci_names.specs.declared.reference.Reference.{Reference}
 use Rattle.oci_auth.specs.declared.auth.RegistryAuth.{RegistryAuth}
-use Rattle.engine_requests.specs.Contexts.{Context}
+use Rattle.engine_terms.specs.Contexts.{Context}
 use Rattle.sig_calls.specs.Clients.{Kept, Row}
 use Rattle.sig_calls.specs.Errors.{is_memory as of_memory}
 use Rattle.sig_calls.specs.declared.error.SigstoreError.{SigstoreError}

@@ -8,7 +8,7 @@ use Rattle.oci_names.specs.declared.reference.Reference.{Reference}
 use Rattle.oci_auth.specs.declared.auth.RegistryAuth.{RegistryAuth}
 use Rattle.oci_platforms.specs.declared.promise.ResolverPromise.{ResolverPromise}
 use Rattle.oci_transport.specs.declared.message.Exchange.{Exchange}
-use Rattle.engine_requests.specs.Contexts.{Context}
+use Rattle.engine_terms.specs.Contexts.{Context}
 use Rattle.sig_calls.specs.Clients.{Kept}
 use Rattle.cosign_layers.specs.Constraint.{accepts}
 use Rattle.cosign_layers.specs.Standing.{Owns, StandsFor, meaning}

@@ -5,7 +5,7 @@ use Rattle.serde_json.specs.Data.{Data}
 use Rattle.serde_json.specs.Find.{get}
 use Rattle.json_tables.specs.Reading.{text_of, u64_of, bool_of, list_of, required, optional, at_name, only}
 use Rattle.oci_auth.specs.declared.auth.RegistryAuth.TheVariants.{Anonymous}
-use Rattle.engine_requests.specs.declared.settings.ClientProtocol.TheVariants.{Https}
+use Rattle.engine_terms.specs.declared.settings.ClientProtocol.TheVariants.{Https}
 use Rattle.pull_case.specs.Auth.{auth_of}
 use Rattle.pull_case.specs.Case.{reference_text_of, protocol_of}
 use Rattle.pull_case.specs.Constraint.{constraint_of}

@@ -4,8 +4,8 @@ use Rattle.std.specs.FinMap.{FinMap}
 use Rattle.serde_json.specs.Data.{Data}
 use Rattle.json_values.specs.Places.{by_bytes}
 use Rattle.oci_names.specs.References.{reference_of}
-use Rattle.engine_requests.specs.Contexts.{within}
-use Rattle.engine_requests.specs.declared.settings.Settings.{Settings}
+use Rattle.engine_terms.specs.Contexts.{within}
+use Rattle.engine_terms.specs.declared.settings.Settings.{Settings}
 use Rattle.sig_calls.specs.Clients.{Kept, Row}
 use Rattle.sig_settings.specs.Auths.{registry_auth}
 use Rattle.sig_calls.specs.Direct.{reference_in}

@@ -7,7 +7,7 @@ use Rattle.json_tables.specs.Reading.{◌>>=◌, text_of, u64_of, bool_of, list_
 use Rattle.json_tables.specs.Bytes.{base64_of}
 use Rattle.oci_names.specs.References.{reference_of}
 use Rattle.oci_auth.specs.declared.auth.RegistryAuth.TheVariants.{Anonymous}
-use Rattle.engine_requests.specs.declared.settings.ClientProtocol.TheVariants.{Https}
+use Rattle.engine_terms.specs.declared.settings.ClientProtocol.TheVariants.{Https}
 use Rattle.pull_case.specs.Auth.{auth_of}
 use Rattle.pull_case.specs.Case.{reference_text_of, protocol_of}
 use Rattle.pull_case.specs.Constraint.{constraint_of}

@@ -3,7 +3,7 @@ use Rattle.std.specs.Prelude.{ℕ, List, Some, Result, Ok, Err}
 use Rattle.oci_names.specs.declared.reference.Reference.{Reference}
 use Rattle.oci_auth.specs.declared.auth.RegistryAuth.{RegistryAuth}
 use Rattle.oci_transport.specs.declared.message.Exchange.{Exchange}
-use Rattle.engine_requests.specs.Contexts.{Context}
+use Rattle.engine_terms.specs.Contexts.{Context}
 use Rattle.engine_laws.specs.Confined.{Within}
 use Rattle.engine_laws.specs.Held.{pulling}
 use Rattle.sig_calls.specs.Clients.{Kept}

@@ -2,8 +2,8 @@
 use Rattle.std.specs.Prelude.{◌≡◌, ℕ, false, List, Result, Ok, Err}
 use Rattle.std.specs.FinMap.{FinMap}
 use Rattle.json_values.specs.Places.{by_bytes}
-use Rattle.engine_requests.specs.Contexts.{within}
-use Rattle.engine_requests.specs.declared.settings.Settings.{Settings}
+use Rattle.engine_terms.specs.Contexts.{within}
+use Rattle.engine_terms.specs.declared.settings.Settings.{Settings}
 use Rattle.sig_calls.specs.Clients.{Kept}
 use Rattle.sig_calls.specs.Errors.{is_memory as of_memory}
 use Rattle.sig_settings.specs.Auths.{registry_auth}

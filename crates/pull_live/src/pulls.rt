@@ -1,6 +1,6 @@
 // The search and the pull, each by a transport of its own over the streams.
 ghost use Rattle.std.specs.Prelude.{◌≡◌, false, IfOk, IfErr};
-ghost use Rattle.engine_requests.specs.Contexts.{within};
+ghost use Rattle.engine_terms.specs.Contexts.{within};
 ghost use Rattle.sig_calls.specs.Direct.{reference_in};
 ghost use Rattle.sig_settings.specs.Auths.{registry_auth};
 ghost use Rattle.cosign_rows.specs.Refusal.{is_memory};

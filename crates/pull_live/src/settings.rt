@@ -6,7 +6,7 @@ ghost use Rattle.pull_live.specs.Settings.{settings_of, IsReady};
 
 use crate::keys::{KeyList, KeyMap};
 use cosign_layers::LogKeys;
-use engine_requests::ClientProtocol;
+use engine_terms::ClientProtocol;
 use json_tables::{ReadError, Reads, only, read_row};
 use json_values::{Blob, List, Text, row};
 use live_host::is_frame;

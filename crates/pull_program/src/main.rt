@@ -2,8 +2,9 @@
 #![tactic(auto)]
 
 use json_values::{List, Text};
+pub use pull_cases::Report;
 pub use pull_edge::{Failed, MemorySource, PlainSource, Source, StdSink, StdSource};
-pub use pull_run::{Report, Status, Word, run};
+pub use pull_run::{Status, Word, run};
 use std::alloc::Global;
 use std::env::{self, Env};
 use std::io;

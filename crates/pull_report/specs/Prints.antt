@@ -4,15 +4,15 @@
 use Rattle.std.specs.Prelude.{ℕ, List, [], ◌∷◌, length, codes, decimal}
 use Rattle.std.specs.Fmt.{signed_decimal}
 use Rattle.json_values.specs.Canon.{quoted_text}
-use Rattle.oci_manifests.specs.declared.envelope.OciEnvelope.{OciEnvelope}
+use Rattle.oci_errors.specs.declared.envelope.OciEnvelope.{OciEnvelope}
 use Rattle.oci_digests.specs.declared.error.DigestError.{DigestError}
 use Rattle.oci_digests.specs.declared.error.DigestError.TheVariants as digest
-use Rattle.engine_requests.specs.declared.error.GenericCause.{GenericCause}
-use Rattle.engine_requests.specs.declared.error.GenericCause.TheVariants as cause
-use Rattle.engine_requests.specs.declared.error.SpecViolation.{SpecViolation}
-use Rattle.engine_requests.specs.declared.error.SpecViolation.TheVariants as violation
-use Rattle.engine_requests.specs.declared.error.OciDistributionError.{OciDistributionError}
-use Rattle.engine_requests.specs.declared.error.OciDistributionError.TheVariants as distribution
+use Rattle.engine_terms.specs.declared.error.GenericCause.{GenericCause}
+use Rattle.engine_terms.specs.declared.error.GenericCause.TheVariants as cause
+use Rattle.engine_terms.specs.declared.error.SpecViolation.{SpecViolation}
+use Rattle.engine_terms.specs.declared.error.SpecViolation.TheVariants as violation
+use Rattle.engine_terms.specs.declared.error.OciDistributionError.{OciDistributionError}
+use Rattle.engine_terms.specs.declared.error.OciDistributionError.TheVariants as distribution
 use Rattle.sig_calls.specs.declared.error.SigstoreError.{SigstoreError}
 use Rattle.sig_calls.specs.declared.error.SigstoreError.TheVariants as sigstore
 use Rattle.cosign_layers.specs.declared.rejection.LayerPart.{LayerPart}

@@ -7,7 +7,7 @@ use crate::printed::{Printed, print1, word};
 use cosign_layers::SignatureLayer;
 use cosign_rows::Skipped;
 use json_values::Blob;
-use oci_manifests::OciDescriptor;
+use oci_descriptors::OciDescriptor;
 use oci_transport::{Exchange, Method};
 use std::alloc::{AllocError, Global};
 

@@ -1,6 +1,6 @@
 // Prints of the refusals of the registry's client.
 use crate::printed::{Printed, print1, print2, print3, word};
-use engine_requests::{GenericCause, OciDistributionError, SpecViolation};
+use engine_terms::{GenericCause, OciDistributionError, SpecViolation};
 use json_values::Blob;
 use oci_digests::DigestError;
 use sig_calls::SigstoreError;

@@ -3,7 +3,7 @@ ghost use Rattle.std.specs.Prelude.{◌≡◌, ◌++◌, OnOk, decimal};
 
 use crate::printed::{Printed, word};
 use json_values::{Blob, Text, write_decimal, write_quoted};
-use oci_manifests::OciEnvelope;
+use oci_errors::OciEnvelope;
 use std::alloc::{AllocError, Global};
 
 /// A number in decimal.

@@ -25,7 +25,7 @@ use Rattle.pull_case.specs.Policy.{meaning_of}
 use Rattle.pull_case.specs.Registry.{answering_by}
 use Rattle.pull_case.specs.declared.case.Case.{Case}
 use Rattle.pull_run.specs.Complete.{HasImage}
-use Rattle.pull_run.specs.Pulls.{Talk, joined, is_answered, all_answered, is_wanting, EachWhole, InTurn, settings_of, row_of, Pulled}
+use Rattle.pull_cases.specs.Pulls.{Talk, joined, is_answered, all_answered, is_wanting, EachWhole, InTurn, settings_of, row_of, Pulled}
 use Rattle.pull_setup.specs.Clients.{fresh}
 
 -- ---- counts where nothing may fail

@@ -4,7 +4,7 @@ use Rattle.json_values.specs.Tray.{Tray}
 use Rattle.pull_edge.specs.Source.{Spring}
 use Rattle.pull_case.specs.Case.{case_in}
 use Rattle.pull_case.specs.declared.case.Case.{Case}
-use Rattle.pull_run.specs.declared.report.Report.{Report}
+use Rattle.pull_cases.specs.declared.report.Report.{Report}
 use Rattle.pull_run.specs.declared.status.Status.{Status}
 use Rattle.pull_run.specs.declared.status.Status.TheVariants as status
 use Rattle.pull_run.specs.declared.word.Word.{Word}
@@ -12,7 +12,7 @@ use Rattle.pull_run.specs.declared.word.Word.TheVariants.{Pull}
 use Rattle.pull_run.specs.Complete.{HasImage, EndsDone, EndsComplete}
 use Rattle.pull_run.specs.Input.{input_limit, IsRead}
 use Rattle.pull_run.specs.Program.{SaysTask, Says}
-use Rattle.pull_run.specs.Pulls.{Talk, all_answered, ReportsCase}
+use Rattle.pull_cases.specs.Pulls.{Talk, all_answered, ReportsCase}
 use Rattle.pull_run.specs.Status.{code_of}
 use Rattle.pull_run.specs.Task.{task_by, task_of}
 use Rattle.pull_run.specs.Word.{word_of}

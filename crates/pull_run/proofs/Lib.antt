@@ -1,9 +1,7 @@
 pub mod Answering
-pub mod Cases
 pub mod Commands
 pub mod Completing
 pub mod Generating
 pub mod Inputs
-pub mod Rounding
 pub mod Statuses
 pub mod Verdicts

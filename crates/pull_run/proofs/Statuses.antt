@@ -6,7 +6,7 @@ use Rattle.json_values.specs.Tray.{Tray}
 use Rattle.pull_edge.specs.Source.{Spring}
 use Rattle.pull_edge.specs.Reading.{TakesWithin, TakesMore}
 use Rattle.pull_edge.proofs.Springs.{Consumes-none}
-use Rattle.pull_run.specs.declared.report.Report.{Report}
+use Rattle.pull_cases.specs.declared.report.Report.{Report}
 use Rattle.pull_run.specs.declared.status.Status.{Status}
 use Rattle.pull_run.specs.declared.status.Status.TheVariants as status
 use Rattle.pull_run.specs.declared.word.Word.{Word}

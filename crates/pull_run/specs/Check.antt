@@ -2,7 +2,7 @@
 use Rattle.std.specs.Prelude.{◌≡◌, ◌↔◌, ℕ, Bool, true, false, List, [], ◌∷◌, ◌++◌, codes}
 use Rattle.pull_chain.specs.Holds.{Holds}
 use Rattle.pull_chain.specs.declared.input.ChainInput.{ChainInput}
-use Rattle.pull_run.specs.declared.report.Report.{Report}
+use Rattle.pull_cases.specs.declared.report.Report.{Report}
 
 -- the line by whether a chain is refused
 abbrev pub verdict : Bool → List ℕ

@@ -12,7 +12,7 @@ use Rattle.pull_case.specs.Policy.{meaning_of}
 use Rattle.pull_case.specs.declared.case.Case.{Case}
 use Rattle.pull_case.specs.declared.registry.Registry.TheVariants as registries
 use Rattle.pull_run.specs.Input.{input_limit}
-use Rattle.pull_run.specs.Pulls.{settings_of}
+use Rattle.pull_cases.specs.Pulls.{settings_of}
 use Rattle.pull_run.specs.Word.{word_of}
 use Rattle.pull_run.specs.declared.word.Word.TheVariants.{Pull}
 

@@ -11,7 +11,7 @@ use Rattle.cosign_rows.specs.declared.refusal.PullRefusal.{PullRefusal}
 use Rattle.generated_image.specs.Shelf.{generated_shelf}
 use Rattle.pull_generated.specs.Generated.{PullsGenerated}
 use Rattle.pull_report.specs.Words.{line}
-use Rattle.pull_run.specs.declared.report.Report.{Report}
+use Rattle.pull_cases.specs.declared.report.Report.{Report}
 use Rattle.pull_run.specs.declared.status.Status.{Status}
 use Rattle.pull_run.specs.declared.status.Status.TheVariants as status
 

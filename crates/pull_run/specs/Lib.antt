@@ -4,11 +4,8 @@ pub mod Command
 pub mod Complete
 pub mod Gen
 pub mod Input
-pub mod Opening
 pub mod Output
 pub mod Program
-pub mod Pulls
-pub mod Rounds
 pub mod Status
 pub mod Task
 pub mod Word

@@ -2,7 +2,7 @@
 use Rattle.std.specs.Prelude.{◌≡◌, true, false}
 use Rattle.json_values.specs.Counts.{Rose, Stays}
 use Rattle.json_values.specs.Tray.{Tray, Adds, AddsPart}
-use Rattle.pull_run.specs.declared.report.Report.{Report}
+use Rattle.pull_cases.specs.declared.report.Report.{Report}
 use Rattle.pull_run.specs.declared.status.Status.{Status}
 use Rattle.pull_run.specs.declared.status.Status.TheVariants as status
 

@@ -13,7 +13,7 @@ use Rattle.pull_run.specs.Task.{Task, task_of}
 use Rattle.pull_run.specs.Word.{word_of}
 use Rattle.pull_run.specs.declared.command.Command.{Command}
 use Rattle.pull_run.specs.declared.command.Command.TheVariants.{Reads, Generates}
-use Rattle.pull_run.specs.declared.report.Report.{Report}
+use Rattle.pull_cases.specs.declared.report.Report.{Report}
 use Rattle.pull_run.specs.declared.status.Status.{Status}
 use Rattle.pull_run.specs.declared.status.Status.TheVariants as status
 use Rattle.pull_run.specs.declared.word.Word.{Word}

@@ -5,8 +5,8 @@ use Rattle.pull_case.specs.Case.{case_in}
 use Rattle.pull_chain.specs.Input.{chain_input_in}
 use Rattle.pull_run.specs.Canon.{PrintsValue}
 use Rattle.pull_run.specs.Check.{PrintsVerdict}
-use Rattle.pull_run.specs.Pulls.{ReportsCase}
-use Rattle.pull_run.specs.declared.report.Report.{Report}
+use Rattle.pull_cases.specs.Pulls.{ReportsCase}
+use Rattle.pull_cases.specs.declared.report.Report.{Report}
 use Rattle.pull_run.specs.declared.word.Word.{Word}
 use Rattle.pull_run.specs.declared.word.Word.TheVariants.{Pull, Canon, Check}
 

@@ -3,10 +3,10 @@ ghost use Rattle.std.specs.Prelude.{◌≡◌, true, IfOk, ⊤};
 ghost use Rattle.json_values.specs.JsonText.{json_of};
 ghost use Rattle.pull_run.specs.Canon.{PrintsValue};
 
-use crate::report::Report;
 use crate::task::Task;
 use json_canon::{CanonError, json_to_vec};
 use json_values::{Blob, Json, read_json};
+use pull_cases::Report;
 use std::alloc::{AllocError, Global};
 
 impl Task for Json {

@@ -4,9 +4,9 @@ ghost use Rattle.pull_case.specs.Case.{IsReady};
 ghost use Rattle.pull_chain.specs.Input.{chain_input_in};
 ghost use Rattle.pull_run.specs.Check.{PrintsVerdict, verdict};
 
-use crate::report::Report;
 use crate::task::Task;
 use json_values::Blob;
+use pull_cases::Report;
 use pull_chain::{ChainInput, chain_holds, read_chain_input};
 use std::alloc::{AllocError, Global};
 

@@ -5,11 +5,12 @@ ghost use Rattle.pull_edge.specs.Source.{Spring};
 ghost use Rattle.pull_generated.specs.Generated.{IsCount};
 ghost use Rattle.pull_run.specs.Gen.{generated_lines, WritesGenerated, Generated, SaysGenerated};
 
-use crate::report::{Report, deliver};
+use crate::output::deliver;
 use crate::status::Status;
 use cosign_client::{PullRefusal, VerifiedImage};
 use json_values::{Blob, Sink, write_decimal};
 use oci_link::ShelfTransport;
+use pull_cases::Report;
 use pull_generated::{generated_shelf, pull_generated};
 use pull_report::{let_go, text_line};
 use std::alloc::{AllocError, Global};

@@ -8,7 +8,7 @@ ghost use Rattle.pull_run.specs.Command.{command_of, CountsWell};
 use crate::command::{Command, command_of};
 use crate::generated::serve_generated;
 use crate::input::read_input;
-use crate::report::deliver;
+use crate::output::deliver;
 use crate::status::Status;
 use crate::task::Task;
 use crate::word::Word;

@@ -1,8 +1,8 @@
 // What a word asks for.
 ghost use Rattle.std.specs.Prelude.{◌≡◌, ℕ, List, Option, IfOk, IfSome};
-ghost use Rattle.pull_run.specs.declared.report.Report.{Report};
+ghost use Rattle.pull_cases.specs.declared.report.Report.{Report};
 
-use crate::report::Report;
+use pull_cases::Report;
 use std::alloc::{AllocError, Global};
 
 /// What a word reads of the input, and what is written for that.

@@ -3,8 +3,8 @@ use Rattle.std.specs.Prelude.{ℕ, Bool, Option, Some, None, codes, unwrap_or}
 use Rattle.oci_auth.specs.Memory.{fresh as nothing_kept}
 use Rattle.oci_engine.specs.declared.config.ClientConfig.{ClientConfig}
 use Rattle.oci_platforms.specs.declared.promise.ResolverPromise.{ResolverPromise}
-use Rattle.engine_requests.specs.declared.settings.ClientProtocol.{ClientProtocol}
-use Rattle.engine_requests.specs.declared.settings.Settings.{Settings}
+use Rattle.engine_terms.specs.declared.settings.ClientProtocol.{ClientProtocol}
+use Rattle.engine_terms.specs.declared.settings.Settings.{Settings}
 use Rattle.sig_calls.specs.Clients.{Kept, no_answers}
 use Rattle.pull_setup.specs.declared.client.WrittenClient.{WrittenClient}
 

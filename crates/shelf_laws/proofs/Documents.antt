@@ -34,22 +34,22 @@ use Rattle.oci_link.specs.PlainPaths.{Segment, PlainPath}
 use Rattle.oci_link.specs.Table.{answer, with_header, with_digest, not_found, document_answer, digest_answer, digest_named, manifest_answer, is_colon, bytes_answer, blob_answer, is_get_or_head}
 use Rattle.oci_link.specs.declared.shelf.Shelf.{Shelf}
 use Rattle.oci_link.specs.declared.shelf.ShelfDocument.{ShelfDocument}
-use Rattle.engine_requests.specs.declared.answers.Got.{Got}
-use Rattle.engine_requests.specs.declared.blobs.Expected.{Expected}
-use Rattle.engine_requests.specs.declared.blobs.Plan.TheVariants.{Pour}
-use Rattle.engine_requests.specs.declared.error.OciDistributionError.{OciDistributionError}
-use Rattle.engine_requests.specs.declared.error.OciDistributionError.TheVariants as engine_refusal
-use Rattle.engine_requests.specs.declared.settings.Settings.{Settings}
+use Rattle.engine_answers.specs.declared.answers.Got.{Got}
+use Rattle.engine_answers.specs.declared.blobs.Expected.{Expected}
+use Rattle.engine_answers.specs.declared.blobs.Plan.TheVariants.{Pour}
+use Rattle.engine_terms.specs.declared.error.OciDistributionError.{OciDistributionError}
+use Rattle.engine_terms.specs.declared.error.OciDistributionError.TheVariants as engine_refusal
+use Rattle.engine_terms.specs.declared.settings.Settings.{Settings}
 use Rattle.engine_requests.specs.Addresses.{manifest_name, manifest_text, blob_text, url_read}
-use Rattle.engine_requests.specs.Answers.{accepted, or_digest_error, header_digest, body_digest, answer_digest, document_in, agreed, fits_reference, refused_answer, is_success, is_error}
-use Rattle.engine_requests.specs.Blobs.{digest_expected, pouring, plan_by, planned, plan_of, compared}
-use Rattle.engine_requests.specs.Contexts.{Context}
-use Rattle.engine_requests.specs.Errors.{◌>>=◌ as ◌into◌, ◌>>◌ as ◌and◌}
+use Rattle.engine_answers.specs.Answers.{accepted, or_digest_error, header_digest, body_digest, answer_digest, document_in, agreed, fits_reference, refused_answer, is_success, is_error}
+use Rattle.engine_answers.specs.Blobs.{digest_expected, pouring, plan_by, planned, plan_of, compared}
+use Rattle.engine_terms.specs.Contexts.{Context}
+use Rattle.engine_terms.specs.Errors.{◌>>=◌ as ◌into◌, ◌>>◌ as ◌and◌}
 use Rattle.engine_requests.specs.Requests.{manifest_types}
 use Rattle.engine_requests.specs.Sources.{Layer, places_of, asked_at}
 use Rattle.engine_requests.specs.declared.sources.Place.{Place}
-use Rattle.engine_rows.specs.declared.named.Named.{Named}
-use Rattle.engine_rows.specs.declared.named.Named.TheVariants.{ByHeader}
+use Rattle.engine_rows.specs.declared.named.NamedAnswer.{NamedAnswer}
+use Rattle.engine_rows.specs.declared.named.NamedAnswer.TheVariants.{ByHeader}
 use Rattle.engine_rows.specs.Rows.{Row, whole_reply, whole, reading_named, named_reading, read_named, named_reply, named_after}
 use Rattle.engine_rows.specs.Offers.{offer_reading, offer_reply, offer, tried}
 use Rattle.engine_rows.specs.Blobs.{IntoMemory, reading_by, blob_reading, read_by, blob_reply, attempt}
@@ -125,8 +125,8 @@ pub record IsGood (digest body : List ℕ) (x : Answer) : Type 0 where
 header_is : (digest bytes : List ℕ) {body : List ℕ} {x : Answer} → Names digest bytes → IsGood digest body x → header_digest x.headers ≡ Ok (Some digest)
 header_is digest bytes named good = ap (λ o. or_digest_error (digest_in o)) good.names ∙ ap or_digest_error (digest_in_is digest bytes named)
 
-pub accepted_is : (url : List ℕ) (x : Answer) → x.status ≡ 200 → accepted url x ≡ Ok x
-accepted_is url x is = ap (λ n. if nat_eq n 200 then Ok x else Err (refused_answer url x)) is
+pub accepted_is : (url : List ℕ) (x : Answer) → x.status ≡ 200 → accepted 200 url x ≡ Ok x
+accepted_is url x is = ap (λ n. if nat_eq n 200 then Ok x else Err (refused_answer 200 url x)) is
 
 -- the reference has no digest, or this one
 abbrev pub NoOther : Option (List ℕ) → List ℕ → Type 0
@@ -283,7 +283,7 @@ module _ {s : Settings} {registry : List ℕ} {shelf : Shelf} (home : Home s reg
   unfolding named_after named_reading Comes
   named_gives request x digest bytes asked named good = record {
     gives = λ k h.
-        let P : Named → Type 0 = λ n. (got : Got) × (n ≡ ByHeader digest got) × (got.answer.status ≡ 200) in
+        let P : NamedAnswer → Type 0 = λ n. (got : Got) × (n ≡ ByHeader digest got) × (got.answer.status ≡ 200) in
         let reading : named_reading limit (head_part x) ≡ Within limit = ap (reading_named limit) (header_is digest bytes named good) in
         let got : Request → Got = λ last. record { url = last.url; answer = x } in
         Comes-led home.lead (λ l r. I l × Yields P r) (named_reading limit) named_reply x k
@@ -332,7 +332,7 @@ module _ {s : Settings} {registry : List ℕ} {shelf : Shelf} (home : Home s reg
 
   fitting : (digest bytes : List ℕ) (url : Parts) (got : Got) → Names digest bytes → NoOther (digest_of image) digest → got.answer.status ≡ 200 → Gives I (answer shelf) (λ (d : List ℕ). d ≡ digest) (digest_by ctx image url (ByHeader digest got))
   fitting digest bytes url got named other good =
-      Gives-next _ (Gives-done (accepted got.url got.answer) (yields_ok (λ (x : Answer). Unit {0}) (accepted got.url got.answer) got.answer (accepted_is got.url got.answer good) tt)) (λ x u.
+      Gives-next _ (Gives-done (accepted 200 got.url got.answer) (yields_ok (λ (x : Answer). Unit {0}) (accepted 200 got.url got.answer) got.answer (accepted_is got.url got.answer good) tt)) (λ x u.
       Gives-done (fits_reference digest (digest_of image)) (yields_ok (λ (d : List ℕ). d ≡ digest) (fits_reference digest (digest_of image)) digest (fits_is digest bytes (digest_of image) named other) refl))
 
   -- its digest

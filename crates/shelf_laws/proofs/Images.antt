@@ -12,19 +12,19 @@ use Rattle.oci_auth.specs.declared.memory.Memory.{Memory}
 use Rattle.oci_manifests.specs.declared.document.OciManifest.{OciManifest}
 use Rattle.oci_manifests.specs.declared.document.OciManifest.TheVariants.{Image, ImageIndex}
 use Rattle.oci_manifests.specs.declared.manifest.OciImageManifest.{OciImageManifest}
-use Rattle.oci_manifests.specs.declared.descriptor.OciDescriptor.{OciDescriptor}
+use Rattle.oci_descriptors.specs.declared.descriptor.OciDescriptor.{OciDescriptor}
 use Rattle.oci_manifests.specs.declared.blob.ImageLayer.{ImageLayer}
 use Rattle.oci_link.specs.PlainPaths.{Segment}
 use Rattle.oci_link.specs.Table.{answer, digest_named}
 use Rattle.oci_link.specs.declared.shelf.Shelf.{Shelf}
 use Rattle.engine_requests.specs.Addresses.{manifest_name}
-use Rattle.engine_requests.specs.Contexts.{Context}
-use Rattle.engine_requests.specs.Documents.{document_read}
-use Rattle.engine_requests.specs.Index.{entry_found, entry_manifest, entry_reference}
+use Rattle.engine_terms.specs.Contexts.{Context}
+use Rattle.engine_answers.specs.Documents.{document_read}
+use Rattle.engine_answers.specs.Index.{entry_found, entry_manifest, entry_reference}
 use Rattle.engine_requests.specs.Requests.{manifest_types}
 use Rattle.engine_requests.specs.Sources.{described}
-use Rattle.engine_requests.specs.declared.error.OciDistributionError.TheVariants as refusal
-use Rattle.engine_requests.specs.declared.settings.Settings.{Settings}
+use Rattle.engine_terms.specs.declared.error.OciDistributionError.TheVariants as refusal
+use Rattle.engine_terms.specs.declared.settings.Settings.{Settings}
 use Rattle.engine_rows.specs.declared.image.ImageData.{ImageData}
 use Rattle.engine_rows.specs.Pulls.{pull_manifest, held_blob}
 use Rattle.engine_rows.specs.Manifests.{pull_entry, manifest_by, pull_image_manifest_and_list_digest}

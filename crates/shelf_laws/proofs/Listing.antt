@@ -19,15 +19,16 @@ use Rattle.oci_protocol.specs.Proto.{Done, ◌>>=◌}
 use Rattle.oci_link.specs.PlainPaths.{Segment}
 use Rattle.oci_link.specs.Table.{answer, found, bytes_answer, referrers_answer, digest_named}
 use Rattle.oci_link.specs.declared.shelf.Shelf.{Shelf}
-use Rattle.engine_requests.specs.declared.answers.Got.{Got}
-use Rattle.engine_requests.specs.declared.error.OciDistributionError.{OciDistributionError}
+use Rattle.engine_answers.specs.declared.answers.Got.{Got}
+use Rattle.engine_terms.specs.declared.error.OciDistributionError.{OciDistributionError}
 use Rattle.engine_requests.specs.Addresses.{url_read}
-use Rattle.engine_requests.specs.Contexts.{Context}
-use Rattle.engine_requests.specs.Documents.{document_read}
-use Rattle.engine_requests.specs.Errors.{◌>>=◌ as ◌into◌}
-use Rattle.engine_requests.specs.Referrers.{digest_given, referrers_text, referrers_url, with_artifact_type, referrers_in, referrers_tag, fallback_reference, tagged_index}
+use Rattle.engine_terms.specs.Contexts.{Context}
+use Rattle.engine_answers.specs.Documents.{document_read}
+use Rattle.engine_terms.specs.Errors.{◌>>=◌ as ◌into◌}
+use Rattle.engine_answers.specs.Referrers.{referrers_in, referrers_tag, fallback_reference, tagged_index}
+use Rattle.engine_requests.specs.ReferrerLists.{digest_given, referrers_text, referrers_url, with_artifact_type}
 use Rattle.engine_requests.specs.Requests.{manifest_types}
-use Rattle.engine_requests.specs.declared.settings.Settings.{Settings}
+use Rattle.engine_terms.specs.declared.settings.Settings.{Settings}
 use Rattle.engine_rows.specs.Pulls.{manifest_asked}
 use Rattle.engine_rows.specs.Referrers.{referrers_asked, referrers_tagged, referrers_by, pull_referrers}
 use Rattle.shelf_laws.specs.Comes.{Yields, Gives}

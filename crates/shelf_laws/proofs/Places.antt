@@ -23,11 +23,12 @@ use Rattle.oci_link.specs.declared.shelf.Shelf.{Shelf}
 use Rattle.oci_link.specs.Paths.{path_of}
 use Rattle.oci_link.proofs.PlainReading.{plain_paths_read}
 use Rattle.oci_link.proofs.ShelfAnswers.{path_of-at, answer-base, answer-manifest, answer-blob, answer-referrers}
-use Rattle.engine_requests.specs.declared.settings.ClientProtocol.{ClientProtocol}
-use Rattle.engine_requests.specs.declared.settings.ClientProtocol.TheVariants.{Http, Https, HttpsExcept}
-use Rattle.engine_requests.specs.declared.settings.Settings.{Settings}
-use Rattle.engine_requests.specs.Referrers.{referrers_text}
-use Rattle.engine_requests.specs.Addresses.{is_listed, scheme_for, registry_text, base_text, manifest_name, manifest_text, blob_text, mirrored}
+use Rattle.engine_terms.specs.declared.settings.ClientProtocol.{ClientProtocol}
+use Rattle.engine_terms.specs.declared.settings.ClientProtocol.TheVariants.{Http, Https, HttpsExcept}
+use Rattle.engine_terms.specs.declared.settings.Settings.{Settings}
+use Rattle.engine_requests.specs.ReferrerLists.{referrers_text}
+use Rattle.engine_requests.specs.Addresses.{registry_text, base_text, manifest_name, manifest_text, blob_text, mirrored}
+use Rattle.engine_terms.specs.Schemes.{is_listed, scheme_for}
 use Rattle.shelf_laws.specs.Home.{front_of, IsWrittenPlainly, Home, IsAt}
 use Rattle.shelf_laws.proofs.DigestTexts.{and_both}
 use Rattle.shelf_laws.proofs.Leading.{byte_below, Answers, without_redirects, at_path_is}

@@ -18,9 +18,9 @@ use Rattle.oci_protocol.specs.Proto.{Within, Answered, TooLong}
 use Rattle.oci_protocol.specs.Drive.{reply_of}
 use Rattle.oci_link.specs.PlainPaths.{PlainPath}
 use Rattle.oci_link.specs.declared.shelf.Shelf.{Shelf}
-use Rattle.engine_requests.specs.declared.error.OciDistributionError.TheVariants as refusal
-use Rattle.engine_requests.specs.declared.error.GenericCause.TheVariants.{HeaderText}
-use Rattle.engine_requests.specs.declared.settings.Settings.{Settings}
+use Rattle.engine_terms.specs.declared.error.OciDistributionError.TheVariants as refusal
+use Rattle.engine_terms.specs.declared.error.GenericCause.TheVariants.{HeaderText}
+use Rattle.engine_terms.specs.declared.settings.Settings.{Settings}
 use Rattle.engine_requests.specs.Addresses.{url_or, url_read}
 use Rattle.engine_requests.specs.Requests.{with_header, with_token, request_of}
 use Rattle.shelf_laws.specs.Comes.{Yields}

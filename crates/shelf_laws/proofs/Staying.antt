@@ -9,7 +9,7 @@ use Rattle.oci_auth.specs.declared.memory.Memory.{Memory}
 use Rattle.oci_auth.specs.declared.token_type.RegistryOperation.TheVariants as operation
 use Rattle.oci_manifests.specs.declared.document.OciManifest.{OciManifest}
 use Rattle.oci_manifests.specs.declared.document.OciManifest.TheVariants.{Image, ImageIndex}
-use Rattle.oci_manifests.specs.declared.descriptor.OciDescriptor.{OciDescriptor}
+use Rattle.oci_descriptors.specs.declared.descriptor.OciDescriptor.{OciDescriptor}
 use Rattle.oci_manifests.specs.declared.blob.ImageLayer.{ImageLayer}
 use Rattle.oci_transport.specs.Headers.{is_header_value}
 use Rattle.oci_transport.specs.declared.message.Request.{Request}
@@ -19,23 +19,24 @@ use Rattle.oci_transport.specs.declared.message.Method.TheVariants.{Get, Head}
 use Rattle.oci_protocol.specs.Proto.{Unread, Reply, Headed, Answered, Failed, TooLong, SinkFailed, Done, read_within, ◌>>=◌}
 use Rattle.oci_link.specs.Table.{answer}
 use Rattle.oci_link.specs.declared.shelf.Shelf.{Shelf}
-use Rattle.engine_requests.specs.declared.blobs.Plan.{Plan}
-use Rattle.engine_requests.specs.declared.blobs.Plan.TheVariants.{Refuse, Judge, Pour}
+use Rattle.engine_answers.specs.declared.blobs.Plan.{Plan}
+use Rattle.engine_answers.specs.declared.blobs.Plan.TheVariants.{Refuse, Judge, Pour}
 use Rattle.engine_requests.specs.Addresses.{manifest_text, blob_text, url_read}
-use Rattle.engine_requests.specs.Answers.{is_error, accepted, header_digest}
-use Rattle.engine_requests.specs.Blobs.{plan_of}
-use Rattle.engine_requests.specs.Contexts.{Context}
-use Rattle.engine_requests.specs.Documents.{document_read}
-use Rattle.engine_requests.specs.Index.{entry_found, entry_manifest, entry_reference}
+use Rattle.engine_answers.specs.Answers.{is_error, accepted, header_digest}
+use Rattle.engine_answers.specs.Blobs.{plan_of}
+use Rattle.engine_terms.specs.Contexts.{Context}
+use Rattle.engine_answers.specs.Documents.{document_read}
+use Rattle.engine_answers.specs.Index.{entry_found, entry_manifest, entry_reference}
 use Rattle.engine_requests.specs.Requests.{manifest_types}
-use Rattle.engine_requests.specs.Referrers.{digest_given, referrers_url, referrers_in, fallback_reference}
+use Rattle.engine_answers.specs.Referrers.{referrers_in, fallback_reference}
+use Rattle.engine_requests.specs.ReferrerLists.{digest_given, referrers_url}
 use Rattle.engine_requests.specs.Sources.{Layer, described, places_of, asked_at}
-use Rattle.engine_requests.specs.declared.answers.Got.{Got}
-use Rattle.engine_requests.specs.declared.error.OciDistributionError.{OciDistributionError}
+use Rattle.engine_answers.specs.declared.answers.Got.{Got}
+use Rattle.engine_terms.specs.declared.error.OciDistributionError.{OciDistributionError}
 use Rattle.engine_requests.specs.declared.sources.Place.{Place}
-use Rattle.engine_requests.specs.declared.settings.Settings.{Settings}
-use Rattle.engine_rows.specs.declared.named.Named.{Named}
-use Rattle.engine_rows.specs.declared.named.Named.TheVariants.{ByHeader, Unnamed}
+use Rattle.engine_terms.specs.declared.settings.Settings.{Settings}
+use Rattle.engine_rows.specs.declared.named.NamedAnswer.{NamedAnswer}
+use Rattle.engine_rows.specs.declared.named.NamedAnswer.TheVariants.{ByHeader, Unnamed}
 use Rattle.engine_rows.specs.Rows.{Row, whole_reply, whole, reading_named, named_reading, named_reply, named_after, prepared}
 use Rattle.engine_rows.specs.Offers.{offer_reading, offer_reply, offer, tried}
 use Rattle.engine_rows.specs.Blobs.{IntoMemory, reading_by, blob_reading, blob_reply, attempt}
@@ -146,8 +147,8 @@ module _ {s : Settings} {registry : List ℕ} {shelf : Shelf} (home : Home s reg
       by_reply last TooLong = Stays-done _
       by_reply last SinkFailed = Stays-done _
 
-    by_name : (url : Parts) (n : Named) → Stays I (answer shelf) (digest_by ctx image url n)
-    by_name url (ByHeader digest got) = Stays-next _ (Stays-done (accepted got.url got.answer)) (λ x. Stays-done _)
+    by_name : (url : Parts) (n : NamedAnswer) → Stays I (answer shelf) (digest_by ctx image url n)
+    by_name url (ByHeader digest got) = Stays-next _ (Stays-done (accepted 200 got.url got.answer)) (λ x. Stays-done _)
     by_name url Unnamed = Stays-next _ (document_stays url manifest_types refl) (λ found. Stays-done _)
 
     pub digest_stays : Stays I (answer shelf) (fetch_manifest_digest ctx image a)

@@ -32,10 +32,10 @@ use Rattle.oci_auth.proofs.Places.{is_kept}
 use Rattle.oci_protocol.specs.Proto.{read_none, bind}
 use Rattle.oci_link.specs.Table.{answer}
 use Rattle.oci_link.specs.declared.shelf.Shelf.{Shelf}
-use Rattle.engine_requests.specs.declared.settings.Settings.{Settings}
+use Rattle.engine_terms.specs.declared.settings.Settings.{Settings}
 use Rattle.engine_requests.specs.declared.tokens.Wanted.TheVariants as wants
 use Rattle.engine_requests.specs.Addresses.{registry_text, base_text, url_read, url_or}
-use Rattle.engine_requests.specs.Contexts.{Context}
+use Rattle.engine_terms.specs.Contexts.{Context}
 use Rattle.engine_requests.specs.Requests.{request_of}
 use Rattle.engine_requests.specs.Tokens.{wanted, wanted_in}
 use Rattle.engine_rows.specs.Rows.{Row, head_reply, head_after, store, fetched, registry_asked, token_step, with_kept, taken, token_asked, kept_or_asked, token_by, token_for, goes_to, token_where, authorized, prepared, kept_text, token_given}

@@ -18,8 +18,8 @@ use Rattle.oci_auth.specs.declared.token_type.RegistryOperation.TheVariants.{Pul
 use Rattle.oci_auth.specs.declared.token_type.RegistryTokenType.{RegistryTokenType}
 use Rattle.oci_auth.specs.declared.token_type.RegistryTokenType.TheVariants as shown
 use Rattle.oci_auth.specs.Keys.{under, kept_under}
-use Rattle.engine_requests.specs.Addresses.{scheme_for}
-use Rattle.engine_requests.specs.declared.settings.Settings.{Settings}
+use Rattle.engine_terms.specs.Schemes.{scheme_for}
+use Rattle.engine_terms.specs.declared.settings.Settings.{Settings}
 
 -- the text before the paths of a registry's URLs
 abbrev pub front_of : Settings → List ℕ → List ℕ

@@ -7,14 +7,14 @@ use Rattle.oci_manifests.specs.declared.document.OciManifest.{OciManifest}
 use Rattle.oci_manifests.specs.declared.document.OciManifest.TheVariants.{Image, ImageIndex}
 use Rattle.oci_manifests.specs.declared.index.OciImageIndex.{OciImageIndex}
 use Rattle.oci_manifests.specs.declared.manifest.OciImageManifest.{OciImageManifest}
-use Rattle.oci_manifests.specs.declared.descriptor.OciDescriptor.{OciDescriptor}
+use Rattle.oci_descriptors.specs.declared.descriptor.OciDescriptor.{OciDescriptor}
 use Rattle.oci_manifests.specs.declared.blob.ImageLayer.{ImageLayer}
 use Rattle.oci_link.specs.declared.shelf.Shelf.{Shelf}
 use Rattle.oci_link.specs.declared.shelf.ShelfDocument.{ShelfDocument}
-use Rattle.engine_requests.specs.declared.settings.Settings.{Settings}
-use Rattle.engine_requests.specs.Documents.{document_read}
-use Rattle.engine_requests.specs.Index.{entry_found}
-use Rattle.engine_requests.specs.Referrers.{index_read, referrers_tag}
+use Rattle.engine_terms.specs.declared.settings.Settings.{Settings}
+use Rattle.engine_answers.specs.Documents.{document_read}
+use Rattle.engine_answers.specs.Index.{entry_found}
+use Rattle.engine_answers.specs.Referrers.{index_read, referrers_tag}
 use Rattle.engine_rows.specs.Images.{layer_of}
 
 -- no document, blob or list of referrers is longer than a body may be

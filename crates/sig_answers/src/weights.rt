@@ -6,11 +6,9 @@ ghost use Rattle.sig_answers.specs.Weights.{counted, text_weight, optional_weigh
 use crate::answer::Answer;
 use engine_rows::ImageData;
 use json_values::{Annotations, Blob, List, Text, row};
+use oci_descriptors::{ImageIndexEntry, OciDescriptor, Platform};
 use oci_manifests::blob::Config;
-use oci_manifests::{
-    ImageIndexEntry, ImageLayer, OciDescriptor, OciImageIndex, OciImageManifest, OciManifest,
-    Platform,
-};
+use oci_manifests::{ImageLayer, OciImageIndex, OciImageManifest, OciManifest};
 
 // What a text or other bytes count for besides their length.
 const HELD: u128 = 32;

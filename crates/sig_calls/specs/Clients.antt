@@ -4,7 +4,7 @@ use Rattle.oci_transport.specs.Link.{Link}
 use Rattle.oci_auth.specs.declared.memory.Memory.{Memory}
 use Rattle.oci_protocol.specs.Proto.{Proto}
 use Rattle.oci_protocol.specs.Runs.{Meets}
-use Rattle.engine_requests.specs.declared.settings.Settings.{Settings}
+use Rattle.engine_terms.specs.declared.settings.Settings.{Settings}
 use Rattle.sig_answers.specs.declared.answers.Answers.{Answers}
 use Rattle.sig_answers.specs.declared.answers.Bounds.{Bounds}
 use Rattle.sig_calls.specs.declared.error.SigstoreError.{SigstoreError}
@@ -38,7 +38,7 @@ abbrev pub now_caching : Client → Client
 now_caching c = record c { kept = (c.kept.0, Some (unwrap_or c.kept.1 (none_kept None))) }
 
 -- a client with these settings still has them, and its call is this protocol
-pub record Made {A E : Type 0} (of_memory : E → Bool) (s : Settings) (p : Proto Kept (Result A E))
+pub record Fulfils {A E : Type 0} (of_memory : E → Bool) (s : Settings) (p : Proto Kept (Result A E))
     (c d : Client) (old new : Link) (r : Result A E) : Type 0 where
   pub made : c.settings ≡ s → (d.settings ≡ s) × Meets of_memory p old new c.kept d.kept r
 

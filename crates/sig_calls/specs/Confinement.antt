@@ -4,7 +4,7 @@ use Rattle.oci_transport.specs.Link.{Link}
 use Rattle.oci_names.specs.declared.reference.Reference.{Reference}
 use Rattle.oci_auth.specs.declared.auth.RegistryAuth.{RegistryAuth}
 use Rattle.oci_protocol.specs.Runs.{Told}
-use Rattle.engine_requests.specs.Contexts.{within}
+use Rattle.engine_terms.specs.Contexts.{within}
 use Rattle.engine_laws.specs.Confined.{Within}
 use Rattle.engine_laws.specs.Held.{pulling}
 use Rattle.engine_laws.specs.Referrers.{WithinReferrers}

@@ -3,9 +3,9 @@ use Rattle.std.specs.Prelude.{◌≡◌, ℕ, Bool, true, false, List, Option, S
 use Rattle.json_values.specs.Counts.{Rose}
 use Rattle.json_values.specs.Refusals as Refusals
 use Rattle.oci_transport.specs.Link.{Link}
-use Rattle.engine_requests.specs.declared.error.OciDistributionError.{OciDistributionError}
-use Rattle.engine_requests.specs.declared.error.OciDistributionError.TheVariants.{TransportFault, SinkFault}
-use Rattle.engine_requests.specs.Errors.{is_memory as engine_is_memory}
+use Rattle.engine_terms.specs.declared.error.OciDistributionError.{OciDistributionError}
+use Rattle.engine_terms.specs.declared.error.OciDistributionError.TheVariants.{TransportFault, SinkFault}
+use Rattle.engine_terms.specs.Errors.{is_memory as engine_is_memory}
 use Rattle.sig_calls.specs.declared.wording.Called.{Called}
 use Rattle.sig_calls.specs.declared.wording.Called.TheVariants.{FetchManifest, Pull, PullManifest}
 use Rattle.sig_calls.specs.declared.error.SigstoreError.{SigstoreError}

@@ -9,8 +9,8 @@ use Rattle.oci_auth.specs.declared.auth.RegistryAuth.{RegistryAuth}
 use Rattle.oci_auth.specs.declared.memory.Memory.{Memory}
 use Rattle.oci_protocol.specs.Proto.{Done, bind}
 use Rattle.oci_protocol.specs.Runs.{Runs}
-use Rattle.engine_requests.specs.Contexts.{Context, within}
-use Rattle.engine_requests.specs.declared.settings.Settings.{Settings}
+use Rattle.engine_terms.specs.Contexts.{Context, within}
+use Rattle.engine_terms.specs.declared.settings.Settings.{Settings}
 use Rattle.sig_settings.specs.Keys.{manifest_key, pull_key, referrers_key}
 use Rattle.sig_answers.specs.Answers.{kind_of}
 use Rattle.sig_answers.specs.declared.answer.Answer.{Answer}

@@ -1,13 +1,13 @@
 // What the search asks of a client.
 ghost use Rattle.std.specs.Prelude.{◌≡◌, Some, None, option_copied};
-ghost use Rattle.engine_requests.specs.declared.settings.Settings.{Settings};
-ghost use Rattle.engine_requests.specs.Contexts.{within};
+ghost use Rattle.engine_terms.specs.declared.settings.Settings.{Settings};
+ghost use Rattle.engine_terms.specs.Contexts.{within};
 ghost use Rattle.engine_requests.specs.Requests.{listed};
 ghost use Rattle.engine_requests.specs.Sources.{described};
 ghost use Rattle.sig_calls.specs.Calls.{digests, manifests, images, referrers};
 ghost use Rattle.sig_calls.specs.Calls.{digest_call, manifest_call, image_call, document_call, blob_call};
 ghost use Rattle.sig_calls.specs.Calls.{referrers_call};
-ghost use Rattle.sig_calls.specs.Clients.{Client, Made, KeepsAnswers, RefusalKeeps};
+ghost use Rattle.sig_calls.specs.Clients.{Client, Fulfils, KeepsAnswers, RefusalKeeps};
 ghost use Rattle.sig_calls.specs.Confinement.{Stays, StaysWithTag};
 ghost use Rattle.sig_calls.specs.Errors.{is_memory, FaultCounted, NoSinkFault};
 ghost use Rattle.sig_calls.specs.Log.{DigestCall, ManifestCall, ImageCall, ReferrersCall, Recalled, Logged};
@@ -16,7 +16,8 @@ use crate::error::SigstoreError;
 use engine_rows::ImageData;
 use json_values::{Blob, Text};
 use oci_auth::RegistryAuth;
-use oci_manifests::{OciDescriptor, OciImageIndex, OciManifest};
+use oci_descriptors::OciDescriptor;
+use oci_manifests::{OciImageIndex, OciManifest};
 use oci_names::Reference;
 use oci_platforms::PlatformResolver;
 use oci_transport::Transport;
@@ -37,7 +38,7 @@ pub trait ClientCapabilities {
         image: &Reference,
         auth: &RegistryAuth,
     ) -> Result<Text, SigstoreError>
-        ensures run { (s : Settings) → Made is_memory s (digest_call (within s moment) image.now auth.now)
+        ensures run { (s : Settings) → Fulfils is_memory s (digest_call (within s moment) image.now auth.now)
             (state self.old) (state self.new) (T.state transport.old) (T.state transport.new) result }
         ensures fault { FaultCounted (T.state transport.old) (T.state transport.new) result }
         ensures no_sink { NoSinkFault result }
@@ -60,7 +61,7 @@ pub trait ClientCapabilities {
         accepted_media_types: &[Text],
     ) -> Result<ImageData, SigstoreError>
         ensures run { (s : Settings)
-            → Made is_memory s (image_call (within s moment) image.now auth.now accepted_media_types.now)
+            → Fulfils is_memory s (image_call (within s moment) image.now auth.now accepted_media_types.now)
             (state self.old) (state self.new) (T.state transport.old) (T.state transport.new) result }
         ensures fault { FaultCounted (T.state transport.old) (T.state transport.new) result }
         ensures no_sink { NoSinkFault result }
@@ -81,7 +82,7 @@ pub trait ClientCapabilities {
         image: &Reference,
         auth: &RegistryAuth,
     ) -> Result<(OciManifest, Text), SigstoreError>
-        ensures run { (s : Settings) → Made is_memory s (manifest_call (within s moment) image.now auth.now)
+        ensures run { (s : Settings) → Fulfils is_memory s (manifest_call (within s moment) image.now auth.now)
             (state self.old) (state self.new) (T.state transport.old) (T.state transport.new) result }
         ensures fault { FaultCounted (T.state transport.old) (T.state transport.new) result }
         ensures no_sink { NoSinkFault result }
@@ -105,7 +106,8 @@ pub trait ClientCapabilities {
         artifact_type: Option<&str>,
     ) -> Result<OciImageIndex, SigstoreError>
         ensures run { (s : Settings)
-            → Made is_memory s (referrers_call (within s moment) image.now auth.now (option_copied artifact_type.entry))
+            → Fulfils is_memory s
+            (referrers_call (within s moment) image.now auth.now (option_copied artifact_type.entry))
             (state self.old) (state self.new) (T.state transport.old) (T.state transport.new) result }
         ensures fault { FaultCounted (T.state transport.old) (T.state transport.new) result }
         ensures no_sink { NoSinkFault result }
@@ -130,7 +132,7 @@ pub trait ClientCapabilities {
         accepted_media_types: &[Text],
     ) -> Result<(Blob, Text), SigstoreError>
         ensures run { (s : Settings)
-            → Made is_memory s (document_call (within s moment) image.now auth.now (listed accepted_media_types.now))
+            → Fulfils is_memory s (document_call (within s moment) image.now auth.now (listed accepted_media_types.now))
             (state self.old) (state self.new) (T.state transport.old) (T.state transport.new) result }
         ensures fault { FaultCounted (T.state transport.old) (T.state transport.new) result }
         ensures no_sink { NoSinkFault result }
@@ -147,7 +149,7 @@ pub trait ClientCapabilities {
         image: &Reference,
         layer: &OciDescriptor,
     ) -> Result<Blob, SigstoreError>
-        ensures run { (s : Settings) → Made is_memory s (blob_call (within s moment) image.now (described layer.now))
+        ensures run { (s : Settings) → Fulfils is_memory s (blob_call (within s moment) image.now (described layer.now))
             (state self.old) (state self.new) (T.state transport.old) (T.state transport.new) result }
         ensures fault { FaultCounted (T.state transport.old) (T.state transport.new) result }
         ensures no_sink { NoSinkFault result }

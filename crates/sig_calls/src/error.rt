@@ -2,7 +2,7 @@
 ghost use Rattle.std.specs.Prelude.{◌≡◌};
 ghost use Rattle.sig_calls.specs.Errors.{is_memory};
 
-use engine_requests::OciDistributionError;
+use engine_terms::OciDistributionError;
 use json_values::{Copied, Text, copy_all, row};
 use std::alloc::{AllocError, AllocFailed, Global};
 use thiserror::Error;

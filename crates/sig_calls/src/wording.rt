@@ -4,7 +4,7 @@ ghost use Rattle.oci_names.specs.References.{whole_text};
 ghost use Rattle.sig_calls.specs.Errors.{refusal, worded, Says};
 
 use crate::error::SigstoreError;
-use engine_requests::OciDistributionError;
+use engine_terms::OciDistributionError;
 use oci_names::Reference;
 use std::alloc::{AllocError, Global};
 

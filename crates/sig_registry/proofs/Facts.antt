@@ -14,9 +14,9 @@ use Rattle.oci_protocol.specs.Lift.{lifted}
 use Rattle.oci_protocol.specs.Runs.{Meets, Told}
 use Rattle.oci_protocol.proofs.Extending.{Extends-none}
 use Rattle.oci_protocol.proofs.Lifting.{Meets-lifted}
-use Rattle.engine_requests.specs.declared.settings.Settings.{Settings}
-use Rattle.engine_requests.specs.declared.error.OciDistributionError.{OciDistributionError}
-use Rattle.engine_requests.specs.Contexts.{within}
+use Rattle.engine_terms.specs.declared.settings.Settings.{Settings}
+use Rattle.engine_terms.specs.declared.error.OciDistributionError.{OciDistributionError}
+use Rattle.engine_terms.specs.Contexts.{within}
 use Rattle.engine_rows.specs.declared.image.ImageData.{ImageData}
 use Rattle.engine_laws.specs.Confined.{Within}
 use Rattle.engine_laws.specs.Held.{pulling}
@@ -29,7 +29,7 @@ use Rattle.sig_answers.specs.declared.answers.Answers.{Answers}
 use Rattle.sig_calls.specs.declared.error.SigstoreError.{SigstoreError}
 use Rattle.sig_calls.specs.declared.error.SigstoreError.TheVariants as refusal
 use Rattle.sig_calls.specs.Errors.{is_memory, Says, registry_refusal, IsRefusedBy}
-use Rattle.sig_calls.specs.Clients.{Kept, Plain, Client, Made, RefusalKeeps}
+use Rattle.sig_calls.specs.Clients.{Kept, Plain, Client, Fulfils, RefusalKeeps}
 use Rattle.sig_registry.specs.States.{engine_state, PlainlyMade}
 use Rattle.sig_calls.specs.Caching.{Cache, known, cached, key_if}
 use Rattle.sig_calls.specs.Calls.{digests, manifests, images, referrers}
@@ -83,7 +83,7 @@ memory_says {A} r said is = let at = err_from_is_err_and r is in let whole : r �
 
 -- what a call shows, but for where its faults come from and where credentials go
 pub record Facts {A : Type 0} (cache : Cache A) (call : Call) (now : ℕ) (row : Settings → Plain A) (c d : Client) (old new : Link) (r : Result A SigstoreError) : Type 0 where
-  pub run : (s : Settings) → Made is_memory s (cached (reads_back (image_called call)) cache (key_called call) now (row s)) c d old new r
+  pub run : (s : Settings) → Fulfils is_memory s (cached (reads_back (image_called call)) cache (key_called call) now (row s)) c d old new r
   pub refused : RefusalKeeps c d r
   pub recalled : Recalled cache call now c d old new r
   pub logged : (s : Settings) → Logged s cache call now c d old new r
@@ -92,7 +92,7 @@ module _ {A : Type 0} (cache : Cache A) (law : IsCache cache) (call : Call) (now
   abbrev Of : Client → Client → Link → Link → Result A SigstoreError → Type 0
   Of c d old new r = Facts cache call now row c d old new r
 
-  facts : {c d : Client} {old new : Link} {r : Result A SigstoreError} → ((s : Settings) → Made is_memory s (cached (reads_back (image_called call)) cache (key_called call) now (row s)) c d old new r) → RefusalKeeps c d r → Recalled cache call now c d old new r → Of c d old new r
+  facts : {c d : Client} {old new : Link} {r : Result A SigstoreError} → ((s : Settings) → Fulfils is_memory s (cached (reads_back (image_called call)) cache (key_called call) now (row s)) c d old new r) → RefusalKeeps c d r → Recalled cache call now c d old new r → Of c d old new r
   facts run refused recalled = record { run = run; refused = refused; recalled = recalled; logged = λ s. logged_call cache law call now row kind_is is_call s (run s) refused }
 
   -- where no answer is known, none is given again
@@ -156,7 +156,7 @@ module _ {A : Type 0} (cache : Cache A) (law : IsCache cache) (call : Call) (now
       (unknown refl)
 
 -- a call that is never kept
-pub never_kept : {A : Type 0} {x : Option Answers} {s : Settings} {p : Plain A} {e f : Engine} {old new : Link} {r : Result A SigstoreError} → PlainlyMade s p e f old new r → Made is_memory s (lifted p) (engine_state e x) (engine_state f x) old new r
+pub never_kept : {A : Type 0} {x : Option Answers} {s : Settings} {p : Plain A} {e f : Engine} {old new : Link} {r : Result A SigstoreError} → PlainlyMade s p e f old new r → Fulfils is_memory s (lifted p) (engine_state e x) (engine_state f x) old new r
 never_kept {x = x} plain = record { made = λ same. let made = plain.made same in (made.0, Meets-lifted x made.1) }
 
 -- ---- faults

@@ -13,14 +13,14 @@ use Rattle.oci_manifests.specs.declared.index.OciImageIndex.{OciImageIndex}
 use Rattle.oci_protocol.specs.Proto.{◌>>=◌}
 use Rattle.oci_protocol.specs.Runs.{Meets, Told}
 use Rattle.oci_protocol.proofs.Laws.{Meets-next, Meets-refused, Runs-count}
-use Rattle.engine_requests.specs.Contexts.{Context, within}
-use Rattle.engine_requests.specs.declared.settings.Settings.{Settings}
-use Rattle.engine_requests.specs.declared.error.OciDistributionError.{OciDistributionError}
-use Rattle.engine_requests.specs.declared.error.OciDistributionError.TheVariants as engine
+use Rattle.engine_terms.specs.Contexts.{Context, within}
+use Rattle.engine_terms.specs.declared.settings.Settings.{Settings}
+use Rattle.engine_terms.specs.declared.error.OciDistributionError.{OciDistributionError}
+use Rattle.engine_terms.specs.declared.error.OciDistributionError.TheVariants as engine
 use Rattle.oci_transport.specs.declared.message.Exchange.{Exchange}
 use Rattle.oci_engine.specs.declared.client.Client.{Client}
 use Rattle.oci_engine.specs.Refusals.{RefusedFor}
-use Rattle.engine_requests.specs.Errors.{is_memory as engine_is_memory}
+use Rattle.engine_terms.specs.Errors.{is_memory as engine_is_memory}
 use Rattle.engine_rows.specs.Rows.{Row as Engine, token_given}
 use Rattle.engine_rows.specs.Referrers.{pull_referrers}
 use Rattle.engine_laws.specs.Confined.{Within}

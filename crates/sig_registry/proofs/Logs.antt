@@ -16,8 +16,8 @@ use Rattle.oci_protocol.specs.Runs.{Runs, Performs, Breaks, Outcome, Meets}
 use Rattle.oci_protocol.proofs.Laws.{Runs-bind}
 use Rattle.oci_protocol.proofs.Lifting.{Runs-unlifted}
 use Rattle.oci_protocol.proofs.Parts.{Parts, Runs-parts}
-use Rattle.engine_requests.specs.declared.settings.Settings.{Settings}
-use Rattle.engine_requests.specs.Contexts.{Context, within}
+use Rattle.engine_terms.specs.declared.settings.Settings.{Settings}
+use Rattle.engine_terms.specs.Contexts.{Context, within}
 use Rattle.sig_settings.proofs.Tells.{manifest_keys_tell, pull_keys_tell, referrers_keys_tell}
 use Rattle.sig_answers.specs.Answers.{kind_of, same_kind, is_of, is_fresh, given_at, fresh, fits, within as within_bounds, keep, entry}
 use Rattle.sig_answers.specs.declared.answer.Answer.{Answer}
@@ -28,7 +28,7 @@ use Rattle.sig_answers.specs.declared.answers.Bounds.{Bounds}
 use Rattle.sig_answers.specs.declared.answers.Entry.{Entry}
 use Rattle.sig_calls.specs.declared.error.SigstoreError.{SigstoreError}
 use Rattle.sig_calls.specs.Errors.{is_memory}
-use Rattle.sig_calls.specs.Clients.{Kept, Plain, Row, Client, Made, RefusalKeeps}
+use Rattle.sig_calls.specs.Clients.{Kept, Plain, Row, Client, Fulfils, RefusalKeeps}
 use Rattle.sig_calls.specs.Caching.{Cache, known, keeping, known_or, recalled, cached}
 use Rattle.sig_calls.specs.Log.{Call, DigestCall, ManifestCall, ImageCall, ReferrersCall, image_called, kind_called, key_called, answered, answering, call_made, Place, IsStep, AnyOf, IsOrigin, IsSource, HasSource, IsRun, EachBacked, IsBacked, place_of, IsLawful, Logged}
 
@@ -269,7 +269,7 @@ module _ {A : Type 0} (cache : Cache A) (law : IsCache cache) (call : Call) (now
   cached_lawful false reads k l m n c r log run = lifted_lawful k l m n c r log run
 
   -- what a client did with a call, whatever came of it
-  pub logged : {c d : Client} {old new : Link} {r : Result A SigstoreError} → Made is_memory s (cached (reads_back (image_called call)) cache (key_called call) now (row s)) c d old new r → RefusalKeeps c d r → Logged s cache call now c d old new r
+  pub logged : {c d : Client} {old new : Link} {r : Result A SigstoreError} → Fulfils is_memory s (cached (reads_back (image_called call)) cache (key_called call) now (row s)) c d old new r → RefusalKeeps c d r → Logged s cache call now c d old new r
   logged {c} {d} {old} {new} {r} made refused = record { logged = λ at log run backed. by_result r refl refused ((made.made at).1).outcome log run backed } where
     End : List Place → Type 0
     End log = (conversation : List Exchange) × Extends old new conversation × IsLawful s d.kept.1 (place_of call now c d old conversation new (answered cache r)) log

@@ -1,7 +1,7 @@
 -- What a client is made of.
 use Rattle.std.specs.Prelude.{None}
-use Rattle.engine_requests.specs.declared.settings.ClientProtocol.{ClientProtocol as Protocol}
-use Rattle.engine_requests.specs.declared.settings.ClientProtocol.TheVariants as engine
+use Rattle.engine_terms.specs.declared.settings.ClientProtocol.{ClientProtocol as Protocol}
+use Rattle.engine_terms.specs.declared.settings.ClientProtocol.TheVariants as engine
 use Rattle.oci_engine.specs.Clients as Engine
 use Rattle.oci_engine.specs.declared.config.ClientConfig.{ClientConfig as OciConfig}
 use Rattle.sig_registry.specs.declared.config.ClientConfig.{ClientConfig}

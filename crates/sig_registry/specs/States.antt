@@ -2,7 +2,7 @@
 use Rattle.std.specs.Prelude.{◌≡◌, Option, Some, None, Result}
 use Rattle.oci_transport.specs.Link.{Link}
 use Rattle.oci_protocol.specs.Runs.{Meets}
-use Rattle.engine_requests.specs.declared.settings.Settings.{Settings}
+use Rattle.engine_terms.specs.declared.settings.Settings.{Settings}
 use Rattle.oci_engine.specs.declared.client.Client.{Client as Engine}
 use Rattle.sig_answers.specs.declared.answers.Answers.{Answers}
 use Rattle.sig_calls.specs.Clients.{Client, Plain}

@@ -4,8 +4,9 @@ use crate::calls::{
 };
 use json_values::{Blob, Text};
 use oci_auth::RegistryAuth;
+use oci_descriptors::OciDescriptor;
 use oci_engine::{Client, ImageData, PlatformResolver};
-use oci_manifests::{OciDescriptor, OciImageIndex, OciManifest};
+use oci_manifests::{OciImageIndex, OciManifest};
 use oci_names::Reference;
 use oci_transport::Transport;
 use sig_answers::{Answers, Bounds};
@@ -27,7 +28,7 @@ pub struct OciCachingClient {
 
 impl OciCachingClient {
     ghost use Rattle.std.specs.Prelude.{◌≡◌, [], Some, None};
-    ghost use Rattle.engine_requests.specs.declared.settings.Settings.{Settings};
+    ghost use Rattle.engine_terms.specs.declared.settings.Settings.{Settings};
     ghost use Rattle.sig_calls.specs.Clients.{none_kept};
     ghost use Rattle.sig_registry.specs.States.{engine_state, caching_state};
     ghost use Rattle.sig_calls.specs.Log.{IsBacked};

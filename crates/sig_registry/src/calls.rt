@@ -1,7 +1,7 @@
 // The calls of the registry's client, with their refusals in the words of the calls here.
 ghost use Rattle.std.specs.Prelude.{Some, None, option_copied};
-ghost use Rattle.engine_requests.specs.declared.settings.Settings.{Settings};
-ghost use Rattle.engine_requests.specs.Contexts.{within};
+ghost use Rattle.engine_terms.specs.declared.settings.Settings.{Settings};
+ghost use Rattle.engine_terms.specs.Contexts.{within};
 ghost use Rattle.engine_requests.specs.Requests.{listed};
 ghost use Rattle.engine_requests.specs.Sources.{described};
 ghost use Rattle.sig_calls.specs.Calls.{digest_made, manifest_made, image_made, document_made, blob_made};
@@ -12,8 +12,9 @@ ghost use Rattle.sig_calls.specs.Errors.{FaultCounted, NoSinkFault};
 
 use json_values::{Blob, Text};
 use oci_auth::{RegistryAuth, RegistryOperation};
+use oci_descriptors::OciDescriptor;
 use oci_engine::{Client, ImageData};
-use oci_manifests::{OciDescriptor, OciImageIndex, OciManifest};
+use oci_manifests::{OciImageIndex, OciManifest};
 use oci_names::Reference;
 use oci_transport::Transport;
 use sig_calls::{Called, SigstoreError, worded};

@@ -4,8 +4,9 @@ use crate::calls::{
 };
 use json_values::{Blob, Text};
 use oci_auth::RegistryAuth;
+use oci_descriptors::OciDescriptor;
 use oci_engine::{Client, ImageData, PlatformResolver};
-use oci_manifests::{OciDescriptor, OciImageIndex, OciManifest};
+use oci_manifests::{OciImageIndex, OciManifest};
 use oci_names::Reference;
 use oci_transport::Transport;
 use sig_calls::{ClientCapabilities, SigstoreError};

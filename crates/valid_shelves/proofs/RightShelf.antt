@@ -21,14 +21,14 @@ use Rattle.oci_digests.specs.declared.digester.Algorithm.TheVariants.{Sha256}
 use Rattle.oci_digests.proofs.Equal.{named}
 use Rattle.hex.specs.Hex.{encode_lower}
 use Rattle.oci_manifests.specs.declared.document.OciManifest.TheVariants.{Image}
-use Rattle.oci_manifests.specs.declared.descriptor.OciDescriptor.{OciDescriptor}
+use Rattle.oci_descriptors.specs.declared.descriptor.OciDescriptor.{OciDescriptor}
 use Rattle.oci_manifests.specs.declared.blob.ImageLayer.{ImageLayer}
 use Rattle.oci_link.specs.Leads.{entry_leads, redirects_lead}
 use Rattle.oci_link.specs.Table.{digest_named}
 use Rattle.oci_link.specs.declared.shelf.Shelf.{Shelf}
 use Rattle.oci_link.specs.declared.shelf.ShelfDocument.{ShelfDocument}
 use Rattle.engine_requests.specs.Addresses.{manifest_name}
-use Rattle.engine_requests.specs.declared.settings.Settings.{Settings}
+use Rattle.engine_terms.specs.declared.settings.Settings.{Settings}
 use Rattle.engine_rows.specs.Images.{layer_of}
 use Rattle.shelf_laws.specs.Shelves.{IsShort, HasDocument, HasBlob, HasLayer, HasBlobs, ImageOn, layers_on}
 use Rattle.shelf_laws.proofs.Pointing.{tag_named}

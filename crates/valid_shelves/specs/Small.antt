@@ -12,12 +12,12 @@ use Rattle.oci_digests.specs.Names.{digest_text}
 use Rattle.oci_digests.specs.declared.digester.Algorithm.TheVariants.{Sha256}
 use Rattle.oci_manifests.specs.declared.document.OciManifest.TheVariants.{Image}
 use Rattle.oci_manifests.specs.declared.manifest.OciImageManifest.{OciImageManifest}
-use Rattle.oci_manifests.specs.declared.descriptor.OciDescriptor.{OciDescriptor}
+use Rattle.oci_descriptors.specs.declared.descriptor.OciDescriptor.{OciDescriptor}
 use Rattle.oci_transport.specs.Headers.{is_header_value}
 use Rattle.oci_link.specs.declared.shelf.Shelf.{Shelf}
 use Rattle.oci_link.specs.declared.shelf.ShelfDocument.{ShelfDocument}
-use Rattle.engine_requests.specs.Documents.{document_read}
-use Rattle.engine_requests.specs.declared.settings.Settings.{Settings}
+use Rattle.engine_answers.specs.Documents.{document_read}
+use Rattle.engine_terms.specs.declared.settings.Settings.{Settings}
 use Rattle.engine_rows.specs.Images.{layer_of}
 use Rattle.shelf_laws.specs.Home.{IsWrittenPlainly, CanBeShown}
 use Rattle.cosign_layers.specs.Standing.{Meaning, StandsFor}

@@ -1,6 +1,6 @@
 use Rattle.std.proofs.Common.{Ok, Err, refl}
 use Rattle.oci_names.specs.References.{whole_text}
-use Rattle.engine_requests.specs.Index.{entry_found}
+use Rattle.engine_answers.specs.Index.{entry_found}
 use Rattle.sig_calls.specs.Errors.{worded}
 use Rattle.sig_calls.specs.declared.wording.Called.TheVariants.{Pull}
 use Rattle.cosign_rows.specs.Image.{entry_in, entry_row}

@@ -1,6 +1,6 @@
 use Rattle.std.proofs.Common.{drop}
-use Rattle.engine_requests.specs.Contexts.{within}
-use Rattle.engine_requests.specs.declared.settings.Settings.{Settings}
+use Rattle.engine_terms.specs.Contexts.{within}
+use Rattle.engine_terms.specs.declared.settings.Settings.{Settings}
 use Rattle.cosign_rows.specs.Image.{layers_row}
 use Rattle.cosign_rows.proofs.Leads.{Leads}
 use Rattle.cosign_pull.proofs.pull.pull_layers.Given as goal

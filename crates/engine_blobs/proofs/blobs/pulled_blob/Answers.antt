@@ -1,4 +1,4 @@
-use Rattle.engine_steps.proofs.Exits.{refused, and_then, said, passed_on}
+use Rattle.engine_rows.proofs.Exits.{refused, and_then, said, passed_on}
 use Rattle.engine_rows.specs.Offers.{tried}
 use Rattle.engine_rows.specs.Pulls.{blob_to}
 use Rattle.engine_blobs.proofs.blobs.pulled_blob.Goals as goal

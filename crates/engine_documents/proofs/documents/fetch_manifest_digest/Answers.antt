@@ -1,4 +1,4 @@
-use Rattle.engine_steps.proofs.Exits.{refused, wanting, and_then, said, passed_on, stores_as}
+use Rattle.engine_rows.proofs.Exits.{refused, wanting, and_then, said, passed_on, stores_as}
 use Rattle.engine_rows.specs.Pulls.{fetch_manifest_digest}
 use Rattle.engine_documents.proofs.documents.fetch_manifest_digest.Goals as goal
 

@@ -1,4 +1,4 @@
-use Rattle.engine_steps.proofs.Exits.{refused, and_then, said, passed_on}
+use Rattle.engine_rows.proofs.Exits.{refused, and_then, said, passed_on}
 use Rattle.engine_rows.specs.Pulls.{manifest_document}
 use Rattle.engine_documents.proofs.documents.manifest_document.Goals as goal
 

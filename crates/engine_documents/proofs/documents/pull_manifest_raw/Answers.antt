@@ -1,4 +1,4 @@
-use Rattle.engine_steps.proofs.Exits.{wanting, and_then, passed_on, stores_as}
+use Rattle.engine_rows.proofs.Exits.{wanting, and_then, passed_on, stores_as}
 use Rattle.engine_rows.specs.Pulls.{pull_manifest_raw}
 use Rattle.engine_documents.proofs.documents.pull_manifest_raw.Goals as goal
 

@@ -1,4 +1,4 @@
-use Rattle.engine_steps.proofs.Exits.{passed_on}
+use Rattle.engine_rows.proofs.Exits.{passed_on}
 use Rattle.engine_documents.proofs.Tagged.{listed_met, by_tag_met}
 use Rattle.engine_documents.proofs.referrers.referrers_by.Goals as goal
 

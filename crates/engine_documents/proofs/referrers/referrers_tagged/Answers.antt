@@ -1,5 +1,5 @@
 use Rattle.std.specs.Prelude.{option_copied}
-use Rattle.engine_steps.proofs.Exits.{wanting}
+use Rattle.engine_rows.proofs.Exits.{wanting}
 use Rattle.engine_rows.specs.Referrers.{referrers_tagged}
 use Rattle.engine_documents.proofs.Tagged.{tagged_met}
 use Rattle.engine_documents.proofs.referrers.referrers_tagged.Goals as goal

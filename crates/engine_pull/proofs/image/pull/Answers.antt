@@ -1,4 +1,4 @@
-use Rattle.engine_steps.proofs.Exits.{refused, and_then, done}
+use Rattle.engine_rows.proofs.Exits.{refused, and_then, done}
 use Rattle.engine_rows.specs.Images.{pull}
 use Rattle.engine_pull.proofs.Parted.{image_with}
 use Rattle.engine_pull.proofs.image.pull.Goals as goal

@@ -1,5 +1,5 @@
 use Rattle.std.proofs.lemmas.List.{drop_all}
-use Rattle.engine_steps.proofs.Exits.{refused, wanting, and_then}
+use Rattle.engine_rows.proofs.Exits.{refused, wanting, and_then}
 use Rattle.engine_blobs.proofs.Layers.{held_as, layers_end, layers_next}
 use Rattle.engine_pull.proofs.image.pull_layers.Goals as goal
 

@@ -1,4 +1,4 @@
-use Rattle.engine_steps.proofs.Exits.{refused, wanting, and_then, said, passed_on}
+use Rattle.engine_rows.proofs.Exits.{refused, wanting, and_then, said, passed_on}
 use Rattle.engine_rows.specs.Manifests.{pull_entry}
 use Rattle.engine_pull.proofs.manifests.pull_entry.Goals as goal
 

@@ -1,4 +1,4 @@
-use Rattle.engine_steps.proofs.Exits.{refused, and_then, said, done}
+use Rattle.engine_rows.proofs.Exits.{refused, and_then, said, done}
 use Rattle.engine_rows.specs.Manifests.{pull_manifest_and_config_and_list_digest}
 use Rattle.engine_blobs.proofs.Layers.{held_as}
 use Rattle.engine_pull.proofs.manifests.pull_manifest_and_config_and_list_digest.Goals as goal

@@ -1,5 +1,5 @@
 use Rattle.std.proofs.Common.{refl, ap, ◌∙◌, Ok, None}
-use Rattle.engine_rows.specs.declared.named.Named.TheVariants.{Unnamed}
+use Rattle.engine_rows.specs.declared.named.NamedAnswer.TheVariants.{Unnamed}
 use Rattle.engine_steps.proofs.NamedTree.{named_missed, named_cut, named_refused, named_unread, named_answered, named_failed, named_long, named_wanting}
 use Rattle.engine_steps.proofs.HelperTrees.{reached_untaken, not_ok}
 use Rattle.engine_steps.proofs.asking.named_after.Goals as goal

@@ -1,4 +1,4 @@
-use Rattle.engine_steps.proofs.Exits.{refused, wanting, and_then, done, stores_as, keeps_text}
+use Rattle.engine_rows.proofs.Exits.{refused, wanting, and_then, done, stores_as, keeps_text}
 use Rattle.engine_rows.specs.Rows.{token_given}
 use Rattle.engine_steps.proofs.given.token_given.Goals as goal
 

@@ -1,4 +1,4 @@
-use Rattle.engine_steps.proofs.Exits.{wanting, done, passed_on}
+use Rattle.engine_rows.proofs.Exits.{wanting, done, passed_on}
 use Rattle.engine_steps.proofs.tokens.fetched.Goals as goal
 
 pub returns-in-Nothing : goal.returns-in-Nothing

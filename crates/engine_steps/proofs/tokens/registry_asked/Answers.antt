@@ -1,4 +1,4 @@
-use Rattle.engine_steps.proofs.Exits.{refused, wanting, and_then, said, passed_on}
+use Rattle.engine_rows.proofs.Exits.{refused, wanting, and_then, said, passed_on}
 use Rattle.engine_rows.specs.Rows.{registry_asked}
 use Rattle.engine_steps.proofs.tokens.registry_asked.Goals as goal
 

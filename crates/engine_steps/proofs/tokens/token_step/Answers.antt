@@ -1,4 +1,4 @@
-use Rattle.engine_steps.proofs.Exits.{wanting, done, passed_on}
+use Rattle.engine_rows.proofs.Exits.{wanting, done, passed_on}
 use Rattle.engine_steps.proofs.tokens.token_step.Goals as goal
 
 pub returns-in_err-token-in-Bearer : goal.returns-in_err-token-in-Bearer

@@ -1,4 +1,4 @@
-use Rattle.engine_steps.proofs.Exits.{refused, and_then, said, passed_on}
+use Rattle.engine_rows.proofs.Exits.{refused, and_then, said, passed_on}
 use Rattle.engine_steps.proofs.HelperTrees.{not_ok}
 use Rattle.engine_streams.proofs.Walking.{left_more, met_told}
 use Rattle.engine_streams.specs.Rows.{opened}

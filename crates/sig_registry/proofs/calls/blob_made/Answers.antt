@@ -1,7 +1,7 @@
 use Rattle.engine_rows.specs.Blobs.{IntoMemory}
 use Rattle.oci_engine.specs.Refusals.{BlobRefused}
 use Rattle.engine_rows.specs.Pulls.{held_blob}
-use Rattle.engine_requests.specs.Contexts.{within}
+use Rattle.engine_terms.specs.Contexts.{within}
 use Rattle.engine_requests.specs.Sources.{described}
 use Rattle.sig_calls.specs.Calls.{blob_made}
 use Rattle.sig_calls.specs.declared.wording.Called.TheVariants.{Pull}

@@ -1,7 +1,7 @@
 use Rattle.oci_engine.specs.Refusals.{DocumentRefused}
 use Rattle.engine_rows.specs.Pulls.{pull_manifest_raw}
 use Rattle.engine_requests.specs.Requests.{listed}
-use Rattle.engine_requests.specs.Contexts.{within}
+use Rattle.engine_terms.specs.Contexts.{within}
 use Rattle.sig_calls.specs.Calls.{document_made}
 use Rattle.sig_calls.specs.declared.wording.Called.TheVariants.{Pull}
 use Rattle.sig_registry.proofs.InWords.{made, worded_fault, worded_no_sink}

@@ -1,6 +1,6 @@
 use Rattle.oci_engine.specs.Refusals.{ManifestRefused}
 use Rattle.engine_rows.specs.Pulls.{pull_manifest}
-use Rattle.engine_requests.specs.Contexts.{within}
+use Rattle.engine_terms.specs.Contexts.{within}
 use Rattle.sig_calls.specs.Calls.{manifest_made}
 use Rattle.sig_calls.specs.declared.wording.Called.TheVariants.{PullManifest}
 use Rattle.sig_registry.proofs.InWords.{made, worded_fault, worded_no_sink}

@@ -7,7 +7,7 @@ use Rattle.engine_laws.proofs.ReferrersCauses.{referrers_no_sink}
 use Rattle.engine_laws.specs.Held.{pulling}
 use Rattle.engine_rows.specs.Rows.{token_given}
 use Rattle.engine_rows.specs.Referrers.{pull_referrers}
-use Rattle.engine_requests.specs.Contexts.{within}
+use Rattle.engine_terms.specs.Contexts.{within}
 use Rattle.sig_calls.specs.Calls.{referrers_made}
 use Rattle.sig_calls.specs.declared.wording.Called.TheVariants.{FetchManifest, PullManifest}
 use Rattle.sig_registry.proofs.InWords.{made, worded_fault, worded_no_sink}

@@ -1,5 +1,5 @@
 use Rattle.std.proofs.Common.{refl}
-use Rattle.engine_requests.specs.Contexts.{within}
+use Rattle.engine_terms.specs.Contexts.{within}
 use Rattle.cosign_client.specs.State.{client_state, trusts}
 use Rattle.cosign_rows.proofs.Exits.{meets_wanting}
 use Rattle.sig_settings.specs.Auths.{registry_auth}

@@ -1,5 +1,5 @@
 use Rattle.std.proofs.Common.{refl}
-use Rattle.engine_requests.specs.Contexts.{within}
+use Rattle.engine_terms.specs.Contexts.{within}
 use Rattle.sig_settings.specs.Auths.{registry_auth}
 use Rattle.sig_calls.specs.Direct.{reference_in}
 use Rattle.cosign_layers.specs.Standing.{Meaning, meaning}

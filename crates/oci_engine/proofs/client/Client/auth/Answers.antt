@@ -1,5 +1,5 @@
 use Rattle.engine_laws.proofs.CallConfined.{given_confined}
-use Rattle.engine_requests.specs.Contexts.{within}
+use Rattle.engine_terms.specs.Contexts.{within}
 use Rattle.engine_laws.proofs.TokenCauses.{token_reason, token_fault}
 use Rattle.oci_engine.proofs.client.Client.auth.Goals as goal
 

@@ -1,4 +1,4 @@
-use Rattle.engine_requests.specs.Contexts.{within}
+use Rattle.engine_terms.specs.Contexts.{within}
 use Rattle.oci_engine.proofs.StreamCalls.{stream_confined, stream_reason, stream_fault}
 use Rattle.oci_engine.proofs.StreamsRefused.{stream_no_url, stream_bad}
 use Rattle.oci_engine.proofs.client.Client.pull_blob_stream.Goals as goal

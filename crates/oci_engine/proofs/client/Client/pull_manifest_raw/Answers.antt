@@ -1,10 +1,10 @@
 use Rattle.std.proofs.Common.{◌∙◌}
-use Rattle.engine_steps.proofs.Exits.{wanting, passed_on}
+use Rattle.engine_rows.proofs.Exits.{wanting, passed_on}
 use Rattle.engine_laws.proofs.CallCauses.{listed_reason, raw_fault}
 use Rattle.engine_laws.proofs.CallResults.{raw_body, raw_named, raw_given}
 use Rattle.engine_laws.proofs.ExactRefusals.{raw_url, raw_bad, met_only, met_early, listed_met}
 use Rattle.engine_laws.proofs.CallConfined.{raw_confined}
-use Rattle.engine_requests.specs.Contexts.{within}
+use Rattle.engine_terms.specs.Contexts.{within}
 use Rattle.oci_engine.proofs.client.Client.pull_manifest_raw.Goals as goal
 
 pub returns-in_err-types-clause-run : goal.returns-in_err-types-clause-run

@@ -1,5 +1,5 @@
 use Rattle.std.proofs.Common.{◌∙◌, refl, sym}
-use Rattle.engine_requests.specs.Contexts.{within}
+use Rattle.engine_terms.specs.Contexts.{within}
 use Rattle.sig_calls.specs.Calls.{digests, digest_made, digest_call}
 use Rattle.sig_calls.specs.Log.{DigestCall}
 use Rattle.sig_registry.proofs.Facts.{digests_kept, absent, uncached, recalls, refuses, cuts, keeps, memory_holds_none, same_held, stays_same}

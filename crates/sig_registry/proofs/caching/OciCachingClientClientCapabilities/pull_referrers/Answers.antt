@@ -1,6 +1,6 @@
 use Rattle.std.proofs.Common.{◌∙◌, refl, sym}
 use Rattle.std.specs.Prelude.{option_copied}
-use Rattle.engine_requests.specs.Contexts.{within}
+use Rattle.engine_terms.specs.Contexts.{within}
 use Rattle.sig_calls.specs.Calls.{referrers, referrers_made, referrers_call}
 use Rattle.sig_calls.specs.Log.{ReferrersCall}
 use Rattle.sig_registry.proofs.Facts.{referrers_kept, absent, uncached, recalls, refuses, cuts, keeps, memory_holds_none, same_held, tag_same}

@@ -1,5 +1,5 @@
 use Rattle.std.specs.Prelude.{refl}
-use Rattle.engine_requests.specs.Contexts.{within}
+use Rattle.engine_terms.specs.Contexts.{within}
 use Rattle.sig_calls.specs.Calls.{digests, digest_made, digest_call}
 use Rattle.sig_calls.specs.Log.{DigestCall}
 use Rattle.sig_registry.proofs.Facts.{digests_kept, plainly}

@@ -1,5 +1,5 @@
 use Rattle.std.specs.Prelude.{refl}
-use Rattle.engine_requests.specs.Contexts.{within}
+use Rattle.engine_terms.specs.Contexts.{within}
 use Rattle.sig_calls.specs.Calls.{images, image_made, image_call}
 use Rattle.sig_calls.specs.Log.{ImageCall}
 use Rattle.sig_registry.proofs.Facts.{images_kept, plainly}

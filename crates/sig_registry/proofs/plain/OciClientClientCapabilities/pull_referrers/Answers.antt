@@ -1,5 +1,5 @@
 use Rattle.std.specs.Prelude.{refl, option_copied}
-use Rattle.engine_requests.specs.Contexts.{within}
+use Rattle.engine_terms.specs.Contexts.{within}
 use Rattle.sig_calls.specs.Calls.{referrers, referrers_made, referrers_call}
 use Rattle.sig_calls.specs.Log.{ReferrersCall}
 use Rattle.sig_registry.proofs.Facts.{referrers_kept, plainly}

@@ -1,0 +1,5 @@
+pub mod Answers
+pub mod Blobs
+pub mod Documents
+pub mod Index
+pub mod Referrers

@@ -1,0 +1,166 @@
+// How the answer to a blob's request is read.
+ghost use Rattle.std.specs.Prelude.{◌≡◌, List, ℕ, IfOk, []};
+ghost use Rattle.oci_digests.specs.Checks.{Says as DigestSays};
+ghost use Rattle.oci_digests.specs.Names.{digest_text};
+ghost use Rattle.oci_digests.specs.Both.{BothHold, given_text, texts_of};
+ghost use Rattle.engine_terms.specs.Errors.{Says};
+ghost use Rattle.engine_answers.specs.Blobs.{digest_expected, given_expected, pouring, plan_by};
+ghost use Rattle.engine_answers.specs.Blobs.{plan_in, plan_of, compared, given_compared};
+ghost use Rattle.engine_answers.specs.Blobs.{both_compared, given_algorithm};
+
+use crate::answers::{header_in, is_success};
+use engine_terms::OciDistributionError;
+use json_values::{Copied, Text};
+use oci_digests::{Algorithm, DigestError, Digesters, named_algorithm};
+use oci_transport::AnswerHead;
+use std::alloc::{AllocError, Global};
+
+/// A digest text that has to name the bytes, with its algorithm.
+#[derive(Drop)]
+pub struct Expected {
+    pub text: Text,
+    pub algorithm: Algorithm,
+}
+
+/// How a blob's answer is read.
+#[derive(Drop)]
+pub enum Plan {
+    /// Not at all, for this cause.
+    Refuse(DigestError),
+    /// Whole, for the refusal of its status.
+    Judge,
+    /// Piece by piece, against the digest of the header, where it names one, and against the descriptor's.
+    Pour(Option<Expected>, Expected),
+}
+
+/// A digest text with its algorithm. Where it names none that is known, the error says so.
+pub fn digest_expected(alloc: Global, text: &str) -> Result<Expected, DigestError>
+    ensures { DigestSays result (digest_expected text.now) }
+{
+    let algorithm = named_algorithm(alloc, text)?;
+    let text = Text::new(alloc, text)?;
+    Ok(Expected { text, algorithm })
+}
+
+fn given_expected(alloc: Global, header: &Option<Text>) -> Result<Option<Expected>, DigestError>
+    ensures { DigestSays result (given_expected header.now) }
+{
+    match header {
+        Some(text) => {
+            let given = digest_expected(alloc, text.as_str())?;
+            Ok(Some(given))
+        }
+        None => Ok(None),
+    }
+}
+
+fn pouring(good: bool, given: Option<Expected>, own: Expected) -> Plan
+    ensures { result ≡ pouring good given own }
+{
+    if good {
+        return Plan::Pour(given, own);
+    }
+    Plan::Judge
+}
+
+fn plan_by(
+    alloc: Global,
+    good: bool,
+    digest: &str,
+    header: &Option<Text>,
+) -> Result<Plan, DigestError>
+    ensures { DigestSays result (plan_by good digest.now header.now) }
+{
+    let given = given_expected(alloc, header)?;
+    let own = digest_expected(alloc, digest)?;
+    Ok(pouring(good, given, own))
+}
+
+fn plan_in(alloc: Global, digest: &str, head: &AnswerHead) -> Result<Plan, DigestError>
+    ensures { DigestSays result (plan_in digest.now head.now) }
+{
+    let header = header_in(alloc, &head.headers)?;
+    let plan = plan_by(alloc, is_success(head.status), digest, &header)?;
+    Ok(plan)
+}
+
+/// How the answer to a blob's request is read: the header's digest is looked at, then the descriptor's, then the
+/// status.
+#[tactic(auto, unfolding(crate::specs::Blobs::plan_of))]
+pub fn plan_of(alloc: Global, digest: &str, head: &AnswerHead) -> Result<Plan, AllocError>
+    ensures { IfOk result (λ plan. plan ≡ plan_of digest.now head.now) }
+{
+    match plan_in(alloc, digest, head) {
+        Ok(plan) => Ok(plan),
+        Err(error) => {
+            if error.is_memory() {
+                return Err(AllocError);
+            }
+            Ok(Plan::Refuse(error))
+        }
+    }
+}
+
+fn given_algorithm(given: &Option<Expected>) -> Option<Algorithm>
+    ensures { result ≡ given_algorithm given.now }
+{
+    match given {
+        Some(given) => Some(given.algorithm),
+        None => None,
+    }
+}
+
+/// Digesters of the algorithms that are expected, given nothing yet.
+pub fn digesters(given: &Option<Expected>, own: &Expected) -> Digesters
+    ensures { BothHold result (given_algorithm given.now) own.now.algorithm [] }
+{
+    Digesters::of(given_algorithm(given), own.algorithm)
+}
+
+// The digest of the bytes is the one that is expected.
+fn compared(alloc: Global, actual: Text, expected: &Expected) -> Result<(), OciDistributionError>
+    ensures { (m : List ℕ) → actual ≡ digest_text expected.now.algorithm m
+        → Says result (compared expected.now m) }
+{
+    if expected.text.as_str() == actual.as_str() {
+        return Ok(());
+    }
+    let expected = expected.text.copy(alloc)?;
+    Err(OciDistributionError::DigestError(DigestError::VerificationError { expected, actual }))
+}
+
+fn given_compared(
+    alloc: Global,
+    actual: Option<Text>,
+    given: &Option<Expected>,
+) -> Result<(), OciDistributionError>
+    ensures { (m : List ℕ) → actual ≡ given_text (given_algorithm given.now) m
+        → Says result (given_compared given.now m) }
+{
+    match given {
+        Some(given) => match actual {
+            Some(actual) => {
+                compared(alloc, actual, given)?;
+                Ok(())
+            }
+            None => Ok(()),
+        },
+        None => Ok(()),
+    }
+}
+
+/// What the digesters were given has both digests.
+pub fn both_compared(
+    alloc: Global,
+    digesters: &mut Digesters,
+    given: &Option<Expected>,
+    own: &Expected,
+) -> Result<(), OciDistributionError>
+    ensures { (m : List ℕ) → BothHold digesters.old (given_algorithm given.now) own.now.algorithm m
+        → Says result (both_compared given.now own.now m) }
+{
+    let texts = digesters.texts(alloc)?;
+    given_compared(alloc, texts.given, given)?;
+    compared(alloc, texts.own, own)?;
+    Ok(())
+}

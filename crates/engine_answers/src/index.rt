@@ -1,0 +1,102 @@
+// The image of an index.
+ghost use Rattle.std.specs.Prelude.{◌≡◌, IfOk};
+ghost use Rattle.oci_platforms.specs.Promise.{lists};
+ghost use Rattle.engine_terms.specs.Errors.{Says};
+ghost use Rattle.engine_answers.specs.Index.{entry_named, entry_found, entry_manifest};
+ghost use Rattle.engine_answers.specs.Index.{entry_reference, config_text};
+
+use engine_terms::{GenericCause, OciDistributionError};
+use json_values::{Blob, Text};
+use oci_descriptors::ImageIndexEntry;
+use oci_manifests::{OciImageManifest, OciManifest};
+use oci_names::Reference;
+use oci_platforms::PlatformResolver;
+use std::alloc::{AllocError, Global};
+
+fn lists(digest: &str, manifests: &[ImageIndexEntry]) -> bool
+    ensures { result ≡ lists digest.now manifests.now }
+{
+    manifests
+        .iter()
+        .any(|entry| entry.digest.as_str() == digest)
+}
+
+// The digest that was answered, which has to be an entry's.
+fn entry_named(
+    alloc: Global,
+    manifests: &[ImageIndexEntry],
+    answer: Option<Text>,
+) -> Result<Text, OciDistributionError>
+    ensures { Says result (entry_named manifests.now answer) }
+{
+    let Some(digest) = answer else {
+        let none = Text::new(alloc, "")?;
+        return Err(OciDistributionError::ImageManifestNotFoundError(none));
+    };
+    if lists(digest.as_str(), manifests) {
+        return Ok(digest);
+    }
+    Err(OciDistributionError::ImageManifestNotFoundError(digest))
+}
+
+/// The digest of the entry that is meant, as the resolver says.
+pub fn entry_found(
+    alloc: Global,
+    resolver: &Option<PlatformResolver>,
+    manifests: &[ImageIndexEntry],
+) -> Result<Text, OciDistributionError>
+    ensures { Says result (entry_found resolver.now manifests.now) }
+{
+    match resolver {
+        Some(resolver) => {
+            let answer = resolver.resolve(alloc, manifests)?;
+            let digest = entry_named(alloc, manifests, answer)?;
+            Ok(digest)
+        }
+        None => Err(OciDistributionError::ImageIndexParsingNoPlatformResolverError),
+    }
+}
+
+/// The manifest of the entry with this digest, which may not be an index again.
+pub fn entry_manifest(
+    alloc: Global,
+    digest: &str,
+    document: OciManifest,
+) -> Result<OciImageManifest, OciDistributionError>
+    ensures { Says result (entry_manifest digest.now document) }
+{
+    match document {
+        OciManifest::Image(manifest) => Ok(manifest),
+        OciManifest::ImageIndex(_) => {
+            let digest = Text::new(alloc, digest)?;
+            Err(OciDistributionError::ImageManifestNotFoundError(digest))
+        }
+    }
+}
+
+/// The reference of an entry, in the image's repository and by the same mirror.
+pub fn entry_reference(
+    alloc: Global,
+    image: &Reference,
+    digest: &str,
+) -> Result<Reference, AllocError>
+    ensures { IfOk result (λ entry. entry ≡ entry_reference image.now digest.now) }
+{
+    let digest = Text::new(alloc, digest)?;
+    let entry = image.clone_with_digest(alloc, digest)?;
+    Ok(entry)
+}
+
+/// A configuration as text.
+#[tactic(auto, using(crate::proofs::ConfigTexts::text_is, crate::proofs::ConfigTexts::text_is_not))]
+pub fn config_text(alloc: Global, content: &Blob) -> Result<Text, OciDistributionError>
+    ensures { Says result (config_text content.now) }
+{
+    match str::from_utf8(content.as_slice()) {
+        Ok(text) => {
+            let text = Text::new(alloc, text)?;
+            Ok(text)
+        }
+        Err(_) => Err(OciDistributionError::GenericError(GenericCause::ConfigNotText)),
+    }
+}

@@ -1,0 +1,218 @@
+// One request for a blob.
+ghost use Rattle.std.specs.Prelude.{ℕ, List};
+ghost use Rattle.oci_auth.specs.declared.memory.Memory.{Memory};
+ghost use Rattle.oci_transport.specs.declared.message.Request.{Request as Asked};
+ghost use Rattle.oci_protocol.specs.Follow.{Reaches};
+ghost use Rattle.oci_protocol.specs.Runs.{Meets};
+ghost use Rattle.oci_transport.specs.Link.{Link, answer_of};
+ghost use Rattle.engine_answers.specs.Answers.{refused_answer};
+ghost use Rattle.engine_terms.specs.Errors.{is_memory, Says, SaysError};
+ghost use Rattle.engine_answers.specs.Blobs.{both_compared};
+ghost use Rattle.engine_rows.specs.Blobs.{IntoSink, IntoMemory, attempt, Spills};
+ghost use Rattle.engine_rows.specs.Offers.{Takes, Offered, OfferedInto, offer};
+ghost use Rattle.engine_rows.specs.Rows.{Row};
+
+use engine_answers::{Expected, Plan, both_compared, digesters, is_error, plan_of, refused_answer};
+use engine_rows::got_of;
+use engine_terms::OciDistributionError;
+use json_values::{Blob, Sink};
+use oci_protocol::{PourError, Reached, pour, reach};
+use oci_transport::{BodyError, LinkError, Request, Transport, read_body};
+use std::alloc::{AllocError, Global};
+
+// Why the answer that was reached is refused, with its body.
+fn refusal_of(alloc: Global, reached: &Reached, body: Blob) -> OciDistributionError
+    ensures { SaysError result
+        (refused_answer 200 reached.now.request.url (answer_of reached.now.head body)) }
+{
+    match got_of(alloc, reached, body) {
+        Ok(got) => refused_answer(alloc, 200, got),
+        Err(AllocError) => OciDistributionError::WantOfMemory,
+    }
+}
+
+// Puts the body of the answer that was reached, as its plan says.
+#[tactic(none)]
+fn put_reached<T: Transport, K: Sink>(
+    alloc: Global,
+    transport: &mut T,
+    limit: u64,
+    digest: &str,
+    reached: &Reached,
+    out: &mut K,
+) -> Result<(), OciDistributionError>
+    ensures { (old : Link) (request : Asked) (k : Memory) (p : Row (List ℕ))
+        → Reaches 10 request reached.now.head reached.now.request old (T.state transport.old)
+        → Takes IntoSink limit digest.now request reached.now.head p
+        → Spills p old (T.state transport.new) k k (K.state out.old) (K.state out.new) result }
+{
+    let plan = plan_of(alloc, digest, &reached.head)?;
+    match plan {
+        Plan::Refuse(error) => Err(OciDistributionError::DigestError(error)),
+        Plan::Judge => match read_body(alloc, transport, limit) {
+            Ok(body) => Err(refusal_of(alloc, reached, body)),
+            Err(BodyError::TransportFault) => Err(OciDistributionError::TransportFault),
+            Err(BodyError::BodyTooLong) => Err(OciDistributionError::BodyTooLong),
+            Err(BodyError::WantOfMemory) => Err(OciDistributionError::WantOfMemory),
+        },
+        Plan::Pour(given, own) => {
+            let mut digesters = digesters(&given, &own);
+            match pour(alloc, transport, out, limit, &mut digesters) {
+                Ok(()) => {
+                    both_compared(alloc, &mut digesters, &given, &own)?;
+                    Ok(())
+                }
+                Err(PourError::TransportFault) => Err(OciDistributionError::TransportFault),
+                Err(PourError::BodyTooLong) => Err(OciDistributionError::BodyTooLong),
+                Err(PourError::SinkFault) => Err(OciDistributionError::SinkFault),
+                Err(PourError::WantOfMemory) => Err(OciDistributionError::WantOfMemory),
+            }
+        }
+    }
+}
+
+/// One request for a blob, whose bytes are put as they come. After a refusal the sink has taken a front of the last
+/// answer's body, or nothing.
+#[tactic(none)]
+pub fn attempt<T: Transport, K: Sink>(
+    alloc: Global,
+    transport: &mut T,
+    limit: u64,
+    digest: &str,
+    request: &Request,
+    out: &mut K,
+) -> Result<(), OciDistributionError>
+    ensures { (k : Memory) → Spills (attempt IntoSink limit digest.now request.now)
+        (T.state transport.old) (T.state transport.new) k k (K.state out.old)
+        (K.state out.new) result }
+{
+    let reached = match reach(alloc, transport, 10, request) {
+        Ok(reached) => reached,
+        Err(LinkError::Failed) => return Err(OciDistributionError::TransportFault),
+        Err(LinkError::WantOfMemory) => return Err(OciDistributionError::WantOfMemory),
+    };
+    put_reached(alloc, transport, limit, digest, &reached, out)?;
+    Ok(())
+}
+
+/// One request for a blob that may be somewhere else too. Its bytes are put as they come; where its answer is one of
+/// an error, it is not read, nothing is put, and the result is false.
+#[tactic(none)]
+pub fn offer<T: Transport, K: Sink>(
+    alloc: Global,
+    transport: &mut T,
+    limit: u64,
+    digest: &str,
+    request: &Request,
+    out: &mut K,
+) -> Result<bool, OciDistributionError>
+    ensures { (k : Memory) (next : Row (List ℕ)) → OfferedInto next
+        (offer IntoSink limit digest.now next request.now)
+        (T.state transport.old) (T.state transport.new) k (K.state out.old) (K.state out.new) result }
+{
+    let reached = match reach(alloc, transport, 10, request) {
+        Ok(reached) => reached,
+        Err(LinkError::Failed) => return Err(OciDistributionError::TransportFault),
+        Err(LinkError::WantOfMemory) => return Err(OciDistributionError::WantOfMemory),
+    };
+    if is_error(reached.head.status) {
+        return Ok(false);
+    }
+    put_reached(alloc, transport, limit, digest, &reached, out)?;
+    Ok(true)
+}
+
+// The bytes have the digest of the header, where it names one, and the descriptor's.
+fn have_digests(
+    alloc: Global,
+    body: &Blob,
+    given: &Option<Expected>,
+    own: &Expected,
+) -> Result<(), OciDistributionError>
+    ensures { Says result (both_compared given.now own.now body.now) }
+{
+    let mut digesters = digesters(given, own);
+    digesters.update(body.as_slice());
+    both_compared(alloc, &mut digesters, given, own)?;
+    Ok(())
+}
+
+// Holds the body of the answer that was reached, as its plan says.
+fn held_reached<T: Transport>(
+    alloc: Global,
+    transport: &mut T,
+    limit: u64,
+    digest: &str,
+    reached: &Reached,
+) -> Result<Blob, OciDistributionError>
+    ensures { (old : Link) (request : Asked) (k : Memory) (p : Row (List ℕ))
+        → Reaches 10 request reached.now.head reached.now.request old (T.state transport.old)
+        → Takes IntoMemory limit digest.now request reached.now.head p
+        → Meets is_memory p old (T.state transport.new) k k result }
+{
+    let plan = plan_of(alloc, digest, &reached.head)?;
+    match plan {
+        Plan::Refuse(error) => Err(OciDistributionError::DigestError(error)),
+        Plan::Judge => match read_body(alloc, transport, limit) {
+            Ok(body) => Err(refusal_of(alloc, reached, body)),
+            Err(BodyError::TransportFault) => Err(OciDistributionError::TransportFault),
+            Err(BodyError::BodyTooLong) => Err(OciDistributionError::BodyTooLong),
+            Err(BodyError::WantOfMemory) => Err(OciDistributionError::WantOfMemory),
+        },
+        Plan::Pour(given, own) => match read_body(alloc, transport, limit) {
+            Ok(body) => {
+                have_digests(alloc, &body, &given, &own)?;
+                Ok(body)
+            }
+            Err(BodyError::TransportFault) => Err(OciDistributionError::TransportFault),
+            Err(BodyError::BodyTooLong) => Err(OciDistributionError::BodyTooLong),
+            Err(BodyError::WantOfMemory) => Err(OciDistributionError::WantOfMemory),
+        },
+    }
+}
+
+/// One request for a blob, whose bytes are held whole. No sink takes part.
+#[tactic(none)]
+pub fn held<T: Transport>(
+    alloc: Global,
+    transport: &mut T,
+    limit: u64,
+    digest: &str,
+    request: &Request,
+) -> Result<Blob, OciDistributionError>
+    ensures { (k : Memory) → Meets is_memory (attempt IntoMemory limit digest.now request.now)
+        (T.state transport.old) (T.state transport.new) k k result }
+{
+    let reached = match reach(alloc, transport, 10, request) {
+        Ok(reached) => reached,
+        Err(LinkError::Failed) => return Err(OciDistributionError::TransportFault),
+        Err(LinkError::WantOfMemory) => return Err(OciDistributionError::WantOfMemory),
+    };
+    let body = held_reached(alloc, transport, limit, digest, &reached)?;
+    Ok(body)
+}
+
+/// One request for a blob that may be somewhere else too, whose bytes are held whole. None where its answer is one of
+/// an error, which is not read. No sink takes part.
+#[tactic(none)]
+pub fn held_offer<T: Transport>(
+    alloc: Global,
+    transport: &mut T,
+    limit: u64,
+    digest: &str,
+    request: &Request,
+) -> Result<Option<Blob>, OciDistributionError>
+    ensures { (k : Memory) (next : Row (List ℕ)) → Offered next (offer IntoMemory limit digest.now next request.now)
+        (T.state transport.old) (T.state transport.new) k result }
+{
+    let reached = match reach(alloc, transport, 10, request) {
+        Ok(reached) => reached,
+        Err(LinkError::Failed) => return Err(OciDistributionError::TransportFault),
+        Err(LinkError::WantOfMemory) => return Err(OciDistributionError::WantOfMemory),
+    };
+    if is_error(reached.head.status) {
+        return Ok(None);
+    }
+    let body = held_reached(alloc, transport, limit, digest, &reached)?;
+    Ok(Some(body))
+}

@@ -1,7 +1,0 @@
-use Rattle.std.proofs.Common.{◌≡◌, filter, take}
-use Rattle.engine_requests.specs.Referrers.{is_of_type}
-use Rattle.engine_requests.proofs.referrers.of_type.Given as goal
-
--- the entries of this type among the first ones
-abbrev pub invariant-loop-entry : goal.invariant-loop-entry
-invariant-loop-entry l = l.kept ≡ filter (is_of_type l.artifact_type) (take l.entry-index l.entries)

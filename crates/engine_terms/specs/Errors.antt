@@ -1,0 +1,55 @@
+-- Refusals, and steps that make no request.
+use Rattle.std.specs.Prelude.{ℕ, List, Bool, true, false, Result, Ok, Err, codes}
+use Rattle.json_values.specs.Refusals as Refusals
+use Rattle.engine_terms.specs.declared.error.OciDistributionError.{OciDistributionError}
+use Rattle.engine_terms.specs.declared.error.OciDistributionError.TheVariants as refusal
+
+-- which refusal says that memory was wanting
+abbrev pub is_memory : OciDistributionError → Bool
+is_memory refusal.WantOfMemory = true
+is_memory _ = false
+
+-- the name of the variant, which a refusal prints
+abbrev pub name_of : OciDistributionError → List ℕ
+name_of (refusal.AmbiguousManifest a) = codes "AmbiguousManifest"
+name_of (refusal.AuthenticationFailure a) = codes "AuthenticationFailure"
+name_of refusal.BodyTooLong = codes "BodyTooLong"
+name_of (refusal.ConfigConversionError a) = codes "ConfigConversionError"
+name_of (refusal.DigestError a) = codes "DigestError"
+name_of (refusal.GenericError a) = codes "GenericError"
+name_of refusal.ImageIndexParsingNoPlatformResolverError = codes "ImageIndexParsingNoPlatformResolverError"
+name_of (refusal.ImageManifestNotFoundError a) = codes "ImageManifestNotFoundError"
+name_of (refusal.IncompatibleLayerMediaTypeError a) = codes "IncompatibleLayerMediaTypeError"
+name_of (refusal.ManifestParsingError a) = codes "ManifestParsingError"
+name_of refusal.PullNoLayersError = codes "PullNoLayersError"
+name_of (refusal.RegistryError a b) = codes "RegistryError"
+name_of (refusal.RegistryTokenDecodeError a) = codes "RegistryTokenDecodeError"
+name_of (refusal.ServerError a b c) = codes "ServerError"
+name_of refusal.SinkFault = codes "SinkFault"
+name_of (refusal.SpecViolationError a) = codes "SpecViolationError"
+name_of refusal.StreamFailed = codes "StreamFailed"
+name_of refusal.TransportFault = codes "TransportFault"
+name_of (refusal.UnauthorizedError a) = codes "UnauthorizedError"
+name_of (refusal.UnsupportedMediaTypeError a) = codes "UnsupportedMediaTypeError"
+name_of (refusal.UnsupportedSchemaVersionError a) = codes "UnsupportedSchemaVersionError"
+name_of (refusal.UrlParseError a) = codes "UrlParseError"
+name_of (refusal.VersionedParsingError a) = codes "VersionedParsingError"
+name_of refusal.WantOfMemory = codes "WantOfMemory"
+
+-- what a step with no request answers, unless memory was wanting
+abbrev pub Says : {A : Type 0} → Result A OciDistributionError → Result A OciDistributionError → Type 0
+Says answer said = Refusals.Says is_memory answer said
+
+-- the refusal is this one, unless memory was wanting
+abbrev pub SaysError : OciDistributionError → OciDistributionError → Type 0
+SaysError e said = Refusals.SaysError is_memory e said
+
+infixl 10 ◌>>=◌
+-- a refusal ends the steps
+abbrev pub ◌>>=◌ : {A B E : Type 0} → Result A E → (A → Result B E) → Result B E
+(Ok a) >>= f = f a
+(Err e) >>= f = Err e
+
+infixl 10 ◌>>◌
+abbrev pub ◌>>◌ : {A B E : Type 0} → Result A E → Result B E → Result B E
+p >> q = p >>= (λ _. q)

@@ -1,0 +1,240 @@
+// Why a call of the registry's client was refused.
+ghost use Rattle.std.specs.Prelude.{◌≡◌};
+ghost use Rattle.engine_terms.specs.Errors.{is_memory, name_of};
+
+use crate::token_body::TokenBody;
+use json_values::{Blob, Copied, Text, copy_all, row};
+use oci_digests::DigestError;
+use oci_errors::OciEnvelope;
+use std::alloc::{AllocError, AllocFailed, Global};
+use std::error::Error;
+use std::fmt::{self, Display, Formatter};
+
+/// What a request could not be made of, or an answer could not be made into.
+#[derive(Clone, Copy, Debug, PartialEq, Eq)]
+pub enum GenericCause {
+    /// A configuration that is no text in UTF-8.
+    ConfigNotText,
+    /// A value that cannot stand in a header: the user agent, an accepted type or a token.
+    HeaderText,
+    /// Referrers of a reference without a digest.
+    NoDigest,
+    /// A range of bytes whose end passes 2^64 - 1.
+    RangeOverflow,
+}
+
+/// How an answer departs from the OCI distribution specification.
+#[derive(Debug, Drop)]
+pub enum SpecViolation {
+    /// The tag under which the referrers of a digest are listed holds a manifest. The tag is told.
+    ReferrersTag(Text),
+    /// A status of success other than the one that the request asks for.
+    Status { expected: u16, got: u16, url: Text },
+}
+
+/// Why a call of the registry's client was refused. A refusal that speaks of an answer holds the URL or
+/// the bytes that it came with.
+#[derive(Debug, Drop)]
+pub enum OciDistributionError {
+    /// A document that reads both as a manifest and as an index.
+    AmbiguousManifest(Blob),
+    /// The realm answered with another status than 200, and with this body.
+    AuthenticationFailure(TokenBody),
+    /// A body with more bytes than the settings allow.
+    BodyTooLong,
+    /// A configuration that does not read as a configuration file.
+    ConfigConversionError(Blob),
+    /// A digest in a header, a reference or a descriptor that is none, or that does not name the body.
+    DigestError(DigestError),
+    GenericError(GenericCause),
+    /// An index was read, and the client has no resolver of platforms.
+    ImageIndexParsingNoPlatformResolverError,
+    /// An index was read in which the image is not found: the resolver answered a digest of no entry, or of an index
+    /// again, which is told here, or none, which is the empty text.
+    ImageManifestNotFoundError(Text),
+    /// A layer of a media type that is not accepted.
+    IncompatibleLayerMediaTypeError(Text),
+    /// A document that reads neither as a manifest nor as an index.
+    ManifestParsingError(Blob),
+    /// A manifest without layers.
+    PullNoLayersError,
+    /// A status from 400 to 499 other than 401, with the registry's own list of errors.
+    RegistryError { envelope: OciEnvelope, url: Text },
+    /// A body in which the realm names no token.
+    RegistryTokenDecodeError(TokenBody),
+    /// A status of an error without such a list.
+    ServerError { code: u16, url: Text, message: Blob },
+    /// The sink failed: the count of its faults rose.
+    SinkFault,
+    SpecViolationError(SpecViolation),
+    /// A piece was asked of a stream that had refused one.
+    StreamFailed,
+    /// The transport failed: the count of its faults rose.
+    TransportFault,
+    /// The status 401.
+    UnauthorizedError { url: Text },
+    UnsupportedMediaTypeError(Text),
+    UnsupportedSchemaVersionError(i32),
+    /// A text that is not the URL of a request.
+    UrlParseError(Text),
+    /// A document that does not read as one with a schema version and a media type.
+    VersionedParsingError(Blob),
+    WantOfMemory,
+}
+
+impl OciDistributionError {
+    /// Whether memory was wanting.
+    pub fn is_memory(&self) -> bool
+        ensures { result ≡ is_memory self.now }
+    {
+        matches!(self, Self::WantOfMemory)
+    }
+
+    /// The name of the variant.
+    pub fn name(&self) -> &'static str
+        ensures { result.now ≡ name_of self.now }
+    {
+        match self {
+            Self::AmbiguousManifest(_) => "AmbiguousManifest",
+            Self::AuthenticationFailure(_) => "AuthenticationFailure",
+            Self::BodyTooLong => "BodyTooLong",
+            Self::ConfigConversionError(_) => "ConfigConversionError",
+            Self::DigestError(_) => "DigestError",
+            Self::GenericError(_) => "GenericError",
+            Self::ImageIndexParsingNoPlatformResolverError => {
+                "ImageIndexParsingNoPlatformResolverError"
+            }
+            Self::ImageManifestNotFoundError(_) => "ImageManifestNotFoundError",
+            Self::IncompatibleLayerMediaTypeError(_) => "IncompatibleLayerMediaTypeError",
+            Self::ManifestParsingError(_) => "ManifestParsingError",
+            Self::PullNoLayersError => "PullNoLayersError",
+            Self::RegistryError { .. } => "RegistryError",
+            Self::RegistryTokenDecodeError(_) => "RegistryTokenDecodeError",
+            Self::ServerError { .. } => "ServerError",
+            Self::SinkFault => "SinkFault",
+            Self::SpecViolationError(_) => "SpecViolationError",
+            Self::StreamFailed => "StreamFailed",
+            Self::TransportFault => "TransportFault",
+            Self::UnauthorizedError { .. } => "UnauthorizedError",
+            Self::UnsupportedMediaTypeError(_) => "UnsupportedMediaTypeError",
+            Self::UnsupportedSchemaVersionError(_) => "UnsupportedSchemaVersionError",
+            Self::UrlParseError(_) => "UrlParseError",
+            Self::VersionedParsingError(_) => "VersionedParsingError",
+            Self::WantOfMemory => "WantOfMemory",
+        }
+    }
+}
+
+impl Copied for GenericCause {
+    fn copy(&self, _alloc: Global) -> Result<GenericCause, AllocError> {
+        Ok(*self)
+    }
+}
+
+impl Copied for SpecViolation {
+    fn copy(&self, alloc: Global) -> Result<SpecViolation, AllocError> {
+        match self {
+            Self::ReferrersTag(tag) => Ok(Self::ReferrersTag(tag.copy(alloc)?)),
+            Self::Status { expected, got, url } => {
+                let url = url.copy(alloc)?;
+                Ok(Self::Status {
+                    expected: *expected,
+                    got: *got,
+                    url,
+                })
+            }
+        }
+    }
+}
+
+impl Copied for OciDistributionError {
+    fn copy(&self, alloc: Global) -> Result<OciDistributionError, AllocError> {
+        match self {
+            Self::AmbiguousManifest(body) => Ok(Self::AmbiguousManifest(body.copy(alloc)?)),
+            Self::AuthenticationFailure(body) => Ok(Self::AuthenticationFailure(body.copy(alloc)?)),
+            Self::BodyTooLong => Ok(Self::BodyTooLong),
+            Self::ConfigConversionError(content) => Ok(Self::ConfigConversionError(content.copy(
+                alloc,
+            )?)),
+            Self::DigestError(error) => Ok(Self::DigestError(error.copy(alloc)?)),
+            Self::GenericError(cause) => Ok(Self::GenericError(*cause)),
+            Self::ImageIndexParsingNoPlatformResolverError => Ok(
+                Self::ImageIndexParsingNoPlatformResolverError,
+            ),
+            Self::ImageManifestNotFoundError(digest) => Ok(Self::ImageManifestNotFoundError(
+                digest.copy(alloc)?,
+            )),
+            Self::IncompatibleLayerMediaTypeError(kind) => Ok(Self::IncompatibleLayerMediaTypeError(
+                kind.copy(alloc)?,
+            )),
+            Self::ManifestParsingError(body) => Ok(Self::ManifestParsingError(body.copy(alloc)?)),
+            Self::PullNoLayersError => Ok(Self::PullNoLayersError),
+            Self::RegistryError { envelope, url } => {
+                let row![envelope, url] = copy_all(alloc, row![envelope, url])?;
+                Ok(Self::RegistryError { envelope, url })
+            }
+            Self::RegistryTokenDecodeError(body) => Ok(Self::RegistryTokenDecodeError(body.copy(
+                alloc,
+            )?)),
+            Self::ServerError { code, url, message } => {
+                let row![url, message] = copy_all(alloc, row![url, message])?;
+                Ok(Self::ServerError {
+                    code: *code,
+                    url,
+                    message,
+                })
+            }
+            Self::SinkFault => Ok(Self::SinkFault),
+            Self::SpecViolationError(violation) => Ok(Self::SpecViolationError(violation.copy(
+                alloc,
+            )?)),
+            Self::StreamFailed => Ok(Self::StreamFailed),
+            Self::TransportFault => Ok(Self::TransportFault),
+            Self::UnauthorizedError { url } => Ok(Self::UnauthorizedError {
+                url: url.copy(alloc)?,
+            }),
+            Self::UnsupportedMediaTypeError(kind) => Ok(Self::UnsupportedMediaTypeError(kind.copy(
+                alloc,
+            )?)),
+            Self::UnsupportedSchemaVersionError(version) => Ok(Self::UnsupportedSchemaVersionError(
+                *version,
+            )),
+            Self::UrlParseError(text) => Ok(Self::UrlParseError(text.copy(alloc)?)),
+            Self::VersionedParsingError(body) => Ok(Self::VersionedParsingError(body.copy(alloc)?)),
+            Self::WantOfMemory => Ok(Self::WantOfMemory),
+        }
+    }
+}
+
+impl Display for OciDistributionError {
+    ghost use Rattle.std.specs.Prelude.{Some};
+
+    ghost output = { λ e. Some (name_of e) };
+
+    fn fmt<W: fmt::Write>(&self, f: &mut Formatter<W>) -> fmt::Result {
+        let name = self.name();
+        write!(f, "{name}")
+    }
+}
+
+impl Error for OciDistributionError {}
+
+impl From<AllocError> for OciDistributionError {
+    ghost use Rattle.engine_terms.specs.declared.error.OciDistributionError.TheVariants.{WantOfMemory};
+
+    ghost from_gives = { λ _ e. e ≡ WantOfMemory };
+
+    fn from(_: AllocError) -> Self {
+        OciDistributionError::WantOfMemory
+    }
+}
+
+impl<T: Drop> From<AllocFailed<T>> for OciDistributionError {
+    ghost use Rattle.engine_terms.specs.declared.error.OciDistributionError.TheVariants.{WantOfMemory};
+
+    ghost from_gives = { λ _ e. e ≡ WantOfMemory };
+
+    fn from(_: AllocFailed<T>) -> Self {
+        OciDistributionError::WantOfMemory
+    }
+}

@@ -1,0 +1,53 @@
+// The bytes that a realm answered in place of a token.
+use json_values::{Blob, Copied};
+use std::alloc::{AllocError, Global};
+use std::fmt;
+use std::marker::Model;
+
+/// The body of a realm's answer. It may hold a token, so `Debug` shows how many bytes it has, and none of them.
+#[derive(Drop)]
+pub struct TokenBody {
+    bytes: Blob,
+}
+
+impl Model for TokenBody {
+    ghost use Rattle.std.specs.Prelude.{ℕ, List};
+
+    ghost Value = { List ℕ };
+
+    ghost view = { λ b. b.bytes };
+}
+
+impl TokenBody {
+    ghost use Rattle.std.specs.Prelude.{◌≡◌};
+
+    /// These bytes of a body.
+    pub fn new(bytes: Blob) -> TokenBody
+        ensures { result ≡ bytes }
+    {
+        TokenBody { bytes }
+    }
+
+    pub fn bytes(&self) -> &Blob
+        ensures { result.now ≡ self.now }
+    {
+        &self.bytes
+    }
+}
+
+impl Copied for TokenBody {
+    fn copy(&self, alloc: Global) -> Result<TokenBody, AllocError> {
+        let bytes = self.bytes.copy(alloc)?;
+        Ok(TokenBody { bytes })
+    }
+}
+
+impl fmt::Debug for TokenBody {
+    ghost use Rattle.std.specs.Prelude.{Some, ◌++◌, codes, decimal, length};
+
+    ghost debug_output = { λ body. Some (decimal (length body) ++ codes " bytes") };
+
+    fn fmt<W: fmt::Write>(&self, f: &mut fmt::Formatter<W>) -> fmt::Result {
+        write!(f, "{} bytes", self.bytes.as_slice().len())
+    }
+}

@@ -1,0 +1,6 @@
+pub mod AnnotationNames
+pub mod Descriptor
+pub mod IndexEntry
+pub mod LayerTypes
+pub mod MediaTypes
+pub mod Platform

@@ -1,6 +1,0 @@
-use Rattle.json_writing.proofs.Whole.{document_again}
-use Rattle.oci_manifests.specs.Envelope.{error_of}
-use Rattle.oci_manifests.proofs.envelope.OciErrorToValue.to_value.Goals as goal
-
-pub returns-clause-reads_back : goal.returns-clause-reads_back
-returns-clause-reads_back c none = document_again error_of _ _ _ _ c.in_ok-value.ensures.again none c.in_ok-value.ensures.exact

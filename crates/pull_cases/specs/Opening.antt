@@ -1,0 +1,32 @@
+-- A case whose client is made.
+use Rattle.std.specs.Prelude.{◌≡◌}
+use Rattle.cosign_client.specs.Builder.{fresh_state}
+use Rattle.cosign_client.specs.State.{client_state}
+use Rattle.pull_case.specs.declared.case.Case.{Case}
+use Rattle.pull_setup.specs.Clients.{config_by}
+use Rattle.pull_setup.specs.declared.asked.Asked.{Asked}
+use Rattle.pull_setup.specs.declared.client.WrittenClient.{WrittenClient}
+use Rattle.pull_cases.specs.declared.pulls.Opened.{Opened}
+
+-- what a case says of its client
+abbrev pub client_in : Case → WrittenClient
+client_in case = record {
+  protocol = case.protocol;
+  limit = case.limit;
+  platform = case.platform;
+  caching = case.caching;
+  log_keys = case.log_keys;
+}
+
+-- the client keeps nothing yet, and all else is what was asked and what the case says
+pub record Opens (asked : Asked) (case : Case) (o : Opened) : Type 0 where
+  pub client : client_state o.client ≡ fresh_state (config_by asked.usual (client_in case)) case.caching
+  pub log_keys : o.client.rekor_pub_keys ≡ case.log_keys
+  pub image : o.image ≡ asked.image
+  pub auth : o.auth ≡ asked.auth
+  pub accepted : o.accepted ≡ case.accepted
+  pub keys : o.keys ≡ case.keys
+  pub verifier : o.verifier ≡ record { rows = case.signatures }
+  pub judge : o.judge ≡ case.vouched
+  pub registry : o.registry ≡ case.registry
+  pub moments : o.moments ≡ case.moments

@@ -1,0 +1,115 @@
+-- The pulls of a case: one at each of its moments, by one client, over what the case's registry answers.
+use Rattle.std.specs.Prelude.{◌≡◌, ℕ, Bool, true, false, not, IsTrue, ◌&&◌, List, [], ◌∷◌, map, flat_map, Option, Some, None, Result, Ok, Err, codes}
+use Rattle.oci_transport.specs.Link.{AnsweredBy}
+use Rattle.oci_transport.specs.Calm.{calm}
+use Rattle.oci_transport.specs.declared.message.Exchange.{Exchange}
+use Rattle.oci_names.specs.declared.reference.Reference.{Reference}
+use Rattle.oci_names.specs.References.{reference_of}
+use Rattle.oci_protocol.specs.Runs.{Runs}
+use Rattle.engine_terms.specs.Contexts.{within}
+use Rattle.engine_terms.specs.declared.settings.Settings.{Settings}
+use Rattle.sig_calls.specs.Clients.{Kept}
+use Rattle.cosign_rows.specs.Refusal.{is_memory}
+use Rattle.cosign_rows.specs.Sound.{Sound}
+use Rattle.cosign_rows.specs.Verified.{Whole, verified}
+use Rattle.cosign_chain.specs.declared.image.VerifiedImage.{VerifiedImage}
+use Rattle.cosign_rows.specs.declared.refusal.PullRefusal.{PullRefusal}
+use Rattle.pull_case.specs.Policy.{meaning_of}
+use Rattle.pull_case.specs.Registry.{answering_by}
+use Rattle.pull_case.specs.declared.case.Case.{Case}
+use Rattle.pull_report.specs.Report.{report}
+use Rattle.pull_setup.specs.Clients.{settings_by, fresh}
+use Rattle.pull_cases.specs.declared.report.Report.{Report}
+
+-- one pull: what the client kept before it, its moment, its conversation and its result
+pub record Talk : Type 0 where
+  pub before : Kept
+  pub moment : ℕ
+  pub conversation : List Exchange
+  pub result : Result VerifiedImage PullRefusal
+
+abbrev pub moment_of : Talk → ℕ
+moment_of talk = talk.moment
+
+abbrev pub conversation_of : Talk → List Exchange
+conversation_of talk = talk.conversation
+
+-- all exchanges, one pull's after another's
+abbrev pub joined : List Talk → List Exchange
+joined talks = flat_map conversation_of talks
+
+abbrev pub report_of : Talk → List ℕ
+report_of talk = report talk.moment talk.conversation talk.result
+
+-- what is written of the pulls
+abbrev pub reports : List Talk → List ℕ
+reports talks = flat_map report_of talks
+
+abbrev pub is_answered : Result VerifiedImage PullRefusal → Bool
+is_answered (Ok image) = true
+is_answered (Err refusal) = false
+
+-- whether memory was wanting
+abbrev pub is_wanting : Result VerifiedImage PullRefusal → Bool
+is_wanting (Ok image) = false
+is_wanting (Err refusal) = is_memory refusal
+
+-- memory was wanting in none of the pulls
+abbrev pub EachWhole : List Talk → Type 0
+EachWhole [] = Unit {0}
+EachWhole (talk ∷ talks) = (is_wanting talk.result ≡ false) × EachWhole talks
+
+-- whether no pull was refused
+abbrev pub all_answered : List Talk → Bool
+all_answered [] = true
+all_answered (talk ∷ talks) = is_answered talk.result && all_answered talks
+
+-- pulls in turn: each is a whole run of its row, and goes on from what the one before it kept
+abbrev pub InTurn : (ℕ → Whole VerifiedImage) → Kept → ℕ → List Talk → Kept → ℕ → Type 0
+InTurn row k m [] l n = (k ≡ l) × (m ≡ n)
+InTurn row k m (talk ∷ talks) l n =
+    (k ≡ talk.before) × (kept : Kept) × (count : ℕ)
+    × Runs (row talk.moment) talk.before m talk.conversation count kept talk.result
+    × InTurn row kept count talks l n
+
+abbrev pub settings_of : Case → Settings
+settings_of case = settings_by case.protocol case.limit case.platform
+
+-- the pull of a case's image at a moment
+abbrev pub row_of : Case → Reference → ℕ → Whole VerifiedImage
+row_of case image moment =
+    verified (meaning_of case) (within (settings_of case) moment) image case.auth case.accepted
+
+-- an image that was answered has a chain that holds, and comes of this conversation; its digest may still have been
+-- kept
+abbrev pub SoundResult : Case → Reference → Kept → ℕ → List Exchange → Result VerifiedImage PullRefusal → Type 0
+SoundResult case image k moment c (Ok v) =
+    Sound k (within (settings_of case) moment) (meaning_of case) image case.auth case.accepted c v
+SoundResult case image k moment c (Err refusal) = Unit {0}
+
+abbrev pub EachSound : Case → Reference → List Talk → Type 0
+EachSound case image [] = Unit {0}
+EachSound case image (talk ∷ talks) =
+    SoundResult case image talk.before talk.moment talk.conversation talk.result × EachSound case image talks
+
+-- The pulls of a case by a client that was fresh before the first. Each exchange was answered by the recorded answer
+-- at its place, or by the table of the shelf. A transport's fault stands only where one is recorded: over a shelf
+-- nothing may fail, and the counts of the exchanges and the last one are equal. Memory was wanting in none of them.
+pub record Pulled (case : Case) (talks : List Talk) : Type 0 where
+  pub image : Reference
+  pub reads : reference_of case.reference ≡ Ok image
+  pub moments : map moment_of talks ≡ case.moments
+  pub kept : Kept
+  pub faults : ℕ
+  pub in_turn : InTurn (row_of case image) (fresh case.caching) 0 talks kept faults
+  pub answered : AnsweredBy (answering_by case.registry) 0 (joined talks)
+  pub calm_is : IsTrue (calm (answering_by case.registry).fails 0 (joined talks) faults)
+  pub sound : EachSound case image talks
+  pub whole : EachWhole talks
+
+-- what was made of a case is the report of its pulls
+pub record ReportsCase (case : Case) (made : Report) : Type 0 where
+  pub talks : List Talk
+  pub pulled : Pulled case talks
+  pub written : made.bytes ≡ reports talks
+  pub refused : made.refused ≡ not (all_answered talks)

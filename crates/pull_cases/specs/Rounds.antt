@@ -1,0 +1,66 @@
+-- The pulls so far, and what the client and the replay came to.
+use Rattle.std.specs.Prelude.{◌≡◌, ℕ, not, IsTrue, List, ◌∷◌, [], ◌++◌, map}
+use Rattle.std.specs.FinMap.{FinMap}
+use Rattle.oci_transport.specs.Link.{Link, Extends, AnsweredBy}
+use Rattle.oci_transport.specs.Calm.{calm}
+use Rattle.oci_names.specs.declared.reference.Reference.{Reference}
+use Rattle.oci_auth.specs.declared.auth.RegistryAuth.{RegistryAuth}
+use Rattle.engine_terms.specs.Contexts.{within}
+use Rattle.engine_terms.specs.declared.settings.Settings.{Settings}
+use Rattle.sig_calls.specs.Clients.{Kept}
+use Rattle.sig_settings.specs.Auths.{registry_auth}
+use Rattle.sig_calls.specs.Direct.{reference_in}
+use Rattle.json_values.specs.Places.{by_bytes}
+use Rattle.cosign_layers.specs.Judge.{vouched_in}
+use Rattle.cosign_layers.specs.Standing.{Meaning, Owns, meaning}
+use Rattle.cosign_layers.specs.Trust.{trust}
+use Rattle.cosign_layers.specs.Verifier.{valid_in}
+use Rattle.cosign_rows.specs.Verified.{Whole, verified}
+use Rattle.cosign_chain.specs.declared.image.VerifiedImage.{VerifiedImage}
+use Rattle.pull_case.specs.Registry.{answering_by}
+use Rattle.pull_case.specs.declared.registry.Registry.{Registry}
+use Rattle.pull_cases.specs.declared.pulls.Terms.{Terms}
+use Rattle.pull_cases.specs.declared.report.Report.{Report}
+use Rattle.pull_cases.specs.Pulls.{Talk, moment_of, joined, reports, all_answered, InTurn, EachWhole}
+
+-- the pull of an image at a moment, by these settings, credentials and this policy
+abbrev pub row_by : {V : Type 0} {H : V → Type 0}
+    → Meaning V H → Settings → Reference → RegistryAuth → List (List ℕ) → ℕ → Whole VerifiedImage
+row_by meaning s image a accepted moment = verified meaning (within s moment) image a accepted
+
+-- the pull at a moment that these terms ask for, by a client of these settings that knows these logs
+abbrev pub row_for : {V : Type 0} {H : V → Type 0}
+    → Owns V H → Terms V H → Settings → FinMap by_bytes (List ℕ) → ℕ → Whole VerifiedImage
+row_for own terms settings log_keys =
+    row_by (meaning terms.policy own (trust (valid_in terms.verifier) (vouched_in terms.judge) log_keys))
+    settings (reference_in terms.image) (registry_auth terms.auth) terms.accepted
+
+-- pulls at these moments, from one state of the transport and the client to another, with their report
+pub record Rounds (row : ℕ → Whole VerifiedImage) (moments : List ℕ) (old new : Link) (k l : Kept) (made : Report)
+    : Type 0 where
+  pub talks : List Talk
+  pub moments_are : map moment_of talks ≡ moments
+  pub told : Extends old new (joined talks)
+  pub in_turn : InTurn row k old.faults talks l new.faults
+  pub whole : EachWhole talks
+  pub written : made.bytes ≡ reports talks
+  pub refused : made.refused ≡ not (all_answered talks)
+
+-- behind any pulls that led here, one more at this moment
+pub record Round (row : ℕ → Whole VerifiedImage) (moment : ℕ) (mid new : Link) (k l : Kept) (before after : Report)
+    : Type 0 where
+  pub more : (moments : List ℕ) (start : Link) (j : Kept)
+      → Rounds row moments start mid j k before → Rounds row (moments ++ moment ∷ []) start new j l after
+
+-- pulls at these moments over what this registry answers, with their report
+pub record Played (row : ℕ → Whole VerifiedImage) (registry : Registry) (moments : List ℕ) (k l : Kept)
+    (made : Report) : Type 0 where
+  pub talks : List Talk
+  pub moments_are : map moment_of talks ≡ moments
+  pub faults : ℕ
+  pub in_turn : InTurn row k 0 talks l faults
+  pub whole : EachWhole talks
+  pub answered : AnsweredBy (answering_by registry) 0 (joined talks)
+  pub calm_is : IsTrue (calm (answering_by registry).fails 0 (joined talks) faults)
+  pub written : made.bytes ≡ reports talks
+  pub refused : made.refused ≡ not (all_answered talks)

@@ -1,0 +1,236 @@
+// The pulls of a case.
+ghost use Rattle.std.specs.Prelude.{◌≡◌, ◌++◌, ◌||◌, false, not, Ok, IsErr, IfOk, OnOk};
+ghost use Rattle.oci_engine.specs.Clients.{default_config};
+ghost use Rattle.oci_names.specs.References.{reference_of};
+ghost use Rattle.sig_calls.specs.Direct.{reference_in};
+ghost use Rattle.sig_settings.specs.Auths.{registry_auth};
+ghost use Rattle.pull_case.specs.Policy.{constraints_by};
+ghost use Rattle.cosign_client.specs.State.{client_state};
+ghost use Rattle.pull_case.specs.Case.{IsReady};
+ghost use Rattle.pull_case.specs.Registry.{Leads};
+ghost use Rattle.pull_case.specs.Replay.{IsCalm, state_of};
+ghost use Rattle.pull_report.specs.Report.{report as lines_of};
+ghost use Rattle.pull_cases.specs.Opening.{Opens};
+ghost use Rattle.pull_cases.specs.Pulls.{is_answered, is_wanting, ReportsCase};
+ghost use Rattle.pull_cases.specs.Rounds.{row_for, Round, Played};
+
+use crate::report::Report;
+use cosign_client::{Client, PullRefusal, VerifiedImage};
+use cosign_layers::{Constraint, PullPolicy, TableJudge, TableVerifier};
+use json_values::{Blob, List, Text};
+use oci_transport::Exchange;
+use pull_case::{Case, Registry, Replay, constraints_from};
+use pull_report::{let_go, write_report};
+use pull_setup::{Asked, WrittenClient, ask_for, client_by};
+use sig_registry::{Auth, OciReference};
+use std::alloc::{AllocError, Global};
+
+// Whether memory was wanting.
+fn is_wanting(outcome: &Result<VerifiedImage, PullRefusal>) -> bool
+    ensures { result ≡ is_wanting outcome.now }
+{
+    match outcome {
+        Ok(_) => false,
+        Err(refusal) => refusal.is_memory(),
+    }
+}
+
+// Adds the report of a pull, unless memory cut the pull off.
+fn add_report(
+    alloc: Global,
+    report: &mut Report,
+    moment: u64,
+    conversation: &[Exchange],
+    outcome: &Result<VerifiedImage, PullRefusal>,
+) -> Result<(), AllocError>
+    ensures bytes { OnOk result
+        (report.new.bytes ≡ report.old.bytes ++ lines_of moment conversation.now outcome.now) }
+    ensures refused { OnOk result
+        (report.new.refused ≡ (report.old.refused || not (is_answered outcome.now))) }
+    ensures whole { OnOk result (is_wanting outcome.now ≡ false) }
+{
+    if is_wanting(outcome) {
+        return Err(AllocError);
+    }
+    write_report(alloc, &mut report.bytes, moment, conversation, outcome)?;
+    report.refused = report.refused || outcome.is_err();
+    Ok(())
+}
+
+// What each pull of a case asks for, and what it holds an answer to.
+#[derive(Drop)]
+struct Terms {
+    image: OciReference,
+    auth: Auth,
+    accepted: List<Text>,
+    policy: PullPolicy,
+    verifier: TableVerifier,
+    judge: TableJudge,
+}
+
+// One pull, whose report goes behind those that are there.
+fn pull_at(
+    alloc: Global,
+    client: &mut Client,
+    replay: &mut Replay,
+    terms: &Terms,
+    moment: u64,
+    report: &mut Report,
+) -> Result<(), AllocError>
+    ensures round { OnOk result (Round (row_for (λ b. accepts (b.vtable, b.value)) terms.now
+        (client_state client.old).settings client.old.rekor_pub_keys)
+        moment (state_of replay.old) (state_of replay.new)
+        (client_state client.old).kept (client_state client.new).kept report.old report.new) }
+    ensures settings { (client_state client.new).settings ≡ (client_state client.old).settings }
+    ensures log_keys { client.new.rekor_pub_keys ≡ client.old.rekor_pub_keys }
+    ensures calm { OnOk result (IsCalm replay.new) }
+{
+    let before = replay.conversation().as_slice().len();
+    let outcome = client.verified_pull(
+        alloc,
+        replay,
+        moment,
+        &terms.image,
+        &terms.auth,
+        terms.accepted.as_slice(),
+        &terms.policy,
+        &terms.verifier,
+        &terms.judge,
+    );
+    let conversation = replay.conversation().as_slice();
+    let added = add_report(alloc, report, moment, &conversation[before..], &outcome);
+    let_go(outcome);
+    added
+}
+
+// One pull at each moment, in turn, over what this registry answers.
+fn pull_each(
+    alloc: Global,
+    client: &mut Client,
+    registry: Registry,
+    terms: &Terms,
+    moments: &[u64],
+) -> Result<Report, AllocError>
+    requires { Leads registry }
+    ensures { IfOk result (Played (row_for (λ b. accepts (b.vtable, b.value)) terms.now
+        (client_state client.old).settings client.old.rekor_pub_keys)
+        registry moments.now (client_state client.old).kept (client_state client.new).kept) }
+{
+    let mut replay = Replay::new(alloc, registry);
+    let mut report = Report {
+        bytes: Blob::empty(alloc),
+        refused: false,
+    };
+    for moment in moments {
+        pull_at(alloc, client, &mut replay, terms, *moment, &mut report)?;
+    }
+    Ok(report)
+}
+
+// A case whose client is made, with what its pulls are held to.
+#[derive(Drop)]
+struct Opened {
+    client: Client,
+    image: OciReference,
+    auth: Auth,
+    accepted: List<Text>,
+    keys: List<Blob>,
+    verifier: TableVerifier,
+    judge: TableJudge,
+    registry: Registry,
+    moments: List<u64>,
+}
+
+fn open_case(alloc: Global, asked: Asked, case: Case) -> Opened
+    ensures { Opens asked case result }
+{
+    let Asked { image, auth, usual } = asked;
+    let written = WrittenClient {
+        protocol: case.protocol,
+        limit: case.limit,
+        platform: case.platform,
+        caching: case.caching,
+        log_keys: case.log_keys,
+    };
+    Opened {
+        client: client_by(alloc, usual, written),
+        image,
+        auth,
+        accepted: case.accepted,
+        keys: case.keys,
+        verifier: TableVerifier {
+            rows: case.signatures,
+        },
+        judge: case.vouched,
+        registry: case.registry,
+        moments: case.moments,
+    }
+}
+
+// The pulls of a case, once all is there that memory is taken for before the first request.
+fn make_pulls(
+    alloc: Global,
+    asked: Asked,
+    constraints: List<Constraint>,
+    case: Case,
+) -> Result<Report, AllocError>
+    requires { IsReady case }
+    ensures { asked.usual ≡ default_config → registry_auth asked.auth ≡ case.auth
+        → reference_of case.reference ≡ Ok (reference_in asked.image) → constraints ≡ constraints_by case.constraints
+        → IfOk result (ReportsCase case) }
+{
+    let Opened {
+        mut client,
+        image,
+        auth,
+        accepted,
+        keys,
+        verifier,
+        judge,
+        registry,
+        moments,
+    } = open_case(alloc, asked, case);
+    let terms = Terms {
+        image,
+        auth,
+        accepted,
+        policy: PullPolicy { keys, constraints },
+        verifier,
+        judge,
+    };
+    let report = pull_each(alloc, &mut client, registry, &terms, moments.as_slice());
+    let_both_go(client, terms);
+    report
+}
+
+// The pulls of a case whose reference was read.
+fn pull_asked(alloc: Global, asked: Asked, case: Case) -> Result<Report, AllocError>
+    requires { IsReady case }
+    ensures { asked.usual ≡ default_config → registry_auth asked.auth ≡ case.auth
+        → reference_of case.reference ≡ Ok (reference_in asked.image) → IfOk result (ReportsCase case) }
+{
+    match constraints_from(alloc, case.constraints.as_slice()) {
+        Ok(constraints) => make_pulls(alloc, asked, constraints, case),
+        Err(_) => without_memory(case),
+    }
+}
+
+/// Makes the pulls of a case over what its registry answers, and writes their report.
+pub fn pull_case(alloc: Global, case: Case) -> Result<Report, AllocError>
+    requires { IsReady case }
+    ensures { IfOk result (ReportsCase case) }
+{
+    match ask_for(alloc, case.reference.as_str(), &case.auth) {
+        Ok(asked) => pull_asked(alloc, asked, case),
+        Err(_) => without_memory(case),
+    }
+}
+
+fn without_memory(_case: Case) -> Result<Report, AllocError>
+    ensures { IsErr result }
+{
+    Err(AllocError)
+}
+
+// A function that lets a value go does nothing else, so that each of its many parts is let go where nothing is known.
+fn let_both_go(_client: Client, _terms: Terms) {}

@@ -1,0 +1,22 @@
+// How what was written goes out.
+ghost use Rattle.pull_run.specs.Output.{Puts};
+
+use crate::status::Status;
+use json_values::{Sink, SinkError, put_all};
+use pull_cases::Report;
+
+/// Writes what was made, and says how that ended.
+pub fn deliver<K: Sink>(sink: &mut K, report: &Report) -> Status
+    ensures { Puts result report.now (K.state sink.old) (K.state sink.new) }
+{
+    match put_all(sink, report.bytes.as_slice()) {
+        Ok(()) => {
+            if report.refused {
+                return Status::Refused;
+            }
+            Status::Done
+        }
+        Err(SinkError::Failed) => Status::SinkFault,
+        Err(SinkError::WantOfMemory) => Status::WantOfMemory,
+    }
+}

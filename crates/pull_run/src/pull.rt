@@ -1,0 +1,28 @@
+// The word `pull`: the pulls of a recorded case.
+ghost use Rattle.std.specs.Prelude.{◌≡◌, IfOk, IfSome};
+ghost use Rattle.pull_case.specs.Case.{case_in, IsReady};
+ghost use Rattle.pull_cases.specs.Pulls.{ReportsCase};
+
+use crate::task::Task;
+use pull_case::{Case, read_case};
+use pull_cases::{Report, pull_case};
+use std::alloc::{AllocError, Global};
+
+impl Task for Case {
+    ghost reads = { case_in };
+
+    ghost Valid = { IsReady };
+
+    ghost Gives = { ReportsCase };
+
+    fn read(alloc: Global, bytes: &[u8]) -> Result<Option<Case>, AllocError>
+        ensures exact { IfOk result (λ found. found ≡ case_in bytes.now) }
+        ensures valid { IfOk result (λ found. IfSome found IsReady) }
+    {
+        read_case(alloc, bytes)
+    }
+
+    fn make(self, alloc: Global) -> Result<Report, AllocError> {
+        pull_case(alloc, self)
+    }
+}
