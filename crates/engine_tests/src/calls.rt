@@ -1,7 +1,9 @@
 // Each call of the engine's client.
-use json_values::{List, MemorySink, PlainSink, Text};
+use json_values::{Blob, List, MemorySink, PlainSink, Text};
 use oci_auth::{RegistryAuth, RegistryOperation};
-use oci_engine::{AsLayerDescriptor, Client, ClientConfig, LayerDescriptor};
+use oci_engine::{
+    AsLayerDescriptor, Client, ClientConfig, ImageData, LayerDescriptor, OciDistributionError,
+};
 use oci_manifests::OciManifest;
 use oci_names::Reference;
 use oci_transport::Script;
@@ -56,16 +58,26 @@ fn is_raw(alloc: Global, named: &str) -> bool {
     }
 }
 
+// How many layers the document lists, where it is a manifest.
+fn listed(found: &Result<(OciManifest, Text), OciDistributionError>) -> Option<usize> {
+    match found {
+        Ok(found) => match &found.0 {
+            OciManifest::Image(manifest) => Some(manifest.layers.as_slice().len()),
+            OciManifest::ImageIndex(_) => None,
+        },
+        Err(_) => None,
+    }
+}
+
+// What was found is let go where nothing is known of it.
+fn let_document_go(_found: Result<(OciManifest, Text), OciDistributionError>) {}
+
 fn layers_listed(alloc: Global, script: &mut Script) -> Option<usize> {
     let (mut client, image) = begun(alloc)?;
-    let found = client
-        .pull_manifest(alloc, script, 100, &image, &RegistryAuth::Anonymous)
-        .ok()?;
-    let (document, _digest) = found;
-    match document {
-        OciManifest::Image(manifest) => Some(manifest.layers.as_slice().len()),
-        OciManifest::ImageIndex(_) => None,
-    }
+    let found = client.pull_manifest(alloc, script, 100, &image, &RegistryAuth::Anonymous);
+    let count = listed(&found);
+    let_document_go(found);
+    count
 }
 
 fn is_document(alloc: Global) -> bool {
@@ -89,14 +101,23 @@ fn accepted(alloc: Global) -> Result<List<Text>, AllocError> {
 }
 
 // How many layers a pulled image has.
+fn pulled(found: &Result<ImageData, OciDistributionError>) -> Option<usize> {
+    match found {
+        Ok(found) => Some(found.layers.as_slice().len()),
+        Err(_) => None,
+    }
+}
+
+fn let_image_go(_found: Result<ImageData, OciDistributionError>) {}
+
 fn layers_pulled(alloc: Global, script: &mut Script) -> Option<usize> {
-    let (mut client, image) = begun(alloc)?;
     let accepted = accepted(alloc).ok()?;
+    let (mut client, image) = begun(alloc)?;
     let auth = RegistryAuth::Anonymous;
-    let found = client
-        .pull(alloc, script, 100, &image, &auth, accepted.as_slice())
-        .ok()?;
-    Some(found.layers.as_slice().len())
+    let found = client.pull(alloc, script, 100, &image, &auth, accepted.as_slice());
+    let count = pulled(&found);
+    let_image_go(found);
+    count
 }
 
 fn is_image(alloc: Global) -> bool {
@@ -161,13 +182,23 @@ fn a_blob_goes_to_its_sink(rt: HostRuntime) {
     assert!(rt; sink_fails(rt.alloc()));
 }
 
+// Whether the blob came that was meant.
+fn is_meant(found: &Result<Blob, OciDistributionError>) -> bool {
+    match found {
+        Ok(blob) => blob.as_slice() == b"hello world".as_slice(),
+        Err(_) => false,
+    }
+}
+
+fn let_blob_go(_found: Result<Blob, OciDistributionError>) {}
+
 fn is_pulled<L: AsLayerDescriptor>(alloc: Global, layer: &L) -> Option<bool> {
-    let (mut client, image) = begun(alloc)?;
     let mut script = script(alloc, &[(LAYER_DIGEST, "hello world")]).ok()?;
-    let blob = client
-        .pulled_blob(alloc, &mut script, 100, &image, layer)
-        .ok()?;
-    Some(blob.as_slice() == b"hello world".as_slice())
+    let (mut client, image) = begun(alloc)?;
+    let found = client.pulled_blob(alloc, &mut script, 100, &image, layer);
+    let meant = is_meant(&found);
+    let_blob_go(found);
+    Some(meant)
 }
 
 #[test]

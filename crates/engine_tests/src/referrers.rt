@@ -3,7 +3,8 @@ ghost use Rattle.std.specs.Prelude.{IfOk};
 ghost use Rattle.oci_transport.specs.Pieces.{NoneEmpty};
 
 use json_values::{Blob, List, Text};
-use oci_engine::{Client, ClientConfig};
+use oci_engine::{Client, ClientConfig, OciDistributionError};
+use oci_manifests::OciImageIndex;
 use oci_names::Reference;
 use oci_transport::{Headers, Recorded, Script};
 use std::alloc::{AllocError, Global};
@@ -49,10 +50,8 @@ fn begun(alloc: Global) -> Option<(Client, Reference)> {
 }
 
 // How many entries there are, or the name of the refusal.
-fn outcome(alloc: Global, kind: Option<&str>, given: &[(u16, &str)]) -> Option<Text> {
-    let mut script = answers(alloc, given).ok()?;
-    let (mut client, image) = begun(alloc)?;
-    match client.pull_referrers(alloc, &mut script, 100, &image, kind) {
+fn text_of(alloc: Global, found: &Result<OciImageIndex, OciDistributionError>) -> Option<Text> {
+    match found {
         Ok(index) => {
             let count = index.manifests.as_slice().len();
             let text = format!(in alloc; "{count}").ok()?;
@@ -60,6 +59,18 @@ fn outcome(alloc: Global, kind: Option<&str>, given: &[(u16, &str)]) -> Option<T
         }
         Err(error) => Text::new(alloc, error.name()).ok(),
     }
+}
+
+// What was found is let go where nothing is known of it.
+fn let_go(_found: Result<OciImageIndex, OciDistributionError>) {}
+
+fn outcome(alloc: Global, kind: Option<&str>, given: &[(u16, &str)]) -> Option<Text> {
+    let mut script = answers(alloc, given).ok()?;
+    let (mut client, image) = begun(alloc)?;
+    let found = client.pull_referrers(alloc, &mut script, 100, &image, kind);
+    let text = text_of(alloc, &found);
+    let_go(found);
+    text
 }
 
 fn comes_to(alloc: Global, kind: Option<&str>, given: &[(u16, &str)], wanted: &str) -> bool {

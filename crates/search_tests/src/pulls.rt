@@ -150,6 +150,9 @@ fn is_linked(
     }
 }
 
+// What was pulled is let go where nothing is known of it.
+fn let_image_go(_found: Result<VerifiedImage, PullRefusal>) {}
+
 fn links_over(
     alloc: Global,
     client: &mut Client,
@@ -158,7 +161,9 @@ fn links_over(
 ) -> Option<(bool, bool)> {
     let other = OciReference::parse(alloc, OTHER).ok()?;
     let found = pull(alloc, client, script, asked);
-    Some(is_linked(&found, asked, &other))
+    let linked = is_linked(&found, asked, &other);
+    let_image_go(found);
+    Some(linked)
 }
 
 fn links_of(alloc: Global, client: &mut Client, asked: &Asked) -> Option<(bool, bool)> {
@@ -241,17 +246,26 @@ fn a_search_collects_the_layers_under_the_tag(rt: HostRuntime) {
     assert!(rt; search(rt.alloc(), 13) == Some((1, 0)));
 }
 
-// The tag under which the signatures of the answered digest stand.
+// Whether the tag is the one under which the signatures of the answered digest stand.
+fn names_tag(found: &Result<(OciReference, Text), SigstoreError>) -> Option<bool> {
+    match found {
+        Ok(found) => Some(found.0.tag()? == SIGNATURE_TAG),
+        Err(_) => None,
+    }
+}
+
+fn let_tag_go(_found: Result<(OciReference, Text), SigstoreError>) {}
+
 fn is_tag(
     alloc: Global,
     client: &mut Client,
     script: &mut Script,
     image: &OciReference,
 ) -> Option<bool> {
-    match client.triangulate(alloc, script, 100, image, &Auth::Anonymous) {
-        Ok(found) => Some(found.0.tag()? == SIGNATURE_TAG),
-        Err(_) => None,
-    }
+    let found = client.triangulate(alloc, script, 100, image, &Auth::Anonymous);
+    let named = names_tag(&found);
+    let_tag_go(found);
+    named
 }
 
 fn triangulate_by(alloc: Global, client: &mut Client) -> Option<bool> {
