@@ -3,19 +3,19 @@ use Rattle.std.proofs.Common.{◌≡◌, ℕ, Bool, true, false, List, [], ◌�
 use Rattle.oci_transport.specs.declared.message.Exchange.{Exchange}
 use Rattle.oci_transport.specs.Link.{Link, Extends}
 use Rattle.oci_names.specs.declared.reference.Reference.{Reference}
-use Rattle.oci_names.specs.References.{reads_back}
+use Rattle.oci_names.specs.Reference.{reads_back}
 use Rattle.oci_auth.specs.declared.auth.RegistryAuth.{RegistryAuth}
 use Rattle.oci_protocol.specs.Proto.{Done, bind, unless_refused, ◌>>◌}
 use Rattle.oci_protocol.specs.Lift.{lifted}
 use Rattle.oci_protocol.specs.Runs.{Runs}
-use Rattle.oci_protocol.proofs.Extending.{Extends-untold}
-use Rattle.oci_protocol.proofs.Lifting.{Runs-unlifted}
+use Rattle.oci_protocol.proofs.Conversations.{Extends-untold}
+use Rattle.oci_protocol.proofs.WiderMemory.{Runs-unlifted}
 use Rattle.oci_protocol.proofs.Parts.{Parts, Runs-parts, Runs-done}
 use Rattle.engine_terms.specs.declared.settings.Settings.{Settings}
 use Rattle.engine_terms.specs.Contexts.{within}
 use Rattle.engine_requests.specs.Sources.{Layer}
 use Rattle.sig_calls.specs.declared.error.SigstoreError.{SigstoreError}
-use Rattle.sig_calls.specs.Errors.{is_memory}
+use Rattle.sig_calls.specs.Error.{is_memory}
 use Rattle.sig_calls.specs.Clients.{Kept, Plain, Row, Client, Fulfils}
 use Rattle.sig_calls.specs.Caching.{Cache, known, keeping, known_or, recalled, cached}
 use Rattle.sig_calls.specs.Calls.{digests, manifests, images, referrers, digest_made, manifest_made, image_made, referrers_made, document_made, blob_made, digest_call, manifest_call, image_call, referrers_call, document_call, blob_call}
@@ -23,7 +23,7 @@ use Rattle.sig_calls.specs.Log.{Call, DigestCall, ManifestCall, ImageCall, Refer
 use Rattle.sig_registry.proofs.Logs.{IsCache, logged}
 use Rattle.sig_registry.proofs.Facts.{digests_kept, manifests_kept, images_kept, referrers_kept}
 use Rattle.cache_laws.specs.Growth.{Grown, Grows}
-use Rattle.cache_laws.proofs.Growing.{as_it_was, grows_lifted}
+use Rattle.cache_laws.proofs.PartsInTurn.{as_it_was, grows_lifted}
 
 -- ---- a refusal leaves the kept answers as they were
 

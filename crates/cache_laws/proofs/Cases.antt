@@ -10,7 +10,7 @@ use Rattle.pull_case.specs.declared.case.Case.{Case}
 use Rattle.pull_cases.specs.Pulls.{Talk, InTurn, Pulled, settings_of, row_of}
 use Rattle.pull_setup.specs.Clients.{fresh}
 use Rattle.cache_laws.specs.Growth.{Grown, Grows}
-use Rattle.cache_laws.proofs.Growing.{as_it_was}
+use Rattle.cache_laws.proofs.PartsInTurn.{as_it_was}
 use Rattle.cache_laws.proofs.Pulls.{pull_grows}
 
 -- pulls in turn

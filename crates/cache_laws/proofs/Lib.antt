@@ -1,4 +1,4 @@
 pub mod Calls
 pub mod Cases
-pub mod Growing
+pub mod PartsInTurn
 pub mod Pulls

@@ -1,7 +1,7 @@
 -- The whole pull of an image: what the search, the search's sources and the image ask of the client.
 use Rattle.std.proofs.Common.{ℕ, Bool, true, false, List, [], ◌∷◌, ◌++◌, None, Result, Ok, Err}
 use Rattle.oci_names.specs.declared.reference.Reference.{Reference}
-use Rattle.oci_names.specs.References.{reads_back}
+use Rattle.oci_names.specs.Reference.{reads_back}
 use Rattle.oci_auth.specs.declared.auth.RegistryAuth.{RegistryAuth}
 use Rattle.oci_manifests.specs.declared.document.OciManifest.{OciManifest}
 use Rattle.oci_manifests.specs.declared.document.OciManifest.TheVariants.{Image, ImageIndex}
@@ -16,7 +16,7 @@ use Rattle.engine_terms.specs.Contexts.{within}
 use Rattle.engine_requests.specs.Requests.{manifest_types}
 use Rattle.engine_requests.specs.Sources.{described}
 use Rattle.engine_answers.specs.Index.{entry_reference}
-use Rattle.engine_rows.specs.Images.{layer_of}
+use Rattle.engine_rows.specs.Image.{layer_of}
 use Rattle.sig_calls.specs.declared.error.SigstoreError.{SigstoreError}
 use Rattle.sig_calls.specs.Clients.{Row}
 use Rattle.sig_calls.specs.Calls.{digest_call, manifest_call, image_call, referrers_call, document_call, blob_call}
@@ -27,7 +27,7 @@ use Rattle.cosign_rows.specs.Search.{payload_type, bundle_type, tag_layers, tag_
 use Rattle.cosign_rows.specs.Image.{layers_row, blobs_row, entry_call, entry_row, manifest_row, after_document, image_row}
 use Rattle.cosign_rows.specs.Verified.{part_of, after_standing, after_search, verified}
 use Rattle.cache_laws.specs.Growth.{Grows}
-use Rattle.cache_laws.proofs.Growing.{grows_done, grows_bind, grows_next}
+use Rattle.cache_laws.proofs.PartsInTurn.{grows_done, grows_bind, grows_next}
 use Rattle.cache_laws.proofs.Calls.{digest_grows, manifest_grows, image_grows, referrers_grow, document_grows, blob_grows}
 
 -- for each of a type that the property tells

@@ -11,7 +11,7 @@ use Rattle.std.proofs.lemmas.Map.Views.{Contains-from_any, list_any-from_Contain
 use Rattle.std.specs.Cmp.Lexicographic.{nat_list_eq_equiv}
 use Rattle.json_values.specs.Places.{by_bytes}
 use Rattle.oci_names.specs.declared.reference.Reference.{Reference}
-use Rattle.oci_names.specs.References.{digest_of}
+use Rattle.oci_names.specs.Reference.{digest_of}
 use Rattle.oci_digests.specs.Names.{Names, names}
 use Rattle.oci_digests.proofs.Equal.{named}
 use Rattle.oci_manifests.specs.declared.manifest.OciImageManifest.{OciImageManifest}

@@ -3,7 +3,7 @@ use Rattle.std.specs.Prelude.{◌≡◌, ◌<◌, ◌⊎◌, ℕ, List, [], ◌�
 use Rattle.serde_json.specs.Data.{Data}
 use Rattle.json_values.specs.JsonText.{json_of}
 use Rattle.oci_names.specs.declared.reference.Reference.{Reference}
-use Rattle.oci_names.specs.References.{digest_of}
+use Rattle.oci_names.specs.Reference.{digest_of}
 use Rattle.oci_digests.specs.Names.{Names}
 use Rattle.oci_manifests.specs.Document.{document_of}
 use Rattle.oci_manifests.specs.Versioned.{IsVersioned}

@@ -52,7 +52,7 @@ pub fn check_chain<V: SignatureVerifier, O: Offline>(
 }
 
 // Whether the layer stands for the image of this digest.
-#[tactic(auto, using(crate::proofs::Standing::unconstrained, crate::proofs::Standing::another, crate::proofs::Standing::supported, crate::proofs::Standing::rejected))]
+#[tactic(auto, using(crate::proofs::LayerStands::standing_rules))]
 fn stands_for<V: SignatureVerifier, O: Offline>(
     alloc: Global,
     policy: &PullPolicy,

@@ -1,7 +1,7 @@
 //! The links of a chain that show on documents and blobs alone.
 ghost use Rattle.std.specs.Prelude.{◌≡◌, ◌↔◌, IsTrue, bytes_eq, option_copied};
 ghost use Rattle.std.specs.List.{list_all, list_any, zip};
-ghost use Rattle.oci_names.specs.References.{digest_of};
+ghost use Rattle.oci_names.specs.Reference.{digest_of};
 ghost use Rattle.cosign_chain.specs.Links.{Links, named_by, same_annotations, has_manifest, has_config};
 ghost use Rattle.cosign_chain.specs.Links.{is_layer_of, has_layers, is_linked};
 

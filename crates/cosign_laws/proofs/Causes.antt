@@ -2,7 +2,7 @@
 use Rattle.std.proofs.Common.{◌≡◌, ℕ, Bool, true, false, inl, inr, List, [], ◌∷◌, ◌++◌, Option, Some, None, Result, Ok, Err, IfErr, refl, sym, subst, append-nil}
 use Rattle.std.specs.Prelude.{if◌then◌else◌, find, MatchBool}
 use Rattle.oci_names.specs.declared.reference.Reference.{Reference}
-use Rattle.oci_names.specs.References.{whole_text, reads_back}
+use Rattle.oci_names.specs.Reference.{whole_text, reads_back}
 use Rattle.oci_auth.specs.declared.auth.RegistryAuth.{RegistryAuth}
 use Rattle.oci_descriptors.specs.declared.descriptor.OciDescriptor.{OciDescriptor}
 use Rattle.oci_manifests.specs.declared.blob.ImageLayer.{ImageLayer}
@@ -19,21 +19,22 @@ use Rattle.oci_protocol.specs.Shows.{ShowsKept}
 use Rattle.oci_protocol.specs.Ends.{Ends}
 use Rattle.oci_protocol.specs.Runs.{Runs, Meets, Told, Performs, Breaks}
 use Rattle.oci_protocol.proofs.Ends.{Ends-any, Ends-bind, Runs-ends}
-use Rattle.oci_protocol.proofs.Lifting.{Ends-lifted}
-use Rattle.oci_protocol.proofs.Keeping.{ShowsKept-run, ShowsKept-done, ShowsKept-more, ShowsKept-both, ShowsKept-bind, ShowsKept-step}
+use Rattle.oci_protocol.proofs.WiderMemory.{Ends-lifted}
+use Rattle.oci_protocol.proofs.KeptFacts.{ShowsKept-run, ShowsKept-done, ShowsKept-more, ShowsKept-both, ShowsKept-bind, ShowsKept-step}
 use Rattle.engine_terms.specs.Contexts.{Context}
 use Rattle.engine_requests.specs.Sources.{Layer, described}
 use Rattle.engine_terms.specs.declared.error.OciDistributionError.{OciDistributionError}
-use Rattle.engine_terms.specs.Errors.{is_memory as engine_is_memory}
+use Rattle.engine_terms.specs.Error.{is_memory as engine_is_memory}
 use Rattle.engine_requests.specs.Requests.{manifest_types}
 use Rattle.engine_rows.specs.Rows.{Row as Engine}
 use Rattle.engine_rows.specs.Pulls.{fetch_manifest_digest, pull_manifest_raw, held_blob}
-use Rattle.engine_rows.specs.Images.{layers_accepted, layer_of}
+use Rattle.engine_rows.specs.Image.{layers_accepted, layer_of}
 use Rattle.sig_calls.specs.declared.error.SigstoreError.{SigstoreError}
 use Rattle.sig_calls.specs.declared.error.SigstoreError.TheVariants as sigstore
 use Rattle.sig_calls.specs.declared.wording.Called.{Called}
 use Rattle.sig_calls.specs.declared.wording.Called.TheVariants.{FetchManifest, Pull, PullManifest}
-use Rattle.sig_calls.specs.Errors.{is_memory as of_memory, worded, refusal as call_refusal}
+use Rattle.sig_calls.specs.Error.{is_memory as of_memory}
+use Rattle.sig_calls.specs.Wording.{worded, refusal as call_refusal}
 use Rattle.sig_calls.specs.Clients.{Kept, Row}
 use Rattle.sig_settings.specs.Keys.{manifest_key}
 use Rattle.sig_answers.specs.declared.answers.Answers.{Answers}
@@ -61,7 +62,7 @@ use Rattle.cosign_rows.specs.declared.pulled.Pulled.{Pulled}
 use Rattle.cosign_rows.specs.declared.refusal.PullRefusal.{PullRefusal}
 use Rattle.cosign_rows.specs.declared.refusal.PullRefusal.TheVariants as refusal
 use Rattle.cosign_rows.specs.declared.standing.Standing.{Standing}
-use Rattle.cosign_laws.proofs.Cached.{cached_ends}
+use Rattle.cosign_laws.proofs.CachedCalls.{cached_ends}
 
 -- ---- which refusals a part can answer
 

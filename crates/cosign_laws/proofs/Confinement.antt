@@ -11,10 +11,10 @@ use Rattle.engine_laws.proofs.ShownTokens.{Ended}
 use Rattle.sig_settings.specs.Keys.{manifest_key, pull_key, referrers_key}
 use Rattle.sig_calls.specs.Clients.{Kept, Row}
 use Rattle.sig_calls.specs.Calls.{in_words, digest_made, manifest_made, image_made, document_made, blob_made, referrers_made, digests, manifests, images, referrers, digest_call, manifest_call, image_call, document_call, blob_call, referrers_call}
-use Rattle.cosign_laws.proofs.Cached.{cached_confines}
+use Rattle.cosign_laws.proofs.CachedCalls.{cached_confines}
 use Rattle.oci_transport.specs.Link.{Link}
 use Rattle.oci_names.specs.declared.reference.Reference.{Reference}
-use Rattle.oci_names.specs.References.{resolved_registry, mirror_of, whole_text, reads_back}
+use Rattle.oci_names.specs.Reference.{resolved_registry, mirror_of, whole_text, reads_back}
 use Rattle.oci_auth.specs.declared.auth.RegistryAuth.{RegistryAuth}
 use Rattle.oci_auth.specs.declared.memory.Memory.{Memory}
 use Rattle.oci_auth.specs.declared.token_type.RegistryOperation.TheVariants.{Pull}
@@ -32,16 +32,17 @@ use Rattle.engine_requests.specs.Requests.{manifest_types}
 use Rattle.engine_terms.specs.declared.settings.Settings.{Settings}
 use Rattle.engine_rows.specs.Blobs.{IntoMemory}
 use Rattle.engine_rows.specs.Rows.{Row as Engine, token_given}
-use Rattle.engine_rows.specs.Images.{pull, layers_accepted, layer_of}
+use Rattle.engine_rows.specs.Image.{pull, layers_accepted, layer_of}
 use Rattle.engine_rows.specs.Pulls.{fetch_manifest_digest, pull_manifest, pull_manifest_raw, held_blob}
 use Rattle.engine_rows.specs.Referrers.{pull_referrers}
-use Rattle.engine_laws.proofs.CallConfined.{Any, given_safe}
+use Rattle.engine_laws.proofs.CallConfinement.{Any, given_safe}
 use Rattle.engine_laws.proofs.ReferrersSound.{referrers_sound, same_registry}
 use Rattle.engine_laws.proofs.HeaderCauses.{digest_sound, raw_sound, manifest_sound, image_sound, blob_sound}
 use Rattle.sig_calls.specs.declared.error.SigstoreError.{SigstoreError}
 use Rattle.sig_calls.specs.declared.wording.Called.{Called}
 use Rattle.sig_calls.specs.declared.wording.Called.TheVariants as calls
-use Rattle.sig_calls.specs.Errors.{is_memory, worded}
+use Rattle.sig_calls.specs.Error.{is_memory}
+use Rattle.sig_calls.specs.Wording.{worded}
 use Rattle.cosign_chain.specs.declared.image.VerifiedImage.{VerifiedImage}
 use Rattle.cosign_layers.specs.Standing.{Meaning}
 use Rattle.cosign_layers.specs.Trust.{Trust}

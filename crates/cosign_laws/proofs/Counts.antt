@@ -8,7 +8,7 @@ use Rattle.oci_protocol.specs.Lift.{lifted}
 use Rattle.oci_protocol.specs.Ends.{UnlessMemory}
 use Rattle.oci_protocol.specs.Runs.{Runs, Performs, Breaks, Outcome, Meets}
 use Rattle.oci_protocol.proofs.Laws.{Runs-count}
-use Rattle.oci_protocol.proofs.Lifting.{Runs-unlifted}
+use Rattle.oci_protocol.proofs.WiderMemory.{Runs-unlifted}
 use Rattle.oci_protocol.proofs.Parts.{Runs-parts}
 
 -- of each whole run this is so: of the counts before and after it, and of its answer

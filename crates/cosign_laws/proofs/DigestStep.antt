@@ -1,7 +1,7 @@
 -- What the policy, the reference and the digest step decide of a pull.
 use Rattle.std.proofs.Common.{◌≡◌, ℕ, Bool, true, false, List, [], ◌++◌, Result, Ok, Err, refl, sym, ap, ◌∙◌, append_assoc, append-nil}
 use Rattle.oci_names.specs.declared.reference.Reference.{Reference}
-use Rattle.oci_names.specs.References.{whole_text, reads_back}
+use Rattle.oci_names.specs.Reference.{whole_text, reads_back}
 use Rattle.oci_auth.specs.declared.auth.RegistryAuth.{RegistryAuth}
 use Rattle.oci_transport.specs.Link.{Link}
 use Rattle.oci_transport.specs.declared.message.Exchange.{Exchange}
@@ -10,11 +10,11 @@ use Rattle.oci_protocol.specs.Ends.{Ends, UnlessMemory}
 use Rattle.oci_protocol.specs.Runs.{Runs, Meets, Told}
 use Rattle.oci_protocol.specs.Shows.{ShowsKept}
 use Rattle.oci_protocol.proofs.Ends.{Meets-ends}
-use Rattle.oci_protocol.proofs.Keeping.{ShowsKept-run, ShowsKept-bind, ShowsKept-step, Meets-shows-kept}
+use Rattle.oci_protocol.proofs.KeptFacts.{ShowsKept-run, ShowsKept-bind, ShowsKept-step, Meets-shows-kept}
 use Rattle.engine_terms.specs.Contexts.{Context}
 use Rattle.sig_calls.specs.declared.error.SigstoreError.{SigstoreError}
 use Rattle.sig_calls.specs.declared.error.SigstoreError.TheVariants as sigstore
-use Rattle.sig_calls.specs.Errors.{is_memory as of_memory}
+use Rattle.sig_calls.specs.Error.{is_memory as of_memory}
 use Rattle.sig_calls.specs.Clients.{Kept}
 use Rattle.sig_calls.specs.Calls.{digest_call}
 use Rattle.cosign_layers.specs.Standing.{Meaning}

@@ -6,7 +6,7 @@ use Rattle.std.proofs.lemmas.List.Elements.{All-push, All-cons, All-append}
 use Rattle.std.proofs.lemmas.List.Sums.{sum_by-append}
 use Rattle.json_values.specs.Counts.{Rose}
 use Rattle.oci_names.specs.declared.reference.Reference.{Reference}
-use Rattle.oci_names.specs.References.{whole_text, reads_back}
+use Rattle.oci_names.specs.Reference.{whole_text, reads_back}
 use Rattle.oci_auth.specs.declared.auth.RegistryAuth.{RegistryAuth}
 use Rattle.oci_auth.specs.declared.memory.Memory.{Memory}
 use Rattle.oci_auth.specs.declared.token_type.RegistryOperation.{RegistryOperation}
@@ -30,12 +30,12 @@ use Rattle.engine_terms.specs.Contexts.{Context}
 use Rattle.engine_terms.specs.declared.settings.Settings.{Settings}
 use Rattle.engine_terms.specs.declared.error.OciDistributionError.{OciDistributionError}
 use Rattle.engine_terms.specs.declared.error.OciDistributionError.TheVariants as engine_refusal
-use Rattle.engine_terms.specs.Errors.{is_memory as engine_is_memory}
+use Rattle.engine_terms.specs.Error.{is_memory as engine_is_memory}
 use Rattle.engine_requests.specs.Requests.{manifest_types}
 use Rattle.engine_rows.specs.Rows.{Row as Engine, token_given}
 use Rattle.engine_rows.specs.Referrers.{pull_referrers}
 use Rattle.engine_rows.specs.Pulls.{pull_manifest}
-use Rattle.engine_rows.specs.Images.{pull}
+use Rattle.engine_rows.specs.Image.{pull}
 use Rattle.engine_rows.specs.declared.image.ImageData.{ImageData}
 use Rattle.engine_laws.specs.Causes.{DocumentCause, ManifestUrl, OwnDigest}
 use Rattle.engine_laws.proofs.EarlyCauses.{Loose}
@@ -51,7 +51,8 @@ use Rattle.sig_calls.specs.declared.error.SigstoreError.{SigstoreError}
 use Rattle.sig_calls.specs.declared.error.SigstoreError.TheVariants as sigstore
 use Rattle.sig_calls.specs.declared.wording.Called.{Called}
 use Rattle.sig_calls.specs.declared.wording.Called.TheVariants.{FetchManifest, Pull, PullManifest}
-use Rattle.sig_calls.specs.Errors.{is_memory, worded, refusal as call_refusal}
+use Rattle.sig_calls.specs.Error.{is_memory}
+use Rattle.sig_calls.specs.Wording.{worded, refusal as call_refusal}
 use Rattle.sig_settings.specs.Keys.{manifest_key, pull_key, referrers_key}
 use Rattle.sig_calls.specs.Caching.{Cache, cached}
 use Rattle.sig_calls.specs.Clients.{Kept, Plain, Row}
@@ -85,7 +86,7 @@ use Rattle.cosign_rows.specs.declared.pulled.Pulled.{Pulled}
 use Rattle.cosign_rows.specs.declared.refusal.PullRefusal.{PullRefusal}
 use Rattle.cosign_rows.specs.declared.refusal.PullRefusal.TheVariants as refusal
 use Rattle.cosign_rows.specs.declared.standing.Standing.{Standing}
-use Rattle.cosign_laws.proofs.Cached.{cached_counts}
+use Rattle.cosign_laws.proofs.CachedCalls.{cached_counts}
 use Rattle.cosign_laws.proofs.Causes.{rest_of}
 use Rattle.cosign_laws.proofs.Counts.{Counts, Counts-any, Counts-done, Counts-more, Counts-bind, Meets-counts, silent, Runs-meets}
 

@@ -4,11 +4,11 @@ use Rattle.std.specs.Prelude.{if◌then◌else◌, bytes_eq}
 use Rattle.std.proofs.lemmas.Slice.Eq.{bytes_eq-Decides}
 use Rattle.std.proofs.lemmas.List.Elements.{Contains-append_right}
 use Rattle.oci_names.specs.declared.reference.Reference.{Reference}
-use Rattle.oci_names.specs.References.{digest_of, whole_text}
+use Rattle.oci_names.specs.Reference.{digest_of, whole_text}
 use Rattle.oci_auth.specs.declared.auth.RegistryAuth.{RegistryAuth}
 use Rattle.oci_digests.specs.Names.{Names, digest_text}
 use Rattle.oci_digests.specs.Checks.{checked, checked_by, and_then}
-use Rattle.oci_digests.specs.Parts.{named_algorithm}
+use Rattle.oci_digests.specs.Checks.{named_algorithm}
 use Rattle.oci_digests.specs.declared.digester.Algorithm.{Algorithm}
 use Rattle.oci_digests.specs.declared.error.DigestError.{DigestError}
 use Rattle.oci_digests.specs.declared.error.DigestError.TheVariants as digest_refusal
@@ -23,13 +23,13 @@ use Rattle.oci_manifests.specs.declared.blob.ImageLayer.{ImageLayer}
 use Rattle.oci_transport.specs.declared.message.Exchange.{Exchange}
 use Rattle.oci_protocol.specs.Proto.{Proto, Done, ◌>>=◌}
 use Rattle.oci_protocol.specs.Shows.{Shows, WhereOk}
-use Rattle.oci_protocol.proofs.Lifting.{Shows-lifted}
-use Rattle.oci_protocol.proofs.Showing.{Shows-done, Shows-more, Shows-bind, Shows-next, Shows-step}
+use Rattle.oci_protocol.proofs.WiderMemory.{Shows-lifted}
+use Rattle.oci_protocol.proofs.RunFacts.{Shows-done, Shows-more, Shows-bind, Shows-next, Shows-step}
 use Rattle.engine_terms.specs.Contexts.{Context}
 use Rattle.engine_requests.specs.Sources.{Layer, described}
 use Rattle.engine_terms.specs.declared.error.OciDistributionError.{OciDistributionError}
 use Rattle.engine_terms.specs.declared.error.OciDistributionError.TheVariants as engine_refusal
-use Rattle.engine_terms.specs.Errors.{is_memory as engine_is_memory}
+use Rattle.engine_terms.specs.Error.{is_memory as engine_is_memory}
 use Rattle.engine_answers.specs.Answers.{or_digest_error}
 use Rattle.engine_requests.specs.Requests.{manifest_types}
 use Rattle.engine_answers.specs.Documents.{document_read}
@@ -39,7 +39,7 @@ use Rattle.oci_platforms.specs.declared.promise.ResolverPromise.{ResolverPromise
 use Rattle.engine_rows.specs.Blobs.{IntoMemory}
 use Rattle.engine_rows.specs.Rows.{Row as Engine}
 use Rattle.engine_rows.specs.Pulls.{fetch_manifest_digest, pull_manifest_raw, held_blob}
-use Rattle.engine_rows.specs.Images.{is_accepted, all_accepted, layers_accepted, layer_of, config_of}
+use Rattle.engine_rows.specs.Image.{is_accepted, all_accepted, layers_accepted, layer_of, config_of}
 use Rattle.engine_laws.specs.Answered.{DigestAnswered, Body, Document, LastBody}
 use Rattle.engine_laws.proofs.DocumentAnswers.{body_before, body_after, raw_shows}
 use Rattle.engine_laws.proofs.BlobAnswers.{blob_shows}
@@ -48,7 +48,7 @@ use Rattle.sig_calls.specs.declared.error.SigstoreError.{SigstoreError}
 use Rattle.sig_calls.specs.declared.error.SigstoreError.TheVariants as sigstore
 use Rattle.sig_calls.specs.declared.wording.Called.{Called}
 use Rattle.sig_calls.specs.declared.wording.Called.TheVariants.{FetchManifest, Pull}
-use Rattle.sig_calls.specs.Errors.{worded, refusal}
+use Rattle.sig_calls.specs.Wording.{worded, refusal}
 use Rattle.sig_calls.specs.Clients.{Kept, Row}
 use Rattle.sig_calls.specs.Calls.{in_words, digest_made, document_made, blob_made, document_call, blob_call}
 use Rattle.cosign_rows.specs.declared.pulled.Pulled.{Pulled}
@@ -57,7 +57,7 @@ use Rattle.cosign_laws.proofs.Entries.{found_picked}
 use Rattle.cosign_rows.specs.Image.{named_by_reference, document_in, entry_in, with_image, layers_row, blobs_row, entry_call, entry_row, manifest_row, image_row}
 use Rattle.cosign_chain.specs.Chain.{IsDocument as Reads, ReadsAs, ConfigLinks, LayersLink}
 use Rattle.cosign_rows.specs.Sound.{EachBody}
-use Rattle.cosign_laws.proofs.Reading.{both, document_is, entry_is}
+use Rattle.cosign_laws.proofs.DocumentTexts.{both, document_is, entry_is}
 
 -- ---- calls in words
 

@@ -1,15 +1,15 @@
 pub mod Beginnings
-pub mod Cached
+pub mod CachedCalls
 pub mod Causes
 pub mod Chains
 pub mod Confinement
 pub mod Counts
 pub mod DigestStep
+pub mod DocumentTexts
 pub mod Entries
 pub mod Faults
 pub mod Images
 pub mod Meanings
-pub mod Reading
 pub mod Refusals
 pub mod ShelfCalls
 pub mod ShelfPulls

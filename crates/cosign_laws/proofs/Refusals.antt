@@ -5,12 +5,12 @@ use Rattle.std.specs.Ordering.{int_eq}
 use Rattle.json_values.specs.Counts.{Rose}
 use Rattle.json_values.specs.JsonText.{json_of}
 use Rattle.oci_names.specs.declared.reference.Reference.{Reference}
-use Rattle.oci_names.specs.References.{digest_of, whole_text, reads_back}
+use Rattle.oci_names.specs.Reference.{digest_of, whole_text, reads_back}
 use Rattle.oci_auth.specs.declared.auth.RegistryAuth.{RegistryAuth}
 use Rattle.oci_auth.specs.declared.memory.Memory.{Memory}
 use Rattle.oci_digests.specs.Checks.{checked, checked_by, and_then}
 use Rattle.oci_digests.specs.Names.{digest_text}
-use Rattle.oci_digests.specs.Parts.{parts_of, algorithm_of, named_by}
+use Rattle.oci_digests.specs.Checks.{parts_of, algorithm_of, named_by}
 use Rattle.oci_digests.specs.declared.digester.Algorithm.{Algorithm}
 use Rattle.oci_digests.specs.declared.error.DigestError.TheVariants as digest_refusal
 use Rattle.oci_manifests.specs.Types.{is_manifest_type}
@@ -34,7 +34,7 @@ use Rattle.engine_terms.specs.declared.error.OciDistributionError.{OciDistributi
 use Rattle.engine_terms.specs.declared.error.OciDistributionError.TheVariants as engine_refusal
 use Rattle.engine_answers.specs.Answers.{or_digest_error}
 use Rattle.engine_answers.specs.Documents.{plain_of, type_checked, version_checked, versioned_in, or_unread, reads_twice, tables_read, document_read}
-use Rattle.engine_terms.specs.Errors.{is_memory as engine_is_memory, ◌>>=◌ as ◌before◌}
+use Rattle.engine_terms.specs.Error.{is_memory as engine_is_memory, ◌>>=◌ as ◌before◌}
 use Rattle.engine_requests.specs.Requests.{manifest_types}
 use Rattle.engine_answers.specs.Index.{entry_named, entry_found, entry_manifest, entry_reference}
 use Rattle.oci_platforms.specs.Promise.{lists, resolved}
@@ -45,7 +45,7 @@ use Rattle.engine_rows.specs.Blobs.{IntoMemory}
 use Rattle.engine_rows.specs.Rows.{Row as Engine}
 use Rattle.engine_rows.specs.Pulls.{fetch_manifest_digest, pull_manifest_raw, held_blob}
 use Rattle.engine_rows.specs.declared.image.ImageData.{ImageData}
-use Rattle.engine_rows.specs.Images.{is_accepted, all_accepted, layers_accepted, layer_of}
+use Rattle.engine_rows.specs.Image.{is_accepted, all_accepted, layers_accepted, layer_of}
 use Rattle.engine_laws.specs.Causes.{AnswerCause, BlobUrl, ManifestUrl, OwnDigest}
 use Rattle.engine_laws.proofs.BlobCauses.{blob_causes}
 use Rattle.engine_laws.proofs.DocumentCauses.{Accepted, OwnCause, raw_causes}
@@ -55,7 +55,8 @@ use Rattle.engine_laws.proofs.DigestCauses.{digest_causes}
 use Rattle.sig_calls.specs.declared.error.SigstoreError.{SigstoreError}
 use Rattle.sig_calls.specs.declared.error.SigstoreError.TheVariants as sigstore
 use Rattle.sig_calls.specs.declared.wording.Called.TheVariants.{FetchManifest, Pull}
-use Rattle.sig_calls.specs.Errors.{is_memory, worded, registry_refusal, FaultCounted as SearchFaultCounted, NoSinkFault as NoSinkInSearch}
+use Rattle.sig_calls.specs.Error.{is_memory, registry_refusal, FaultCounted as SearchFaultCounted, NoSinkFault as NoSinkInSearch}
+use Rattle.sig_calls.specs.Wording.{worded}
 use Rattle.sig_calls.specs.Clients.{Kept, Row}
 use Rattle.sig_settings.specs.Keys.{manifest_key}
 use Rattle.sig_calls.specs.Calls.{digests, digest_made, document_made, blob_made, digest_call, manifest_call, image_call, document_call, blob_call, referrers_call}

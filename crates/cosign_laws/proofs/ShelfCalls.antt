@@ -5,7 +5,7 @@ use Rattle.std.proofs.lemmas.Bool.{cond_both}
 use Rattle.std.proofs.lemmas.List.Elements.{All-nil, All-head, All-tail, All-push, All-filter}
 use Rattle.std.proofs.lemmas.Slice.Eq.{bytes_eq-Decides}
 use Rattle.oci_names.proofs.ReadsBack.{reads_back-means}
-use Rattle.oci_names.specs.References.{reads_back, whole_text, reference_of, resolved_registry, repository_of}
+use Rattle.oci_names.specs.Reference.{reads_back, whole_text, reference_of, resolved_registry, repository_of}
 use Rattle.oci_names.specs.declared.parse_error.ParseError.{ParseError}
 use Rattle.oci_names.specs.declared.reference.Reference.{Reference}
 use Rattle.oci_auth.specs.declared.auth.RegistryAuth.{RegistryAuth}
@@ -22,9 +22,9 @@ use Rattle.engine_terms.specs.Contexts.{within}
 use Rattle.engine_terms.specs.declared.settings.Settings.{Settings}
 use Rattle.shelf_laws.specs.Comes.{Comes, ComesTo, Yields, Gives, Stays}
 use Rattle.shelf_laws.specs.Home.{IsAt, Settled}
-use Rattle.shelf_laws.proofs.Coming.{Comes-more, Comes-bind}
+use Rattle.shelf_laws.proofs.TableSteps.{Comes-more, Comes-bind}
 use Rattle.shelf_laws.proofs.Tokens.{fresh_settled}
-use Rattle.shelf_laws.proofs.Lifted.{Comes-lifted, Comes-itself, ComesTo-is, Gives-lifted, Stays-lifted}
+use Rattle.shelf_laws.proofs.WiderRows.{Comes-lifted, Comes-itself, ComesTo-is, Gives-lifted, Stays-lifted}
 use Rattle.sig_settings.specs.Keys.{manifest_key, pull_key, referrers_key}
 use Rattle.sig_settings.proofs.Tells.{manifest_keys_tell, pull_keys_tell, referrers_keys_tell}
 use Rattle.sig_answers.specs.Answers.{is_of, is_fresh, same_kind, kind_of, given_at, keep, entry, within as in_bounds}

@@ -8,13 +8,13 @@ use Rattle.std.proofs.lemmas.List.Elements.{All-head, All-tail}
 use Rattle.oci_names.specs.Grammar.{is_digest}
 use Rattle.oci_names.specs.Parts.{digest_refusal}
 use Rattle.oci_names.specs.Words.{Tag}
-use Rattle.oci_names.specs.References.{digest_of, whole_text, resolved_registry, reads_back}
+use Rattle.oci_names.specs.Reference.{digest_of, whole_text, resolved_registry, reads_back}
 use Rattle.oci_names.specs.declared.reference.Reference.{Reference}
 use Rattle.oci_auth.specs.declared.auth.RegistryAuth.{RegistryAuth}
 use Rattle.oci_auth.specs.declared.memory.Memory.{Memory}
 use Rattle.oci_digests.specs.Names.{Names, digest_text}
 use Rattle.oci_digests.specs.declared.digester.Algorithm.TheVariants.{Sha256}
-use Rattle.oci_digests.proofs.Validated.{is_validated}
+use Rattle.oci_digests.proofs.ExactChecks.{is_validated}
 use Rattle.oci_manifests.specs.declared.document.OciManifest.{OciManifest}
 use Rattle.oci_manifests.specs.declared.document.OciManifest.TheVariants.{Image, ImageIndex}
 use Rattle.oci_manifests.specs.declared.index.OciImageIndex.{OciImageIndex}
@@ -35,7 +35,7 @@ use Rattle.oci_link.specs.declared.shelf.Shelf.{Shelf}
 use Rattle.engine_answers.specs.Answers.{or_digest_error}
 use Rattle.engine_terms.specs.Contexts.{Context, within}
 use Rattle.engine_answers.specs.Documents.{document_read}
-use Rattle.engine_terms.specs.Errors.{◌>>=◌ as ◌before◌, ◌>>◌ as ◌and◌}
+use Rattle.engine_terms.specs.Error.{◌>>=◌ as ◌before◌, ◌>>◌ as ◌and◌}
 use Rattle.engine_answers.specs.Index.{entry_found, entry_manifest, entry_reference}
 use Rattle.engine_requests.specs.Requests.{manifest_types}
 use Rattle.engine_requests.specs.Sources.{Layer, described}
@@ -43,28 +43,29 @@ use Rattle.engine_terms.specs.declared.error.OciDistributionError.{OciDistributi
 use Rattle.engine_terms.specs.declared.settings.Settings.{Settings}
 use Rattle.engine_rows.specs.Rows.{Row as Engine}
 use Rattle.engine_rows.specs.declared.image.ImageData.{ImageData}
-use Rattle.engine_rows.specs.Images.{layers_accepted, layer_of, config_of}
+use Rattle.engine_rows.specs.Image.{layers_accepted, layer_of, config_of}
 use Rattle.sig_calls.specs.declared.error.SigstoreError.{SigstoreError}
 use Rattle.sig_calls.specs.declared.error.SigstoreError.TheVariants as sigstore
 use Rattle.sig_calls.specs.declared.wording.Called.{Called}
 use Rattle.sig_calls.specs.declared.wording.Called.TheVariants.{FetchManifest, Pull, PullManifest}
-use Rattle.sig_calls.specs.Errors.{is_memory as of_memory, worded}
+use Rattle.sig_calls.specs.Error.{is_memory as of_memory}
+use Rattle.sig_calls.specs.Wording.{worded}
 use Rattle.sig_calls.specs.Clients.{Kept, Row}
 use Rattle.sig_calls.specs.Calls.{in_words, digest_made, manifest_made, image_made, document_made, blob_made, referrers_made, document_call, blob_call, referrers_call}
 use Rattle.sig_answers.specs.declared.answers.Answers.{Answers}
 use Rattle.shelf_laws.specs.Comes.{Yields, OrMemory, Gives, Reaches}
 use Rattle.shelf_laws.specs.Home.{Home, IsAt, CanBeShown, Settled}
 use Rattle.shelf_laws.specs.Shelves.{HasBlob, HasLayer, LeadsTo, ImageOn, layers_on}
-use Rattle.shelf_laws.proofs.Coming.{Gives-done, Gives-next, Gives-more, Gives-caught, Reaches-done, Reaches-bind, Reaches-gives, Reaches-strict, Reaches-stays, Reaches-after, Reaches-next, TableOf, Runs-over, Meets-comes}
+use Rattle.shelf_laws.proofs.TableSteps.{Gives-done, Gives-next, Gives-more, Gives-caught, Reaches-done, Reaches-bind, Reaches-gives, Reaches-strict, Reaches-stays, Reaches-after, Reaches-next, TableOf, Runs-over, Meets-comes}
 use Rattle.shelf_laws.proofs.DigestTags.{sha256_named, tag_of_signatures}
 use Rattle.shelf_laws.proofs.Documents.{NoOther, raw_gives, digest_gives, blob_gives}
 use Rattle.shelf_laws.proofs.Images.{Points, points_itself, types_accepted, manifest_gives, pull_gives}
 use Rattle.shelf_laws.proofs.PlainNames.{tag_segment}
-use Rattle.shelf_laws.proofs.Pointing.{tag_named, image_points}
+use Rattle.shelf_laws.proofs.ShelfReferences.{tag_named, image_points}
 use Rattle.shelf_laws.proofs.References.{Spelled, spelled, tag_reads_back, digest_reads_back, digest_is_digest, digest_is_known}
 use Rattle.shelf_laws.proofs.Requests.{yields_ok}
-use Rattle.shelf_laws.proofs.Listing.{referrers_give}
-use Rattle.shelf_laws.proofs.Lifted.{Gives-lifted}
+use Rattle.shelf_laws.proofs.ReferrersOfShelf.{referrers_give}
+use Rattle.shelf_laws.proofs.WiderRows.{Gives-lifted}
 use Rattle.shelf_laws.proofs.Tokens.{given_gives}
 use Rattle.cosign_layers.specs.Constraint.{has_no_item}
 use Rattle.cosign_layers.specs.Standing.{Meaning, StandsFor}

@@ -2,7 +2,7 @@
 use Rattle.std.specs.Prelude.{codes, bytes_eq, unwrap_or, if◌then◌else◌}
 use Rattle.std.proofs.Common.{◌≡◌, ℕ, Bool, true, false, List, [], ◌∷◌, ◌++◌, is_some, Option, Some, None, Result, Ok, Err, refl, sym, ap, subst}
 use Rattle.oci_names.specs.Words.{Path}
-use Rattle.oci_names.specs.References.{registry_of, whole_text, resolved_registry, reads_back}
+use Rattle.oci_names.specs.Reference.{registry_of, whole_text, resolved_registry, reads_back}
 use Rattle.oci_names.specs.declared.reference.Reference.{Reference}
 use Rattle.oci_auth.specs.declared.auth.RegistryAuth.{RegistryAuth}
 use Rattle.oci_auth.specs.declared.memory.Memory.{Memory}
@@ -24,20 +24,20 @@ use Rattle.engine_requests.specs.Requests.{manifest_types}
 use Rattle.engine_requests.specs.Sources.{Layer, described}
 use Rattle.engine_terms.specs.declared.settings.Settings.{Settings}
 use Rattle.engine_rows.specs.Rows.{Row as Engine}
-use Rattle.engine_rows.specs.Images.{layers_accepted, layer_of}
+use Rattle.engine_rows.specs.Image.{layers_accepted, layer_of}
 use Rattle.sig_answers.specs.declared.answers.Answers.{Answers}
 use Rattle.sig_calls.specs.declared.error.SigstoreError.{SigstoreError}
 use Rattle.sig_calls.specs.declared.wording.Called.{Called}
 use Rattle.sig_calls.specs.declared.wording.Called.TheVariants.{FetchManifest, Pull, PullManifest}
-use Rattle.sig_calls.specs.Errors.{worded}
+use Rattle.sig_calls.specs.Wording.{worded}
 use Rattle.sig_calls.specs.Clients.{Kept, Row}
 use Rattle.sig_calls.specs.Calls.{in_words, digest_made, manifest_made, image_made, document_made, blob_made, referrers_made, document_call, blob_call, referrers_call, image_call}
 use Rattle.shelf_laws.specs.Comes.{Stays}
 use Rattle.shelf_laws.specs.Home.{Home, IsAt, CanBeShown, Settled}
-use Rattle.shelf_laws.proofs.Coming.{Gives-stays, Stays-done, Stays-bind, Stays-next}
-use Rattle.shelf_laws.proofs.Lifted.{Stays-lifted}
+use Rattle.shelf_laws.proofs.TableSteps.{Gives-stays, Stays-done, Stays-bind, Stays-next}
+use Rattle.shelf_laws.proofs.WiderRows.{Stays-lifted}
 use Rattle.shelf_laws.proofs.References.{Spelled, spelled, resolved_domain}
-use Rattle.shelf_laws.proofs.Staying.{digest_stays, raw_stays, manifest_stays, blob_stays, pull_stays, referrers_stay}
+use Rattle.shelf_laws.proofs.SettledRows.{digest_stays, raw_stays, manifest_stays, blob_stays, pull_stays, referrers_stay}
 use Rattle.shelf_laws.proofs.Tokens.{given_gives}
 use Rattle.cosign_layers.specs.Standing.{Meaning}
 use Rattle.cosign_rows.specs.Image.{document_in, entry_in, layers_row, blobs_row, with_image, entry_call, entry_row, manifest_row, image_row}

@@ -15,7 +15,7 @@ use Rattle.cosign_layers.specs.declared.rejection.LayerRejection.{LayerRejection
 use Rattle.cosign_layers.specs.declared.rejection.LayerRejection.TheVariants.{WantOfMemory}
 use Rattle.cosign_layers.specs.declared.shown.Shown.{Shown}
 use Rattle.cosign_layers.proofs.Outcomes.{Decides, both, reworded, answered, ok_same, ok_err, err_same}
-use Rattle.cosign_layers.proofs.Reading.{content, signature, entry, certificate}
+use Rattle.cosign_layers.proofs.LayerReads.{content, signature, entry, certificate}
 
 module _ (trust : Trust) (d : List ℕ) where
   -- the parts of a layer

@@ -1,9 +1,9 @@
 pub mod Decimals
+pub mod LayerReads
 pub mod Layers
 pub mod Loops
 pub mod Outcomes
 pub mod Ranges
-pub mod Reading
 pub mod Rows
 pub mod Shows
 pub mod Steps

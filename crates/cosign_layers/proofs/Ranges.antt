@@ -2,7 +2,8 @@
 use Rattle.std.proofs.Common.{◌≡◌, inl, inr, ℕ, ℤ, pos, List, Bool, true, false, Option, Some, None, refl, sym, subst, codes}
 use Rattle.std.specs.Prelude.{if◌then◌else◌, int_lt}
 use Rattle.std.specs.Str.Parse.{digits_value}
-use Rattle.json_tables.specs.Reading.{◌>>=◌, i64_of, text_of, required}
+use Rattle.json_tables.specs.Reading.{◌>>=◌, i64_of, text_of}
+use Rattle.json_tables.specs.Member.{required}
 use Rattle.json_tables.specs.Bytes.{base64_of}
 use Rattle.hex.specs.Hex.{encode_lower}
 use Rattle.serde_json.specs.Data.{Data, null, boolean, number, string, array, object}

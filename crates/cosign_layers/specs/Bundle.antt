@@ -2,9 +2,12 @@
 use Rattle.std.specs.Prelude.{ℕ, List, [], ◌∷◌, Bool, false, Option, Some, None, is_some, codes}
 use Rattle.std.specs.FinMap.{get as digits_by}
 use Rattle.json_tables.specs.Bytes.{base64_of}
-use Rattle.json_tables.specs.Reading.{◌>>=◌, text_at, text_of, required, optional, list_of, map_of, an_object}
+use Rattle.json_tables.specs.Reading.{◌>>=◌, text_of, list_of, map_of}
+use Rattle.json_tables.specs.Paths.{text_at}
+use Rattle.json_tables.specs.Objects.{an_object}
+use Rattle.json_tables.specs.Member.{required, optional}
 use Rattle.json_values.specs.JsonText.{plain_json_of}
-use Rattle.oci_digests.specs.Parts.{parts_of}
+use Rattle.oci_digests.specs.Checks.{parts_of}
 use Rattle.serde_json.specs.Data.{Data, null, Items, no_items, item, array}
 use Rattle.serde_json.specs.Find.{get, as_array}
 use Rattle.cosign_layers.specs.LogEntry.{bundle_entry_of}

@@ -1,5 +1,5 @@
 -- What the written constraints accept.
-use Rattle.std.specs.Prelude.{ℕ, List, [], ◌∷◌, Bool, true, false, ◌&&◌, bytes_eq, Option, Some, None, option_and_then}
+use Rattle.std.specs.Prelude.{ℕ, List, [], ◌∷◌, Bool, true, false, ◌&&◌, Option, Some, None, option_and_then}
 use Rattle.std.specs.FinMap.{FinMap, entries}
 use Rattle.std.specs.List.{list_all}
 use Rattle.std.specs.declared.alloc.Global.{Global}
@@ -14,11 +14,7 @@ use Rattle.cosign_layers.specs.declared.layer.SignatureLayer.{SignatureLayer}
 use Rattle.cosign_layers.specs.declared.layer.SimpleSigning.{SimpleSigning}
 use Rattle.cosign_layers.specs.declared.subject.CertSubjectEmailVerifier.{CertSubjectEmailVerifier}
 use Rattle.cosign_layers.specs.declared.subject.CertSubjectUrlVerifier.{CertSubjectUrlVerifier}
-
--- there is a text, and it is this one
-abbrev pub is_text : List ℕ → Option (List ℕ) → Bool
-is_text text None = false
-is_text text (Some found) = bytes_eq found text
+use Rattle.cosign_layers.specs.Subject.{is_text, has_issuer}
 
 -- the data has a member of this name with this text
 abbrev pub has_text_member : Data → List ℕ × List ℕ → Bool
@@ -32,11 +28,6 @@ has_no_item (x ∷ xs) = false
 abbrev pub has_annotations : FinMap by_bytes (List ℕ) → Option SimpleSigning → Bool
 has_annotations pairs None = has_no_item (entries pairs)
 has_annotations pairs (Some signing) = list_all (has_text_member signing.optional) (entries pairs)
-
--- the issuer is this one, where one is asked for
-abbrev pub has_issuer : Option (List ℕ) → Option (List ℕ) → Bool
-has_issuer None found = true
-has_issuer (Some issuer) found = is_text issuer found
 
 -- the layer has a certificate that is vouched to be of this email, by this issuer
 abbrev pub has_email : CertSubjectEmailVerifier → Option CertificateSignature → Bool

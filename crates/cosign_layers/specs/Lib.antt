@@ -1,6 +1,8 @@
 pub mod Bundle
 pub mod Checks
+pub mod Constants
 pub mod Constraint
+pub mod Envelope
 pub mod Judge
 pub mod Layer
 pub mod LogEntry
@@ -8,7 +10,7 @@ pub mod Payload
 pub mod Read
 pub mod Rejection
 pub mod Shown
-pub mod Envelope
 pub mod Standing
+pub mod Subject
 pub mod Trust
 pub mod Verifier

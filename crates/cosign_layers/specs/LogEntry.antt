@@ -11,7 +11,9 @@ use Rattle.hex.specs.Hex.{encode_lower}
 use Rattle.sha2.specs.Sha256.{sha256}
 use Rattle.json_events.specs.Canonical.{Canonical, object_text}
 use Rattle.json_tables.specs.Bytes.{base64_of}
-use Rattle.json_tables.specs.Reading.{◌>>=◌, text_at, text_of, i64_of, within, required}
+use Rattle.json_tables.specs.Reading.{◌>>=◌, text_of, i64_of, within}
+use Rattle.json_tables.specs.Paths.{text_at}
+use Rattle.json_tables.specs.Member.{required}
 use Rattle.json_values.specs.Canon.{quoted_text}
 use Rattle.json_values.specs.JsonText.{json_of, plain_json_of}
 use Rattle.serde_json.specs.Data.{Data, unsigned, negative, string, number, object, no_members, member}

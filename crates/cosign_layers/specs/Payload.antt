@@ -1,7 +1,9 @@
 -- What a simple signing payload says.
 use Rattle.std.specs.Prelude.{ℕ, List, [], ◌∷◌, bytes_eq, Option, Some, None, codes, if◌then◌else◌}
 use Rattle.json_values.specs.JsonText.{plain_json_of}
-use Rattle.json_tables.specs.Reading.{◌>>=◌, text_at, or_null}
+use Rattle.json_tables.specs.Reading.{◌>>=◌}
+use Rattle.json_tables.specs.Paths.{text_at}
+use Rattle.json_tables.specs.Member.{or_null}
 use Rattle.serde_json.specs.Data.{Data}
 use Rattle.serde_json.specs.Find.{get}
 use Rattle.cosign_layers.specs.declared.layer.SimpleSigning.{SimpleSigning}

@@ -15,7 +15,8 @@ use json_values::{Annotations, Blob, List, Text};
 use serde_json::Value;
 use std::alloc::{AllocError, Global};
 
-const BUNDLE_TYPE: &str = "application/vnd.dev.sigstore.bundle.v0.3+json";
+/// The media type of a bundle (sigstore bundle v0.3).
+pub const BUNDLE_TYPE: &'static str = "application/vnd.dev.sigstore.bundle.v0.3+json";
 
 /// The envelope of a bundle.
 #[derive(Drop)]

@@ -20,6 +20,7 @@ mod subject;
 mod trust;
 mod verifier;
 
+pub use bundle::BUNDLE_TYPE;
 pub use certificate::{CertificateSignature, Evidence, Vouched};
 pub use constraint::{AnnotationVerifier, Constraint, VerificationConstraint};
 pub use envelope::signed_text;

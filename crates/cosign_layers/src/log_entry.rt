@@ -8,17 +8,15 @@ ghost use Rattle.cosign_layers.specs.LogEntry.{annotated_entry, bundle_entry_of,
 ghost use Rattle.cosign_layers.specs.LogEntry.{is_decimal, is_digit, log_text, logged, logs, payload_entry_of};
 ghost use Rattle.cosign_layers.specs.LogEntry.{text_is, whole_of, whole_or_text_of};
 ghost use Rattle.json_tables.specs.Bytes.{base64_of};
-ghost use Rattle.json_tables.specs.Reading.{required};
+ghost use Rattle.json_tables.specs.Member.{required};
 
+use json_events::MAX_SAFE_INTEGER;
 use json_tables::{decode_base64, read_plain_json, text_at};
 use json_values::{Blob, Copied, Text, copied, read_json, write_quoted};
 use serde_json::Value;
 use sha2::{Digest, Sha256};
 use std::alloc::{AllocError, Global};
 use std::num::ParseIntError;
-
-// The greatest whole number that every reader of JSON keeps (RFC 8785, 3.2.2.3).
-const GREATEST: i64 = 9007199254740991;
 
 /// A log's entry for a signature, with the log's promise to keep it.
 #[derive(Drop)]
@@ -216,7 +214,7 @@ fn whole(value: &Value) -> Option<i64>
     ensures { result ≡ whole_of (view value.now) }
 {
     let whole = value.as_i64()?;
-    if whole < 0 || GREATEST < whole {
+    if whole < 0 || MAX_SAFE_INTEGER < whole {
         return None;
     }
     Some(whole)
@@ -257,7 +255,7 @@ fn in_log(read: Result<u64, ParseIntError>) -> Option<i64>
     ensures { result ≡ in_log_read read }
 {
     match read {
-        Ok(number) if number <= 9007199254740991 => Some(number as i64),
+        Ok(number) if number <= MAX_SAFE_INTEGER as u64 => Some(number as i64),
         Ok(_) => None,
         Err(_) => None,
     }

@@ -19,35 +19,35 @@ pub enum LayerPart {
 #[derive(Debug, Drop, Error)]
 pub enum LayerRejection {
     /// The layer's digest does not name the content.
-    #[error("the digest does not name the content")]
+    #[error("the digest does not name the content: the layer was changed, so pull it again or sign the image anew")]
     DigestMismatch,
     /// The part does not have its form.
-    #[error("{0:?} is unreadable")]
+    #[error("{0:?} is unreadable: sign the image anew with cosign")]
     Unreadable(LayerPart),
     /// The content is about another image.
-    #[error("the layer is about another image")]
+    #[error("the layer is about another image: sign this one")]
     OtherDigest,
-    #[error("the layer has no signature")]
+    #[error("the layer has no signature: sign the image anew with cosign")]
     NoSignature,
     /// No key is known for the log of this id.
-    #[error("the log's key is unknown")]
+    #[error("the log's key is unknown: give it where it is to be trusted")]
     UnknownLogKey(Text),
     /// The log's signature is not valid for the entry's canonical text.
-    #[error("the log's signature is not valid")]
+    #[error("the log's signature is not valid: do not trust the entry, and sign the image anew")]
     BadLogSignature,
     /// The entry with this body logs another signature.
-    #[error("the log entry is of another signature")]
+    #[error("the log entry is of another signature: sign the image anew with cosign")]
     OtherLogEntry(Text),
     /// There is a certificate, and no log entry that says when it was used.
-    #[error("the certificate has no log entry")]
+    #[error("the certificate has no log entry: sign the image with an upload to the log")]
     NoLogEntry,
     /// The judge vouches for no such certificate at the time of the log entry.
-    #[error("nobody vouches for the certificate")]
+    #[error("nobody vouches for the certificate: give the root that issued it where it is to be trusted")]
     NotVouched,
     /// The layer is described and was not among those that came.
-    #[error("the layer was not pulled")]
+    #[error("the layer was not pulled: pull again, since the signature tag may have moved")]
     LayerNotPulled,
-    #[error("out of memory")]
+    #[error("out of memory: free some and try again")]
     WantOfMemory,
 }
 

@@ -1,6 +1,7 @@
 //! Constraints on whom a certificate was given to.
 ghost use Rattle.std.specs.Prelude.{◌≡◌};
-ghost use Rattle.cosign_layers.specs.Constraint.{has_email, has_issuer, has_url, is_text};
+ghost use Rattle.cosign_layers.specs.Constraint.{has_email, has_url};
+ghost use Rattle.cosign_layers.specs.Subject.{has_issuer, is_text};
 
 use crate::constraint::VerificationConstraint;
 use crate::layer::SignatureLayer;

@@ -1,12 +1,13 @@
 //! The image of a digest for which a signature stands.
 ghost use Rattle.std.specs.Prelude.{◌≡◌, IfOk};
 ghost use Rattle.engine_terms.specs.Contexts.{within};
-ghost use Rattle.oci_names.specs.References.{digest_of, whole_text};
+ghost use Rattle.oci_names.specs.Reference.{digest_of, whole_text};
 ghost use Rattle.engine_terms.specs.declared.settings.Settings.{Settings};
-ghost use Rattle.engine_terms.specs.Errors.{Says as SaysEngine};
+ghost use Rattle.engine_terms.specs.Error.{Says as SaysEngine};
 ghost use Rattle.engine_requests.specs.Requests.{listed, manifest_types};
 ghost use Rattle.engine_answers.specs.Index.{entry_found};
-ghost use Rattle.sig_calls.specs.Errors.{is_memory, worded, Says};
+ghost use Rattle.sig_calls.specs.Error.{is_memory, Says};
+ghost use Rattle.sig_calls.specs.Wording.{worded};
 ghost use Rattle.sig_calls.specs.declared.wording.Called.TheVariants.{Pull};
 ghost use Rattle.sig_calls.specs.Clients.{Fulfils};
 ghost use Rattle.cosign_rows.specs.Image.{named_by_reference, document_in, entry_in, layers_row, blobs_row};

@@ -9,9 +9,9 @@ use Rattle.oci_protocol.specs.Proto.{◌>>=◌}
 use Rattle.engine_terms.specs.Contexts.{within}
 use Rattle.engine_requests.specs.Sources.{described}
 use Rattle.engine_terms.specs.declared.settings.Settings.{Settings}
-use Rattle.engine_rows.specs.Images.{layer_of}
+use Rattle.engine_rows.specs.Image.{layer_of}
 use Rattle.sig_calls.specs.declared.error.SigstoreError.{SigstoreError}
-use Rattle.sig_calls.specs.Errors.{is_memory}
+use Rattle.sig_calls.specs.Error.{is_memory}
 use Rattle.sig_calls.specs.Clients.{Client, Fulfils}
 use Rattle.sig_calls.specs.Calls.{blob_call}
 use Rattle.cosign_layers.specs.Trust.{Trust}

@@ -14,7 +14,7 @@ use Rattle.sig_calls.specs.Calls.{digest_call}
 use Rattle.sig_calls.specs.declared.error.SigstoreError.{SigstoreError}
 use Rattle.sig_calls.specs.declared.error.SigstoreError.TheVariants as sigstore
 use Rattle.engine_terms.specs.declared.error.OciDistributionError.{OciDistributionError}
-use Rattle.engine_terms.specs.Errors.{is_memory as engine_is_memory, Says as SaysEngine}
+use Rattle.engine_terms.specs.Error.{is_memory as engine_is_memory, Says as SaysEngine}
 use Rattle.sig_calls.specs.declared.wording.Called.{Called}
 use Rattle.cosign_rows.specs.declared.refusal.PullRefusal.{PullRefusal}
 use Rattle.cosign_rows.specs.Refusal.{is_memory as of_refusal, refused_as, Says as SaysWhole}
@@ -27,9 +27,10 @@ use Rattle.cosign_rows.specs.declared.pulled.Pulled.{Pulled}
 use Rattle.cosign_rows.specs.declared.standing.Standing.{Standing}
 use Rattle.cosign_rows.specs.declared.refusal.PullRefusal.TheVariants as refusal
 use Rattle.oci_names.specs.declared.reference.Reference.{Reference}
-use Rattle.oci_names.specs.References.{registry_of, repository_of, mirror_of, tag_of, digest_of}
+use Rattle.oci_names.specs.Reference.{registry_of, repository_of, mirror_of, tag_of, digest_of}
 use Rattle.sig_calls.specs.declared.reference.OciReference.{OciReference}
-use Rattle.sig_calls.specs.Errors.{is_memory, Says, worded}
+use Rattle.sig_calls.specs.Error.{is_memory, Says}
+use Rattle.sig_calls.specs.Wording.{worded}
 use Rattle.sig_calls.specs.Clients.{Kept, Client, Fulfils}
 
 -- a step that answered, and then what its answer leads to

@@ -7,7 +7,7 @@ use Rattle.std.proofs.lemmas.Bool.{ltb-false, lt-ltb, le-ltb}
 use Rattle.std.proofs.lemmas.List.Sums.{position_or_len_is}
 use Rattle.std.proofs.lemmas.Option.{slice_get_past}
 use Rattle.oci_names.specs.declared.reference.Reference.{Reference}
-use Rattle.oci_names.specs.References.{registry_of, mirror_of, repository_of, tag_of, digest_of}
+use Rattle.oci_names.specs.Reference.{registry_of, mirror_of, repository_of, tag_of, digest_of}
 
 -- a reference is its parts
 pub of_parts : (r : Reference) {registry repository : List ℕ} {mirror tag digest : Option (List ℕ)} → registry_of r ≡ registry → mirror_of r ≡ mirror → repository_of r ≡ repository → tag_of r ≡ tag → digest_of r ≡ digest

@@ -3,7 +3,7 @@ use Rattle.std.proofs.Common.{Result}
 use Rattle.oci_transport.specs.Link.{Link}
 use Rattle.engine_terms.specs.declared.settings.Settings.{Settings}
 use Rattle.sig_calls.specs.declared.error.SigstoreError.{SigstoreError}
-use Rattle.sig_calls.specs.Errors.{is_memory}
+use Rattle.sig_calls.specs.Error.{is_memory}
 use Rattle.sig_calls.specs.Clients.{Client, Row, Fulfils}
 
 -- what was done from one client to another leads from one row to another

@@ -1,7 +1,7 @@
 -- The image of a digest for which a signature stands.
 use Rattle.std.specs.Prelude.{ℕ, List, [], ◌∷◌, ◌++◌, Option, Some, None, Result, Ok, Err}
 use Rattle.oci_names.specs.declared.reference.Reference.{Reference}
-use Rattle.oci_names.specs.References.{digest_of, whole_text}
+use Rattle.oci_names.specs.Reference.{digest_of, whole_text}
 use Rattle.oci_auth.specs.declared.auth.RegistryAuth.{RegistryAuth}
 use Rattle.oci_digests.specs.Checks.{checked}
 use Rattle.oci_manifests.specs.declared.document.OciManifest.{OciManifest}
@@ -14,16 +14,16 @@ use Rattle.oci_manifests.specs.declared.blob.ImageLayer.{ImageLayer}
 use Rattle.oci_protocol.specs.Proto.{Done, bind, ◌>>=◌, ◌>>◌}
 use Rattle.engine_terms.specs.Contexts.{Context}
 use Rattle.engine_terms.specs.declared.error.OciDistributionError.{OciDistributionError}
-use Rattle.engine_terms.specs.Errors.{◌>>=◌ as ◌before◌, ◌>>◌ as ◌and◌}
+use Rattle.engine_terms.specs.Error.{◌>>=◌ as ◌before◌, ◌>>◌ as ◌and◌}
 use Rattle.engine_answers.specs.Answers.{or_digest_error}
 use Rattle.engine_requests.specs.Requests.{manifest_types}
 use Rattle.engine_answers.specs.Documents.{document_read}
 use Rattle.engine_requests.specs.Sources.{described}
 use Rattle.engine_answers.specs.Index.{entry_found, entry_manifest, entry_reference}
-use Rattle.engine_rows.specs.Images.{layers_accepted, layer_of, config_of}
+use Rattle.engine_rows.specs.Image.{layers_accepted, layer_of, config_of}
 use Rattle.sig_calls.specs.declared.error.SigstoreError.{SigstoreError}
 use Rattle.sig_calls.specs.declared.error.SigstoreError.TheVariants as sigstore
-use Rattle.sig_calls.specs.Errors.{worded}
+use Rattle.sig_calls.specs.Wording.{worded}
 use Rattle.sig_calls.specs.declared.wording.Called.TheVariants.{Pull}
 use Rattle.sig_calls.specs.Clients.{Row}
 use Rattle.sig_calls.specs.Calls.{document_call, blob_call}

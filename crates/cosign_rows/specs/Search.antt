@@ -3,7 +3,7 @@
 -- "Listing Referrers").
 use Rattle.std.specs.Prelude.{ℕ, Bool, true, false, List, [], ◌∷◌, None, Result, Ok, Err, codes, if◌then◌else◌}
 use Rattle.oci_names.specs.declared.reference.Reference.{Reference}
-use Rattle.oci_names.specs.References.{whole_text, reads_back}
+use Rattle.oci_names.specs.Reference.{whole_text, reads_back}
 use Rattle.oci_auth.specs.declared.auth.RegistryAuth.{RegistryAuth}
 use Rattle.oci_manifests.specs.declared.document.OciManifest.{OciManifest}
 use Rattle.oci_manifests.specs.declared.document.OciManifest.TheVariants.{Image, ImageIndex}
@@ -13,7 +13,7 @@ use Rattle.oci_protocol.specs.Proto.{Done, bind, ◌>>=◌, ◌>>◌}
 use Rattle.engine_terms.specs.Contexts.{Context}
 use Rattle.engine_rows.specs.declared.image.ImageData.{ImageData}
 use Rattle.sig_calls.specs.declared.error.SigstoreError.{SigstoreError}
-use Rattle.sig_calls.specs.Errors.{is_memory}
+use Rattle.sig_calls.specs.Error.{is_memory}
 use Rattle.sig_calls.specs.Clients.{Row}
 use Rattle.sig_calls.specs.Calls.{digest_call, manifest_call, image_call, referrers_call}
 use Rattle.cosign_layers.specs.Trust.{Trust}

@@ -1,7 +1,7 @@
 -- What a client may keep before it asks a shelf, so that it gets what the shelf has.
 use Rattle.std.specs.Prelude.{◌≡◌, true, ℕ, List, Option, Some, None, Ok, All}
 use Rattle.oci_names.specs.declared.reference.Reference.{Reference}
-use Rattle.oci_names.specs.References.{repository_of, resolved_registry, reads_back}
+use Rattle.oci_names.specs.Reference.{repository_of, resolved_registry, reads_back}
 use Rattle.oci_auth.specs.declared.auth.RegistryAuth.{RegistryAuth}
 use Rattle.oci_auth.specs.declared.memory.Memory.{Memory}
 use Rattle.oci_link.specs.Table.{answer}

@@ -1,7 +1,7 @@
 //! The references that the search and the pull ask for, in the image's repository.
 ghost use Rattle.std.specs.Prelude.{◌≡◌, IfOk, string_bytes};
 ghost use Rattle.sig_calls.specs.Direct.{reference_in};
-ghost use Rattle.sig_calls.specs.Errors.{Says};
+ghost use Rattle.sig_calls.specs.Error.{Says};
 ghost use Rattle.cosign_rows.specs.References.{with_dashes, signature_tag, tag_reference};
 ghost use Rattle.cosign_rows.specs.References.{digest_reference, reading_back};
 

@@ -1,4 +1,4 @@
 pub mod BundleParts
-pub mod Gathering
+pub mod GatheredParts
 pub mod LayerTexts
 pub mod ReferrerRows

@@ -8,7 +8,7 @@ use Rattle.oci_protocol.specs.Proto.{Done, bind, ◌>>=◌}
 use Rattle.engine_terms.specs.Contexts.{Context}
 use Rattle.engine_terms.specs.declared.settings.Settings.{Settings}
 use Rattle.sig_calls.specs.declared.error.SigstoreError.{SigstoreError}
-use Rattle.sig_calls.specs.Errors.{is_memory}
+use Rattle.sig_calls.specs.Error.{is_memory}
 use Rattle.sig_calls.specs.Calls.{referrers_call}
 use Rattle.sig_calls.specs.Clients.{Client, Fulfils}
 use Rattle.cosign_layers.specs.Trust.{Trust}
@@ -17,7 +17,7 @@ use Rattle.cosign_rows.specs.Search.{listed_row, referrer_row, referrers_row, re
 use Rattle.cosign_rows.proofs.Descriptors.{at_next, alone}
 use Rattle.cosign_rows.proofs.Exits.{done}
 use Rattle.cosign_search.specs.Gathered.{gathered, put_behind}
-use Rattle.cosign_search.proofs.Gathering.{bind_joined, gathered_both}
+use Rattle.cosign_search.proofs.GatheredParts.{bind_joined, gathered_both}
 
 pub referrers_end : {t : Settings} (trust : Trust) (d : List ℕ) (s : Context) (source : Reference) (a : RegistryAuth) (xs : List ImageIndexEntry) (part : Part) {c : Client} {link : Link} → xs ≡ [] → Fulfils is_memory t (gathered part (referrers_row trust d s source a xs)) c c link link (Ok part)
 unfolding referrers_row bind

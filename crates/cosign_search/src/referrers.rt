@@ -1,12 +1,12 @@
 //! The images that refer to a digest, as a source of signatures.
 ghost use Rattle.std.specs.Prelude.{◌≡◌, [], ◌∷◌, Err, IfOk};
-ghost use Rattle.oci_names.specs.References.{reads_back};
+ghost use Rattle.oci_names.specs.Reference.{reads_back};
 ghost use Rattle.engine_terms.specs.Contexts.{within};
 ghost use Rattle.engine_terms.specs.declared.settings.Settings.{Settings};
 ghost use Rattle.cosign_layers.specs.Trust.{trust_of};
 ghost use Rattle.sig_calls.specs.Calls.{image_call};
 ghost use Rattle.sig_calls.specs.Clients.{Fulfils};
-ghost use Rattle.sig_calls.specs.Errors.{is_memory, Says};
+ghost use Rattle.sig_calls.specs.Error.{is_memory, Says};
 ghost use Rattle.cosign_rows.specs.Part.{appended, bundles_part, skipping};
 ghost use Rattle.cosign_rows.specs.Search.{bundle_type, or_skipped, referrer_part, referrer_by, referrer_row};
 ghost use Rattle.cosign_rows.specs.Search.{referrers_row, referrers_source};
@@ -15,7 +15,7 @@ ghost use Rattle.cosign_rows.specs.declared.found.SourceKind.TheVariants.{Referr
 ghost use Rattle.cosign_search.specs.Gathered.{gathered, put_behind};
 
 use crate::bundles::add_bundles;
-use cosign_layers::{Offline, SignatureVerifier, Trusted};
+use cosign_layers::{BUNDLE_TYPE, Offline, SignatureVerifier, Trusted};
 use cosign_rows::{Asked, Part, Referred, SkipCause, Skipped, SourceKind, digest_reference};
 use engine_rows::ImageData;
 use json_values::{List, Text};
@@ -23,9 +23,6 @@ use oci_descriptors::ImageIndexEntry;
 use oci_transport::Transport;
 use sig_calls::{ClientCapabilities, SigstoreError};
 use std::alloc::{AllocError, Global};
-
-/// The media type of bundles.
-const BUNDLE_TYPE: &str = "application/vnd.dev.sigstore.bundle.v0.3+json";
 
 fn bundle_types(alloc: Global) -> Result<List<Text>, AllocError>
     ensures { IfOk result (λ types. types ≡ bundle_type ∷ []) }

@@ -1,10 +1,10 @@
 //! The search for the signatures of an image.
 ghost use Rattle.std.specs.Prelude.{◌≡◌, [], ◌∷◌, IfOk};
-ghost use Rattle.oci_names.specs.References.{reads_back};
+ghost use Rattle.oci_names.specs.Reference.{reads_back};
 ghost use Rattle.engine_terms.specs.Contexts.{within};
 ghost use Rattle.engine_terms.specs.declared.settings.Settings.{Settings};
 ghost use Rattle.cosign_layers.specs.Trust.{trust_of};
-ghost use Rattle.sig_calls.specs.Errors.{is_memory, Says};
+ghost use Rattle.sig_calls.specs.Error.{is_memory, Says};
 ghost use Rattle.sig_calls.specs.Clients.{Fulfils};
 ghost use Rattle.cosign_rows.specs.Search.{document_part, pulled_part, payload_type, or_skipped};
 ghost use Rattle.cosign_rows.specs.Search.{searched, tag_by, tag_layers, tag_source};

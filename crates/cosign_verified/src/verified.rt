@@ -2,7 +2,7 @@
 ghost use Rattle.std.specs.Prelude.{◌≡◌, true, false, Err, IfOk, IsTrue, find};
 ghost use Rattle.engine_terms.specs.Contexts.{within};
 ghost use Rattle.engine_terms.specs.declared.settings.Settings.{Settings};
-ghost use Rattle.oci_names.specs.References.{reads_back};
+ghost use Rattle.oci_names.specs.Reference.{reads_back};
 ghost use Rattle.sig_calls.specs.Clients.{Fulfils};
 ghost use Rattle.sig_settings.specs.Auths.{registry_auth};
 ghost use Rattle.cosign_layers.specs.Standing.{stands};

@@ -10,15 +10,12 @@ mod ways;
 
 use bundle::bundle_signature;
 use json_values::{Blob, put_all};
-use pull_edge::{StdSink, StdSource, read_all};
+use pull_edge::{INPUT_LIMIT, StdSink, StdSource, read_all};
 use std::alloc::{AllocError, Global};
 use std::env::{self, Env};
 use std::io;
 use std::process::ExitCode;
 use ways::{json_again, manifest_again};
-
-// What the program reads is held as a whole; the longest input is that of `pull_program`.
-const MOST_BYTES: u64 = 67108864;
 
 #[derive(Clone, Copy)]
 enum Way {
@@ -55,7 +52,7 @@ fn main(rt: HostRuntime) -> ExitCode {
         Ok(None) => return ExitCode::from(2),
         Err(_) => return ExitCode::from(6),
     };
-    let Ok(bytes) = read_all(alloc, &mut StdSource::new(rt.stdin()), MOST_BYTES) else {
+    let Ok(bytes) = read_all(alloc, &mut StdSource::new(rt.stdin()), INPUT_LIMIT) else {
         return ExitCode::from(4);
     };
     let Ok(found) = again(alloc, way, &bytes) else {

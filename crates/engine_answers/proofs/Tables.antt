@@ -45,3 +45,5 @@ read_by_none body d whole a b = rw (plain d whole, a, b) refl
 -- a float stands in it
 pub read_with_float : (body : List ℕ) (d : Data) → has_float d ≡ true → tables_read body (plain_of (Some d)) ≡ Err (refusal.ManifestParsingError body)
 read_with_float body d is = rw is refl
+
+pub ruleset read_outcomes = (read_once, read_twice, read_by_none, read_with_float)

@@ -2,21 +2,20 @@
 use Rattle.std.specs.Prelude.{ℕ, Bool, List, Option, Some, None, Result, Ok, Err, if◌then◌else◌, nat_eq}
 use Rattle.std.specs.Prelude.{nat_le, nat_lt, ◌&&◌, not, bytes_eq, option_and_then}
 use Rattle.json_values.specs.JsonText.{plain_json_of}
-use Rattle.oci_digests.specs.Checks.{header_digest as digest_in, validated}
-use Rattle.oci_digests.specs.Parts.{parts_of}
+use Rattle.oci_digests.specs.Checks.{header_digest as digest_in, validated, parts_of}
 use Rattle.oci_digests.specs.declared.error.DigestError.{DigestError}
 use Rattle.oci_digests.specs.declared.error.DigestError.TheVariants as digest_refusal
 use Rattle.oci_errors.specs.Envelope.{envelope_of}
 use Rattle.oci_errors.specs.declared.envelope.OciEnvelope.{OciEnvelope}
 use Rattle.oci_names.specs.declared.reference.Reference.{Reference}
-use Rattle.oci_names.specs.References.{digest_of}
+use Rattle.oci_names.specs.Reference.{digest_of}
 use Rattle.oci_transport.specs.Headers.{Fields, first_of, digest_header}
 use Rattle.oci_transport.specs.declared.message.Answer.{Answer}
 use Rattle.engine_answers.specs.declared.answers.Got.{Got}
 use Rattle.engine_terms.specs.declared.error.SpecViolation.TheVariants.{Status}
 use Rattle.engine_terms.specs.declared.error.OciDistributionError.{OciDistributionError}
 use Rattle.engine_terms.specs.declared.error.OciDistributionError.TheVariants as refusal
-use Rattle.engine_terms.specs.Errors.{◌>>=◌}
+use Rattle.engine_terms.specs.Error.{◌>>=◌}
 
 abbrev pub is_success : ℕ → Bool
 is_success status = nat_le 200 status && nat_lt status 300

@@ -1,8 +1,7 @@
 -- How the answer to a blob's request is read (OCI distribution specification, "Pulling blobs").
 use Rattle.std.specs.Prelude.{ℕ, Bool, true, false, List, Option, Some, None, Result, Ok, Err, if◌then◌else◌, bytes_eq}
 use Rattle.oci_digests.specs.Names.{digest_text}
-use Rattle.oci_digests.specs.Checks.{header_digest as digest_in, and_then}
-use Rattle.oci_digests.specs.Parts.{named_algorithm}
+use Rattle.oci_digests.specs.Checks.{header_digest as digest_in, and_then, named_algorithm}
 use Rattle.oci_transport.specs.Headers.{first_of, digest_header}
 use Rattle.oci_digests.specs.declared.digester.Algorithm.{Algorithm}
 use Rattle.oci_digests.specs.declared.error.DigestError.{DigestError}
@@ -13,7 +12,7 @@ use Rattle.engine_answers.specs.declared.blobs.Plan.{Plan}
 use Rattle.engine_answers.specs.declared.blobs.Plan.TheVariants.{Refuse, Judge, Pour}
 use Rattle.engine_terms.specs.declared.error.OciDistributionError.{OciDistributionError}
 use Rattle.engine_terms.specs.declared.error.OciDistributionError.TheVariants as refusal
-use Rattle.engine_terms.specs.Errors.{◌>>◌}
+use Rattle.engine_terms.specs.Error.{◌>>◌}
 use Rattle.engine_answers.specs.Answers.{is_success}
 
 -- a digest text with its algorithm

@@ -6,7 +6,7 @@ use Rattle.oci_manifests.specs.declared.document.OciManifest.TheVariants.{Image,
 use Rattle.oci_descriptors.specs.declared.index_entry.ImageIndexEntry.{ImageIndexEntry}
 use Rattle.oci_manifests.specs.declared.manifest.OciImageManifest.{OciImageManifest}
 use Rattle.oci_names.specs.declared.reference.Reference.{Reference}
-use Rattle.oci_names.specs.References.{registry_of, mirror_of, repository_of}
+use Rattle.oci_names.specs.Reference.{registry_of, mirror_of, repository_of}
 use Rattle.engine_terms.specs.declared.error.GenericCause.TheVariants.{ConfigNotText}
 use Rattle.engine_terms.specs.declared.error.OciDistributionError.{OciDistributionError}
 use Rattle.engine_terms.specs.declared.error.OciDistributionError.TheVariants as refusal

@@ -3,7 +3,7 @@ use Rattle.std.specs.Prelude.{ℕ, Bool, true, false, List, [], ◌∷◌, ◌++
 use Rattle.std.specs.Prelude.{map, filter, chars, encode_utf8_all, bytes_eq, nat_eq, ◌==◌, if◌then◌else◌}
 use Rattle.json_values.specs.JsonText.{json_of}
 use Rattle.oci_names.specs.declared.reference.Reference.{Reference}
-use Rattle.oci_names.specs.References.{repository_of, resolved_registry}
+use Rattle.oci_names.specs.Reference.{repository_of, resolved_registry}
 use Rattle.oci_manifests.specs.declared.document.OciManifest.{OciManifest}
 use Rattle.oci_manifests.specs.declared.document.OciManifest.TheVariants.{Image, ImageIndex}
 use Rattle.oci_manifests.specs.declared.index.OciImageIndex.{OciImageIndex}
@@ -14,7 +14,7 @@ use Rattle.engine_terms.specs.declared.error.GenericCause.TheVariants.{NoDigest}
 use Rattle.engine_terms.specs.declared.error.SpecViolation.TheVariants.{ReferrersTag}
 use Rattle.engine_terms.specs.declared.error.OciDistributionError.{OciDistributionError}
 use Rattle.engine_terms.specs.declared.error.OciDistributionError.TheVariants as refusal
-use Rattle.engine_terms.specs.Errors.{◌>>=◌}
+use Rattle.engine_terms.specs.Error.{◌>>=◌}
 use Rattle.engine_answers.specs.Answers.{accepted}
 use Rattle.engine_answers.specs.Documents.{plain_of, tables_read}
 

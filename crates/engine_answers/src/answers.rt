@@ -1,11 +1,12 @@
 // What is made of a whole answer.
 ghost use Rattle.std.specs.Prelude.{◌≡◌, IfOk, Result, Some, option_copied};
-ghost use Rattle.oci_digests.specs.Checks.{Says as DigestSays, header_digest as digest_in};
+ghost use Rattle.oci_digests.specs.Checks.{header_digest as digest_in};
+ghost use Rattle.oci_digests.specs.Error.{Says as DigestSays};
 ghost use Rattle.oci_digests.specs.declared.error.DigestError.{DigestError};
 ghost use Rattle.oci_transport.specs.Headers.{first_of, digest_header};
-ghost use Rattle.oci_digests.specs.Parts.{parts_of};
-ghost use Rattle.oci_names.specs.References.{digest_of};
-ghost use Rattle.engine_terms.specs.Errors.{Says, SaysError};
+ghost use Rattle.oci_digests.specs.Checks.{parts_of};
+ghost use Rattle.oci_names.specs.Reference.{digest_of};
+ghost use Rattle.engine_terms.specs.Error.{Says, SaysError};
 ghost use Rattle.engine_answers.specs.Answers.{is_success, is_error, is_client_error, envelope_in};
 ghost use Rattle.engine_answers.specs.Answers.{by_envelope, refused_answer, accepted};
 ghost use Rattle.engine_answers.specs.Answers.{or_digest_error, header_digest, body_digest};

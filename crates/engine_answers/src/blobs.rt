@@ -1,9 +1,9 @@
 // How the answer to a blob's request is read.
 ghost use Rattle.std.specs.Prelude.{◌≡◌, List, ℕ, IfOk, []};
-ghost use Rattle.oci_digests.specs.Checks.{Says as DigestSays};
+ghost use Rattle.oci_digests.specs.Error.{Says as DigestSays};
 ghost use Rattle.oci_digests.specs.Names.{digest_text};
 ghost use Rattle.oci_digests.specs.Both.{BothHold, given_text, texts_of};
-ghost use Rattle.engine_terms.specs.Errors.{Says};
+ghost use Rattle.engine_terms.specs.Error.{Says};
 ghost use Rattle.engine_answers.specs.Blobs.{digest_expected, given_expected, pouring, plan_by};
 ghost use Rattle.engine_answers.specs.Blobs.{plan_in, plan_of, compared, given_compared};
 ghost use Rattle.engine_answers.specs.Blobs.{both_compared, given_algorithm};

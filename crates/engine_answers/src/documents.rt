@@ -1,7 +1,7 @@
 // How a document is read.
 ghost use Rattle.std.specs.Prelude.{◌≡◌, IfOk, Some};
 ghost use Rattle.serde_json.specs.View.{view};
-ghost use Rattle.engine_terms.specs.Errors.{Says};
+ghost use Rattle.engine_terms.specs.Error.{Says};
 ghost use Rattle.engine_answers.specs.Documents.{plain_of, type_checked, version_checked};
 ghost use Rattle.engine_answers.specs.Documents.{versioned_in, tables_read, document_from};
 ghost use Rattle.engine_answers.specs.Documents.{document_read};
@@ -64,7 +64,7 @@ fn version_checked(
 }
 
 // A manifest or an index, and not both.
-#[tactic(auto, using(crate::proofs::Tables::read_once, crate::proofs::Tables::read_twice, crate::proofs::Tables::read_by_none, crate::proofs::Tables::read_with_float))]
+#[tactic(auto, using(crate::proofs::Tables::read_outcomes))]
 pub(crate) fn tables_read(
     alloc: Global,
     body: &Blob,

@@ -1,7 +1,7 @@
 // The image of an index.
 ghost use Rattle.std.specs.Prelude.{◌≡◌, IfOk};
 ghost use Rattle.oci_platforms.specs.Promise.{lists};
-ghost use Rattle.engine_terms.specs.Errors.{Says};
+ghost use Rattle.engine_terms.specs.Error.{Says};
 ghost use Rattle.engine_answers.specs.Index.{entry_named, entry_found, entry_manifest};
 ghost use Rattle.engine_answers.specs.Index.{entry_reference, config_text};
 

@@ -1,6 +1,6 @@
 // The referrers of a manifest.
 ghost use Rattle.std.specs.Prelude.{◌≡◌, IfOk, filter, option_copied, string_bytes};
-ghost use Rattle.engine_terms.specs.Errors.{Says};
+ghost use Rattle.engine_terms.specs.Error.{Says};
 ghost use Rattle.engine_answers.specs.Referrers.{index_in, index_read, referrers_in};
 ghost use Rattle.engine_answers.specs.Referrers.{referrers_tag, fallback_reference, no_referrers};
 ghost use Rattle.engine_answers.specs.Referrers.{is_absent, is_of_type, restricted, tag_index};

@@ -21,8 +21,8 @@ use Rattle.oci_protocol.specs.Follow.{Reaches, Misses, Cuts}
 use Rattle.oci_protocol.specs.Poured.{Pours, PoursFront}
 use Rattle.oci_protocol.specs.Runs.{Meets, Told, Performs, Breaks, Outcome}
 use Rattle.oci_protocol.proofs.Laws.{Meets-err}
-use Rattle.oci_protocol.proofs.Extending.{Extends-more, Extends-still, Extends-untold, Steady-none, Steady-more}
-use Rattle.oci_protocol.proofs.Following.{reached_headed, reached_answered, reached_long, reached_failed, reached_spilled, reached_cut, missed, cut}
+use Rattle.oci_protocol.proofs.Conversations.{Extends-more, Extends-still, Extends-untold, Steady-none, Steady-more}
+use Rattle.oci_protocol.proofs.RedirectSteps.{reached_headed, reached_answered, reached_long, reached_failed, reached_spilled, reached_cut, missed, cut}
 use Rattle.engine_terms.specs.declared.error.OciDistributionError.{OciDistributionError}
 use Rattle.engine_terms.specs.declared.error.OciDistributionError.TheVariants as refusal
 use Rattle.oci_errors.specs.declared.envelope.OciEnvelope.{OciEnvelope}
@@ -31,7 +31,7 @@ use Rattle.oci_digests.specs.declared.error.DigestError.TheVariants.{Verificatio
 use Rattle.engine_answers.specs.declared.blobs.Expected.{Expected}
 use Rattle.engine_answers.specs.declared.blobs.Plan.{Plan}
 use Rattle.engine_answers.specs.declared.blobs.Plan.TheVariants as plan
-use Rattle.engine_terms.specs.Errors.{is_memory, Says, SaysError, ◌>>◌}
+use Rattle.engine_terms.specs.Error.{is_memory, Says, SaysError, ◌>>◌}
 use Rattle.engine_answers.specs.Answers.{refused_answer, is_success, is_error, is_client_error, by_envelope, envelope_in}
 use Rattle.oci_digests.specs.Checks.{header_digest as digest_in, and_then as digest_and_then}
 use Rattle.oci_transport.specs.Headers.{first_of, digest_header}

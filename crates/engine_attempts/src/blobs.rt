@@ -6,7 +6,7 @@ ghost use Rattle.oci_protocol.specs.Follow.{Reaches};
 ghost use Rattle.oci_protocol.specs.Runs.{Meets};
 ghost use Rattle.oci_transport.specs.Link.{Link, answer_of};
 ghost use Rattle.engine_answers.specs.Answers.{refused_answer};
-ghost use Rattle.engine_terms.specs.Errors.{is_memory, Says, SaysError};
+ghost use Rattle.engine_terms.specs.Error.{is_memory, Says, SaysError};
 ghost use Rattle.engine_answers.specs.Blobs.{both_compared};
 ghost use Rattle.engine_rows.specs.Blobs.{IntoSink, IntoMemory, attempt, Spills};
 ghost use Rattle.engine_rows.specs.Offers.{Takes, Offered, OfferedInto, offer};

@@ -1,3 +1,3 @@
 pub mod Layers
 pub mod NoSink
-pub mod Trying
+pub mod PlacesInTurn

@@ -11,12 +11,12 @@ use Rattle.oci_transport.specs.Urls.{request_url}
 use Rattle.oci_transport.specs.Headers.{Fields, added, held, is_header_value}
 use Rattle.oci_transport.specs.declared.message.Method.{Method}
 use Rattle.oci_names.specs.declared.reference.Reference.{Reference}
-use Rattle.oci_names.specs.References.{resolved_registry}
+use Rattle.oci_names.specs.Reference.{resolved_registry}
 use Rattle.oci_auth.specs.declared.auth.RegistryAuth.{RegistryAuth}
 use Rattle.oci_auth.specs.declared.memory.Memory.{Memory}
-use Rattle.oci_auth.specs.Caches.{key_of, token_at}
-use Rattle.oci_auth.specs.Credentials.{authorization_of}
-use Rattle.oci_auth.specs.Keys.{Key}
+use Rattle.oci_auth.specs.Cache.{key_of, token_at}
+use Rattle.oci_auth.specs.Auth.{authorization_of}
+use Rattle.oci_auth.specs.Kept.{Key}
 use Rattle.oci_auth.specs.declared.token_type.RegistryOperation.{RegistryOperation}
 use Rattle.oci_auth.specs.declared.token_type.RegistryTokenType.{RegistryTokenType}
 use Rattle.oci_protocol.specs.Proto.{Done, bind, unless_refused, ◌>>=◌}
@@ -28,7 +28,7 @@ use Rattle.engine_terms.specs.declared.settings.Settings.{Settings}
 use Rattle.engine_terms.specs.declared.error.OciDistributionError.{OciDistributionError}
 use Rattle.engine_terms.specs.declared.error.OciDistributionError.TheVariants as refusal
 use Rattle.engine_terms.specs.declared.error.GenericCause.TheVariants.{HeaderText}
-use Rattle.engine_terms.specs.Errors.{is_memory, ◌>>=◌ as ◌into◌}
+use Rattle.engine_terms.specs.Error.{is_memory, ◌>>=◌ as ◌into◌}
 use Rattle.engine_requests.specs.Addresses.{url_or, url_read, registry_text}
 use Rattle.engine_requests.specs.Requests.{with_header, with_accept, with_token, headers_of, request_of}
 use Rattle.engine_rows.specs.Rows.{Row, passed_over, taken, token_step, token_asked, kept_or_asked, token_by, token_for, goes_to, token_where, authorized, prepared}

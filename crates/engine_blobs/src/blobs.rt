@@ -2,7 +2,7 @@
 ghost use Rattle.oci_auth.specs.declared.memory.Memory.{Memory};
 ghost use Rattle.oci_protocol.specs.Runs.{Meets};
 ghost use Rattle.engine_terms.specs.Contexts.{context_of};
-ghost use Rattle.engine_terms.specs.Errors.{is_memory};
+ghost use Rattle.engine_terms.specs.Error.{is_memory};
 ghost use Rattle.engine_requests.specs.Sources.{layer_in, places_of};
 ghost use Rattle.engine_rows.specs.Blobs.{IntoSink, IntoMemory, Spills};
 ghost use Rattle.engine_rows.specs.Offers.{tried};

@@ -1,1 +1,1 @@
-pub mod Tagged
+pub mod TagLists

@@ -3,7 +3,7 @@ ghost use Rattle.std.specs.Prelude.{◌≡◌};
 ghost use Rattle.oci_auth.specs.declared.memory.Memory.{Memory};
 ghost use Rattle.oci_protocol.specs.Runs.{Meets};
 ghost use Rattle.engine_terms.specs.Contexts.{context_of};
-ghost use Rattle.engine_terms.specs.Errors.{is_memory, Says};
+ghost use Rattle.engine_terms.specs.Error.{is_memory, Says};
 ghost use Rattle.engine_rows.specs.Pulls.{document, manifest_document, pull_manifest_raw};
 ghost use Rattle.engine_rows.specs.Pulls.{digest_by, fetch_manifest_digest, pull_manifest, manifest_asked};
 

@@ -3,7 +3,7 @@ ghost use Rattle.std.specs.Prelude.{◌≡◌, option_copied};
 ghost use Rattle.oci_auth.specs.declared.memory.Memory.{Memory};
 ghost use Rattle.oci_protocol.specs.Runs.{Meets};
 ghost use Rattle.engine_terms.specs.Contexts.{context_of};
-ghost use Rattle.engine_terms.specs.Errors.{is_memory};
+ghost use Rattle.engine_terms.specs.Error.{is_memory};
 ghost use Rattle.engine_rows.specs.Referrers.{referrers_asked, referrers_tagged, referrers_by};
 ghost use Rattle.engine_rows.specs.Referrers.{pull_referrers};
 

@@ -11,7 +11,7 @@ use Rattle.oci_transport.specs.declared.message.Exchange.{Exchange}
 use Rattle.oci_transport.specs.declared.message.Method.TheVariants.{Get}
 use Rattle.oci_names.specs.declared.reference.Reference.{Reference}
 use Rattle.oci_digests.specs.Names.{Names, digest_text}
-use Rattle.oci_digests.specs.Parts.{named_algorithm}
+use Rattle.oci_digests.specs.Checks.{named_algorithm}
 use Rattle.oci_digests.specs.Checks.{header_digest as digest_in, and_then}
 use Rattle.oci_digests.specs.declared.error.DigestError.{DigestError}
 use Rattle.oci_digests.specs.declared.error.DigestError.TheVariants.{VerificationError}
@@ -20,7 +20,7 @@ use Rattle.oci_auth.specs.declared.token_type.RegistryOperation.TheVariants.{Pul
 use Rattle.oci_protocol.specs.Proto.{Unread, Reply, Headed, Answered, Failed, TooLong, SinkFailed, ◌>>=◌}
 use Rattle.oci_protocol.specs.Runs.{head_part, Runs}
 use Rattle.oci_protocol.specs.Shows.{Shows, WhereOk, Heard}
-use Rattle.oci_protocol.proofs.Showing.{done_run, Shows-more, Shows-next, Shows-step}
+use Rattle.oci_protocol.proofs.RunFacts.{done_run, Shows-more, Shows-next, Shows-step}
 use Rattle.engine_answers.specs.declared.blobs.Expected.{Expected}
 use Rattle.engine_answers.specs.declared.blobs.Plan.{Plan}
 use Rattle.engine_answers.specs.declared.blobs.Plan.TheVariants as plan
@@ -30,7 +30,7 @@ use Rattle.engine_requests.specs.declared.sources.Place.{Place}
 use Rattle.engine_requests.specs.Sources.{Layer, places_of}
 use Rattle.engine_terms.specs.declared.error.OciDistributionError.{OciDistributionError}
 use Rattle.engine_terms.specs.declared.error.OciDistributionError.TheVariants as refusal
-use Rattle.engine_terms.specs.Errors.{◌>>◌ as ◌before◌}
+use Rattle.engine_terms.specs.Error.{◌>>◌ as ◌before◌}
 use Rattle.engine_requests.specs.Addresses.{blob_text, url_read}
 use Rattle.engine_requests.specs.Requests.{manifest_types}
 use Rattle.engine_answers.specs.Answers.{is_success}
@@ -42,7 +42,7 @@ use Rattle.engine_rows.specs.Pulls.{blob_to}
 use Rattle.engine_laws.specs.Answered.{LedTo, Body, LastBody}
 use Rattle.engine_laws.proofs.PreparedRequests.{into_ok, Prepared, prepared_shows}
 use Rattle.engine_laws.proofs.DocumentAnswers.{led_of, body_after, body_led}
-use Rattle.engine_laws.proofs.Offering.{EachPlace, Unasked, tried_law}
+use Rattle.engine_laws.proofs.OfferedPlaces.{EachPlace, Unasked, tried_law}
 
 -- ---- the digest that is expected is the one that was asked
 

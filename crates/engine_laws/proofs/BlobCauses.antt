@@ -14,7 +14,7 @@ use Rattle.oci_transport.specs.declared.message.Exchange.{Exchange}
 use Rattle.oci_transport.specs.declared.message.Method.TheVariants.{Get}
 use Rattle.oci_names.specs.declared.reference.Reference.{Reference}
 use Rattle.oci_digests.specs.Names.{digest_text}
-use Rattle.oci_digests.specs.Parts.{named_algorithm}
+use Rattle.oci_digests.specs.Checks.{named_algorithm}
 use Rattle.oci_digests.specs.Checks.{header_digest as digest_in, and_then}
 use Rattle.oci_digests.specs.declared.digester.Algorithm.{Algorithm}
 use Rattle.oci_digests.specs.declared.error.DigestError.{DigestError}
@@ -24,7 +24,7 @@ use Rattle.oci_auth.specs.declared.token_type.RegistryOperation.TheVariants.{Pul
 use Rattle.oci_protocol.specs.Proto.{Piped, limit_of, Reply, Headed, Answered, Failed, TooLong, SinkFailed, ◌>>=◌}
 use Rattle.oci_protocol.specs.Runs.{head_part, Runs}
 use Rattle.oci_protocol.specs.Shows.{Shows, ByAnswer, Heard}
-use Rattle.oci_protocol.proofs.Showing.{done_run, Shows-more, Shows-each, Shows-step}
+use Rattle.oci_protocol.proofs.RunFacts.{done_run, Shows-more, Shows-each, Shows-step}
 use Rattle.engine_answers.specs.declared.blobs.Expected.{Expected}
 use Rattle.engine_answers.specs.declared.blobs.Plan.{Plan}
 use Rattle.engine_answers.specs.declared.blobs.Plan.TheVariants as plan
@@ -32,7 +32,7 @@ use Rattle.engine_terms.specs.Contexts.{Context}
 use Rattle.engine_terms.specs.declared.settings.Settings.{Settings}
 use Rattle.engine_terms.specs.declared.error.OciDistributionError.{OciDistributionError}
 use Rattle.engine_terms.specs.declared.error.OciDistributionError.TheVariants as refusal
-use Rattle.engine_terms.specs.Errors.{◌>>◌ as ◌before◌}
+use Rattle.engine_terms.specs.Error.{◌>>◌ as ◌before◌}
 use Rattle.engine_requests.specs.Addresses.{blob_text, url_read}
 use Rattle.engine_requests.specs.Requests.{manifest_types, request_of}
 use Rattle.engine_requests.specs.Sources.{Layer, taken_as, place_of, with_place, places_of, asked_at}
@@ -49,7 +49,7 @@ use Rattle.engine_laws.proofs.EarlyCauses.{Loose, LooseBlob}
 use Rattle.engine_laws.proofs.PreparedRequests.{accepts_of, Prepared}
 use Rattle.engine_laws.proofs.DigestErrors.{name_cause, name_claimed, differs_claimed, header_cause}
 use Rattle.engine_laws.proofs.EarlyCauses.{EarlyCause, Early, request_early, prepared_causes}
-use Rattle.engine_laws.proofs.Offering.{EachPlace, Unasked, tried_law}
+use Rattle.engine_laws.proofs.OfferedPlaces.{EachPlace, Unasked, tried_law}
 use Rattle.engine_laws.proofs.DocumentCauses.{answer_cause, cause_later, early_cause, status_cause, heard_answer, heard_failed, heard_long, url_cause}
 
 -- ---- what a plan says of the answer

@@ -17,12 +17,12 @@ use Rattle.engine_terms.specs.declared.settings.Settings.{Settings}
 use Rattle.engine_terms.specs.declared.error.GenericCause.TheVariants.{HeaderText}
 use Rattle.engine_terms.specs.declared.error.OciDistributionError.{OciDistributionError}
 use Rattle.engine_terms.specs.declared.error.OciDistributionError.TheVariants as refusal
-use Rattle.engine_terms.specs.Errors.{is_memory}
+use Rattle.engine_terms.specs.Error.{is_memory}
 use Rattle.engine_requests.specs.Requests.{manifest_types}
 use Rattle.engine_rows.specs.Rows.{Row}
 use Rattle.engine_rows.specs.Blobs.{Spills}
 use Rattle.engine_rows.specs.Pulls.{fetch_manifest_digest, pull_manifest_raw, pull_manifest, blob_to, pull_blob}
-use Rattle.engine_rows.specs.Images.{pull}
+use Rattle.engine_rows.specs.Image.{pull}
 use Rattle.engine_rows.specs.Manifests.{pull_image_manifest_and_list_digest, pull_image_manifest, pull_manifest_and_config_and_list_digest, pull_manifest_and_config}
 use Rattle.oci_manifests.specs.declared.manifest.OciImageManifest.{OciImageManifest}
 use Rattle.engine_rows.specs.declared.image.ImageData.{ImageData}

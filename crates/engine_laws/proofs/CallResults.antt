@@ -4,16 +4,16 @@ use Rattle.json_values.specs.Tray.{Tray}
 use Rattle.oci_transport.specs.Link.{Link}
 use Rattle.oci_transport.specs.declared.message.Exchange.{Exchange}
 use Rattle.oci_names.specs.declared.reference.Reference.{Reference}
-use Rattle.oci_names.specs.References.{digest_of}
+use Rattle.oci_names.specs.Reference.{digest_of}
 use Rattle.oci_digests.specs.Names.{Names}
 use Rattle.oci_auth.specs.declared.auth.RegistryAuth.{RegistryAuth}
 use Rattle.oci_auth.specs.declared.memory.Memory.{Memory}
 use Rattle.oci_protocol.specs.Runs.{Meets, Told}
-use Rattle.oci_protocol.proofs.Showing.{Meets-shows-ok}
+use Rattle.oci_protocol.proofs.RunFacts.{Meets-shows-ok}
 use Rattle.engine_terms.specs.Contexts.{Context}
 use Rattle.engine_requests.specs.Sources.{Layer}
 use Rattle.engine_terms.specs.declared.error.OciDistributionError.{OciDistributionError}
-use Rattle.engine_terms.specs.Errors.{is_memory}
+use Rattle.engine_terms.specs.Error.{is_memory}
 use Rattle.engine_rows.specs.Blobs.{Destination, IntoSink, Spills}
 use Rattle.engine_rows.specs.Pulls.{fetch_manifest_digest, pull_manifest_raw, blob_to, pull_blob}
 use Rattle.engine_laws.specs.Answered.{DigestAnswered, Body, LastBody, Document, TookBlob}

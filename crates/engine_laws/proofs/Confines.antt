@@ -11,9 +11,9 @@ use Rattle.oci_transport.specs.Urls.{request_url}
 use Rattle.oci_transport.specs.declared.message.Request.{Request}
 use Rattle.oci_transport.specs.declared.message.Exchange.{Exchange}
 use Rattle.oci_names.specs.declared.reference.Reference.{Reference}
-use Rattle.oci_names.specs.References.{repository_of, resolved_registry}
-use Rattle.oci_auth.specs.Caches.{key_of, token_at}
-use Rattle.oci_auth.specs.Keys.{Key, under}
+use Rattle.oci_names.specs.Reference.{repository_of, resolved_registry}
+use Rattle.oci_auth.specs.Cache.{key_of, token_at}
+use Rattle.oci_auth.specs.Kept.{Key, under}
 use Rattle.oci_auth.specs.declared.auth.RegistryAuth.{RegistryAuth}
 use Rattle.oci_auth.specs.declared.memory.Memory.{Memory}
 use Rattle.oci_auth.specs.declared.token_type.RegistryOperation.TheVariants.{Pull}
@@ -22,16 +22,16 @@ use Rattle.oci_protocol.specs.Proto.{Proto, Done, Ask, Recall, Keep, bind, unles
 use Rattle.oci_protocol.specs.Lift.{lifted}
 use Rattle.oci_protocol.specs.Runs.{Meets, Told}
 use Rattle.oci_protocol.specs.Safe.{Safe}
-use Rattle.oci_protocol.proofs.Lifting.{Safe-lifted}
+use Rattle.oci_protocol.proofs.WiderMemory.{Safe-lifted}
 use Rattle.oci_protocol.proofs.Safety.{Safe-bind}
 use Rattle.engine_requests.specs.Addresses.{registry_text, base_text}
-use Rattle.engine_terms.specs.Schemes.{scheme_for}
+use Rattle.engine_terms.specs.Settings.{scheme_for}
 use Rattle.engine_terms.specs.Contexts.{Context}
 use Rattle.engine_requests.specs.Tokens.{allowed, realm_url, with_service}
 use Rattle.engine_terms.specs.declared.settings.Settings.{Settings}
 use Rattle.engine_laws.specs.Confined.{ToRegistry, ToRealm, MayCarry, Confined, KeptOrAdded, StoredOrHanded, Within}
 use Rattle.engine_laws.specs.Held.{Entry, pulling, IsAuth, IsHeld}
-use Rattle.engine_laws.proofs.Confining.{each_more}
+use Rattle.engine_laws.proofs.RequestConfinement.{each_more}
 use Rattle.engine_laws.proofs.KeptTokens.{Keeps, keeps_first, keeps_more}
 use Rattle.engine_laws.proofs.SafeKeeps.{Lasts, Meets-within}
 use Rattle.engine_laws.proofs.SafeMore.{Safe-map}

@@ -10,13 +10,13 @@ use Rattle.oci_transport.specs.declared.message.Exchange.{Exchange}
 use Rattle.oci_transport.specs.declared.message.Method.{Method}
 use Rattle.oci_transport.specs.declared.message.Method.TheVariants.{Get}
 use Rattle.oci_names.specs.declared.reference.Reference.{Reference}
-use Rattle.oci_names.specs.References.{digest_of}
+use Rattle.oci_names.specs.Reference.{digest_of}
 use Rattle.oci_digests.specs.Names.{Names}
 use Rattle.oci_digests.specs.Checks.{validated}
 use Rattle.oci_digests.specs.Validates.{Validates}
 use Rattle.oci_digests.specs.declared.digester.Algorithm.TheVariants.{Sha256}
 use Rattle.oci_digests.specs.declared.error.DigestError.{DigestError}
-use Rattle.oci_digests.proofs.Validated.{validates}
+use Rattle.oci_digests.proofs.ExactChecks.{validates}
 use Rattle.oci_auth.specs.declared.auth.RegistryAuth.{RegistryAuth}
 use Rattle.oci_auth.specs.declared.memory.Memory.{Memory}
 use Rattle.oci_auth.specs.declared.token_type.RegistryOperation.TheVariants.{Pull}
@@ -24,13 +24,13 @@ use Rattle.oci_protocol.specs.Proto.{Reading, Reply, Headed, Answered, Failed, T
 use Rattle.oci_protocol.specs.Runs.{head_part, Runs}
 use Rattle.oci_protocol.specs.Follow.{Trail, IsFinal}
 use Rattle.oci_protocol.specs.Shows.{Shows, WhereOk, Heard}
-use Rattle.oci_protocol.proofs.Showing.{done_run, Shows-more, Shows-next, Shows-step, Shows-last, Shows-follow}
+use Rattle.oci_protocol.proofs.RunFacts.{done_run, Shows-more, Shows-next, Shows-step, Shows-last, Shows-follow}
 use Rattle.engine_answers.specs.declared.answers.Got.{Got}
 use Rattle.engine_terms.specs.Contexts.{Context}
 use Rattle.engine_terms.specs.declared.settings.Settings.{Settings}
 use Rattle.engine_terms.specs.declared.error.OciDistributionError.{OciDistributionError}
 use Rattle.engine_terms.specs.declared.error.OciDistributionError.TheVariants as refusal
-use Rattle.engine_terms.specs.Errors.{◌>>=◌ as ◌into◌}
+use Rattle.engine_terms.specs.Error.{◌>>=◌ as ◌into◌}
 use Rattle.engine_requests.specs.Addresses.{manifest_text, url_or, url_read}
 use Rattle.engine_answers.specs.Answers.{accepted, refused_answer, or_digest_error, header_digest, body_digest, answer_digest, document_in}
 use Rattle.engine_rows.specs.Rows.{store, whole, whole_reply, prepared}

@@ -25,14 +25,14 @@ use Rattle.engine_terms.specs.declared.settings.Settings.{Settings}
 use Rattle.engine_terms.specs.declared.error.GenericCause.TheVariants.{HeaderText}
 use Rattle.engine_terms.specs.declared.error.OciDistributionError.{OciDistributionError}
 use Rattle.engine_terms.specs.declared.error.OciDistributionError.TheVariants as refusal
-use Rattle.engine_terms.specs.Errors.{is_memory, ◌>>=◌ as ◌into◌}
+use Rattle.engine_terms.specs.Error.{is_memory, ◌>>=◌ as ◌into◌}
 use Rattle.engine_requests.specs.Addresses.{manifest_text, blob_text, url_or, url_read}
 use Rattle.engine_requests.specs.Requests.{with_header, with_accept, with_token, headers_of, request_of, bare_request, manifest_types}
 use Rattle.engine_rows.specs.Rows.{Row, store, authorized, prepared, named_after}
 use Rattle.engine_rows.specs.Blobs.{Destination, Spills, filled}
 use Rattle.engine_rows.specs.Offers.{tried}
 use Rattle.engine_rows.specs.Pulls.{document, digest_by, manifest_document, pull_manifest_raw, fetch_manifest_digest, pull_manifest, blob_to}
-use Rattle.engine_rows.specs.Images.{pull}
+use Rattle.engine_rows.specs.Image.{pull}
 use Rattle.engine_rows.specs.Manifests.{pull_image_manifest_and_list_digest, pull_image_manifest, pull_manifest_and_config_and_list_digest, pull_manifest_and_config}
 use Rattle.engine_laws.specs.Causes.{IsEarly, IsEarlyRefusal, HasBadHeader, IsRefusedAs}
 use Rattle.engine_laws.proofs.EarlyCauses.{Early, EarlyCause, authorized_early}

@@ -9,7 +9,7 @@ use Rattle.oci_protocol.specs.Proto.{Proto, Done, Ask, Recall, Keep}
 use Rattle.oci_protocol.specs.Runs.{Runs, Performs, Breaks, Outcome, Meets, Told}
 use Rattle.oci_protocol.specs.Safe.{Safe}
 use Rattle.oci_protocol.specs.Shows.{Shows, ByAnswer}
-use Rattle.oci_protocol.proofs.Ending.{Runs-ends-safe}
+use Rattle.oci_protocol.proofs.SafeEnds.{Runs-ends-safe}
 use Rattle.engine_laws.specs.Causes.{LastFailed}
 use Rattle.engine_laws.specs.TokenCauses.{LastIs}
 

@@ -9,9 +9,9 @@ use Rattle.oci_transport.specs.declared.message.AnswerHead.{AnswerHead}
 use Rattle.oci_transport.specs.declared.message.Exchange.{Exchange}
 use Rattle.oci_transport.specs.declared.message.Method.TheVariants.{Get, Head}
 use Rattle.oci_names.specs.declared.reference.Reference.{Reference}
-use Rattle.oci_names.specs.References.{digest_of}
+use Rattle.oci_names.specs.Reference.{digest_of}
 use Rattle.oci_digests.specs.Names.{digest_text}
-use Rattle.oci_digests.specs.Parts.{parts_of}
+use Rattle.oci_digests.specs.Checks.{parts_of}
 use Rattle.oci_digests.specs.declared.error.DigestError.TheVariants.{VerificationError}
 use Rattle.oci_auth.specs.declared.auth.RegistryAuth.{RegistryAuth}
 use Rattle.oci_auth.specs.declared.memory.Memory.{Memory}
@@ -46,14 +46,14 @@ use Rattle.engine_rows.specs.Offers.{offer_reading, offer_reply, offer, tried}
 use Rattle.engine_rows.specs.Pulls.{document, digest_by, manifest_document, pull_manifest_raw, fetch_manifest_digest, pull_manifest, blob_to, held_blob}
 use Rattle.engine_answers.specs.Index.{entry_found, entry_manifest, entry_reference, config_text}
 use Rattle.engine_rows.specs.Manifests.{pull_entry, manifest_by, pull_image_manifest_and_list_digest, pull_image_manifest, pull_manifest_and_config_and_list_digest, pull_manifest_and_config}
-use Rattle.engine_rows.specs.Images.{layers_accepted, layer_of, pull_layers, pull}
+use Rattle.engine_rows.specs.Image.{layers_accepted, layer_of, pull_layers, pull}
 use Rattle.oci_manifests.specs.declared.document.OciManifest.{OciManifest}
 use Rattle.oci_manifests.specs.declared.document.OciManifest.TheVariants.{Image, ImageIndex}
 use Rattle.engine_laws.proofs.PlainRefusals.{Plain, into_plain, refused_plain, accepted_plain, digest_plain, found_plain, read_document_plain, meant_plain, entry_plain, config_plain, layers_plain}
 use Rattle.engine_laws.specs.Held.{Entry, pulling}
 use Rattle.engine_laws.proofs.KeptTokens.{Keeps}
 use Rattle.engine_laws.proofs.SafeMore.{Safe-map}
-use Rattle.engine_laws.proofs.Confining.{Sent, each_more}
+use Rattle.engine_laws.proofs.RequestConfinement.{Sent, each_more}
 use Rattle.engine_laws.specs.Confined.{ToRegistry, ToRealm, MayCarry}
 use Rattle.engine_laws.proofs.ShownTokens.{Carries, HeaderCause, Ended, Ready, request_ready, safe_done, safe_next, safe_ready, safe_follow, prepared_safe, store_safe, plain_step, plain_last, url_first}
 

@@ -11,7 +11,7 @@ use Rattle.oci_manifests.specs.declared.blob.ImageLayer.{ImageLayer}
 use Rattle.oci_auth.specs.declared.auth.RegistryAuth.{RegistryAuth}
 use Rattle.oci_protocol.specs.Proto.{Done, ◌>>=◌, ◌>>◌}
 use Rattle.oci_protocol.specs.Shows.{Shows, ByAnswer, WhereOk}
-use Rattle.oci_protocol.proofs.Showing.{Shows-done, Shows-more, Shows-each, Shows-step}
+use Rattle.oci_protocol.proofs.RunFacts.{Shows-done, Shows-more, Shows-each, Shows-step}
 use Rattle.engine_terms.specs.Contexts.{Context}
 use Rattle.engine_terms.specs.declared.settings.Settings.{Settings}
 use Rattle.engine_terms.specs.declared.error.GenericCause.TheVariants.{ConfigNotText}
@@ -24,7 +24,7 @@ use Rattle.engine_rows.specs.Blobs.{IntoMemory}
 use Rattle.engine_rows.specs.Rows.{Row}
 use Rattle.engine_rows.specs.Pulls.{held_blob}
 use Rattle.engine_rows.specs.Manifests.{pull_image_manifest_and_list_digest, pull_manifest_and_config_and_list_digest, pull_manifest_and_config}
-use Rattle.engine_rows.specs.Images.{is_accepted, all_accepted, layers_accepted, layer_of, config_of, pull_layers, pull}
+use Rattle.engine_rows.specs.Image.{is_accepted, all_accepted, layers_accepted, layer_of, config_of, pull_layers, pull}
 use Rattle.engine_rows.specs.declared.image.ImageData.{ImageData}
 use Rattle.engine_laws.specs.Answered.{LastBody}
 use Rattle.engine_laws.specs.Causes.{BlobUrl, ImageUrl, FoundUrl, FoundDigest, AnswerCause, DocumentCause, AskedDigest, ManifestRead, ReadDescriptor, ImageDigest, IndexCause, ConfigCause, ImageCause}

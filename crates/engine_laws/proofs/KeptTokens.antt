@@ -8,9 +8,9 @@ use Rattle.std.specs.Ordering.{eq_by_cmp}
 use Rattle.std.specs.Cmp.Lexicographic.{nat_list_cmp_total, texts_ties, same_text}
 use Rattle.json_values.specs.Places.{by_bytes}
 use Rattle.oci_transport.specs.declared.message.Exchange.{Exchange}
-use Rattle.oci_names.specs.References.{resolved_registry}
-use Rattle.oci_auth.specs.Caches.{key_of, kept_until, kept_token, given_at, token_at}
-use Rattle.oci_auth.specs.Keys.{Key, key_in, is_under, inserted}
+use Rattle.oci_names.specs.Reference.{resolved_registry}
+use Rattle.oci_auth.specs.Cache.{key_of, kept_until, kept_token, given_at, token_at}
+use Rattle.oci_auth.specs.Kept.{Key, key_in, is_under, inserted}
 use Rattle.oci_auth.specs.Memory.{stored}
 use Rattle.oci_auth.specs.declared.auth.RegistryAuth.{RegistryAuth}
 use Rattle.oci_auth.specs.declared.cache.TokenCache.{TokenCache}

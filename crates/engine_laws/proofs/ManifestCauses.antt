@@ -15,13 +15,13 @@ use Rattle.oci_manifests.specs.declared.document.OciManifest.{OciManifest}
 use Rattle.oci_auth.specs.declared.auth.RegistryAuth.{RegistryAuth}
 use Rattle.oci_protocol.specs.Proto.{Done, ◌>>=◌}
 use Rattle.oci_protocol.specs.Shows.{Shows, ByAnswer}
-use Rattle.oci_protocol.proofs.Showing.{Shows-done, Shows-more, Shows-each, Shows-step}
+use Rattle.oci_protocol.proofs.RunFacts.{Shows-done, Shows-more, Shows-each, Shows-step}
 use Rattle.engine_terms.specs.Contexts.{Context}
 use Rattle.engine_terms.specs.declared.settings.Settings.{Settings}
 use Rattle.engine_terms.specs.declared.error.SpecViolation.TheVariants.{Status}
 use Rattle.engine_terms.specs.declared.error.OciDistributionError.{OciDistributionError}
 use Rattle.engine_terms.specs.declared.error.OciDistributionError.TheVariants as refusal
-use Rattle.engine_terms.specs.Errors.{◌>>◌ as ◌before◌}
+use Rattle.engine_terms.specs.Error.{◌>>◌ as ◌before◌}
 use Rattle.engine_requests.specs.Requests.{manifest_types}
 use Rattle.engine_answers.specs.Documents.{plain_of, type_checked, version_checked, versioned_in, or_unread, reads_twice, tables_read, document_read}
 use Rattle.engine_rows.specs.Pulls.{pull_manifest_raw, pull_manifest}

@@ -18,14 +18,14 @@ use Rattle.engine_terms.specs.declared.error.OciDistributionError.TheVariants as
 use Rattle.engine_answers.specs.Answers.{is_success, is_client_error, envelope_in, by_envelope, refused_answer, accepted, or_digest_error, header_digest, answer_digest, document_in}
 use Rattle.engine_answers.specs.Documents.{plain_of, type_checked, version_checked, versioned_in, or_unread, reads_twice, tables_read, document_read}
 use Rattle.engine_answers.specs.Index.{entry_named, entry_found, entry_manifest, config_text}
-use Rattle.engine_rows.specs.Images.{is_accepted, all_accepted, layers_accepted}
+use Rattle.engine_rows.specs.Image.{is_accepted, all_accepted, layers_accepted}
 use Rattle.oci_platforms.specs.Promise.{lists, resolved}
 use Rattle.oci_platforms.specs.declared.promise.ResolverPromise.{ResolverPromise}
 use Rattle.oci_descriptors.specs.declared.index_entry.ImageIndexEntry.{ImageIndexEntry}
 use Rattle.oci_descriptors.specs.declared.descriptor.OciDescriptor.{OciDescriptor}
 use Rattle.oci_manifests.specs.declared.document.OciManifest.TheVariants.{Image, ImageIndex}
 use Rattle.engine_terms.specs.declared.error.GenericCause.TheVariants.{ConfigNotText, HeaderText}
-use Rattle.engine_terms.specs.Errors.{◌>>=◌ as ◌into◌}
+use Rattle.engine_terms.specs.Error.{◌>>=◌ as ◌into◌}
 
 -- the refusal is neither a fault of the sink nor a value that cannot stand in a header
 abbrev pub IsPlain : OciDistributionError → Type 0

@@ -7,7 +7,7 @@ use Rattle.oci_transport.specs.Link.{Link}
 use Rattle.oci_transport.specs.declared.message.Answer.{Answer}
 use Rattle.oci_transport.specs.declared.message.Exchange.{Exchange}
 use Rattle.oci_names.specs.declared.reference.Reference.{Reference}
-use Rattle.oci_names.specs.References.{digest_of}
+use Rattle.oci_names.specs.Reference.{digest_of}
 use Rattle.oci_auth.specs.declared.memory.Memory.{Memory}
 use Rattle.oci_manifests.specs.Document.{document_of}
 use Rattle.oci_errors.specs.declared.envelope.OciEnvelope.{OciEnvelope}
@@ -18,7 +18,7 @@ use Rattle.oci_protocol.specs.Proto.{Done, bind, unless_refused, ◌>>=◌}
 use Rattle.oci_protocol.specs.Runs.{Runs, Performs, Breaks, Outcome, Meets, Told}
 use Rattle.oci_protocol.specs.Shows.{Shows, ByAnswer}
 use Rattle.oci_protocol.specs.Ends.{Ends}
-use Rattle.oci_protocol.proofs.Ending.{Runs-ends-safe}
+use Rattle.oci_protocol.proofs.SafeEnds.{Runs-ends-safe}
 use Rattle.oci_protocol.proofs.Parts.{Parts, Runs-parts}
 use Rattle.engine_terms.specs.Contexts.{Context}
 use Rattle.engine_answers.specs.declared.answers.Got.{Got}
@@ -27,7 +27,7 @@ use Rattle.engine_terms.specs.declared.error.GenericCause.TheVariants.{HeaderTex
 use Rattle.engine_terms.specs.declared.error.SpecViolation.TheVariants.{Status, ReferrersTag}
 use Rattle.engine_terms.specs.declared.error.OciDistributionError.{OciDistributionError}
 use Rattle.engine_terms.specs.declared.error.OciDistributionError.TheVariants as refusal
-use Rattle.engine_terms.specs.Errors.{is_memory}
+use Rattle.engine_terms.specs.Error.{is_memory}
 use Rattle.engine_answers.specs.Answers.{is_success, is_client_error, envelope_in, by_envelope, refused_answer, accepted}
 use Rattle.engine_answers.specs.Documents.{plain_of, or_unread, reads_twice, tables_read}
 use Rattle.engine_requests.specs.Requests.{manifest_types}
@@ -47,7 +47,7 @@ use Rattle.engine_laws.proofs.FaultCounts.{fault_rose}
 use Rattle.engine_laws.proofs.KeptTokens.{Keeps, keeps_first}
 use Rattle.engine_laws.proofs.ManifestCauses.{ReadLast}
 use Rattle.engine_laws.proofs.ReferrersAnswers.{asked_causes, manifest_shown}
-use Rattle.engine_laws.proofs.ReferrersConfined.{asked_sound, document_asked_sound, asked_within}
+use Rattle.engine_laws.proofs.ReferrersConfinement.{asked_sound, document_asked_sound, asked_within}
 use Rattle.engine_laws.proofs.ShownTokens.{Carries, HeaderCause, Ended}
 
 -- ---- which refusals an answer of the list gives

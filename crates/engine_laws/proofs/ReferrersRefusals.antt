@@ -3,14 +3,14 @@ use Rattle.std.proofs.Common.{◌≡◌, ℕ, List, Option, Some, None, IfSome, 
 use Rattle.url.specs.Parts.{Parts}
 use Rattle.oci_transport.specs.Urls.{request_url}
 use Rattle.oci_transport.specs.declared.message.Method.TheVariants.{Get}
-use Rattle.oci_names.specs.References.{digest_of}
+use Rattle.oci_names.specs.Reference.{digest_of}
 use Rattle.oci_names.specs.declared.reference.Reference.{Reference}
 use Rattle.oci_auth.specs.declared.token_type.RegistryOperation.TheVariants.{Pull}
 use Rattle.oci_protocol.specs.Proto.{Done, bind, unless_refused, ◌>>=◌}
 use Rattle.oci_protocol.specs.Ends.{Ends}
 use Rattle.engine_requests.specs.Addresses.{url_or, url_read}
 use Rattle.engine_terms.specs.Contexts.{Context}
-use Rattle.engine_terms.specs.Errors.{◌>>=◌ as ◌into◌}
+use Rattle.engine_terms.specs.Error.{◌>>=◌ as ◌into◌}
 use Rattle.engine_requests.specs.ReferrerLists.{digest_given, referrers_text, referrers_url, with_artifact_type}
 use Rattle.engine_requests.specs.Requests.{manifest_types}
 use Rattle.engine_terms.specs.declared.error.OciDistributionError.{OciDistributionError}

@@ -5,7 +5,7 @@ use Rattle.oci_transport.specs.Headers.{values_of}
 use Rattle.oci_transport.specs.declared.message.Request.{Request}
 use Rattle.oci_transport.specs.declared.message.Exchange.{Exchange}
 use Rattle.oci_names.specs.declared.reference.Reference.{Reference}
-use Rattle.oci_names.specs.References.{resolved_registry, repository_of, mirror_of, digest_of}
+use Rattle.oci_names.specs.Reference.{resolved_registry, repository_of, mirror_of, digest_of}
 use Rattle.oci_auth.specs.declared.auth.RegistryAuth.{RegistryAuth}
 use Rattle.oci_auth.specs.declared.memory.Memory.{Memory}
 use Rattle.oci_auth.specs.declared.token_type.RegistryOperation.TheVariants.{Pull}
@@ -22,10 +22,10 @@ use Rattle.engine_rows.specs.Rows.{Row}
 use Rattle.engine_rows.specs.Referrers.{referrers_asked, referrers_tagged, referrers_by, pull_referrers}
 use Rattle.engine_laws.specs.Confined.{ToRegistry, ToRealm, MayCarry}
 use Rattle.engine_laws.specs.Held.{pulling}
-use Rattle.engine_laws.proofs.Confining.{each_more}
+use Rattle.engine_laws.proofs.RequestConfinement.{each_more}
 use Rattle.engine_laws.proofs.HeaderCauses.{Sound}
 use Rattle.engine_laws.proofs.KeptTokens.{Keeps}
-use Rattle.engine_laws.proofs.ReferrersConfined.{asked_sound, tagged_sound}
+use Rattle.engine_laws.proofs.ReferrersConfinement.{asked_sound, tagged_sound}
 use Rattle.engine_laws.proofs.ReferrersPlain.{digest_plain, list_plain}
 use Rattle.engine_laws.proofs.SafeMore.{Safe-map}
 use Rattle.engine_laws.proofs.ShownTokens.{Carries, HeaderCause, Ended, safe_next, plain_step, plain_last}

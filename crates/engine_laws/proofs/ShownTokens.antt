@@ -15,10 +15,10 @@ use Rattle.oci_transport.specs.declared.message.Exchange.{Exchange}
 use Rattle.oci_transport.specs.declared.message.Method.{Method}
 use Rattle.oci_transport.specs.declared.message.Method.TheVariants.{Get}
 use Rattle.oci_names.specs.declared.reference.Reference.{Reference}
-use Rattle.oci_names.specs.References.{resolved_registry}
+use Rattle.oci_names.specs.Reference.{resolved_registry}
 use Rattle.http_challenges.specs.declared.bearer.BearerChallenge.{BearerChallenge}
-use Rattle.oci_auth.specs.Caches.{key_of, token_at}
-use Rattle.oci_auth.specs.Credentials.{own_token, authorization_of}
+use Rattle.oci_auth.specs.Cache.{key_of, token_at}
+use Rattle.oci_auth.specs.Auth.{own_token, authorization_of}
 use Rattle.oci_auth.specs.declared.auth.RegistryAuth.{RegistryAuth}
 use Rattle.oci_auth.specs.declared.auth.RegistryAuth.TheVariants as credentials
 use Rattle.oci_auth.specs.declared.memory.Memory.{Memory}
@@ -36,7 +36,7 @@ use Rattle.engine_terms.specs.declared.error.OciDistributionError.{OciDistributi
 use Rattle.engine_terms.specs.declared.error.OciDistributionError.TheVariants as refusal
 use Rattle.engine_requests.specs.declared.tokens.Wanted.{Wanted}
 use Rattle.engine_requests.specs.declared.tokens.Wanted.TheVariants as wants
-use Rattle.engine_terms.specs.Errors.{◌>>=◌ as ◌into◌}
+use Rattle.engine_terms.specs.Error.{◌>>=◌ as ◌into◌}
 use Rattle.engine_requests.specs.Addresses.{url_or, url_read, base_text, registry_text}
 use Rattle.engine_requests.specs.Requests.{with_header, with_accept, with_token, headers_of, request_of, bare_request}
 use Rattle.engine_requests.specs.Tokens.{wanted, realm_request, token_read}
@@ -49,7 +49,7 @@ use Rattle.oci_protocol.specs.Runs.{head_part}
 use Rattle.engine_requests.specs.Tokens.{realm_url}
 use Rattle.engine_laws.specs.Held.{Entry, IsAuth, GivenIn, IsHeld}
 use Rattle.engine_laws.specs.Confined.{ToRealm, MayCarry, Each, Confined}
-use Rattle.engine_laws.proofs.Confining.{values_by, request_values, request_url_is, request_method_is, SentValue, Sent, sent_confined, sent_moves}
+use Rattle.engine_laws.proofs.RequestConfinement.{values_by, request_values, request_url_is, request_method_is, SentValue, Sent, sent_confined, sent_moves}
 use Rattle.engine_laws.proofs.SafeMore.{Safe-more}
 use Rattle.engine_laws.specs.Causes.{HasBadHeader, HasBadToken, BadHeader}
 use Rattle.engine_laws.proofs.PreparedRequests.{with_ok, accept_none}

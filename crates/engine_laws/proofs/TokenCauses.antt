@@ -15,10 +15,10 @@ use Rattle.oci_transport.specs.declared.message.Method.{Method}
 use Rattle.oci_transport.specs.declared.message.Method.TheVariants.{Get}
 use Rattle.oci_names.specs.declared.reference.Reference.{Reference}
 use Rattle.http_challenges.specs.declared.bearer.BearerChallenge.{BearerChallenge}
-use Rattle.oci_auth.specs.Caches.{key_of}
-use Rattle.oci_auth.specs.Credentials.{own_token, authorization_of}
-use Rattle.oci_auth.specs.Keys.{Key}
-use Rattle.oci_auth.specs.Tokens.{token_of}
+use Rattle.oci_auth.specs.Cache.{key_of}
+use Rattle.oci_auth.specs.Auth.{own_token, authorization_of}
+use Rattle.oci_auth.specs.Kept.{Key}
+use Rattle.oci_auth.specs.Token.{token_of}
 use Rattle.oci_auth.specs.declared.auth.RegistryAuth.{RegistryAuth}
 use Rattle.oci_auth.specs.declared.auth.RegistryAuth.TheVariants as credentials
 use Rattle.oci_auth.specs.declared.memory.Memory.{Memory}
@@ -28,7 +28,7 @@ use Rattle.oci_auth.specs.declared.token_type.RegistryTokenType.{RegistryTokenTy
 use Rattle.oci_protocol.specs.Proto.{Reading, limit_of, Reply, Headed, Answered, Failed, TooLong, SinkFailed, Piped, read_none, read_within, Done, ◌>>=◌}
 use Rattle.oci_protocol.specs.Runs.{Runs, Meets, Told, head_part}
 use Rattle.oci_protocol.specs.Shows.{Shows, ByAnswer, Heard}
-use Rattle.oci_protocol.proofs.Showing.{done_run, Shows-done, Shows-more, Shows-each, Shows-step, Shows-last, Shows-recall, Shows-keep, Shows-follow}
+use Rattle.oci_protocol.proofs.RunFacts.{done_run, Shows-done, Shows-more, Shows-each, Shows-step, Shows-last, Shows-recall, Shows-keep, Shows-follow}
 use Rattle.engine_terms.specs.Contexts.{Context}
 use Rattle.engine_terms.specs.declared.settings.Settings.{Settings}
 use Rattle.engine_answers.specs.declared.answers.Got.{Got}
@@ -37,7 +37,7 @@ use Rattle.engine_terms.specs.declared.error.OciDistributionError.{OciDistributi
 use Rattle.engine_terms.specs.declared.error.OciDistributionError.TheVariants as refusal
 use Rattle.engine_requests.specs.declared.tokens.Wanted.{Wanted}
 use Rattle.engine_requests.specs.declared.tokens.Wanted.TheVariants as wants
-use Rattle.engine_terms.specs.Errors.{is_memory, ◌>>=◌ as ◌into◌}
+use Rattle.engine_terms.specs.Error.{is_memory, ◌>>=◌ as ◌into◌}
 use Rattle.engine_requests.specs.Addresses.{url_or, url_read, base_text}
 use Rattle.engine_requests.specs.Requests.{with_header, with_accept, with_token, headers_of, request_of, bare_request}
 use Rattle.engine_requests.specs.Tokens.{wanted, realm_url, realm_request, decoded, token_read}

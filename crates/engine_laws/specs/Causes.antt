@@ -10,12 +10,11 @@ use Rattle.oci_transport.specs.declared.message.Request.{Request}
 use Rattle.oci_transport.specs.declared.message.Answer.{Answer}
 use Rattle.oci_transport.specs.declared.message.Exchange.{Exchange}
 use Rattle.oci_names.specs.declared.reference.Reference.{Reference}
-use Rattle.oci_auth.specs.Credentials.{authorization_of}
+use Rattle.oci_auth.specs.Auth.{authorization_of}
 use Rattle.oci_auth.specs.declared.token_type.RegistryTokenType.{RegistryTokenType}
-use Rattle.oci_names.specs.References.{digest_of}
+use Rattle.oci_names.specs.Reference.{digest_of}
 use Rattle.oci_digests.specs.Names.{digest_text}
-use Rattle.oci_digests.specs.Checks.{is_header_text}
-use Rattle.oci_digests.specs.Parts.{parts_of, algorithm_of, named_algorithm}
+use Rattle.oci_digests.specs.Checks.{is_header_text, parts_of, algorithm_of, named_algorithm}
 use Rattle.oci_digests.specs.declared.digester.Algorithm.{Algorithm}
 use Rattle.oci_digests.specs.declared.error.DigestError.{DigestError}
 use Rattle.oci_digests.specs.declared.error.DigestError.TheVariants as digest_refusal
@@ -35,13 +34,13 @@ use Rattle.engine_terms.specs.declared.error.OciDistributionError.{OciDistributi
 use Rattle.engine_terms.specs.declared.error.OciDistributionError.TheVariants as refusal
 use Rattle.engine_requests.specs.Addresses.{registry_text, manifest_text, blob_text}
 use Rattle.engine_answers.specs.Answers.{is_success, is_client_error, envelope_in, header_digest}
-use Rattle.engine_terms.specs.Errors.{is_memory}
+use Rattle.engine_terms.specs.Error.{is_memory}
 use Rattle.engine_answers.specs.Documents.{document_read}
 use Rattle.engine_requests.specs.Sources.{Layer, described, place_of}
 use Rattle.engine_requests.specs.declared.sources.Place.TheVariants.{Unfit}
 use Rattle.engine_rows.specs.Blobs.{Destination, IntoSink, IntoMemory}
 use Rattle.engine_answers.specs.Index.{entry_reference}
-use Rattle.engine_rows.specs.Images.{is_accepted}
+use Rattle.engine_rows.specs.Image.{is_accepted}
 use Rattle.engine_laws.specs.Answered.{Body, LastBody}
 use Rattle.engine_laws.specs.Held.{Entry, IsHeld}
 

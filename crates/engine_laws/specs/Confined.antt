@@ -10,10 +10,10 @@ use Rattle.oci_transport.specs.declared.message.Answer.{Answer}
 use Rattle.oci_transport.specs.declared.message.Exchange.{Exchange}
 use Rattle.oci_transport.specs.declared.message.Method.TheVariants.{Get}
 use Rattle.oci_names.specs.declared.reference.Reference.{Reference}
-use Rattle.oci_names.specs.References.{resolved_registry}
-use Rattle.oci_auth.specs.Caches.{key_of, token_at}
-use Rattle.oci_auth.specs.Credentials.{authorization_of}
-use Rattle.oci_auth.specs.Keys.{Key}
+use Rattle.oci_names.specs.Reference.{resolved_registry}
+use Rattle.oci_auth.specs.Cache.{key_of, token_at}
+use Rattle.oci_auth.specs.Auth.{authorization_of}
+use Rattle.oci_auth.specs.Kept.{Key}
 use Rattle.oci_auth.specs.declared.auth.RegistryAuth.{RegistryAuth}
 use Rattle.oci_auth.specs.declared.memory.Memory.{Memory}
 use Rattle.oci_auth.specs.declared.token_type.RegistryOperation.{RegistryOperation}

@@ -4,9 +4,9 @@ use Rattle.std.specs.FinMap as map
 use Rattle.oci_transport.specs.declared.message.Answer.{Answer}
 use Rattle.oci_transport.specs.declared.message.Exchange.{Exchange}
 use Rattle.oci_names.specs.declared.reference.Reference.{Reference}
-use Rattle.oci_names.specs.References.{resolved_registry}
-use Rattle.oci_auth.specs.Caches.{key_of, token_at}
-use Rattle.oci_auth.specs.Credentials.{own_token}
+use Rattle.oci_names.specs.Reference.{resolved_registry}
+use Rattle.oci_auth.specs.Cache.{key_of, token_at}
+use Rattle.oci_auth.specs.Auth.{own_token}
 use Rattle.oci_auth.specs.declared.auth.RegistryAuth.{RegistryAuth}
 use Rattle.oci_auth.specs.declared.memory.Memory.{Memory}
 use Rattle.oci_auth.specs.declared.token_type.RegistryOperation.{RegistryOperation}

@@ -5,8 +5,8 @@ use Rattle.oci_transport.specs.Headers.{is_header_value}
 use Rattle.oci_transport.specs.Urls.{request_url}
 use Rattle.oci_transport.specs.declared.message.Answer.{Answer}
 use Rattle.oci_transport.specs.declared.message.Exchange.{Exchange}
-use Rattle.oci_auth.specs.Credentials.{own_token, authorization_of}
-use Rattle.oci_auth.specs.Tokens.{token_of}
+use Rattle.oci_auth.specs.Auth.{own_token, authorization_of}
+use Rattle.oci_auth.specs.Token.{token_of}
 use Rattle.oci_auth.specs.declared.auth.RegistryAuth.{RegistryAuth}
 use Rattle.oci_auth.specs.declared.token_type.RegistryTokenType.{RegistryTokenType}
 use Rattle.http_challenges.specs.declared.bearer.BearerChallenge.{BearerChallenge}

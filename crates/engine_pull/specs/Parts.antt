@@ -9,10 +9,10 @@ use Rattle.oci_protocol.specs.Proto.{Done, ◌>>=◌, ◌>>◌}
 use Rattle.oci_protocol.specs.Runs.{Meets}
 use Rattle.oci_transport.specs.Link.{Link}
 use Rattle.engine_terms.specs.Contexts.{Context}
-use Rattle.engine_terms.specs.Errors.{is_memory}
+use Rattle.engine_terms.specs.Error.{is_memory}
 use Rattle.engine_requests.specs.Sources.{described}
 use Rattle.engine_terms.specs.declared.error.OciDistributionError.{OciDistributionError}
-use Rattle.engine_rows.specs.Images.{config_of, layers_accepted, pull_layers}
+use Rattle.engine_rows.specs.Image.{config_of, layers_accepted, pull_layers}
 use Rattle.engine_rows.specs.Pulls.{held_blob}
 use Rattle.engine_rows.specs.Rows.{Row}
 use Rattle.engine_rows.specs.declared.image.ImageData.{ImageData}

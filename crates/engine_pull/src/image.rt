@@ -2,9 +2,9 @@
 ghost use Rattle.oci_auth.specs.declared.memory.Memory.{Memory};
 ghost use Rattle.oci_protocol.specs.Runs.{Meets};
 ghost use Rattle.engine_terms.specs.Contexts.{context_of};
-ghost use Rattle.engine_terms.specs.Errors.{is_memory};
+ghost use Rattle.engine_terms.specs.Error.{is_memory};
 ghost use Rattle.engine_pull.specs.Parts.{Parts, LeadsTo};
-ghost use Rattle.engine_rows.specs.Images.{pull_layers, pull};
+ghost use Rattle.engine_rows.specs.Image.{pull_layers, pull};
 ghost use Rattle.engine_rows.specs.Rows.{Row};
 ghost use Rattle.engine_rows.specs.declared.image.ImageData.{ImageData as ImageOf};
 

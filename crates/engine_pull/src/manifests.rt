@@ -3,7 +3,7 @@ ghost use Rattle.std.specs.Prelude.{◌≡◌};
 ghost use Rattle.oci_manifests.specs.declared.document.OciManifest.TheVariants.{ImageIndex};
 ghost use Rattle.oci_protocol.specs.Runs.{Meets};
 ghost use Rattle.engine_terms.specs.Contexts.{context_of};
-ghost use Rattle.engine_terms.specs.Errors.{is_memory};
+ghost use Rattle.engine_terms.specs.Error.{is_memory};
 ghost use Rattle.engine_rows.specs.Manifests.{pull_entry, manifest_by, pull_image_manifest};
 ghost use Rattle.engine_rows.specs.Manifests.{pull_image_manifest_and_list_digest, pull_manifest_and_config};
 ghost use Rattle.engine_rows.specs.Manifests.{pull_manifest_and_config_and_list_digest};

@@ -3,8 +3,8 @@ use Rattle.std.specs.Prelude.{ℕ, List, [], ◌++◌, Option, Some, None, Resul
 use Rattle.url.specs.Parts.{Parts}
 use Rattle.oci_transport.specs.Urls.{request_url}
 use Rattle.oci_names.specs.declared.reference.Reference.{Reference}
-use Rattle.oci_names.specs.References.{repository_of, tag_of, digest_of, namespace_of, resolved_registry}
-use Rattle.engine_terms.specs.Schemes.{scheme_for}
+use Rattle.oci_names.specs.Reference.{repository_of, tag_of, digest_of, namespace_of, resolved_registry}
+use Rattle.engine_terms.specs.Settings.{scheme_for}
 use Rattle.engine_terms.specs.declared.settings.Settings.{Settings}
 use Rattle.engine_terms.specs.declared.error.OciDistributionError.{OciDistributionError}
 use Rattle.engine_terms.specs.declared.error.OciDistributionError.TheVariants as refusal

@@ -3,12 +3,12 @@ use Rattle.std.specs.Prelude.{ℕ, List, [], ◌∷◌, ◌++◌, Option, Some, 
 use Rattle.url.specs.Parts.{Parts}
 use Rattle.url.specs.Setters.{append_query_pairs}
 use Rattle.oci_names.specs.declared.reference.Reference.{Reference}
-use Rattle.oci_names.specs.References.{repository_of}
+use Rattle.oci_names.specs.Reference.{repository_of}
 use Rattle.engine_terms.specs.declared.settings.Settings.{Settings}
 use Rattle.engine_terms.specs.declared.error.GenericCause.TheVariants.{NoDigest}
 use Rattle.engine_terms.specs.declared.error.OciDistributionError.{OciDistributionError}
 use Rattle.engine_terms.specs.declared.error.OciDistributionError.TheVariants as refusal
-use Rattle.engine_terms.specs.Errors.{◌>>=◌}
+use Rattle.engine_terms.specs.Error.{◌>>=◌}
 use Rattle.engine_requests.specs.Addresses.{base_text, url_read}
 
 -- the digest whose referrers are asked for

@@ -1,7 +1,7 @@
 -- What a request carries (OCI distribution specification, "Pull").
 use Rattle.std.specs.Prelude.{ℕ, flat_map, List, [], ◌∷◌, ◌++◌, Option, Some, None, Result, Ok, Err, codes, nat_lt, ◌&&◌, if◌then◌else◌}
 use Rattle.url.specs.Parts.{Parts, serialize}
-use Rattle.oci_auth.specs.Credentials.{authorization_of}
+use Rattle.oci_auth.specs.Auth.{authorization_of}
 use Rattle.oci_auth.specs.declared.token_type.RegistryTokenType.{RegistryTokenType}
 use Rattle.oci_transport.specs.Headers.{Fields, added, held, is_header_value}
 use Rattle.std.specs.FinMap as map
@@ -11,7 +11,7 @@ use Rattle.engine_terms.specs.declared.settings.Settings.{Settings}
 use Rattle.engine_terms.specs.declared.error.GenericCause.TheVariants.{HeaderText}
 use Rattle.engine_terms.specs.declared.error.OciDistributionError.{OciDistributionError}
 use Rattle.engine_terms.specs.declared.error.OciDistributionError.TheVariants as refusal
-use Rattle.engine_terms.specs.Errors.{◌>>=◌}
+use Rattle.engine_terms.specs.Error.{◌>>=◌}
 
 -- several types in one header
 abbrev pub behind : List ℕ → List ℕ
@@ -23,7 +23,11 @@ listed (kind ∷ rest) = kind ++ flat_map behind rest
 
 -- the four types of manifests and indexes
 abbrev pub manifest_types : List ℕ
-manifest_types = codes "application/vnd.docker.distribution.manifest.v2+json, application/vnd.docker.distribution.manifest.list.v2+json, application/vnd.oci.image.manifest.v1+json, application/vnd.oci.image.index.v1+json"
+manifest_types = listed (
+    codes "application/vnd.docker.distribution.manifest.v2+json"
+    ∷ codes "application/vnd.docker.distribution.manifest.list.v2+json"
+    ∷ codes "application/vnd.oci.image.manifest.v1+json"
+    ∷ codes "application/vnd.oci.image.index.v1+json" ∷ [])
 
 -- a header is added, where its value can stand there
 abbrev pub with_header : Fields → List ℕ → List ℕ → Result Fields OciDistributionError

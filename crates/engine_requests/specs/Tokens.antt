@@ -6,9 +6,9 @@ use Rattle.http_challenges.specs.Bearer.{in_header}
 use Rattle.http_challenges.specs.declared.bearer.BearerChallenge.{BearerChallenge}
 use Rattle.http_challenges.specs.declared.bearer.ChallengeError.{ChallengeError}
 use Rattle.oci_names.specs.declared.reference.Reference.{Reference}
-use Rattle.oci_names.specs.References.{repository_of}
-use Rattle.oci_auth.specs.Credentials.{own_token}
-use Rattle.oci_auth.specs.Tokens.{token_of}
+use Rattle.oci_names.specs.Reference.{repository_of}
+use Rattle.oci_auth.specs.Auth.{own_token}
+use Rattle.oci_auth.specs.Token.{token_of}
 use Rattle.oci_auth.specs.declared.auth.RegistryAuth.{RegistryAuth}
 use Rattle.oci_auth.specs.declared.token.RegistryToken.{RegistryToken}
 use Rattle.oci_auth.specs.declared.token_type.RegistryOperation.{RegistryOperation}

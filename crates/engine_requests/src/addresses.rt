@@ -1,9 +1,9 @@
 // The URLs of requests.
 ghost use Rattle.std.specs.Prelude.{◌≡◌, ◌++◌, IfOk, OnOk, OnErr, option_copied};
-ghost use Rattle.engine_terms.specs.Errors.{Says};
+ghost use Rattle.engine_terms.specs.Error.{Says};
 ghost use Rattle.engine_requests.specs.Addresses.{registry_text, base_text, manifest_name};
 ghost use Rattle.engine_requests.specs.Addresses.{mirrored, manifest_text, blob_text, url_read};
-ghost use Rattle.oci_names.specs.References.{tag_of, digest_of, namespace_of};
+ghost use Rattle.oci_names.specs.Reference.{tag_of, digest_of, namespace_of};
 
 use engine_terms::{OciDistributionError, Settings};
 use json_values::Text;

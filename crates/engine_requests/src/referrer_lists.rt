@@ -1,7 +1,7 @@
 // Where the referrers of a manifest are listed.
 ghost use Rattle.std.specs.Prelude.{◌≡◌, IfOk, option_copied};
-ghost use Rattle.oci_names.specs.References.{digest_of};
-ghost use Rattle.engine_terms.specs.Errors.{Says};
+ghost use Rattle.oci_names.specs.Reference.{digest_of};
+ghost use Rattle.engine_terms.specs.Error.{Says};
 ghost use Rattle.engine_requests.specs.ReferrerLists.{digest_given, referrers_text, with_artifact_type, referrers_url};
 
 use crate::addresses::{base_text, read_url};

@@ -1,7 +1,7 @@
 // What a request carries.
 ghost use Rattle.std.specs.Prelude.{◌≡◌, ◌++◌, flat_map, IfOk, OnOk, IsTrue, option_copied, Ok};
 ghost use Rattle.http_header.specs.FieldName.{is_header_name};
-ghost use Rattle.engine_terms.specs.Errors.{Says};
+ghost use Rattle.engine_terms.specs.Error.{Says};
 ghost use Rattle.engine_requests.specs.Requests.{behind, listed, with_header, with_accept};
 ghost use Rattle.engine_requests.specs.Requests.{with_token, headers_of, request_of};
 
@@ -13,8 +13,10 @@ use std::alloc::{AllocError, Global};
 use url::Url;
 
 /// The types of manifests and indexes that the client understands, as the header `accept` lists them.
-pub const MANIFEST_TYPES: &str =
-    "application/vnd.docker.distribution.manifest.v2+json, application/vnd.docker.distribution.manifest.list.v2+json, application/vnd.oci.image.manifest.v1+json, application/vnd.oci.image.index.v1+json";
+pub const MANIFEST_TYPES: &str = "application/vnd.docker.distribution.manifest.v2+json, \
+    application/vnd.docker.distribution.manifest.list.v2+json, \
+    application/vnd.oci.image.manifest.v1+json, \
+    application/vnd.oci.image.index.v1+json";
 
 // Further media types, each behind a comma.
 fn push_others(text: &mut Text, others: &[Text]) -> Result<(), AllocError>

@@ -1,8 +1,8 @@
 // How a token is asked for.
 ghost use Rattle.std.specs.Prelude.{◌≡◌, ◌∷◌, [], Some, IfOk};
 ghost use Rattle.url.specs.Setters.{append_query_pairs};
-ghost use Rattle.oci_auth.specs.Tokens.{token_of};
-ghost use Rattle.engine_terms.specs.Errors.{Says};
+ghost use Rattle.oci_auth.specs.Token.{token_of};
+ghost use Rattle.engine_terms.specs.Error.{Says};
 ghost use Rattle.engine_requests.specs.Tokens.{wanted_in, wanted, allowed, scope_of, with_scope};
 ghost use Rattle.engine_requests.specs.Tokens.{with_service, realm_url, realm_request, decoded};
 ghost use Rattle.engine_requests.specs.Tokens.{token_read};

@@ -11,14 +11,14 @@ use Rattle.oci_protocol.proofs.Laws.{Meets-next, Meets-refused, Meets-ok, Meets-
 use Rattle.engine_terms.specs.declared.error.OciDistributionError.{OciDistributionError}
 use Rattle.engine_terms.specs.declared.error.OciDistributionError.TheVariants as refusal
 use Rattle.oci_auth.specs.declared.memory.Memory.{Memory}
-use Rattle.engine_terms.specs.Errors.{is_memory, Says}
+use Rattle.engine_terms.specs.Error.{is_memory, Says}
 use Rattle.engine_rows.specs.Rows.{Row, recalled as recall, keep, passed_over, store, with_kept, taken, shown_text, kept_text}
 use Rattle.oci_auth.specs.declared.auth.RegistryAuth.{RegistryAuth}
 use Rattle.oci_names.specs.declared.reference.Reference.{Reference}
-use Rattle.oci_names.specs.References.{resolved_registry}
+use Rattle.oci_names.specs.Reference.{resolved_registry}
 use Rattle.oci_auth.specs.Memory.{stored}
-use Rattle.oci_auth.specs.Caches.{with_token}
-use Rattle.oci_auth.specs.Keys.{Key}
+use Rattle.oci_auth.specs.Cache.{with_token}
+use Rattle.oci_auth.specs.Kept.{Key}
 use Rattle.oci_auth.specs.declared.cache.TokenCache.{TokenCache}
 use Rattle.oci_auth.specs.declared.token_type.RegistryTokenType.{RegistryTokenType}
 

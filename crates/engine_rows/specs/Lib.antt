@@ -1,5 +1,5 @@
 pub mod Blobs
-pub mod Images
+pub mod Image
 pub mod Manifests
 pub mod Offers
 pub mod Pulls

@@ -4,7 +4,7 @@ use Rattle.std.specs.Prelude.{ℕ, List, Ok}
 use Rattle.url.specs.Parts.{Parts}
 use Rattle.oci_transport.specs.declared.message.Method.TheVariants.{Get, Head}
 use Rattle.oci_names.specs.declared.reference.Reference.{Reference}
-use Rattle.oci_names.specs.References.{digest_of}
+use Rattle.oci_names.specs.Reference.{digest_of}
 use Rattle.oci_auth.specs.declared.auth.RegistryAuth.{RegistryAuth}
 use Rattle.oci_auth.specs.declared.token_type.RegistryOperation.TheVariants.{Pull}
 use Rattle.oci_manifests.specs.declared.document.OciManifest.{OciManifest}

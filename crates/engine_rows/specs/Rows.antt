@@ -10,22 +10,21 @@ use Rattle.oci_transport.specs.declared.message.AnswerHead.{AnswerHead}
 use Rattle.oci_transport.specs.declared.message.Method.{Method}
 use Rattle.oci_transport.specs.declared.message.Method.TheVariants.{Get}
 use Rattle.oci_names.specs.declared.reference.Reference.{Reference}
-use Rattle.oci_names.specs.References.{resolved_registry}
+use Rattle.oci_names.specs.Reference.{resolved_registry}
 use Rattle.oci_auth.specs.declared.auth.RegistryAuth.{RegistryAuth}
 use Rattle.oci_auth.specs.declared.memory.Memory.{Memory}
 use Rattle.oci_auth.specs.Memory.{stored}
-use Rattle.oci_auth.specs.Caches.{key_of, token_at, with_token}
-use Rattle.oci_auth.specs.Credentials.{own_token}
-use Rattle.oci_auth.specs.Keys.{Key}
-use Rattle.oci_auth.specs.Tokens.{token_text}
+use Rattle.oci_auth.specs.Cache.{key_of, token_at, with_token}
+use Rattle.oci_auth.specs.Auth.{own_token}
+use Rattle.oci_auth.specs.Kept.{Key}
+use Rattle.oci_auth.specs.Token.{token_text}
 use Rattle.oci_auth.specs.declared.auth.RegistryAuth.TheVariants as auth
 use Rattle.oci_auth.specs.declared.token_type.RegistryOperation.{RegistryOperation}
 use Rattle.oci_auth.specs.declared.token_type.RegistryTokenType.{RegistryTokenType}
 use Rattle.oci_auth.specs.declared.token_type.RegistryTokenType.TheVariants as token
 use Rattle.http_challenges.specs.declared.bearer.BearerChallenge.{BearerChallenge}
 use Rattle.oci_protocol.specs.Proto.{Reading, Unread, Within, Reply, Headed, Answered, Failed, TooLong}
-use Rattle.oci_protocol.specs.Proto.{SinkFailed, read_within, read_none, Proto, Done, Recall, Keep, bind}
-use Rattle.oci_protocol.specs.Proto.{◌>>=◌, ◌>>◌}
+use Rattle.oci_protocol.specs.Proto.{SinkFailed, read_within, read_none, Proto, Done, Recall, Keep, bind, ◌>>=◌, ◌>>◌}
 use Rattle.oci_protocol.specs.Follow.{follow}
 use Rattle.engine_answers.specs.declared.answers.Got.{Got}
 use Rattle.engine_terms.specs.declared.settings.Settings.{Settings}

@@ -1,8 +1,8 @@
 // A whole image: what is made of its documents and blobs.
 ghost use Rattle.std.specs.Prelude.{◌≡◌, IfOk};
-ghost use Rattle.engine_terms.specs.Errors.{Says};
-ghost use Rattle.engine_rows.specs.Images.{image_manifest, is_accepted, all_accepted};
-ghost use Rattle.engine_rows.specs.Images.{layers_accepted, layer_of, config_of};
+ghost use Rattle.engine_terms.specs.Error.{Says};
+ghost use Rattle.engine_rows.specs.Image.{image_manifest, is_accepted, all_accepted};
+ghost use Rattle.engine_rows.specs.Image.{layers_accepted, layer_of, config_of};
 
 use engine_terms::OciDistributionError;
 use json_values::{Blob, Copied, List, Text, copied, copy_all, row};

@@ -10,10 +10,10 @@ use Rattle.oci_protocol.specs.Proto.{Unread, limit_of, read_within, read_none}
 use Rattle.oci_protocol.specs.Follow.{Reaches, Misses, Cuts}
 use Rattle.oci_protocol.specs.Runs.{Meets}
 use Rattle.oci_protocol.proofs.Laws.{Meets-ok, Meets-err}
-use Rattle.oci_protocol.proofs.Following.{reached_headed, reached_answered, reached_long, reached_failed, reached_cut, missed, cut}
+use Rattle.oci_protocol.proofs.RedirectSteps.{reached_headed, reached_answered, reached_long, reached_failed, reached_cut, missed, cut}
 use Rattle.engine_terms.specs.declared.error.OciDistributionError.TheVariants as refusal
 use Rattle.oci_auth.specs.declared.memory.Memory.{Memory}
-use Rattle.engine_terms.specs.Errors.{is_memory}
+use Rattle.engine_terms.specs.Error.{is_memory}
 use Rattle.engine_rows.specs.Rows.{whole, whole_reply, head_after, head_reply}
 use Rattle.engine_steps.specs.Untaken.{Untaken}
 
@@ -76,3 +76,7 @@ reached_untaken times request head last old new r = record {
 -- at the exit of a `?`
 pub not_ok : {A E : Type 0} (P : A → Type 0) (r : Result A E) (e : E) → IsErrAnd r (λ x. x ≡ e) → IfOk r P
 not_ok P r e is = let at = err_from_is_err_and r is in rw at.1 tt
+
+pub ruleset whole_answers = (whole_answered, whole_long, whole_failed, whole_cut, whole_missed, whole_wanting)
+
+pub ruleset head_answers = (reached_untaken, head_came, head_missed, head_wanting)

@@ -1,2 +1,3 @@
 pub mod HelperTrees
 pub mod NamedTree
+pub mod RealmTokens

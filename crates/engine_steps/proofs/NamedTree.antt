@@ -12,11 +12,11 @@ use Rattle.oci_protocol.specs.Proto.{Unread, limit_of, Done}
 use Rattle.oci_protocol.specs.Follow.{Reaches, Misses, Cuts}
 use Rattle.oci_protocol.specs.Runs.{Meets}
 use Rattle.oci_protocol.proofs.Laws.{Meets-err}
-use Rattle.oci_protocol.proofs.Following.{reached_headed, reached_answered, reached_long, reached_failed, reached_cut, missed, cut}
-use Rattle.oci_protocol.proofs.Extending.{Steady-none}
+use Rattle.oci_protocol.proofs.RedirectSteps.{reached_headed, reached_answered, reached_long, reached_failed, reached_cut, missed, cut}
+use Rattle.oci_protocol.proofs.Conversations.{Steady-none}
 use Rattle.engine_terms.specs.declared.error.OciDistributionError.{OciDistributionError}
 use Rattle.engine_terms.specs.declared.error.OciDistributionError.TheVariants as refusal
-use Rattle.engine_terms.specs.Errors.{is_memory, Says}
+use Rattle.engine_terms.specs.Error.{is_memory, Says}
 use Rattle.engine_answers.specs.Answers.{header_digest}
 use Rattle.engine_rows.specs.declared.named.NamedAnswer.{NamedAnswer}
 use Rattle.engine_rows.specs.declared.named.NamedAnswer.TheVariants.{ByHeader}

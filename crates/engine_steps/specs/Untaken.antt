@@ -1,5 +1,7 @@
 -- Answers whose body is not taken.
-use Rattle.std.specs.Prelude.{◌≡◌, List, [], ◌∷◌, ◌++◌, ℕ, Some}
+use Rattle.std.specs.Prelude.{◌≡◌, List, [], ◌∷◌, ◌++◌, ℕ, Option, Some, None}
+use Rattle.oci_auth.specs.declared.token_type.RegistryTokenType.{RegistryTokenType}
+use Rattle.oci_auth.specs.declared.token_type.RegistryTokenType.TheVariants.{Bearer, Basic}
 use Rattle.oci_transport.specs.Link.{Link, answer_of}
 use Rattle.oci_transport.specs.declared.message.AnswerHead.{AnswerHead}
 use Rattle.oci_transport.specs.declared.message.Exchange.{Exchange}
@@ -14,7 +16,17 @@ pub record Untaken (head : AnswerHead) (old new : Link) : Type 0 where
       × (last.answer ≡ Some (answer_of head body))
   pub rest : (before : List Exchange) → old.told ≡ Some before → new.rest ≡ Some body
 
+-- nothing is taken of the last answer
+abbrev pub LastUntaken : Link → Link → Type 0
+LastUntaken old new = (head : AnswerHead) × Untaken head old new
+
 -- nothing is taken of an answer whose header names no digest
 abbrev pub UntakenUnnamed : NamedAnswer → Link → Link → Type 0
 UntakenUnnamed (ByHeader digest got) old new = Unit {0}
-UntakenUnnamed Unnamed old new = (head : AnswerHead) × Untaken head old new
+UntakenUnnamed Unnamed old new = LastUntaken old new
+
+-- this, unless a token is a realm's
+abbrev pub IfNoBearer : Type 0 → Option RegistryTokenType → Type 0
+IfNoBearer P None = P
+IfNoBearer P (Some (Basic user password)) = P
+IfNoBearer P (Some (Bearer token)) = Unit {0}

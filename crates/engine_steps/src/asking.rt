@@ -3,7 +3,7 @@ ghost use Rattle.std.specs.Prelude.{◌≡◌, IfOk};
 ghost use Rattle.oci_auth.specs.declared.memory.Memory.{Memory};
 ghost use Rattle.oci_transport.specs.Link.{answer_of};
 ghost use Rattle.oci_protocol.specs.Runs.{Meets};
-ghost use Rattle.engine_terms.specs.Errors.{is_memory};
+ghost use Rattle.engine_terms.specs.Error.{is_memory};
 ghost use Rattle.engine_rows.specs.Rows.{whole, head_after, named_after};
 ghost use Rattle.engine_steps.specs.Untaken.{Untaken, UntakenUnnamed};
 
@@ -33,7 +33,7 @@ pub(crate) fn with_body(reached: Reached, body: Blob) -> Got
 }
 
 /// The whole last answer to a request that may be followed so often.
-#[tactic(auto, using(crate::proofs::HelperTrees::whole_answered, crate::proofs::HelperTrees::whole_long, crate::proofs::HelperTrees::whole_failed, crate::proofs::HelperTrees::whole_cut, crate::proofs::HelperTrees::whole_missed, crate::proofs::HelperTrees::whole_wanting))]
+#[tactic(auto, using(crate::proofs::HelperTrees::whole_answers))]
 pub fn whole<T: Transport>(
     alloc: Global,
     transport: &mut T,
@@ -58,7 +58,7 @@ pub fn whole<T: Transport>(
 }
 
 /// The head of the last answer, whose body is not read.
-#[tactic(auto, using(crate::proofs::HelperTrees::reached_untaken, crate::proofs::HelperTrees::head_came, crate::proofs::HelperTrees::head_missed, crate::proofs::HelperTrees::head_wanting))]
+#[tactic(auto, using(crate::proofs::HelperTrees::head_answers))]
 pub(crate) fn head_after<T: Transport>(
     alloc: Global,
     transport: &mut T,

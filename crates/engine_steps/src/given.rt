@@ -1,10 +1,11 @@
 // The token of credentials that are handed in.
-ghost use Rattle.std.specs.Prelude.{◌≡◌, IfOk};
-ghost use Rattle.oci_auth.specs.Caches.{key_of};
+ghost use Rattle.std.specs.Prelude.{◌≡◌, None, IfOk};
+ghost use Rattle.oci_auth.specs.Cache.{key_of};
 ghost use Rattle.oci_protocol.specs.Runs.{Meets};
 ghost use Rattle.engine_terms.specs.Contexts.{context_of};
-ghost use Rattle.engine_terms.specs.Errors.{is_memory};
+ghost use Rattle.engine_terms.specs.Error.{is_memory};
 ghost use Rattle.engine_rows.specs.Rows.{shown_text, kept_text, token_given};
+ghost use Rattle.engine_steps.specs.Untaken.{LastUntaken};
 
 use crate::tokens::token_step;
 use engine_terms::{Call, OciDistributionError};
@@ -36,8 +37,10 @@ pub fn token_given<T: Transport>(
     auth: &RegistryAuth,
     op: RegistryOperation,
 ) -> Result<Option<Text>, OciDistributionError>
-    ensures { Meets is_memory (token_given (context_of call.now) call.now.image.now auth.now op)
+    ensures run { Meets is_memory (token_given (context_of call.now) call.now.image.now auth.now op)
         (T.state transport.old) (T.state transport.new) memory.old memory.new result }
+    ensures untaken { IfOk result
+        (λ text. text ≡ None → LastUntaken (T.state transport.old) (T.state transport.new)) }
 {
     store(alloc, memory, call.image.resolve_registry(), auth)?;
     let Some(token) = token_step(alloc, transport, call, auth, op)? else {

@@ -1,13 +1,14 @@
 // The token step, and where it is made.
-ghost use Rattle.std.specs.Prelude.{◌≡◌, IfOk};
+ghost use Rattle.std.specs.Prelude.{◌≡◌, ⊥, IfOk};
 ghost use Rattle.url.specs.Parts.{serialize};
 ghost use Rattle.oci_auth.specs.declared.memory.Memory.{Memory};
 ghost use Rattle.oci_transport.specs.Urls.{request_url};
 ghost use Rattle.oci_protocol.specs.Runs.{Meets};
 ghost use Rattle.engine_terms.specs.Contexts.{context_of};
-ghost use Rattle.engine_terms.specs.Errors.{is_memory};
+ghost use Rattle.engine_terms.specs.Error.{is_memory};
 ghost use Rattle.engine_rows.specs.Rows.{realm_asked, fetched, registry_asked, token_step, passed_over};
 ghost use Rattle.engine_rows.specs.Rows.{token_asked, token_for, authorized, goes_to, prepared};
+ghost use Rattle.engine_steps.specs.Untaken.{IfNoBearer, LastUntaken};
 
 use crate::asking::{head_after, whole};
 use engine_requests::{
@@ -32,9 +33,10 @@ fn realm_asked<T: Transport>(
     op: RegistryOperation,
     challenge: BearerChallenge,
 ) -> Result<Option<RegistryTokenType>, OciDistributionError>
-    ensures { (k : Memory) → Meets is_memory
+    ensures run { (k : Memory) → Meets is_memory
         (realm_asked call.now.settings.now call.now.image.now auth.now op challenge)
         (T.state transport.old) (T.state transport.new) k k result }
+    ensures bearer { IfOk result (IfNoBearer ⊥) }
 {
     let BearerChallenge { realm, service } = challenge;
     let url = read_url(alloc, realm)?;
@@ -54,9 +56,10 @@ fn fetched<T: Transport>(
     op: RegistryOperation,
     wanted: Wanted,
 ) -> Result<Option<RegistryTokenType>, OciDistributionError>
-    ensures { (k : Memory) → Meets is_memory
+    ensures run { (k : Memory) → Meets is_memory
         (fetched call.now.settings.now call.now.image.now auth.now op wanted)
         (T.state transport.old) (T.state transport.new) k k result }
+    ensures quiet { IfOk result (IfNoBearer (T.state transport.new ≡ T.state transport.old)) }
 {
     match wanted {
         Wanted::Nothing => Ok(None),
@@ -80,9 +83,10 @@ fn registry_asked<T: Transport>(
     auth: &RegistryAuth,
     op: RegistryOperation,
 ) -> Result<Option<RegistryTokenType>, OciDistributionError>
-    ensures { (k : Memory) → Meets is_memory
+    ensures run { (k : Memory) → Meets is_memory
         (registry_asked call.now.settings.now call.now.image.now auth.now op)
         (T.state transport.old) (T.state transport.new) k k result }
+    ensures untaken { IfOk result (IfNoBearer (LastUntaken (T.state transport.old) (T.state transport.new))) }
 {
     let url = base_url(alloc, call.settings, call.image)?;
     let request = request_of(alloc, call.settings, Method::Get, &url, None, &None)?;
@@ -102,8 +106,9 @@ pub fn token_step<T: Transport>(
     auth: &RegistryAuth,
     op: RegistryOperation,
 ) -> Result<Option<RegistryTokenType>, OciDistributionError>
-    ensures { (k : Memory) → Meets is_memory (token_step call.now.settings.now call.now.image.now auth.now op)
+    ensures run { (k : Memory) → Meets is_memory (token_step call.now.settings.now call.now.image.now auth.now op)
         (T.state transport.old) (T.state transport.new) k k result }
+    ensures untaken { IfOk result (IfNoBearer (LastUntaken (T.state transport.old) (T.state transport.new))) }
 {
     match auth {
         RegistryAuth::Bearer(_) => {

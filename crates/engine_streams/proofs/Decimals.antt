@@ -9,7 +9,7 @@ use Rattle.std.proofs.lemmas.List.Folds.{list_all_at}
 use Rattle.std.proofs.lemmas.Str.{IsUtf8-from_ascii}
 use Rattle.std.proofs.lemmas.Str.Ascii.{IsAscii-from_reads}
 use Rattle.std.proofs.lemmas.Str.Parse.{IsDigitsTest, IsNumeralModel, numerals_by_value, parse_digits}
-use Rattle.engine_streams.specs.Heads.{is_digit, is_decimal, decimal_of}
+use Rattle.engine_streams.specs.Head.{is_digit, is_decimal, decimal_of}
 
 pub split : (a b : Bool) → (a && b) ≡ true → (a ≡ true) × (b ≡ true)
 split true b e = (refl, e)
@@ -55,3 +55,5 @@ decimal_read {E} text r e h = by_result r (parse_digits numeral 64 text r h (all
   by_result : (r : Result ℕ E) → OkIff r ((0 < length text) × (digits_value 10 text < 2 ^ 64)) (digits_value 10 text) → result_ok r ≡ (if nat_lt (digits_value 10 text) (2 ^ 64) then Some (digits_value 10 text) else None)
   by_result (Ok n) k = ap Some k.1 ∙ sym (ap (λ b. if b then Some (digits_value 10 text) else None) (lt-ltb (digits_value 10 text) (2 ^ 64) k.0.1))
   by_result (Err x) k = sym (ap (λ b. if b then Some (digits_value 10 text) else None) (le-ltb (digits_value 10 text) (2 ^ 64) (omega (arith, λ (fits : digits_value 10 text < 2 ^ 64). k ((all_digits text e).0, fits)))))
+
+pub ruleset decimal_rules = (not_utf8, not_decimal, decimal_read)

@@ -1,6 +1,6 @@
 pub mod Decimals
-pub mod Joining
-pub mod Judging
+pub mod HeadOutcomes
+pub mod JoinedPieces
+pub mod NextPlaces
 pub mod Pieces
 pub mod Responses
-pub mod Walking

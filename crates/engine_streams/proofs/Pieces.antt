@@ -11,7 +11,7 @@ use Rattle.engine_answers.specs.Blobs.{both_compared, compared as one_compared}
 use Rattle.engine_answers.specs.declared.blobs.Expected.{Expected}
 use Rattle.engine_terms.specs.declared.error.OciDistributionError.{OciDistributionError}
 use Rattle.engine_terms.specs.declared.error.OciDistributionError.TheVariants as refusal
-use Rattle.engine_terms.specs.Errors.{is_memory, Says, ◌>>◌ as ◌and_then◌}
+use Rattle.engine_terms.specs.Error.{is_memory, Says, ◌>>◌ as ◌and_then◌}
 use Rattle.engine_streams.specs.Streams.{compared, digests_of, NextCause, NothingLeft, Next, HasFailed}
 use Rattle.engine_streams.specs.declared.head.Digests.{Digests}
 use Rattle.engine_streams.specs.declared.stream.SizedStream.{SizedStream}

@@ -1,5 +1,6 @@
-pub mod Heads
+pub mod Asking
+pub mod Blobs
+pub mod Head
 pub mod Joined
-pub mod Ranges
-pub mod Rows
+pub mod Range
 pub mod Streams

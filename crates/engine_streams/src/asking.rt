@@ -3,9 +3,10 @@ ghost use Rattle.std.specs.Prelude.{◌≡◌, ◌≤◌, IfOk, IfSome};
 ghost use Rattle.oci_auth.specs.declared.memory.Memory.{Memory};
 ghost use Rattle.oci_transport.specs.Link.{Steady};
 ghost use Rattle.oci_protocol.specs.Runs.{Meets};
-ghost use Rattle.engine_terms.specs.Errors.{is_memory, Says};
+ghost use Rattle.engine_terms.specs.Error.{is_memory, Says};
 ghost use Rattle.engine_requests.specs.Sources.{places_of};
-ghost use Rattle.engine_streams.specs.Rows.{asked, offered, tried, ranged_at, IsLeft, Refuses};
+ghost use Rattle.engine_streams.specs.Blobs.{tried, IsLeft, Refuses};
+ghost use Rattle.engine_streams.specs.Asking.{asked, offered, ranged_at};
 
 use crate::head::{Opening, is_streamed, read_head};
 use crate::range::{ByteRange, onward, with_range};

@@ -3,10 +3,10 @@ ghost use Rattle.std.specs.Prelude.{◌≡◌, [], Some, None, IfOk};
 ghost use Rattle.oci_auth.specs.declared.memory.Memory.{Memory};
 ghost use Rattle.oci_protocol.specs.Runs.{Meets};
 ghost use Rattle.engine_terms.specs.Contexts.{context_of};
-ghost use Rattle.engine_terms.specs.Errors.{is_memory};
+ghost use Rattle.engine_terms.specs.Error.{is_memory};
 ghost use Rattle.engine_requests.specs.Sources.{layer_in};
-ghost use Rattle.engine_streams.specs.Rows.{opened, blob_stream, blob_stream_partial, by_digests};
-ghost use Rattle.engine_streams.specs.Rows.{opening_in, response_in, response_of, stream_in, IsLeft};
+ghost use Rattle.engine_streams.specs.Blobs.{opened, blob_stream, blob_stream_partial, by_digests};
+ghost use Rattle.engine_streams.specs.Blobs.{opening_in, response_in, response_of, stream_in, IsLeft};
 ghost use Rattle.engine_streams.specs.Streams.{IsOpen, opening_of};
 
 use crate::asking::tried;

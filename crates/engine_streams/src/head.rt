@@ -2,9 +2,9 @@
 ghost use Rattle.std.specs.Prelude.{◌≡◌, IfOk};
 ghost use Rattle.std.specs.List.{list_all};
 ghost use Rattle.oci_transport.specs.Headers.{first_of};
-ghost use Rattle.engine_terms.specs.Errors.{Says};
-ghost use Rattle.engine_streams.specs.Heads.{is_digit, is_decimal, decimal_of, content_length, expected, given};
-ghost use Rattle.engine_streams.specs.Heads.{unless_part, opening, is_streamed};
+ghost use Rattle.engine_terms.specs.Error.{Says};
+ghost use Rattle.engine_streams.specs.Head.{is_digit, is_decimal, decimal_of, content_length, expected, given};
+ghost use Rattle.engine_streams.specs.Head.{unless_part, opening, is_streamed};
 
 use crate::range::{ByteRange, is_part};
 use engine_answers::{Expected, digest_expected, header_digest, is_success, of_digest};
@@ -54,7 +54,7 @@ fn is_decimal(text: &[u8]) -> bool
 }
 
 /// The number that decimal digits write, below 2 ^ 64.
-#[tactic(auto, using(crate::proofs::Decimals::not_utf8, crate::proofs::Decimals::not_decimal, crate::proofs::Decimals::decimal_read))]
+#[tactic(auto, using(crate::proofs::Decimals::decimal_rules))]
 pub fn decimal_of(text: &[u8]) -> Option<u64>
     ensures { result ≡ decimal_of text.now }
 {
@@ -106,7 +106,7 @@ fn unless_part(part: bool, given: Option<Expected>, own: Expected) -> Option<Dig
 
 /// What is said of the body: the descriptor's digest is looked at, and then the header's. `DigestError` where one of
 /// them is none, or of an algorithm that is not known.
-#[tactic(auto, unfolding(crate::specs::Heads::opening))]
+#[tactic(auto, unfolding(crate::specs::Head::opening))]
 pub(crate) fn read_head(
     alloc: Global,
     range: &Option<ByteRange>,

@@ -1,7 +1,7 @@
 // Which bytes of a blob are asked for.
 ghost use Rattle.std.specs.Prelude.{◌≡◌, IfOk};
-ghost use Rattle.engine_terms.specs.Errors.{Says};
-ghost use Rattle.engine_streams.specs.Ranges.{onward_text, text_by, range_text, onward, with_range, is_part};
+ghost use Rattle.engine_terms.specs.Error.{Says};
+ghost use Rattle.engine_streams.specs.Range.{onward_text, text_by, range_text, onward, with_range, is_part};
 
 use engine_requests::with_header;
 use engine_terms::{GenericCause, OciDistributionError};

@@ -2,7 +2,7 @@
 ghost use Rattle.std.specs.Prelude.{◌≡◌, ◌≤◌, ◌<◌, ◌++◌, [], List, ℕ, length, Ok, Err, None, IfOk, IfErr, OnErr, ◌⊎◌};
 ghost use Rattle.json_values.specs.Counts.{Rose};
 ghost use Rattle.oci_transport.specs.Link.{Steady, Takes};
-ghost use Rattle.engine_terms.specs.Errors.{Says};
+ghost use Rattle.engine_terms.specs.Error.{Says};
 ghost use Rattle.engine_streams.specs.Streams.{Hashed, compared, digests_of, opening_of, IsOpen, HasEnded};
 ghost use Rattle.engine_streams.specs.Streams.{HasFailed, Next, GivesFront};
 

@@ -1,3 +1,3 @@
 pub mod Contexts
-pub mod Errors
-pub mod Schemes
+pub mod Error
+pub mod Settings

@@ -1,6 +1,6 @@
 // Why a call of the registry's client was refused.
 ghost use Rattle.std.specs.Prelude.{◌≡◌};
-ghost use Rattle.engine_terms.specs.Errors.{is_memory, name_of};
+ghost use Rattle.engine_terms.specs.Error.{is_memory, name_of};
 
 use crate::token_body::TokenBody;
 use json_values::{Blob, Copied, Text, copy_all, row};

@@ -1,6 +1,6 @@
 // What stays the same over a client's calls.
 ghost use Rattle.std.specs.Prelude.{◌≡◌};
-ghost use Rattle.engine_terms.specs.Schemes.{is_listed, scheme_for};
+ghost use Rattle.engine_terms.specs.Settings.{is_listed, scheme_for};
 ghost use Rattle.engine_terms.specs.declared.settings.ClientProtocol.TheVariants.{Https as https_alone};
 
 use json_values::{Copied, List, Text};

@@ -1,4 +1,6 @@
 // Each call of the engine's client.
+ghost use Rattle.std.specs.Prelude.{◌≡◌};
+
 use json_values::{Blob, List, MemorySink, PlainSink, Text};
 use oci_auth::{RegistryAuth, RegistryOperation};
 use oci_engine::{
@@ -234,11 +236,19 @@ fn a_registry_without_a_challenge_asks_for_no_token(rt: HostRuntime) {
     assert!(rt; no_token(rt.alloc()));
 }
 
+// What is written as a part of a client stays there, and nothing else of it changes.
+fn keep_tokens_for(client: &mut Client, seconds: u64)
+    ensures settings { client.new.settings ≡ client.old.settings }
+    ensures kept { client.new.memory.tokens.default_expiration_secs ≡ seconds }
+{
+    client.tokens.default_expiration_secs = seconds;
+}
+
 fn keeps_tokens_for(alloc: Global, seconds: u64) -> bool {
     let Ok(mut client) = Client::default(alloc) else {
         return false;
     };
-    client.tokens.default_expiration_secs = seconds;
+    keep_tokens_for(&mut client, seconds);
     client.tokens.default_expiration_secs == seconds
 }
 

@@ -14,13 +14,10 @@ ghost use Rattle.pull_case.specs.Case.{IsReady};
 
 use json_values::{Blob, put_all};
 use pull_case::{Case, read_case};
-use pull_edge::{StdSink, StdSource, read_all};
+use pull_edge::{INPUT_LIMIT, StdSink, StdSource, read_all};
 use std::alloc::{AllocError, Global};
 use std::process::ExitCode;
 use tables::write_tables;
-
-/// How many bytes a case may have.
-const MOST_BYTES: u64 = 67108864;
 
 fn tables_of(alloc: Global, case: Option<Case>) -> Result<Option<Blob>, AllocError>
     requires { IfSome case IsReady }
@@ -33,7 +30,7 @@ fn tables_of(alloc: Global, case: Option<Case>) -> Result<Option<Blob>, AllocErr
 
 fn main(rt: HostRuntime) -> ExitCode {
     let alloc = rt.alloc();
-    let Ok(bytes) = read_all(alloc, &mut StdSource::new(rt.stdin()), MOST_BYTES) else {
+    let Ok(bytes) = read_all(alloc, &mut StdSource::new(rt.stdin()), INPUT_LIMIT) else {
         return ExitCode::from(4);
     };
     let tables = match read_case(alloc, bytes.as_slice()) {

@@ -1,12 +1,12 @@
-pub mod Growing
+pub mod ImageTexts
 pub mod Layer
 pub mod Lengths
 pub mod Made
 pub mod ManifestTexts
 pub mod Manifests
 pub mod Maps
+pub mod OneLayerMore
 pub mod Payload
 pub mod Plain
-pub mod Reading
-pub mod Spelled
-pub mod Served
+pub mod PlainTexts
+pub mod ShelfContents

@@ -17,8 +17,8 @@ use Rattle.generated_image.specs.Texts.{sha256_text, layer_contents, layer_type,
 use Rattle.generated_image.proofs.Lengths.{layers_within, digest_within}
 use Rattle.generated_image.proofs.Manifests.{Each, more_of, sorted_descriptor, sorted_manifest, described, manifest_with, manifest_reads, manifest_read, descriptor_reads, descriptor_numbers, descriptor_shallow, descriptor_plain, descriptor_is, items_read, items_numbers, items_shallow, items_plain, items_are}
 use Rattle.generated_image.proofs.Plain.{AllShow, concat_shows, digest_shows, decimal_shows, digest_stays, shown_utf8}
-use Rattle.generated_image.proofs.Reading.{json_compact}
-use Rattle.generated_image.proofs.Spelled.{descriptor_data, items, manifest_data, descriptor_spelled, joined_spelled, manifest_spelled}
+use Rattle.generated_image.proofs.PlainTexts.{json_compact}
+use Rattle.generated_image.proofs.ImageTexts.{descriptor_data, items, manifest_data, descriptor_spelled, joined_spelled, manifest_spelled}
 
 -- ---- what can stand in a header
 

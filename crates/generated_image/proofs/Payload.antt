@@ -11,8 +11,8 @@ use Rattle.cosign_layers.specs.Payload.{payload_of, content_of}
 use Rattle.cosign_layers.specs.declared.layer.SimpleSigning.{SimpleSigning}
 use Rattle.generated_image.specs.Texts.{sha256_text, payload_text}
 use Rattle.generated_image.proofs.Plain.{AllShow, concat_shows, digest_shows, digest_stays, shown_utf8}
-use Rattle.generated_image.proofs.Reading.{json_compact}
-use Rattle.generated_image.proofs.Spelled.{payload_data, payload_spelled}
+use Rattle.generated_image.proofs.PlainTexts.{json_compact}
+use Rattle.generated_image.proofs.ImageTexts.{payload_data, payload_spelled}
 
 abbrev parts : List ℕ → List (List ℕ)
 parts bytes = codes "{\"critical\":{\"identity\":{\"docker-reference\":\"localhost:5000/gen\"}," ∷ codes "\"image\":{\"docker-manifest-digest\":\"" ∷ sha256_text bytes ∷ codes "\"},\"type\":\"cosign container image signature\"},\"optional\":null}" ∷ []

@@ -10,7 +10,7 @@ use Rattle.oci_digests.specs.Checks.{is_header_text}
 use Rattle.oci_digests.specs.declared.digester.Algorithm.TheVariants.{Sha256}
 use Rattle.oci_digests.proofs.HeaderText.{is_text}
 use Rattle.shelf_laws.proofs.DigestTexts.{and_left, and_right, and_both, all_append, all_more, digest_all, is_lower_digit}
-use Rattle.engine_streams.specs.Heads.{is_digit}
+use Rattle.engine_streams.specs.Head.{is_digit}
 use Rattle.engine_streams.proofs.Decimals.{numeral}
 use Rattle.generated_image.specs.Texts.{sha256_text}
 

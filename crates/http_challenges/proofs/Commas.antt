@@ -10,7 +10,8 @@ use Rattle.http_challenges.specs.declared.split.Place.TheVariants.{Outside, Quot
 use Rattle.std.proofs.Common.{Option, Some, None, map}
 use Rattle.http_challenges.specs.declared.challenge.Challenge.{Challenge}
 use Rattle.http_challenges.specs.declared.element.Element.{Element}
-use Rattle.http_challenges.specs.Elements.{split_from, is_comma, place_after, element_of, split_rest, whole}
+use Rattle.http_challenges.specs.Element.{element_of, whole}
+use Rattle.http_challenges.specs.Split.{split_from, is_comma, place_after, split_rest}
 
 -- this in front of the first element
 abbrev pub onto_front : List ℕ → List (List ℕ) → List (List ℕ)

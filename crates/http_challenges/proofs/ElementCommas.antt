@@ -6,7 +6,7 @@ use Rattle.http_challenges.specs.declared.challenge.Challenge.{Challenge}
 use Rattle.http_challenges.specs.declared.split.Place.{Place}
 use Rattle.http_challenges.specs.declared.split.Place.TheVariants.{Outside, Quoted as InString, Escaped}
 use Rattle.http_challenges.specs.Grammar.{is_blank_byte, is_token_byte}
-use Rattle.http_challenges.specs.Elements.{split_from, split_rest, is_comma, place_after}
+use Rattle.http_challenges.specs.Split.{split_from, split_rest, is_comma, place_after}
 use Rattle.http_challenges.specs.Words.{Blanks, Token, Says, Quoted, Value, IsParameter, AddsParameter, FirstParameter, BeginsChallenge, is_plain_byte, behind_comma}
 use Rattle.http_challenges.proofs.Commas.{onto_front}
 use Rattle.http_challenges.proofs.Cuts.{and_left, and_right, is_other}

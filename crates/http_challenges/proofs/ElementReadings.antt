@@ -6,7 +6,7 @@ use Rattle.std.proofs.lemmas.Bool.Decides.{nat_tests}
 use Rattle.http_challenges.specs.declared.challenge.Challenge.{Challenge}
 use Rattle.http_challenges.specs.declared.element.Element.TheVariants.{Empty, Parameter, Begins, Unreadable}
 use Rattle.http_challenges.specs.Grammar.{is_blank_byte, is_token_byte, is_empty, is_blank, past_blanks, token_in, past_token, after_byte, unquoted, string_or_token, value_in, assigned, parameter_in}
-use Rattle.http_challenges.specs.Elements.{element_of, element_in, after_token, added, begun, scheme_or_parameter}
+use Rattle.http_challenges.specs.Element.{element_of, element_in, after_token, added, begun, scheme_or_parameter}
 use Rattle.http_challenges.specs.Words.{Blanks, Token, Says, Value, IsParameter, AddsParameter, FirstParameter, BeginsChallenge, begins}
 use Rattle.http_challenges.proofs.Cuts.{front_is, rest_is, begins_append, begins_front, begins_apart, all_begins, both_true, is_other, not_blank, not_token}
 use Rattle.http_challenges.proofs.Quotes.{quote_full, plain_byte, literal_byte}

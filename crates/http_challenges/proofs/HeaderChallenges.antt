@@ -8,7 +8,8 @@ use Rattle.http_challenges.specs.declared.element.Element.TheVariants.{Empty, Pa
 use Rattle.http_challenges.specs.declared.split.Place.{Place}
 use Rattle.http_challenges.specs.declared.split.Place.TheVariants.{Outside}
 use Rattle.http_challenges.specs.Grammar.{is_blank_byte, is_token_byte, past_blanks, parameter_in}
-use Rattle.http_challenges.specs.Elements.{split_from, split_rest, is_comma, place_after, element_of, after_token, scheme_or_parameter, begun, with_parameter, whole, challenges_of}
+use Rattle.http_challenges.specs.Element.{element_of, after_token, scheme_or_parameter, begun, with_parameter, whole, challenges_of}
+use Rattle.http_challenges.specs.Split.{split_from, split_rest, is_comma, place_after}
 use Rattle.http_challenges.specs.Bearer.{is_text, first_bearer, in_header}
 use Rattle.http_challenges.specs.declared.bearer.ChallengeError.TheVariants.{NotText}
 use Rattle.http_challenges.specs.Words.{BeginsScheme, begins, behind_comma, Whole, AreChallenges}

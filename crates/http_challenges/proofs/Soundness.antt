@@ -6,7 +6,7 @@ use Rattle.std.proofs.lemmas.Bool.Decides.{nat_tests}
 use Rattle.http_challenges.specs.declared.element.Element.{Element}
 use Rattle.http_challenges.specs.declared.element.Element.TheVariants.{Empty, Parameter, Begins, BreaksOff, Unreadable}
 use Rattle.http_challenges.specs.Grammar.{is_blank_byte, is_token_byte, is_empty, is_blank, past_blanks, token_in, past_token, after_byte, unquoted, string_or_token, value_in, assigned, parameter_in}
-use Rattle.http_challenges.specs.Elements.{element_of, element_in, after_token, added, begun, scheme_or_parameter}
+use Rattle.http_challenges.specs.Element.{element_of, element_in, after_token, added, begun, scheme_or_parameter}
 use Rattle.http_challenges.specs.Words.{Blanks, Token, Says, Value, IsParameter, AddsParameter, FirstParameter, BeginsChallenge, BeginsScheme, is_plain_byte, begins, behind_comma}
 use Rattle.http_challenges.proofs.Cuts.{front_all, rest_stops, cut_whole, begins_append, begins_front, all_begins, and_left, and_right}
 use Rattle.http_challenges.proofs.Quotes.{quote_ends, plain_byte, literal_byte, unquoted-nil}

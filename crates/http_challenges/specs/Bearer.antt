@@ -8,7 +8,7 @@ use Rattle.http_challenges.specs.declared.challenge.Challenge.{Challenge}
 use Rattle.http_challenges.specs.declared.bearer.BearerChallenge.{BearerChallenge}
 use Rattle.http_challenges.specs.declared.bearer.ChallengeError.{ChallengeError}
 use Rattle.http_challenges.specs.declared.bearer.ChallengeError.TheVariants.{NotText, NoBearer, OtherScheme, NoRealm, WantOfMemory}
-use Rattle.http_challenges.specs.Elements.{challenges_of}
+use Rattle.http_challenges.specs.Element.{challenges_of}
 
 -- the same text but for the case of ASCII letters
 abbrev pub is_named : List ℕ → List ℕ → Bool

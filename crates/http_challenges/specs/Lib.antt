@@ -1,5 +1,6 @@
 pub mod Bearer
 pub mod Classes
-pub mod Elements
+pub mod Element
 pub mod Grammar
+pub mod Split
 pub mod Words

@@ -3,7 +3,7 @@ use Rattle.std.specs.Prelude.{◌≡◌, ◌≢◌, ◌==◌, ◌⊎◌, ◌&&�
 use Rattle.std.specs.List.{list_all}
 use Rattle.std.specs.Option.{option_to_list}
 use Rattle.http_challenges.specs.declared.challenge.Challenge.{Challenge}
-use Rattle.http_challenges.specs.Elements.{with_parameter}
+use Rattle.http_challenges.specs.Element.{with_parameter}
 use Rattle.http_challenges.specs.Grammar.{is_blank_byte, is_token_byte, past_blanks}
 
 -- white space, or nothing

@@ -1,6 +1,6 @@
 // Challenges.
 ghost use Rattle.std.specs.Prelude.{◌≡◌, ◌++◌, ◌∷◌, [], List, IfOk, if◌then◌else◌};
-ghost use Rattle.http_challenges.specs.Elements.{challenges_of, whole};
+ghost use Rattle.http_challenges.specs.Element.{challenges_of, whole};
 ghost use Rattle.http_challenges.specs.Words.{AreChallenges};
 ghost use Rattle.http_challenges.specs.declared.challenge.Challenge.{Challenge as OneChallenge};
 ghost use Rattle.http_challenges.specs.declared.element.Element.{Element as OneElement};
@@ -61,7 +61,7 @@ fn take(
 }
 
 // The challenges of a text, read element by element.
-#[tactic(auto, unfolding(crate::specs::Elements::challenges_of))]
+#[tactic(auto, unfolding(crate::specs::Element::challenges_of))]
 fn listed(alloc: Global, text: &str) -> Result<List<Challenge>, AllocError>
     ensures { IfOk result (λ found. found ≡ challenges_of text.now) }
 {

@@ -1,6 +1,6 @@
 // The elements of a list of challenges.
 ghost use Rattle.std.specs.Prelude.{◌≡◌, IfOk};
-ghost use Rattle.http_challenges.specs.Elements as list;
+ghost use Rattle.http_challenges.specs.Element as list;
 
 use crate::challenge::Challenge;
 use crate::grammar::{after_byte, assigned, cut_token, parameter_in, past_blanks};
@@ -68,7 +68,7 @@ fn after_token(alloc: Global, token: &str, text: &str) -> Result<Element, AllocE
 }
 
 /// Reads one element.
-#[tactic(auto, unfolding(crate::specs::Elements::element_of))]
+#[tactic(auto, unfolding(crate::specs::Element::element_of))]
 pub fn read_element(alloc: Global, text: &str) -> Result<Element, AllocError>
     ensures { IfOk result (λ element. element ≡ list.element_of text.now) }
 {

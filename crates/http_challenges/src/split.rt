@@ -1,7 +1,7 @@
 // Where a list of challenges is split into its elements.
 ghost use Rattle.std.specs.Prelude.{◌≡◌, ◌∷◌, [], ◌<◌, length, MatchOption, IfSome};
 ghost use Rattle.std.specs.Option.{option_copied};
-ghost use Rattle.http_challenges.specs.Elements as list;
+ghost use Rattle.http_challenges.specs.Split as list;
 
 /// Where a byte stands.
 #[derive(Clone, Copy)]

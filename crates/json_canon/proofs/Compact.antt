@@ -14,7 +14,7 @@ use Rattle.json_events.specs.Canonical.{Canonical, CanonicalItems, CanonicalMemb
 use Rattle.json_events.specs.Units.{by_units}
 use Rattle.json_events.proofs.Unique.{unique}
 use Rattle.json_canon.specs.AsMaps.{whole, whole_or}
-use Rattle.json_canon.proofs.Arranging.{place, arranged, arranged_items, arranged_members}
+use Rattle.json_canon.proofs.MemberOrders.{place, arranged, arranged_items, arranged_members}
 use Rattle.json_canon.proofs.Maps.{Apart, AreApart, ItemsApart, MembersApart, by_units_total, apart_arranged}
 
 abbrev pub by_names : Data → Data

@@ -12,8 +12,8 @@ use Rattle.json_events.specs.Events.{Event, begin_array_value, end_array_value, 
 use Rattle.json_canon.specs.Feeding.{Ran, Fed}
 use Rattle.json_events.specs.Spelling.{spelled, spelled_items, spelled_members}
 use Rattle.json_events.specs.Turns.{Taken, Answers, answer, Breaks}
-use Rattle.json_events.proofs.Passing.{run_refused}
-use Rattle.json_events.proofs.Spelled.{run-append}
+use Rattle.json_events.proofs.TreeEvents.{run_refused}
+use Rattle.json_events.proofs.ValueTexts.{run-append}
 
 no_refusal : (o : Option CanonError) (u : Unit {0}) → Ok u ≡ answer o → o ≡ None
 no_refusal None u e = refl

@@ -1,7 +1,7 @@
-pub mod Arranging
 pub mod Compact
 pub mod Feeds
 pub mod Maps
+pub mod MemberOrders
 pub mod PipedBack
 pub mod Puts
 pub mod ReadBack

@@ -13,7 +13,7 @@ use Rattle.json_events.specs.Units.{units, by_units}
 use Rattle.json_events.specs.Values.{IsValue, AreValues, AreMembers, IsOther}
 use Rattle.json_events.proofs.Utf16.{same_units}
 use Rattle.json_canon.specs.AsMaps.{whole_or, put_all, as_maps, items_as_maps, members_as_maps}
-use Rattle.json_canon.proofs.Arranging.{Order, place, arranged, arranged_items, arranged_members, commute}
+use Rattle.json_canon.proofs.MemberOrders.{Order, place, arranged, arranged_items, arranged_members, commute}
 
 -- names that both orders tell apart
 abbrev pub Told : List ℕ → List ℕ → Type 0

@@ -12,7 +12,7 @@ use Rattle.json_canon.specs.Outcomes.{GivesText, PutsText, WritesText, RefusesWr
 use Rattle.json_events.specs.Refused.{refused}
 use Rattle.json_events.specs.Spelling.{spelled}
 use Rattle.json_events.specs.Values.{IsValue}
-use Rattle.json_events.proofs.Spelled.{new_comes}
+use Rattle.json_events.proofs.ValueTexts.{new_comes}
 use Rattle.json_canon.proofs.Refusals.{refuses}
 
 clash : (o : Option CanonError) (e : CanonError) → o ≡ None → o ≡ Some e → ⊥

@@ -26,7 +26,7 @@ use Rattle.json_events.specs.Units.{by_units}
 use Rattle.json_events.specs.declared.error.CanonError.{CanonError}
 use Rattle.json_events.specs.declared.error.CanonError.TheVariants.{IntegerOutOfRange}
 use Rattle.json_canon.specs.AsMaps.{whole, whole_or, as_maps}
-use Rattle.json_canon.proofs.Arranging.{Order, place, arranged, arranged_items, arranged_members}
+use Rattle.json_canon.proofs.MemberOrders.{Order, place, arranged, arranged_items, arranged_members}
 use Rattle.json_canon.proofs.Compact.{by_names, by_names_text}
 use Rattle.json_canon.proofs.Maps.{Apart, AreApart, ItemsApart, MembersApart, IsTelling, by_bytes_tells, by_units_tells, apart_arranged, still_apart, again, taken, taken_all, maps_in_order}
 use Rattle.json_canon.proofs.Texts.{small}

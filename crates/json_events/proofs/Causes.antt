@@ -15,10 +15,10 @@ use Rattle.json_events.specs.Events.{Event, write_null, write_bool, write_intege
 use Rattle.json_events.specs.Laws.{FirstBad, RefusalStays}
 use Rattle.json_events.specs.Members.{property, kept_object}
 use Rattle.json_events.specs.WellNested.{a_null, a_float, a_whole, a_fragment, Tree, scalar, array, object, Trees, and_tree, Fields, and_field, nested, nested_items, nested_fields, name_events, has_field, Begins, ComesTwice, Cause, IsGood, IsBad}
-use Rattle.json_events.proofs.Keeping.{by_key}
-use Rattle.json_events.proofs.Spelled.{going, written, run-append}
-use Rattle.json_events.proofs.Passing.{after, after-append, stays, run_refused, front_passes, ties, Passes, and_then, NoMembers, object_begin, FieldsIn, fields_passes, tree_passes, field_ready}
-use Rattle.json_events.proofs.Fitting.{Opens, Fits, Within, arrives, same_spot, act_fits, fits, TurnFits, longer_array, longer_object}
+use Rattle.json_events.proofs.SortedMembers.{by_key}
+use Rattle.json_events.proofs.ValueTexts.{going, written, run-append}
+use Rattle.json_events.proofs.TreeEvents.{after, after-append, stays, run_refused, front_passes, ties, Passes, and_then, NoMembers, object_begin, FieldsIn, fields_passes, tree_passes, field_ready}
+use Rattle.json_events.proofs.EventPlaces.{Opens, Fits, Within, arrives, same_spot, act_fits, fits, TurnFits, longer_array, longer_object}
 
 -- ---- events that fit go on to a well-nested list
 

@@ -14,8 +14,8 @@ use Rattle.json_events.specs.Refused.{refused, refused_items, refused_members}
 use Rattle.json_events.specs.Spelling.{spelled, spelled_items, spelled_members}
 use Rattle.json_events.specs.TextSoFar.{NamePart, no_name, due_name, told_name, whole_name, Part, no_part, whole_part, items_part, item_part, members_part, member_part, name_part_events, value_due, part_events, begun_array, begun_item, TextSoFar, has_object, inner_text, MemberTextSoFar}
 use Rattle.json_events.specs.Values.{IsValue, AreValues, AreMembers}
-use Rattle.json_events.proofs.Keeping.{keeps_none}
-use Rattle.json_events.proofs.Spelled.{going, with_text, sent, written, with_both, sent_both, Leaves, first_then, joins, comes, items_come, members_come, in_array, in_item, in_object, commas_from, joined, begun_after, sorted_none}
+use Rattle.json_events.proofs.SortedMembers.{keeps_none}
+use Rattle.json_events.proofs.ValueTexts.{going, with_text, sent, written, with_both, sent_both, Leaves, first_then, joins, comes, items_come, members_come, in_array, in_item, in_object, commas_from, joined, begun_after, sorted_none}
 
 -- its values have canonical texts
 abbrev pub IsPlainPart : Part → Type 0

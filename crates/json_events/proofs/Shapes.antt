@@ -10,11 +10,11 @@ use Rattle.json_events.specs.Laws.{TextsSoFar}
 use Rattle.json_events.specs.Spelling.{spelled_items, spelled_members, AreTexts}
 use Rattle.json_events.specs.TextSoFar.{NamePart, no_name, due_name, told_name, whole_name, Part, no_part, whole_part, items_part, item_part, members_part, member_part, name_part_events, part_events, TextSoFar, has_object, MemberTextSoFar, SoFar}
 use Rattle.json_events.specs.WellNested.{Tree, Trees, Fields, nested, nested_items, nested_fields, name_events}
-use Rattle.json_events.proofs.Spelled.{going, run-append}
-use Rattle.json_events.proofs.Passing.{after, AtSpot, NoMembers, FieldsIn, array_begin, item_begin, object_begin, items_passes, fields_passes, name_passes, named}
-use Rattle.json_events.proofs.Fitting.{fits, Opens, Outside, Within, longer_array, longer_object}
+use Rattle.json_events.proofs.ValueTexts.{going, run-append}
+use Rattle.json_events.proofs.TreeEvents.{after, AtSpot, NoMembers, FieldsIn, array_begin, item_begin, object_begin, items_passes, fields_passes, name_passes, named}
+use Rattle.json_events.proofs.EventPlaces.{fits, Opens, Outside, Within, longer_array, longer_object}
 use Rattle.json_events.proofs.Causes.{unrefused}
-use Rattle.json_events.proofs.Valued.{texts_front, texts_rest, Parts, parts, Spells, tree_spells, items_spell, fields_spell}
+use Rattle.json_events.proofs.WholeLists.{texts_front, texts_rest, Parts, parts, Spells, tree_spells, items_spell, fields_spell}
 use Rattle.json_events.proofs.PartTexts.{IsPlainPart, Leaving, PartComes, part_comes}
 
 -- a part whose values are trees

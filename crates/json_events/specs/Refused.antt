@@ -1,15 +1,11 @@
 -- Which numbers have no canonical text, and the first of them in a value.
-use Rattle.std.specs.Prelude.{ℤ, Option, Some, None, if◌then◌else◌}
+use Rattle.std.specs.Prelude.{ℤ, Option, Some, None}
 use Rattle.serde_json.specs.Data.{Data, null, boolean, number, string, array, object, Items}
 use Rattle.serde_json.specs.Data.{no_items, item, Members, no_members, member}
 use Rattle.serde_json.specs.Find.{as_integer}
-use Rattle.json_events.specs.Canonical.{in_range}
 use Rattle.json_events.specs.declared.error.CanonError.{CanonError}
-use Rattle.json_events.specs.declared.error.CanonError.TheVariants.{Float, IntegerOutOfRange}
-
--- a whole number past the range
-abbrev pub refused_integer : ℤ → Option CanonError
-refused_integer z = if in_range z then None else Some IntegerOutOfRange
+use Rattle.json_events.specs.declared.error.CanonError.TheVariants.{Float}
+use Rattle.json_events.specs.Scalars.{refused_integer}
 
 abbrev pub refused_by : Option ℤ → Option CanonError
 refused_by None = Some Float

@@ -6,27 +6,27 @@ use thiserror::Error;
 #[derive(Clone, Copy, Debug, PartialEq, Eq, Error)]
 pub enum CanonError {
     /// The value holds a float.
-    #[error("a float has no canonical text here")]
+    #[error("a float has no canonical text here: give whole numbers or texts")]
     Float,
     /// The value holds a whole number past 9007199254740991 on either side.
-    #[error("a whole number is past 9007199254740991")]
+    #[error("a whole number is past 9007199254740991: give it as a text")]
     IntegerOutOfRange,
     /// An object has a name twice.
-    #[error("an object has a name twice")]
+    #[error("an object has a name twice: give each name once")]
     DuplicateKey,
     /// A fragment of JSON was to be written as it is.
-    #[error("a raw fragment has no canonical text")]
+    #[error("a raw fragment has no canonical text: give its value")]
     RawFragment,
     /// The event stands in no value.
-    #[error("the event stands in no value")]
+    #[error("the event stands in no value: begin arrays, objects and members before what is in them")]
     NotWellNested,
     /// The text is no JSON.
-    #[error("the text is no JSON")]
+    #[error("the text is no JSON: give one value of JSON")]
     Unreadable,
     /// The sink failed.
-    #[error("the sink failed")]
+    #[error("the sink failed: what it took is a front of the text, so write the value again elsewhere")]
     SinkFault,
-    #[error("out of memory")]
+    #[error("out of memory: free some and try again")]
     WantOfMemory,
 }
 

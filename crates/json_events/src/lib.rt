@@ -20,4 +20,4 @@ pub use error::CanonError;
 pub use formatter::JcsFormatter;
 pub use laws::{events_write, first_refusal_has_its_cause, one_text, order_of_names};
 pub use property::JsonProperty;
-pub use scalars::refused_integer;
+pub use scalars::{MAX_SAFE_INTEGER, refused_integer};

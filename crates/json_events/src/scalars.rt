@@ -3,21 +3,22 @@ ghost use Rattle.std.specs.Prelude.{◌≡◌, IfOk};
 ghost use Rattle.std.specs.Fmt.{signed_decimal};
 ghost use Rattle.json_values.specs.Canon.{quoted_text};
 ghost use Rattle.json_events.specs.Canonical.{truth_text};
-ghost use Rattle.json_events.specs.Refused.{refused_integer};
+ghost use Rattle.json_events.specs.Scalars.{refused_integer};
 
 use crate::error::CanonError;
 use itoa::Buffer;
 use json_values::{Blob, write_quoted};
 use std::alloc::{AllocError, Global};
 
-// The whole numbers up to here are those that every reader keeps (RFC 8785, 3.2.2.3).
-const GREATEST: i128 = 9007199254740991;
+/// The greatest whole number that every reader of JSON keeps, on either side of zero (RFC 8785, 3.2.2.3).
+pub const MAX_SAFE_INTEGER: i64 = 9007199254740991;
 
 /// `IntegerOutOfRange` for a number past 9007199254740991 on either side.
 pub fn refused_integer(z: i128) -> Option<CanonError>
     ensures { result ≡ refused_integer z }
 {
-    if -GREATEST <= z && z <= GREATEST {
+    let greatest = i128::from(MAX_SAFE_INTEGER);
+    if -greatest <= z && z <= greatest {
         None
     } else {
         Some(CanonError::IntegerOutOfRange)

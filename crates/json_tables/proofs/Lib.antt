@@ -1,3 +1,3 @@
 pub mod Pairs
 pub mod Partial
-pub mod Refused
+pub mod Refusals

@@ -3,7 +3,9 @@ use Rattle.std.specs.Prelude.{ℕ, List, [], ◌∷◌, Option, Some, codes}
 use Rattle.base64.specs.Engines.{standard}
 use Rattle.base64.specs.GeneralPurpose.{decoded_of}
 use Rattle.serde_json.specs.Data.{Data, string}
-use Rattle.json_tables.specs.Reading.{◌>>=◌, text_of, required, only}
+use Rattle.json_tables.specs.Reading.{◌>>=◌, text_of}
+use Rattle.json_tables.specs.Objects.{only}
+use Rattle.json_tables.specs.Member.{required}
 
 -- the bytes of a text in padded standard base64 (RFC 4648, 4)
 abbrev pub base64_of : Data → Option (List ℕ)

@@ -1,11 +1,9 @@
 -- How JSON data is read by a table. Each reader gives a value, or none where the data has another shape.
-use Rattle.std.specs.Prelude.{ℕ, ◌^◌, List, [], ◌∷◌, Bool, true, nat_lt, int_lt, if◌then◌else◌, Option, Some, None, option_map, ⊤, ℤ, pos, negsuc, ◌&&◌}
-use Rattle.std.specs.List.{list_any}
-use Rattle.std.specs.Str.{bytes_eq}
+use Rattle.std.specs.Prelude.{ℕ, ◌^◌, List, [], ◌∷◌, Bool, nat_lt, int_lt, if◌then◌else◌, Option, Some, None, ℤ, pos, negsuc}
 use Rattle.std.specs.FinMap.{FinMap, empty, insert}
 use Rattle.json_values.specs.Places.{by_bytes}
-use Rattle.serde_json.specs.Data.{Data, null, Items, no_items, item, Members, no_members, member}
-use Rattle.serde_json.specs.Find.{get, as_bool, as_number, as_str, as_array, as_object, as_u64, as_i64}
+use Rattle.serde_json.specs.Data.{Data, Items, no_items, item, Members, no_members, member}
+use Rattle.serde_json.specs.Find.{as_bool, as_number, as_str, as_array, as_object, as_u64, as_i64}
 
 -- what f reads from what was found
 infixl 10 ◌>>=◌
@@ -75,52 +73,3 @@ members_by f found (member k d ms) = f d >>= λ x. members_by f (insert found k 
 -- an object whose values f reads
 abbrev pub map_of : {V : Type 0} → (Data → Option V) → Data → Option (Map V)
 map_of f d = as_object d >>= members_by f empty
-
--- what was found, if it is there
-abbrev pub present : {X : Type 0} → (Data → Option X) → Option Data → Option X
-present f o = o >>= f
-
--- none where nothing or null was found
-abbrev pub unless_null : {X : Type 0} → (Data → Option X) → Option Data → Option (Option X)
-unless_null f None = Some None
-unless_null f (Some null) = Some None
-unless_null f (Some d) = option_map Some (f d)
-
--- any value, and null where nothing was found
-abbrev pub or_null : Option Data → Option Data
-or_null None = Some null
-or_null (Some d) = Some d
-
--- a member that must be there
-abbrev pub required : {X : Type 0} → (Data → Option X) → List ℕ → Data → Option X
-required f name d = get name d >>= f
-
--- a member that may be absent or null
-abbrev pub optional : {X : Type 0} → (Data → Option X) → List ℕ → Data → Option (Option X)
-optional f name d = unless_null f (get name d)
-
--- a reader of what was found, at its name
-abbrev pub at_name : {X : Type 0} → (Option Data → Option X) → List ℕ → Data → Option X
-at_name f name d = f (get name d)
-
--- an object, whatever its members
-abbrev pub an_object : Data → Option ⊤
-an_object d = as_object d >>= λ ms. Some tt
-
--- an object whose values are objects: the set of its names
-abbrev pub set_of : Data → Option (Map ⊤)
-set_of = map_of an_object
-
--- whether each member has one of the names
-abbrev pub names_within : List (List ℕ) → Members → Bool
-names_within names no_members = true
-names_within names (member k d ms) = list_any (bytes_eq k) names && names_within names ms
-
--- an object with no members but these
-abbrev pub only : List (List ℕ) → Data → Option ⊤
-only names d = as_object d >>= λ ms. if names_within names ms then Some tt else None
-
--- the text at the end of a path of members
-abbrev pub text_at : List (List ℕ) → Data → Option (List ℕ)
-text_at [] d = text_of d
-text_at (name ∷ names) d = get name d >>= text_at names

@@ -2,7 +2,8 @@
 use Rattle.std.specs.Prelude.{◌≡◌, ℕ, List, [], ◌∷◌, Option, Some, None, Result, Ok, Err, ⊤}
 use Rattle.serde_json.specs.Data.{Data}
 use Rattle.json_tables.specs.Outcomes.{Refuses}
-use Rattle.json_tables.specs.Reading.{◌>>=◌, at_name}
+use Rattle.json_tables.specs.Reading.{◌>>=◌}
+use Rattle.json_tables.specs.Member.{at_name}
 use Rattle.json_tables.specs.declared.error.ReadError.{ReadError}
 
 -- what is made where there are no members

@@ -4,7 +4,7 @@ ghost use Rattle.serde_json.specs.View.{view};
 ghost use Rattle.base64.specs.Engines.{standard};
 ghost use Rattle.base64.specs.GeneralPurpose.{decoded_of};
 ghost use Rattle.json_tables.specs.Outcomes.{Gives};
-ghost use Rattle.json_tables.specs.Reading.{required, present};
+ghost use Rattle.json_tables.specs.Member.{required, present};
 ghost use Rattle.json_tables.specs.Bytes.{bytes_of, base64_of};
 
 use crate::error::ReadError;

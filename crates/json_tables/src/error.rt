@@ -14,7 +14,7 @@ pub enum ReadError {
     /// The tables of two documents read it.
     #[error("the value reads as two documents: leave out the members of one of them")]
     Ambiguous,
-    #[error("out of memory")]
+    #[error("out of memory: free some and try again")]
     WantOfMemory,
 }
 

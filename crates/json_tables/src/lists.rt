@@ -1,6 +1,7 @@
 ghost use Rattle.serde_json.specs.View.{view, items_view};
 ghost use Rattle.json_tables.specs.Outcomes.{Gives};
-ghost use Rattle.json_tables.specs.Reading.{list_of, items_by, pair_of, two_by, present};
+ghost use Rattle.json_tables.specs.Reading.{list_of, items_by, pair_of, two_by};
+ghost use Rattle.json_tables.specs.Member.{present};
 
 use crate::error::ReadError;
 use crate::member::{Member, present};

@@ -1,7 +1,8 @@
 ghost use Rattle.std.specs.FinMap.{empty};
 ghost use Rattle.serde_json.specs.View.{view, members_view};
 ghost use Rattle.json_tables.specs.Outcomes.{Gives};
-ghost use Rattle.json_tables.specs.Reading.{map_of, members_by, present};
+ghost use Rattle.json_tables.specs.Reading.{map_of, members_by};
+ghost use Rattle.json_tables.specs.Member.{present};
 
 use crate::error::ReadError;
 use crate::member::{Member, present};

@@ -2,7 +2,7 @@ ghost use Rattle.std.specs.Prelude.{◌≡◌, Option, IfOk, Some, option_map};
 ghost use Rattle.serde_json.specs.Data.{Data};
 ghost use Rattle.serde_json.specs.View.{view};
 ghost use Rattle.json_tables.specs.Outcomes.{Gives};
-ghost use Rattle.json_tables.specs.Reading.{required, optional, unless_null, present, or_null};
+ghost use Rattle.json_tables.specs.Member.{required, optional, unless_null, present, or_null};
 
 use crate::error::ReadError;
 use crate::reads::Reads;

@@ -1,5 +1,6 @@
 // Numbers and truth values.
-ghost use Rattle.json_tables.specs.Reading.{bool_of, u8_of, u16_of, u32_of, u64_of, i32_of, i64_of, present};
+ghost use Rattle.json_tables.specs.Reading.{bool_of, u8_of, u16_of, u32_of, u64_of, i32_of, i64_of};
+ghost use Rattle.json_tables.specs.Member.{present};
 
 use crate::error::ReadError;
 use crate::member::{Member, present};

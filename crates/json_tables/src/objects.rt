@@ -3,7 +3,7 @@ ghost use Rattle.std.specs.List.{list_any};
 ghost use Rattle.std.specs.Str.{bytes_eq};
 ghost use Rattle.serde_json.specs.View.{view, members_view};
 ghost use Rattle.json_tables.specs.Outcomes.{Gives};
-ghost use Rattle.json_tables.specs.Reading.{an_object, only, names_within};
+ghost use Rattle.json_tables.specs.Objects.{an_object, only, names_within};
 
 use crate::error::ReadError;
 use serde_json::{Map, Value};

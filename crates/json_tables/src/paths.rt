@@ -1,6 +1,6 @@
 ghost use Rattle.std.specs.Prelude.{◌≡◌, map, option_map};
 ghost use Rattle.serde_json.specs.View.{view};
-ghost use Rattle.json_tables.specs.Reading.{text_at};
+ghost use Rattle.json_tables.specs.Paths.{text_at};
 
 use serde_json::Value;
 

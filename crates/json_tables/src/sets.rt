@@ -1,7 +1,8 @@
 ghost use Rattle.std.specs.FinMap.{empty};
 ghost use Rattle.serde_json.specs.View.{members_view};
 ghost use Rattle.json_tables.specs.Outcomes.{Gives};
-ghost use Rattle.json_tables.specs.Reading.{an_object, members_by, set_of};
+ghost use Rattle.json_tables.specs.Reading.{members_by};
+ghost use Rattle.json_tables.specs.Objects.{an_object, set_of};
 
 use crate::error::ReadError;
 use crate::objects::an_object;

@@ -1,6 +1,7 @@
 // Texts, and values that are kept as they are.
 ghost use Rattle.std.specs.Prelude.{Some};
-ghost use Rattle.json_tables.specs.Reading.{text_of, present};
+ghost use Rattle.json_tables.specs.Reading.{text_of};
+ghost use Rattle.json_tables.specs.Member.{present};
 
 use crate::error::ReadError;
 use crate::member::{Member, present};

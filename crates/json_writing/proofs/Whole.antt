@@ -3,7 +3,8 @@ use Rattle.std.proofs.Common.{◌≡◌, List, [], ◌∷◌, map, Bool, false, 
 use Rattle.std.specs.List.{list_any}
 use Rattle.serde_json.specs.Data.{Data}
 use Rattle.serde_json.specs.Written.{has_float}
-use Rattle.json_tables.specs.Reading.{present, unless_null, list_of}
+use Rattle.json_tables.specs.Reading.{list_of}
+use Rattle.json_tables.specs.Member.{present, unless_null}
 use Rattle.json_tables.specs.Outcomes.{ReadsDocument}
 use Rattle.json_writing.specs.Again.{ReadsAgain, MemberReadsAgain}
 

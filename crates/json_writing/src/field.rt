@@ -5,7 +5,8 @@ ghost use Rattle.serde_json.specs.Find.{of_integer};
 ghost use Rattle.serde_json.specs.View.{members_view};
 ghost use Rattle.serde_json.specs.Written.{has_float};
 ghost use Rattle.json_values.specs.Writing.{listed};
-ghost use Rattle.json_tables.specs.Reading.{or_null, present, unless_null, text_of, u8_of, i64_of, list_of};
+ghost use Rattle.json_tables.specs.Reading.{text_of, u8_of, i64_of, list_of};
+ghost use Rattle.json_tables.specs.Member.{or_null, present, unless_null};
 ghost use Rattle.json_writing.specs.Fields.{put_some};
 ghost use Rattle.json_writing.specs.Again.{ReadsAgain, MemberReadsAgain};
 

@@ -1,7 +1,7 @@
 ghost use Rattle.std.specs.Prelude.{◌≡◌, OnOk, Option, option_map, unwrap_or, Bool, false};
 ghost use Rattle.std.specs.FinMap.{entries};
 ghost use Rattle.serde_json.specs.Data.{Data};
-ghost use Rattle.json_tables.specs.Reading.{unless_null};
+ghost use Rattle.json_tables.specs.Member.{unless_null};
 ghost use Rattle.json_writing.specs.Fields.{no_entries, unless_empty};
 ghost use Rattle.json_writing.specs.Again.{MemberReadsAgain};
 

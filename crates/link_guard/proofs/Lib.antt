@@ -1,4 +1,4 @@
-pub mod Knowing
+pub mod GuardKnowledge
 pub mod Lists
 pub mod Steps
 pub mod Told

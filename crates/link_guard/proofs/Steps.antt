@@ -6,13 +6,14 @@ use Rattle.oci_transport.specs.Link.{Link, Answering, NeverFails, Steady, Extend
 use Rattle.oci_transport.specs.declared.message.Request.{Request}
 use Rattle.oci_transport.specs.declared.message.AnswerHead.{AnswerHead}
 use Rattle.oci_transport.specs.declared.message.Exchange.{Exchange}
-use Rattle.link_guard.specs.Guard.{counted, refused_exchange, told_with, keep_after, last_realm, fits, more, places, realm_by, is_known}
+use Rattle.link_guard.specs.Guard.{counted, refused_exchange, told_with, keep_after, last_realm, fits, more, places, is_known}
+use Rattle.link_guard.specs.Guard.{realm_by}
 use Rattle.link_guard.specs.Rules.{passes}
 use Rattle.link_guard.specs.State.{told_of, rest_of, shown}
 use Rattle.link_guard.specs.declared.rules.Rules.{Rules}
 use Rattle.link_guard.specs.declared.guarded.Guarded.{Guarded}
 use Rattle.link_guard.specs.declared.guarded.Unsent.{Unsent}
-use Rattle.link_guard.proofs.Knowing.{Known, known_of, fits_by, known_sent, known_refused}
+use Rattle.link_guard.proofs.GuardKnowledge.{Known, known_of, fits_by, known_sent, known_refused}
 use Rattle.link_guard.proofs.Told.{told_sent, told_refused}
 
 zero_and : (n : ℕ) → 0 + n ≡ n

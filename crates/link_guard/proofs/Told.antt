@@ -2,7 +2,8 @@
 use Rattle.std.proofs.Common.{◌≡◌, ℕ, zero, suc, ◌+◌, ◌≤◌, Bool, true, false, ◌&&◌, List, [], ◌∷◌, ◌++◌, length, take, drop, map, Option, Some, None, refl, sym, ap, ◌∙◌, arith}
 use Rattle.std.proofs.lemmas.List.{take_all, drop_all}
 use Rattle.oci_transport.specs.declared.message.Exchange.{Exchange}
-use Rattle.link_guard.specs.Guard.{counted, refused_exchange, told_with, places, keep_after, last_realm, realm_of, unless_answered}
+use Rattle.link_guard.specs.Guard.{counted, refused_exchange, told_with, places, keep_after, last_realm, unless_answered}
+use Rattle.link_guard.specs.Guard.{realm_of}
 use Rattle.link_guard.specs.Rules.{passes}
 use Rattle.link_guard.specs.declared.rules.Rules.{Rules}
 use Rattle.link_guard.specs.declared.guarded.Unsent.{Unsent}

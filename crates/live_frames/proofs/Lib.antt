@@ -1,2 +1,2 @@
-pub mod Framing
-pub mod Taking
+pub mod FrameParts
+pub mod TakenBytes

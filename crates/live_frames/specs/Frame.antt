@@ -2,18 +2,14 @@
 use Rattle.std.specs.Prelude.{◌≡◌, ℕ, ◌≤◌, ◌==◌, Bool, true, not, List, ◌∷◌, ◌++◌, length, Option, Some, None, codes}
 use Rattle.std.specs.List.{list_all}
 use Rattle.serde_json.specs.Data.{Data}
-use Rattle.serde_json.specs.Written.{compact_text}
 use Rattle.json_values.specs.JsonText.{plain_json_of}
-use Rattle.json_tables.specs.Reading.{text_of, u64_of, required, at_name}
+use Rattle.json_tables.specs.Reading.{text_of, u64_of}
+use Rattle.json_tables.specs.Member.{required, at_name}
 use Rattle.live_frames.specs.declared.frame.Frame.{Frame}
 
 -- the greatest length of a line, and of the bytes of a piece
 abbrev pub most_bytes : ℕ
 most_bytes = 1048576
-
--- what is written: the line, and then these bytes
-abbrev pub frame_text : Data → List ℕ → List ℕ
-frame_text head bytes = compact_text head ++ 10 ∷ bytes
 
 -- no line feed
 abbrev pub is_inside : ℕ → Bool

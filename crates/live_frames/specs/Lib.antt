@@ -2,3 +2,4 @@ pub mod Constants
 pub mod Frame
 pub mod Parts
 pub mod Reading
+pub mod Writing

@@ -29,12 +29,12 @@ pub enum FrameError {
     #[error("the source ended where a frame should be: see why who writes it stopped")]
     Ended,
     /// The line, or the bytes that it says, are more than the limit.
-    #[error("the frame is longer than the limit")]
+    #[error("the frame is longer than the limit: send shorter ones")]
     TooLong,
     /// The line is no JSON object with a size.
     #[error("the line is no frame: an object is wanted, whose member `bytes` is a number or absent")]
     NoFrame,
-    #[error("out of memory")]
+    #[error("out of memory: free some and try again")]
     WantOfMemory,
 }
 

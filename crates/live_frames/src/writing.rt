@@ -3,7 +3,7 @@ ghost use Rattle.std.specs.Prelude.{◌≡◌, ◌≤◌, false, IfOk, OnOk, OnE
 ghost use Rattle.serde_json.specs.Written.{has_float};
 ghost use Rattle.json_values.specs.Counts.{Rose, Stays};
 ghost use Rattle.json_values.specs.Tray.{Adds, AddsFront, AddsPart};
-ghost use Rattle.live_frames.specs.Frame.{frame_text};
+ghost use Rattle.live_frames.specs.Writing.{frame_text};
 
 use json_values::{Blob, Json, Sink, SinkError, put_all};
 use std::alloc::{AllocError, Global};

@@ -1,4 +1,4 @@
-pub mod Asking
-pub mod Hearing
-pub mod Named
-pub mod Telling
+pub mod FrameWords
+pub mod FramesIn
+pub mod FramesOut
+pub mod QuestionSteps

@@ -1,7 +1,8 @@
 -- The names of frames.
 use Rattle.std.specs.Prelude.{ℕ, List, [], ◌∷◌, Option, Some, None, bytes_eq, codes, if◌then◌else◌}
 use Rattle.serde_json.specs.Data.{Data}
-use Rattle.json_tables.specs.Reading.{◌>>=◌, text_at}
+use Rattle.json_tables.specs.Reading.{◌>>=◌}
+use Rattle.json_tables.specs.Paths.{text_at}
 
 -- the text, where it is this one
 abbrev pub equal_to : List ℕ → List ℕ → Option (List ℕ)

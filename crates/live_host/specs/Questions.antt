@@ -2,7 +2,9 @@
 use Rattle.std.specs.Prelude.{◌≡◌, Bool, List, [], ◌∷◌, ◌++◌, length, Option, Some, codes}
 use Rattle.serde_json.specs.Data.{Data}
 use Rattle.json_tables.specs.Bytes.{base64_of}
-use Rattle.json_tables.specs.Reading.{◌>>=◌, bool_of, text_of, required, optional, only}
+use Rattle.json_tables.specs.Reading.{◌>>=◌, bool_of, text_of}
+use Rattle.json_tables.specs.Objects.{only}
+use Rattle.json_tables.specs.Member.{required, optional}
 use Rattle.cosign_layers.specs.declared.certificate.Vouched.{Vouched}
 use Rattle.live_host.specs.Heads.{verify_head, judge_head}
 use Rattle.live_host.specs.Names.{frame_named}

@@ -4,7 +4,8 @@ use Rattle.serde_json.specs.Data.{Data}
 use Rattle.json_values.specs.Tray.{Tray, Adds}
 use Rattle.pull_edge.specs.Source.{Spring, Takes}
 use Rattle.live_host.specs.declared.streams.Streams.{Streams}
-use Rattle.live_frames.specs.Frame.{IsFrame, frame_text}
+use Rattle.live_frames.specs.Frame.{IsFrame}
+use Rattle.live_frames.specs.Writing.{frame_text}
 use Rattle.live_frames.specs.Reading.{Stops}
 use Rattle.live_frames.specs.declared.reading.FrameError.{FrameError}
 use Rattle.live_frames.specs.declared.reading.FrameError.TheVariants.{WantOfMemory}

@@ -3,7 +3,7 @@ ghost use Rattle.std.specs.Prelude.{◌≡◌, false, IfOk, IfErr, OnOk, IsErrOf
 ghost use Rattle.serde_json.specs.Written.{has_float};
 ghost use Rattle.json_values.specs.Counts.{Rose};
 ghost use Rattle.json_values.specs.Tray.{Adds};
-ghost use Rattle.live_frames.specs.Frame.{frame_text};
+ghost use Rattle.live_frames.specs.Writing.{frame_text};
 ghost use Rattle.live_host.specs.HostErrors.{HostCause};
 ghost use Rattle.live_host.specs.Wire.{wire, Hears, Tells};
 

@@ -1,10 +1,10 @@
-pub mod Added
+pub mod HeaderSteps
+pub mod HeaderTexts
 pub mod Kept
 pub mod Laws
-pub mod Opening
 pub mod Pieces
 pub mod Plain
 pub mod Shown
 pub mod Steps
+pub mod StreamEnds
 pub mod Turns
-pub mod Writing

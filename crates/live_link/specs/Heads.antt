@@ -5,7 +5,9 @@ use Rattle.http_header.specs.FieldName.{is_field_name}
 use Rattle.serde_json.specs.Data.{Data}
 use Rattle.json_tables.specs.Bytes.{bytes_of}
 use Rattle.json_tables.specs.Outcomes.{Refuses}
-use Rattle.json_tables.specs.Reading.{◌>>=◌, text_of, u16_of, list_of, pair_of, required, only}
+use Rattle.json_tables.specs.Reading.{◌>>=◌, text_of, u16_of, list_of, pair_of}
+use Rattle.json_tables.specs.Objects.{only}
+use Rattle.json_tables.specs.Member.{required}
 use Rattle.json_tables.specs.declared.error.ReadError.{ReadError}
 use Rattle.oci_transport.specs.Headers.{Fields, added, held, is_header_value}
 use Rattle.oci_transport.specs.declared.message.AnswerHead.{AnswerHead}

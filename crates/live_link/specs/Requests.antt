@@ -11,7 +11,7 @@ use Rattle.oci_transport.specs.Headers.{Fields, values_of, is_text}
 use Rattle.oci_transport.specs.declared.message.Method.{Method}
 use Rattle.oci_transport.specs.declared.message.Method.TheVariants.{Get, Head, Post, Put, Patch}
 use Rattle.oci_transport.specs.declared.message.Request.{Request}
-use Rattle.live_frames.specs.Frame.{frame_text}
+use Rattle.live_frames.specs.Writing.{frame_text}
 
 abbrev pub method_name : Method → List ℕ
 method_name Get = codes "GET"

@@ -1,7 +1,7 @@
 // One question to the host: a frame goes out, and a frame comes in.
 ghost use Rattle.std.specs.Prelude.{◌≡◌, [], false, is_some};
 ghost use Rattle.serde_json.specs.Written.{has_float};
-ghost use Rattle.live_frames.specs.Frame.{frame_text};
+ghost use Rattle.live_frames.specs.Writing.{frame_text};
 ghost use Rattle.live_link.specs.Asking.{Asks, Sends, Gives, unsent, head_after, piece_after};
 ghost use Rattle.live_link.specs.State.{breach_in};
 ghost use Rattle.live_link.specs.Requests.{request_data, more_data};

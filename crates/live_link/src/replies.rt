@@ -3,7 +3,7 @@ ghost use Rattle.std.specs.Prelude.{◌≡◌, IfOk, codes};
 ghost use Rattle.std.specs.FinMap.{empty};
 ghost use Rattle.serde_json.specs.View.{view};
 ghost use Rattle.json_tables.specs.Outcomes.{Gives};
-ghost use Rattle.json_tables.specs.Reading.{required};
+ghost use Rattle.json_tables.specs.Member.{required};
 ghost use Rattle.live_link.specs.Heads.{answer_head_of, status_of, headers_of, with_headers, Adds};
 ghost use Rattle.live_link.specs.Replies.{reply_of, piece_reply, plain_reply, answer_reply};
 

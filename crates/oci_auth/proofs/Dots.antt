@@ -4,7 +4,7 @@ use Rattle.std.specs.List.{All, onto_first}
 use Rattle.std.proofs.lemmas.Bool.Decides.{nat_tests}
 use Rattle.std.proofs.lemmas.List.Elements.{All-from_get_or}
 use Rattle.std.proofs.lemmas.List.Splits.{slice_split_none, slice_split_at}
-use Rattle.oci_auth.specs.Expirations.{parts_of, middle, payload_in}
+use Rattle.oci_auth.specs.Expiration.{parts_of, middle, payload_in}
 
 -- no byte of the list is a dot
 abbrev pub Undotted : List ℕ → Type 0

@@ -13,7 +13,7 @@ use Rattle.oci_auth.specs.declared.kept.KeptToken.{KeptToken}
 use Rattle.oci_auth.specs.declared.token_type.RegistryOperation.{RegistryOperation}
 use Rattle.oci_auth.specs.declared.token_type.RegistryOperation.TheVariants.{Push, Pull}
 use Rattle.oci_auth.specs.Operations.{is_same_operation}
-use Rattle.oci_auth.specs.Keys.{Key, key_in, is_under, kept_under, inserted, IsKept}
+use Rattle.oci_auth.specs.Kept.{Key, key_in, is_under, kept_under, inserted, IsKept}
 
 and_left : (a b : Bool) → (a && b) ≡ true → a ≡ true
 and_left true b h = refl

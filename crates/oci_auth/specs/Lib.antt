@@ -1,8 +1,8 @@
-pub mod Caches
-pub mod Credentials
-pub mod Expirations
-pub mod Keys
+pub mod Auth
+pub mod Cache
+pub mod Expiration
+pub mod Kept
 pub mod Memory
 pub mod Operations
 pub mod Shown
-pub mod Tokens
+pub mod Token

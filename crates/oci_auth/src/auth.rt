@@ -19,7 +19,7 @@ pub enum RegistryAuth {
 }
 
 impl RegistryAuth {
-    ghost use Rattle.oci_auth.specs.Credentials.{own_token};
+    ghost use Rattle.oci_auth.specs.Auth.{own_token};
 
     /// The token that the credentials are by themselves.
     pub fn own_token(&self, alloc: Global) -> Result<Option<RegistryTokenType>, AllocError>

@@ -1,6 +1,6 @@
 // The tokens that a client keeps.
 ghost use Rattle.std.specs.Prelude.{◌≡◌, [], OnOk, OnErr, IfOk};
-ghost use Rattle.oci_auth.specs.Caches.{key_of, kept_until};
+ghost use Rattle.oci_auth.specs.Cache.{key_of, kept_until};
 
 use crate::expiration::bearer_token_cache_expiration;
 use crate::kept::{KeptToken, KeptTokens};
@@ -41,7 +41,7 @@ fn kept_until(
 }
 
 impl TokenCache {
-    ghost use Rattle.oci_auth.specs.Caches.{with_token, token_at, GivesFrom};
+    ghost use Rattle.oci_auth.specs.Cache.{with_token, token_at, GivesFrom};
 
     /// Nothing is kept yet.
     pub fn new(alloc: Global, default_expiration_secs: u64) -> TokenCache

@@ -3,7 +3,7 @@ ghost use Rattle.std.specs.Prelude.{◌≡◌, [], ◌∷◌, IfOk, MatchOption,
 ghost use Rattle.serde_json.specs.View.{view};
 ghost use Rattle.base64.specs.Engines.{url_safe_no_pad};
 ghost use Rattle.base64.specs.GeneralPurpose.{decoded_of};
-ghost use Rattle.oci_auth.specs.Expirations.{parts_of, payload_in, named_expiration, claimed_expiration, expiration_of};
+ghost use Rattle.oci_auth.specs.Expiration.{parts_of, payload_in, named_expiration, claimed_expiration, expiration_of};
 
 use base64::DecodeAllocError;
 use base64::engine::general_purpose::URL_SAFE_NO_PAD;

@@ -1,7 +1,7 @@
 // Kept tokens, each under a registry, a repository and an operation.
 ghost use Rattle.std.specs.Prelude.{◌≡◌, [], OnOk, OnErr, IfOk, option_copied};
 ghost use Rattle.std.specs.List.{position};
-ghost use Rattle.oci_auth.specs.Keys.{Key, under, is_under, key_in, inserted, kept_under, IsKept};
+ghost use Rattle.oci_auth.specs.Kept.{Key, under, is_under, key_in, inserted, kept_under, IsKept};
 
 use crate::token_type::{RegistryOperation, RegistryTokenType};
 use json_values::{Copied, Text};

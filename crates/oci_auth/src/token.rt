@@ -1,6 +1,6 @@
 ghost use Rattle.std.specs.Prelude.{◌≡◌, ◌++◌, IfOk, codes, option_copied};
 ghost use Rattle.serde_json.specs.View.{view};
-ghost use Rattle.oci_auth.specs.Tokens.{ReadsToken, token_of, token_in, text_in};
+ghost use Rattle.oci_auth.specs.Token.{ReadsToken, token_of, token_in, text_in};
 
 use json_tables::read_plain_json;
 use json_values::{Copied, Text};
@@ -24,7 +24,7 @@ pub enum TokenError {
     /// The body is no JSON object without floats that has a text `token` or a text `access_token`.
     #[error("the realm's answer holds no token: it should have a text `token` or `access_token`")]
     Unreadable,
-    #[error("out of memory")]
+    #[error("out of memory: free some and try again")]
     WantOfMemory,
 }
 
@@ -68,7 +68,7 @@ fn token_in(alloc: Global, value: &Value) -> Result<Option<RegistryToken>, Alloc
 }
 
 impl RegistryToken {
-    ghost use Rattle.oci_auth.specs.Tokens.{token_text};
+    ghost use Rattle.oci_auth.specs.Token.{token_text};
 
     /// Reads the body of a realm's answer: an object without floats, with a text `token`, else with a text
     /// `access_token`. Every other body is `Unreadable`.

@@ -43,7 +43,7 @@ impl RegistryOperation {
 }
 
 impl RegistryTokenType {
-    ghost use Rattle.oci_auth.specs.Credentials.{authorization_of};
+    ghost use Rattle.oci_auth.specs.Auth.{authorization_of};
 
     /// The value of the header `authorization`: `Bearer` and the token (RFC 6750, 2.1), or `Basic` and base64 of the
     /// user name, a colon and the password (RFC 7617, 2).

@@ -3,7 +3,9 @@ use Rattle.std.proofs.Common.{◌≡◌, List, false, Option, Some, None, option
 use Rattle.serde_json.specs.Data.{Data, string, boolean}
 use Rattle.serde_json.specs.Find.{get}
 use Rattle.json_values.specs.Writing.{listed, map_written, set_written}
-use Rattle.json_tables.specs.Reading.{◌>>=◌, an_object, text_of, bool_of, list_of, map_of, set_of, present, unless_null}
+use Rattle.json_tables.specs.Reading.{◌>>=◌, text_of, bool_of, list_of, map_of}
+use Rattle.json_tables.specs.Objects.{an_object, set_of}
+use Rattle.json_tables.specs.Member.{present, unless_null}
 use Rattle.json_tables.specs.Outcomes.{Refuses}
 use Rattle.json_tables.specs.declared.error.ReadError.{ReadError}
 use Rattle.json_tables.specs.declared.error.ReadError.TheVariants.{Float, Shape, Ambiguous, WantOfMemory}
@@ -11,8 +13,8 @@ use Rattle.json_writing.specs.Again.{ReadsAgain, MemberReadsAgain}
 use Rattle.json_writing.proofs.Members.{among, or_else-none, get-fields, fields_plain}
 use Rattle.oci_config.specs.declared.config.Config.{Config}
 use Rattle.oci_config.specs.declared.rootfs.Rootfs.{Rootfs}
-use Rattle.oci_times.specs.Reading.{time_of}
-use Rattle.oci_times.specs.Writing.{time_written}
+use Rattle.oci_times.specs.Reader.{time_of}
+use Rattle.oci_times.specs.Writer.{time_written}
 use Rattle.oci_config.specs.declared.history.History.{History}
 use Rattle.oci_config.specs.declared.file.ConfigFile.{ConfigFile}
 use Rattle.oci_config.specs.History.{history_of, history_members, history_fields, history_written}
@@ -110,3 +112,5 @@ no_object f d WantOfMemory h = tt
 -- an object is refused where its members are
 pub behind_object : {X : Type 0} (f : Data → Option X) (d : Data) (e : ReadError) → an_object d ≡ Some tt → Refuses e (f d) → Refuses e (an_object d >>= λ _. f d)
 behind_object f d e object h = subst (Refuses e) (sym (ap (λ o. o >>= λ _. f d) object)) h
+
+pub ruleset object_rules = (no_object, behind_object)

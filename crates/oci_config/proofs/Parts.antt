@@ -2,7 +2,8 @@
 use Rattle.std.proofs.Common.{◌≡◌, List, [], ◌∷◌, map, false, Option, Some, None, option_map, unwrap_or, refl, ap, ◌∙◌}
 use Rattle.std.specs.List.{list_any}
 use Rattle.serde_json.specs.Data.{Data}
-use Rattle.json_tables.specs.Reading.{unless_null, list_of}
+use Rattle.json_tables.specs.Reading.{list_of}
+use Rattle.json_tables.specs.Member.{unless_null}
 use Rattle.json_writing.specs.Again.{MemberReadsAgain}
 
 map_same : {X : Type 0} (xs : List X) → map (λ x. x) xs ≡ xs

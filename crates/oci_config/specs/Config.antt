@@ -3,8 +3,9 @@ use Rattle.std.specs.Prelude.{List, [], ◌∷◌, Option, Some, None, option_ma
 use Rattle.std.specs.FinMap.{entries}
 use Rattle.serde_json.specs.Data.{Data, string}
 use Rattle.json_values.specs.Writing.{listed, map_written, set_written}
-use Rattle.json_tables.specs.Reading.{◌>>=◌, an_object, text_of, list_of, map_of, set_of, Map}
-use Rattle.json_tables.specs.Reading.{optional}
+use Rattle.json_tables.specs.Reading.{◌>>=◌, text_of, list_of, map_of, Map}
+use Rattle.json_tables.specs.Objects.{an_object, set_of}
+use Rattle.json_tables.specs.Member.{optional}
 use Rattle.json_writing.specs.Fields.{Field, fields, no_entries, unless_empty}
 use Rattle.oci_config.specs.declared.config.Config.{Config}
 

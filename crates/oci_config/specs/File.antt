@@ -2,10 +2,11 @@
 use Rattle.std.specs.Prelude.{List, [], ◌∷◌, Option, Some, option_map, codes}
 use Rattle.serde_json.specs.Data.{Data, string}
 use Rattle.json_values.specs.Writing.{listed}
-use Rattle.json_tables.specs.Reading.{◌>>=◌, text_of, list_of, required, optional}
+use Rattle.json_tables.specs.Reading.{◌>>=◌, text_of, list_of}
+use Rattle.json_tables.specs.Member.{required, optional}
 use Rattle.json_writing.specs.Fields.{Field, fields}
-use Rattle.oci_times.specs.Reading.{time_of}
-use Rattle.oci_times.specs.Writing.{time_written}
+use Rattle.oci_times.specs.Reader.{time_of}
+use Rattle.oci_times.specs.Writer.{time_written}
 use Rattle.oci_config.specs.declared.file.ConfigFile.{ConfigFile}
 use Rattle.oci_config.specs.Config.{config_of, config_written, normal_config, some_list}
 use Rattle.oci_config.specs.History.{history_of, history_written}

@@ -1,10 +1,12 @@
 -- A step by which an image was made (OCI image specification, config.md, `history`).
 use Rattle.std.specs.Prelude.{List, [], ◌∷◌, Option, Some, None, option_map, codes}
 use Rattle.serde_json.specs.Data.{Data, string, boolean}
-use Rattle.json_tables.specs.Reading.{◌>>=◌, an_object, text_of, bool_of, optional}
+use Rattle.json_tables.specs.Reading.{◌>>=◌, text_of, bool_of}
+use Rattle.json_tables.specs.Objects.{an_object}
+use Rattle.json_tables.specs.Member.{optional}
 use Rattle.json_writing.specs.Fields.{Field, fields}
-use Rattle.oci_times.specs.Reading.{time_of}
-use Rattle.oci_times.specs.Writing.{time_written}
+use Rattle.oci_times.specs.Reader.{time_of}
+use Rattle.oci_times.specs.Writer.{time_written}
 use Rattle.oci_config.specs.declared.history.History.{History}
 
 unfoldable pub history_members : Data → Option History

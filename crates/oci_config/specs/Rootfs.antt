@@ -2,7 +2,8 @@
 use Rattle.std.specs.Prelude.{List, [], ◌∷◌, Option, Some, codes}
 use Rattle.serde_json.specs.Data.{Data, string}
 use Rattle.json_values.specs.Writing.{listed}
-use Rattle.json_tables.specs.Reading.{◌>>=◌, text_of, list_of, required}
+use Rattle.json_tables.specs.Reading.{◌>>=◌, text_of, list_of}
+use Rattle.json_tables.specs.Member.{required}
 use Rattle.json_writing.specs.Fields.{Field, fields}
 use Rattle.oci_config.specs.declared.rootfs.Rootfs.{Rootfs}
 

@@ -66,7 +66,7 @@ impl Reads for Config {
 
     ghost reading = { config_of };
 
-    #[tactic(auto, unfolding(crate::specs::Config::config_of), using(crate::proofs::Again::no_object, crate::proofs::Again::behind_object))]
+    #[tactic(auto, unfolding(crate::specs::Config::config_of), using(crate::proofs::Again::object_rules))]
     fn read_value(alloc: Global, value: &Value) -> Result<Config, ReadError> {
         an_object(value)?;
         let config = config_members(alloc, value)?;

@@ -54,7 +54,7 @@ impl Reads for History {
 
     ghost reading = { history_of };
 
-    #[tactic(auto, unfolding(crate::specs::History::history_of), using(crate::proofs::Again::no_object, crate::proofs::Again::behind_object))]
+    #[tactic(auto, unfolding(crate::specs::History::history_of), using(crate::proofs::Again::object_rules))]
     fn read_value(alloc: Global, value: &Value) -> Result<History, ReadError> {
         an_object(value)?;
         let history = history_members(alloc, value)?;

@@ -63,7 +63,7 @@ impl Reads for Rootfs {
 }
 
 impl Member for Rootfs {
-    ghost use Rattle.json_tables.specs.Reading.{present};
+    ghost use Rattle.json_tables.specs.Member.{present};
     ghost use Rattle.oci_config.specs.Rootfs.{rootfs_of};
 
     ghost found = { present rootfs_of };

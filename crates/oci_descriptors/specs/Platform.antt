@@ -2,7 +2,8 @@
 use Rattle.std.specs.Prelude.{List, [], ◌∷◌, Option, Some, option_map, codes}
 use Rattle.serde_json.specs.Data.{Data, string}
 use Rattle.json_values.specs.Writing.{listed}
-use Rattle.json_tables.specs.Reading.{◌>>=◌, text_of, list_of, required, optional}
+use Rattle.json_tables.specs.Reading.{◌>>=◌, text_of, list_of}
+use Rattle.json_tables.specs.Member.{required, optional}
 use Rattle.json_writing.specs.Fields.{Field, fields}
 use Rattle.oci_descriptors.specs.declared.platform.Platform.{Platform}
 

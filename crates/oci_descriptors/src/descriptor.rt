@@ -83,7 +83,7 @@ impl Reads for OciDescriptor {
 }
 
 impl Member for OciDescriptor {
-    ghost use Rattle.json_tables.specs.Reading.{present};
+    ghost use Rattle.json_tables.specs.Member.{present};
     ghost use Rattle.oci_descriptors.specs.Descriptor.{descriptor_of};
 
     ghost found = { present descriptor_of };

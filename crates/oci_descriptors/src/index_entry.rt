@@ -69,7 +69,7 @@ impl Reads for ImageIndexEntry {
 }
 
 impl Member for ImageIndexEntry {
-    ghost use Rattle.json_tables.specs.Reading.{present};
+    ghost use Rattle.json_tables.specs.Member.{present};
     ghost use Rattle.oci_descriptors.specs.IndexEntry.{entry_of};
 
     ghost found = { present entry_of };

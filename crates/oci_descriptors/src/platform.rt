@@ -67,7 +67,7 @@ impl Reads for Platform {
 }
 
 impl Member for Platform {
-    ghost use Rattle.json_tables.specs.Reading.{present};
+    ghost use Rattle.json_tables.specs.Member.{present};
     ghost use Rattle.oci_descriptors.specs.Platform.{platform_of};
 
     ghost found = { present platform_of };

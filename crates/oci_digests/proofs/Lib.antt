@@ -1,4 +1,4 @@
 pub mod Equal
+pub mod ExactChecks
 pub mod HeaderText
-pub mod Naming
-pub mod Validated
+pub mod SameBytes

@@ -1,22 +1,38 @@
 -- What the checks of a body against digest texts answer.
-use Rattle.std.specs.Prelude.{◌≡◌, ℕ, Bool, true, false, ◌&&◌, ◌||◌, MatchBool, List, [], nat_le, ◌==◌, if◌then◌else◌, bytes_eq, Option, Some, None, Result, Ok, Err}
-use Rattle.std.specs.List.{list_all}
-use Rattle.json_values.specs.Refusals as Refusals
+use Rattle.std.specs.Prelude.{ℕ, Bool, ◌&&◌, ◌||◌, List, [], nat_le, ◌==◌, if◌then◌else◌, bytes_eq, Option, Some, None, Result, Ok, Err}
+use Rattle.std.specs.List.{list_all, position_or_len, before_first, after_first}
 use Rattle.oci_digests.specs.Names.{digest_text}
-use Rattle.oci_digests.specs.Parts.{parts_of, named_algorithm}
 use Rattle.oci_digests.specs.declared.digester.Algorithm.{Algorithm}
 use Rattle.oci_digests.specs.declared.digester.Algorithm.TheVariants.{Sha256}
 use Rattle.oci_digests.specs.declared.error.DigestError.{DigestError}
-use Rattle.oci_digests.specs.declared.error.DigestError.TheVariants.{InvalidHeader, MissingAlgorithm, VerificationError, WantOfMemory}
+use Rattle.oci_digests.specs.declared.error.DigestError.TheVariants.{InvalidHeader, MissingAlgorithm, VerificationError}
+use Rattle.std.specs.Prelude.{codes, length, nat_lt, ok_or}
+use Rattle.oci_digests.specs.declared.digester.Algorithm.TheVariants as algorithms
+use Rattle.oci_digests.specs.declared.error.DigestError.TheVariants.{UnsupportedAlgorithm}
 
--- which refusal says that memory was wanting
-abbrev pub is_memory : DigestError → Bool
-is_memory WantOfMemory = true
-is_memory _ = false
+-- the texts before and behind the first colon
+abbrev pub parts_of : List ℕ → Option (List ℕ × List ℕ)
+parts_of text =
+    if nat_lt (position_or_len (λ b. b == 58) text) (length text)
+    then Some (before_first (λ b. b == 58) text, after_first (λ b. b == 58) text)
+    else None
 
--- the answer is this one, unless memory was wanting
-abbrev pub Says : {A : Type 0} → Result A DigestError → Result A DigestError → Type 0
-Says answer said = Refusals.Says is_memory answer said
+-- the algorithm of this name
+abbrev pub algorithm_of : List ℕ → Option Algorithm
+algorithm_of name =
+    if bytes_eq name (codes "sha256") then Some algorithms.Sha256
+    else (if bytes_eq name (codes "sha384") then Some algorithms.Sha384
+    else (if bytes_eq name (codes "sha512") then Some algorithms.Sha512
+    else None))
+
+-- the algorithm that a text of these parts names
+abbrev pub named_by : Option (List ℕ × List ℕ) → Result Algorithm DigestError
+named_by None = Err MissingAlgorithm
+named_by (Some parts) = ok_or (algorithm_of parts.0) (UnsupportedAlgorithm parts.0)
+
+-- the algorithm that a digest text names
+abbrev pub named_algorithm : List ℕ → Result Algorithm DigestError
+named_algorithm text = named_by (parts_of text)
 
 -- the second answer, unless the first one is a refusal
 abbrev pub and_then : {A B : Type 0} → Result A DigestError → (A → Result B DigestError) → Result B DigestError

@@ -1,7 +1,7 @@
 -- What a digester was given.
 use Rattle.std.specs.Prelude.{◌≡◌, ℕ, List, [], MatchBool, Result, Ok, Err}
 use Rattle.sha2.specs.Hashers.{Holds256, Holds384, Holds512}
-use Rattle.oci_digests.specs.Checks.{is_memory}
+use Rattle.oci_digests.specs.Error.{is_memory}
 use Rattle.oci_digests.specs.declared.digester.Algorithm.{Algorithm}
 use Rattle.oci_digests.specs.declared.digester.Algorithm.TheVariants as algorithms
 use Rattle.oci_digests.specs.declared.digester.Digester.{Digester}

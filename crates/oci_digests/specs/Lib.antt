@@ -1,7 +1,7 @@
 pub mod Both
 pub mod Checks
+pub mod Error
 pub mod Holds
 pub mod Names
-pub mod Parts
 pub mod Printed
 pub mod Validates

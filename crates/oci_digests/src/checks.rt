@@ -1,8 +1,9 @@
 // A body against the digest texts of a header and of a reference.
 ghost use Rattle.std.specs.Prelude.{◌≡◌, true, false, ℕ, List, Some, MatchOption, IfOk, IfErr};
 ghost use Rattle.std.specs.Option.{option_copied};
-ghost use Rattle.oci_digests.specs.Checks.{Says, is_memory, checked, validated, header_digest, is_header_text};
-ghost use Rattle.oci_digests.specs.Parts.{algorithm_of, named_algorithm};
+ghost use Rattle.oci_digests.specs.Checks.{checked, validated, header_digest, is_header_text};
+ghost use Rattle.oci_digests.specs.Error.{Says, is_memory};
+ghost use Rattle.oci_digests.specs.Checks.{algorithm_of, named_algorithm};
 ghost use Rattle.oci_digests.specs.Validates.{Validates, ValidatesNone};
 
 use crate::digest::Digest;
@@ -55,7 +56,7 @@ fn check(alloc: Global, body: &[u8], text: &str) -> Result<Text, DigestError>
 /// `MissingAlgorithm` where a text that is given has no colon. Then the reference's text is checked, and then the
 /// header's where it is another one; a check refuses `UnsupportedAlgorithm`, or `VerificationError` with the given and
 /// the computed text. The answer is the header's text, else the reference's, else the SHA-256 text of the body.
-#[tactic(auto, using(crate::proofs::Validated::ok_of, crate::proofs::Validated::err_of))]
+#[tactic(auto, using(crate::proofs::ExactChecks::ok_of, crate::proofs::ExactChecks::err_of))]
 pub fn validate_digest(
     alloc: Global,
     body: &[u8],

@@ -1,5 +1,5 @@
 ghost use Rattle.std.specs.Prelude.{◌≡◌, ◌↔◌, IsTrue, Some, None, IfOk, MatchResult};
-ghost use Rattle.oci_digests.specs.Parts.{parts_of};
+ghost use Rattle.oci_digests.specs.Checks.{parts_of};
 ghost use Rattle.oci_digests.specs.Printed.{printed};
 
 use crate::error::DigestError;

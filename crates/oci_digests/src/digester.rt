@@ -39,7 +39,7 @@ pub struct Digester {
 
 impl Digester {
     ghost use Rattle.oci_digests.specs.Holds.{Holds, SaysDigester};
-    ghost use Rattle.oci_digests.specs.Parts.{named_algorithm};
+    ghost use Rattle.oci_digests.specs.Checks.{named_algorithm};
     ghost use Rattle.oci_digests.specs.Names.{digest_text};
 
     /// A digester of the algorithm that a digest text names, given nothing yet.

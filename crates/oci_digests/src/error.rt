@@ -1,6 +1,6 @@
 // Why a digest text is refused.
 ghost use Rattle.std.specs.Prelude.{◌≡◌, IfOk};
-ghost use Rattle.oci_digests.specs.Checks.{is_memory};
+ghost use Rattle.oci_digests.specs.Error.{is_memory};
 
 use json_values::{Blob, Copied, Text};
 use std::alloc::{AllocError, Global};

@@ -2,7 +2,7 @@
 ghost use Rattle.std.specs.Prelude.{◌≡◌, ◌↔◌, ◌++◌, ◌≤◌, ◌*◌, List, ℕ, IsTrue, IfOk, length, bytes_eq};
 ghost use Rattle.hex.specs.Hex.{encode_lower};
 ghost use Rattle.oci_digests.specs.Names.{digest_text, Names, names, names_by};
-ghost use Rattle.oci_digests.specs.Parts.{named_algorithm};
+ghost use Rattle.oci_digests.specs.Checks.{named_algorithm};
 
 use crate::digest::Digest as Parts;
 use crate::digester::Algorithm;
@@ -22,7 +22,7 @@ pub fn names_digest(text: &str, bytes: &[u8]) -> bool
 
 /// Whether the text names the bytes, of which it is known that another text names them: no byte is hashed where both
 /// texts are of one algorithm.
-#[tactic(auto, using(crate::proofs::Naming::names_known))]
+#[tactic(auto, using(crate::proofs::SameBytes::names_known))]
 pub fn names_known(text: &str, known: &str, bytes: &[u8]) -> bool
     requires { Names known.now bytes.now }
     ensures { result ≡ names text.now bytes.now }
@@ -33,7 +33,7 @@ pub fn names_known(text: &str, known: &str, bytes: &[u8]) -> bool
     names_digest(text, bytes)
 }
 
-#[tactic(auto, using(crate::proofs::Naming::same_algorithm))]
+#[tactic(auto, using(crate::proofs::SameBytes::same_algorithm))]
 fn same_algorithm(text: &str, known: &str) -> bool
     ensures { IsTrue result → named_algorithm text.now ≡ named_algorithm known.now }
 {
@@ -43,21 +43,21 @@ fn same_algorithm(text: &str, known: &str) -> bool
     }
 }
 
-#[tactic(auto, using(crate::proofs::Naming::begins))]
+#[tactic(auto, using(crate::proofs::SameBytes::begins))]
 fn is_sha256(text: &[u8], bytes: &[u8]) -> bool
     ensures { result ≡ names_by Algorithm.Sha256 text.now bytes.now }
 {
     begins(text, b"sha256:") && has_hash(text, b"sha256:", &Sha256::digest(bytes))
 }
 
-#[tactic(auto, using(crate::proofs::Naming::begins))]
+#[tactic(auto, using(crate::proofs::SameBytes::begins))]
 fn is_sha384(text: &[u8], bytes: &[u8]) -> bool
     ensures { result ≡ names_by Algorithm.Sha384 text.now bytes.now }
 {
     begins(text, b"sha384:") && has_hash(text, b"sha384:", &Sha384::digest(bytes))
 }
 
-#[tactic(auto, using(crate::proofs::Naming::begins))]
+#[tactic(auto, using(crate::proofs::SameBytes::begins))]
 fn is_sha512(text: &[u8], bytes: &[u8]) -> bool
     ensures { result ≡ names_by Algorithm.Sha512 text.now bytes.now }
 {

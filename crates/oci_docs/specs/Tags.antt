@@ -1,7 +1,8 @@
 -- The tags of a repository (OCI distribution specification, "Listing Tags").
 use Rattle.std.specs.Prelude.{ℕ, List, [], Option, Some, None, codes}
 use Rattle.serde_json.specs.Data.{Data, null}
-use Rattle.json_tables.specs.Reading.{◌>>=◌, text_of, list_of, required, at_name}
+use Rattle.json_tables.specs.Reading.{◌>>=◌, text_of, list_of}
+use Rattle.json_tables.specs.Member.{required, at_name}
 use Rattle.oci_docs.specs.declared.tags.TagResponse.{TagResponse}
 
 -- a list of texts that must be there, where null is the empty list

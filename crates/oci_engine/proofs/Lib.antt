@@ -2,5 +2,5 @@ pub mod Constants
 pub mod StreamCalls
 pub mod StreamCauses
 pub mod StreamRanges
+pub mod StreamRefusalLaws
 pub mod StreamSafety
-pub mod StreamsRefused

@@ -7,9 +7,9 @@ use Rattle.oci_auth.specs.declared.memory.Memory.{Memory}
 use Rattle.oci_protocol.specs.Proto.{Done}
 use Rattle.oci_protocol.specs.Runs.{Meets, Told}
 use Rattle.oci_protocol.specs.Shows.{Shows, ByAnswer}
-use Rattle.oci_protocol.proofs.Showing.{Shows-done, Shows-each}
+use Rattle.oci_protocol.proofs.RunFacts.{Shows-done, Shows-each}
 use Rattle.engine_terms.specs.Contexts.{Context}
-use Rattle.engine_terms.specs.Errors.{is_memory}
+use Rattle.engine_terms.specs.Error.{is_memory}
 use Rattle.engine_requests.specs.Requests.{manifest_types}
 use Rattle.engine_requests.specs.Sources.{Layer}
 use Rattle.engine_terms.specs.declared.error.OciDistributionError.{OciDistributionError}
@@ -17,12 +17,12 @@ use Rattle.engine_terms.specs.declared.error.OciDistributionError.TheVariants as
 use Rattle.engine_laws.specs.Causes.{BlobUrl, BadHeader}
 use Rattle.engine_laws.specs.Confined.{Within}
 use Rattle.engine_laws.specs.Held.{pulling}
-use Rattle.engine_laws.proofs.CallConfined.{call_within}
+use Rattle.engine_laws.proofs.CallConfinement.{call_within}
 use Rattle.engine_laws.proofs.FaultCounts.{fault_rose, refusal_both}
 use Rattle.engine_laws.proofs.HeaderCauses.{Sound}
 use Rattle.engine_laws.proofs.KeptTokens.{Keeps, keeps_first}
 use Rattle.engine_laws.proofs.ShownTokens.{Carries, Ended, safe_done, safe_next}
-use Rattle.engine_streams.specs.Rows.{opened, blob_stream, Response, by_digests, blob_stream_partial, opening_in, response_in}
+use Rattle.engine_streams.specs.Blobs.{opened, blob_stream, Response, by_digests, blob_stream_partial, opening_in, response_in}
 use Rattle.engine_streams.specs.declared.blobs.BlobResponse.{BlobResponse}
 use Rattle.engine_streams.specs.declared.head.Opening.{Opening}
 use Rattle.engine_streams.specs.declared.range.ByteRange.{ByteRange}

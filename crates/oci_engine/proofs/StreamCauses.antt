@@ -20,12 +20,12 @@ use Rattle.oci_digests.specs.declared.error.DigestError.{DigestError}
 use Rattle.oci_protocol.specs.Proto.{Piped, limit_of, Reply, Headed, Answered, Failed, TooLong, SinkFailed, Done, ◌>>=◌}
 use Rattle.oci_protocol.specs.Runs.{Runs, Meets, Told, head_part}
 use Rattle.oci_protocol.specs.Shows.{Shows, ByAnswer, Heard}
-use Rattle.oci_protocol.proofs.Showing.{done_run, Shows-done, Shows-more, Shows-each, Shows-step, Shows-follow}
+use Rattle.oci_protocol.proofs.RunFacts.{done_run, Shows-done, Shows-more, Shows-each, Shows-step, Shows-follow}
 use Rattle.engine_requests.specs.Addresses.{blob_text, url_read}
 use Rattle.engine_answers.specs.Answers.{header_digest, is_error, is_success, or_digest_error, refused_answer}
 use Rattle.engine_answers.specs.Blobs.{digest_expected}
 use Rattle.engine_terms.specs.Contexts.{Context}
-use Rattle.engine_terms.specs.Errors.{is_memory, ◌>>=◌ as ◌into◌}
+use Rattle.engine_terms.specs.Error.{is_memory, ◌>>=◌ as ◌into◌}
 use Rattle.engine_requests.specs.Requests.{manifest_types, with_header}
 use Rattle.engine_requests.specs.Sources.{Layer, place_of, places_of, asked_at}
 use Rattle.engine_answers.specs.declared.blobs.Expected.{Expected}
@@ -43,12 +43,13 @@ use Rattle.engine_laws.proofs.DocumentCauses.{answer_cause, cause_later, early_c
 use Rattle.engine_laws.proofs.EarlyCauses.{AnyValue, Loose, Early, request_early, prepared_causes}
 use Rattle.engine_laws.proofs.FaultCounts.{fault_rose, refusal_both}
 use Rattle.engine_laws.proofs.KeptTokens.{Keeps, keeps_first}
-use Rattle.engine_laws.proofs.Offering.{EachPlace}
+use Rattle.engine_laws.proofs.OfferedPlaces.{EachPlace}
 use Rattle.engine_laws.proofs.PreparedRequests.{Prepared, accepts_of, into_ok, with_ok}
 use Rattle.engine_laws.proofs.ShownTokens.{Carries, Ended, HeaderCause}
-use Rattle.engine_streams.specs.Heads.{expected, given, opening, is_streamed}
-use Rattle.engine_streams.specs.Ranges.{onward_text, text_to, text_by, range_text, onward, with_range}
-use Rattle.engine_streams.specs.Rows.{reading_unless, judged_reading, judged_reply, judged, streams, some_opening, opening_unless_error, streams_or_passes, offered, or_next, ranged_at, tried, opened}
+use Rattle.engine_streams.specs.Head.{expected, given, opening, is_streamed}
+use Rattle.engine_streams.specs.Range.{onward_text, text_to, text_by, range_text, onward, with_range}
+use Rattle.engine_streams.specs.Blobs.{or_next, tried, opened}
+use Rattle.engine_streams.specs.Asking.{reading_unless, judged_reading, judged_reply, judged, streams, some_opening, opening_unless_error, streams_or_passes, offered, ranged_at}
 use Rattle.engine_streams.specs.declared.head.Opening.{Opening}
 use Rattle.engine_streams.specs.declared.range.ByteRange.{ByteRange}
 use Rattle.oci_engine.proofs.StreamRanges.{IsSmall, range_accepts}

@@ -22,7 +22,7 @@ use Rattle.oci_protocol.proofs.Safety.{Safe-bind}
 use Rattle.engine_requests.specs.Addresses.{blob_text}
 use Rattle.engine_answers.specs.Answers.{refused_answer, header_digest, is_error}
 use Rattle.engine_terms.specs.Contexts.{Context}
-use Rattle.engine_terms.specs.Errors.{◌>>=◌ as ◌into◌}
+use Rattle.engine_terms.specs.Error.{◌>>=◌ as ◌into◌}
 use Rattle.engine_requests.specs.Requests.{with_header, manifest_types, request_of}
 use Rattle.engine_requests.specs.Sources.{Layer, places_of, asked_at}
 use Rattle.engine_terms.specs.declared.error.GenericCause.TheVariants.{RangeOverflow}
@@ -34,15 +34,16 @@ use Rattle.engine_requests.specs.declared.sources.Place.TheVariants.{Web, Unfit}
 use Rattle.engine_rows.specs.Rows.{Row, authorized, prepared}
 use Rattle.engine_laws.specs.Confined.{ToRegistry, Each}
 use Rattle.engine_laws.specs.Held.{Entry, pulling}
-use Rattle.engine_laws.proofs.Confining.{SentValue, Sent, each_more}
+use Rattle.engine_laws.proofs.RequestConfinement.{SentValue, Sent, each_more}
 use Rattle.engine_laws.proofs.HeaderCauses.{Sound, place_ready}
 use Rattle.engine_laws.proofs.KeptTokens.{Keeps}
 use Rattle.engine_laws.proofs.PlainRefusals.{Plain, into_plain, refused_plain, digest_plain}
 use Rattle.engine_laws.proofs.PreparedRequests.{with_ok}
 use Rattle.engine_laws.proofs.ShownTokens.{Carries, Ended, Ready, safe_done, safe_next, safe_ready, safe_follow, prepared_safe, plain_step, plain_last, url_first}
-use Rattle.engine_streams.specs.Heads.{expected, given, opening}
-use Rattle.engine_streams.specs.Ranges.{text_by, range_text, onward_text, onward, with_range}
-use Rattle.engine_streams.specs.Rows.{judged_reading, judged_reply, judged, streams, some_opening, opening_unless_error, streams_or_passes, offered, or_next, ranged_at, tried, opened}
+use Rattle.engine_streams.specs.Head.{expected, given, opening}
+use Rattle.engine_streams.specs.Range.{text_by, range_text, onward_text, onward, with_range}
+use Rattle.engine_streams.specs.Blobs.{or_next, tried, opened}
+use Rattle.engine_streams.specs.Asking.{judged_reading, judged_reply, judged, streams, some_opening, opening_unless_error, streams_or_passes, offered, ranged_at}
 use Rattle.engine_streams.specs.declared.head.Opening.{Opening}
 use Rattle.engine_streams.specs.declared.range.ByteRange.{ByteRange}
 use Rattle.oci_engine.proofs.StreamRanges.{Stands, IsSmall, onward_is, range_is, HasRoom, has_room, range_shows, range_stays}

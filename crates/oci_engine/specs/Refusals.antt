@@ -10,7 +10,7 @@ use Rattle.oci_protocol.specs.Runs.{Told}
 use Rattle.engine_terms.specs.Contexts.{Context, within}
 use Rattle.engine_requests.specs.Requests.{manifest_types}
 use Rattle.engine_requests.specs.Sources.{Layer}
-use Rattle.oci_names.specs.References.{digest_of}
+use Rattle.oci_names.specs.Reference.{digest_of}
 use Rattle.engine_terms.specs.declared.error.GenericCause.TheVariants.{NoDigest}
 use Rattle.engine_terms.specs.declared.error.OciDistributionError.{OciDistributionError}
 use Rattle.engine_terms.specs.declared.error.OciDistributionError.TheVariants as refusal

@@ -2,17 +2,18 @@
 ghost use Rattle.std.specs.Prelude.{◌≡◌, ℕ, List, Some, None, OnOk, OnErr, Err, IfOk, option_copied};
 ghost use Rattle.json_values.specs.Counts.{Rose};
 ghost use Rattle.oci_digests.specs.Names.{Names};
-ghost use Rattle.oci_names.specs.References.{digest_of};
+ghost use Rattle.oci_names.specs.Reference.{digest_of};
 ghost use Rattle.oci_protocol.specs.Runs.{Meets, Told};
 ghost use Rattle.engine_requests.specs.Addresses.{manifest_text, blob_text};
-ghost use Rattle.engine_terms.specs.Errors.{is_memory};
+ghost use Rattle.engine_terms.specs.Error.{is_memory};
 ghost use Rattle.engine_requests.specs.Requests.{listed, manifest_types};
 ghost use Rattle.engine_rows.specs.Blobs.{IntoSink, IntoMemory, Spills};
 ghost use Rattle.engine_rows.specs.Rows.{token_given};
+ghost use Rattle.engine_steps.specs.Untaken.{LastUntaken};
 ghost use Rattle.oci_auth.specs.Memory.{fresh, stored};
 ghost use Rattle.engine_rows.specs.Pulls.{fetch_manifest_digest, pull_manifest, pull_manifest_raw};
 ghost use Rattle.engine_rows.specs.Pulls.{pull_blob, held_blob};
-ghost use Rattle.engine_rows.specs.Images.{pull};
+ghost use Rattle.engine_rows.specs.Image.{pull};
 ghost use Rattle.engine_laws.specs.Answered.{DigestAnswered, Body, LastBody, TookBlob};
 ghost use Rattle.engine_laws.specs.Causes.{HasBadHeader, IsEarly};
 ghost use Rattle.oci_engine.specs.Clients.{settings_of, default_config};
@@ -56,9 +57,15 @@ impl Deref for Client {
 }
 
 impl DerefMut for Client {
+    ghost use Rattle.std.specs.Borrow.{sem};
+    ghost use Rattle.oci_engine.specs.Lending.{LendsMemory};
+
     ghost deref_mut_gives = { λ client memory. memory ≡ client.memory };
 
-    fn deref_mut(&mut self) -> &mut Memory {
+    fn deref_mut(&mut self) -> &mut Memory
+        ensures* writes_back { sem 𝓛 (LendsMemory self.entry result) }
+        ensures value { result.now ≡ self.old.memory }
+    {
         &mut self.memory
     }
 }
@@ -149,6 +156,8 @@ impl Client {
         ensures causes { RefusedFor (TokenCause self.old.settings image.now authentication.now)
             (T.state transport.old) (T.state transport.new) result }
         ensures fault { FaultCounted (T.state transport.old) (T.state transport.new) result }
+        ensures untaken { IfOk result
+            (λ text. text ≡ None → LastUntaken (T.state transport.old) (T.state transport.new)) }
     {
         let call = Call {
             settings: &self.settings,

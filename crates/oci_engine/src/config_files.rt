@@ -1,5 +1,5 @@
 // Configurations as configuration files.
-ghost use Rattle.engine_terms.specs.Errors.{Says};
+ghost use Rattle.engine_terms.specs.Error.{Says};
 ghost use Rattle.oci_engine.specs.ConfigFiles.{config_file};
 
 use engine_terms::OciDistributionError;

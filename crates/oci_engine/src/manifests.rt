@@ -2,7 +2,7 @@
 ghost use Rattle.std.specs.Prelude.{◌≡◌, Some};
 ghost use Rattle.oci_protocol.specs.Runs.{Meets};
 ghost use Rattle.engine_requests.specs.Addresses.{manifest_text};
-ghost use Rattle.engine_terms.specs.Errors.{is_memory};
+ghost use Rattle.engine_terms.specs.Error.{is_memory};
 ghost use Rattle.engine_requests.specs.Requests.{manifest_types};
 ghost use Rattle.engine_rows.specs.Manifests.{pull_image_manifest, pull_image_manifest_and_list_digest};
 ghost use Rattle.engine_rows.specs.Manifests.{pull_manifest_and_config, pull_manifest_and_config_and_list_digest};

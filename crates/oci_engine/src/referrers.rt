@@ -1,8 +1,8 @@
 // The call that answers what refers to a manifest.
 ghost use Rattle.std.specs.Prelude.{◌≡◌, IfSome, option_copied};
-ghost use Rattle.oci_names.specs.References.{digest_of};
+ghost use Rattle.oci_names.specs.Reference.{digest_of};
 ghost use Rattle.oci_protocol.specs.Runs.{Meets};
-ghost use Rattle.engine_terms.specs.Errors.{is_memory};
+ghost use Rattle.engine_terms.specs.Error.{is_memory};
 ghost use Rattle.engine_requests.specs.ReferrerLists.{referrers_text};
 ghost use Rattle.engine_requests.specs.Requests.{manifest_types};
 ghost use Rattle.engine_rows.specs.Referrers.{pull_referrers};

@@ -2,10 +2,10 @@
 ghost use Rattle.std.specs.Prelude.{◌≡◌, [], Some, None, IfOk};
 ghost use Rattle.oci_protocol.specs.Runs.{Meets};
 ghost use Rattle.engine_requests.specs.Addresses.{blob_text};
-ghost use Rattle.engine_terms.specs.Errors.{is_memory};
+ghost use Rattle.engine_terms.specs.Error.{is_memory};
 ghost use Rattle.engine_requests.specs.Requests.{manifest_types};
-ghost use Rattle.engine_streams.specs.Rows.{blob_stream, blob_stream_partial, opening_in, response_in};
-ghost use Rattle.engine_streams.specs.Rows.{stream_in, IsLeft};
+ghost use Rattle.engine_streams.specs.Blobs.{blob_stream, blob_stream_partial, opening_in, response_in};
+ghost use Rattle.engine_streams.specs.Blobs.{stream_in, IsLeft};
 ghost use Rattle.engine_streams.specs.Streams.{IsOpen, opening_of};
 ghost use Rattle.engine_laws.specs.Causes.{HasBadHeader, IsEarly, IsRefusedAs};
 ghost use Rattle.oci_engine.specs.Confinement.{Stays};

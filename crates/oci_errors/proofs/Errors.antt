@@ -4,7 +4,8 @@ use Rattle.std.specs.List.{list_any}
 use Rattle.serde_json.specs.Data.{Data, string}
 use Rattle.serde_json.specs.Find.{get}
 use Rattle.json_values.specs.Writing.{listed}
-use Rattle.json_tables.specs.Reading.{list_of, present}
+use Rattle.json_tables.specs.Reading.{list_of}
+use Rattle.json_tables.specs.Member.{present}
 use Rattle.json_writing.specs.Again.{ReadsAgain, MemberReadsAgain}
 use Rattle.json_writing.proofs.Members.{among, get-fields, fields_plain}
 use Rattle.oci_errors.specs.declared.error_code.OciErrorCode.{OciErrorCode}

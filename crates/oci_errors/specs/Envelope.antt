@@ -4,7 +4,8 @@ use Rattle.std.specs.List.{list_any}
 use Rattle.serde_json.specs.Data.{Data, string}
 use Rattle.serde_json.specs.Written.{has_float}
 use Rattle.json_values.specs.Writing.{listed}
-use Rattle.json_tables.specs.Reading.{◌>>=◌, text_of, list_of, required, or_null, at_name}
+use Rattle.json_tables.specs.Reading.{◌>>=◌, text_of, list_of}
+use Rattle.json_tables.specs.Member.{required, or_null, at_name}
 use Rattle.json_writing.specs.Fields.{Field, fields}
 use Rattle.oci_errors.specs.declared.envelope.OciError.{OciError}
 use Rattle.oci_errors.specs.declared.envelope.OciEnvelope.{OciEnvelope}

@@ -117,7 +117,7 @@ impl Reads for OciErrorCode {
 }
 
 impl Member for OciErrorCode {
-    ghost use Rattle.json_tables.specs.Reading.{present};
+    ghost use Rattle.json_tables.specs.Member.{present};
     ghost use Rattle.oci_errors.specs.ErrorCode.{code_of};
 
     ghost found = { present code_of };

@@ -1,6 +1,6 @@
 pub mod Fronts
 pub mod LinkSteps
-pub mod PlainReading
+pub mod PlainPathReads
 pub mod PlainSegments
 pub mod RedirectEnds
 pub mod ServedLinks

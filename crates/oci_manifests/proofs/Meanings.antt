@@ -2,7 +2,8 @@
 use Rattle.std.proofs.Common.{◌≡◌, Option, Some, None, Ok, codes, refl, ap, ◌∙◌}
 use Rattle.serde_json.specs.Data.{Data}
 use Rattle.serde_json.specs.Find.{get}
-use Rattle.json_tables.specs.Reading.{◌>>=◌, text_of, u8_of, list_of, map_of, required, optional}
+use Rattle.json_tables.specs.Reading.{◌>>=◌, text_of, u8_of, list_of, map_of}
+use Rattle.json_tables.specs.Member.{required, optional}
 use Rattle.json_tables.specs.Outcomes.{ReadsDocument}
 use Rattle.json_writing.proofs.Members.{get-fields}
 use Rattle.oci_manifests.specs.declared.manifest.OciImageManifest.{OciImageManifest}

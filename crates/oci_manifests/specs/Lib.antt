@@ -1,5 +1,5 @@
 pub mod Blob
-pub mod Built
+pub mod Build
 pub mod Document
 pub mod Headers
 pub mod Index

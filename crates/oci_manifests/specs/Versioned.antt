@@ -3,7 +3,8 @@ use Rattle.std.specs.Prelude.{pos, Bool, true, false, IsTrue, ◌&&◌, Option, 
 use Rattle.std.specs.Ordering.{int_eq}
 use Rattle.json_values.specs.JsonText.{is_plain}
 use Rattle.serde_json.specs.Data.{Data}
-use Rattle.json_tables.specs.Reading.{◌>>=◌, text_of, i32_of, required, optional}
+use Rattle.json_tables.specs.Reading.{◌>>=◌, text_of, i32_of}
+use Rattle.json_tables.specs.Member.{required, optional}
 use Rattle.oci_manifests.specs.Types.{is_manifest_type}
 use Rattle.oci_manifests.specs.declared.versioned.Versioned.{Versioned}
 

@@ -1,6 +1,6 @@
 //! Manifests that are made of layers and a configuration.
 ghost use Rattle.std.specs.Prelude.{◌≡◌, [], None, IfOk, map};
-ghost use Rattle.oci_manifests.specs.Built.{descriptor_for, manifest_with, layer_descriptor, built};
+ghost use Rattle.oci_manifests.specs.Build.{descriptor_for, manifest_with, layer_descriptor, built};
 ghost use Rattle.oci_descriptors.specs.Descriptor.{empty_descriptor};
 
 use crate::blob::{Config, ImageLayer};

@@ -7,7 +7,7 @@ use Rattle.oci_names.specs.declared.parse_error.ParseError.TheVariants.{NameEmpt
 use Rattle.oci_names.specs.declared.reference.Reference.{Reference}
 use Rattle.oci_names.specs.Grammar.{before, after}
 use Rattle.oci_names.specs.Parts.{Parts, parts_of, is_grammatical, repository_named, digits_of, digest_refusal}
-use Rattle.oci_names.specs.References.{reference_of, reference_named}
+use Rattle.oci_names.specs.Reference.{reference_of, reference_named}
 use Rattle.oci_names.specs.Refusals.{Refuses, OfGrammar}
 use Rattle.oci_names.specs.Words.{InGrammar}
 

@@ -4,7 +4,7 @@ use Rattle.std.specs.Option.{option_eq}
 use Rattle.std.specs.Cmp.{IsEquivalence, and_equiv, on_equiv}
 use Rattle.std.specs.Cmp.Lexicographic.{nat_list_eq_equiv, options_equiv}
 use Rattle.oci_names.specs.declared.reference.Reference.{Reference}
-use Rattle.oci_names.specs.References.{is_same}
+use Rattle.oci_names.specs.Reference.{is_same}
 
 at_text : (f : Reference → List ℕ) → IsEquivalence (λ a b. bytes_eq (f a) (f b))
 at_text f = on_equiv f nat_list_eq_equiv

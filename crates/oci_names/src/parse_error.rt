@@ -10,7 +10,7 @@ pub enum ParseError {
     #[error("the reference is empty: give [domain/]path[:tag][@digest]")]
     NameEmpty,
     /// The text is not in the grammar.
-    #[error("the reference is not of the form [domain/]path[:tag][@digest]")]
+    #[error("the reference does not read: write it as [domain/]path[:tag][@digest]")]
     ReferenceInvalidFormat,
     /// The repository, with `library/` where that is meant, has more than 255 characters.
     #[error("the repository has more than 255 characters: give a shorter one")]

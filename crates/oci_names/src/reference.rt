@@ -1,6 +1,6 @@
 ghost use Rattle.std.specs.Prelude.{◌≡◌, ◌++◌, Some, None, Ok, Err, IfOk, IfErr, OnOk, IsTrue, ◌↔◌, option_copied};
 ghost use Rattle.oci_names.specs.Parts.{marked, parts_of};
-ghost use Rattle.oci_names.specs.References.{reference_of};
+ghost use Rattle.oci_names.specs.Reference.{reference_of};
 ghost use Rattle.oci_names.specs.Refusals.{Refuses, OfGrammar};
 ghost use Rattle.oci_names.specs.Words.{InGrammar};
 
@@ -54,7 +54,7 @@ fn read(alloc: Global, text: &str) -> Result<Reference, ParseError>
 }
 
 impl Reference {
-    ghost use Rattle.oci_names.specs.References.{registry_of, mirror_of, repository_of, tag_of, digest_of, whole_text, resolved_registry, namespace_of, is_read_as, reads_back};
+    ghost use Rattle.oci_names.specs.Reference.{registry_of, mirror_of, repository_of, tag_of, digest_of, whole_text, resolved_registry, namespace_of, is_read_as, reads_back};
 
     /// Reads `[domain/]path[:tag][@digest]` (OCI distribution specification, "Pulling manifests", for the
     /// words of path, tag and digest). Without a domain the registry is `docker.io`, where a path without a
@@ -251,7 +251,7 @@ impl Copied for Reference {
 /// Equality is that of all fields, the mirror among them.
 impl PartialEq for Reference {
     ghost use Rattle.std.specs.Cmp.{partial_equiv_from_equiv};
-    ghost use Rattle.oci_names.specs.References.{is_same};
+    ghost use Rattle.oci_names.specs.Reference.{is_same};
     ghost use Rattle.oci_names.specs.Equalities.{references};
 
     ghost eq = { is_same };

@@ -1,7 +1,7 @@
 //! The resolvers that come with this.
 ghost use Rattle.std.specs.Prelude.{◌≡◌, IfOk, codes, option_copied};
 ghost use Rattle.std.specs.List.{find};
-ghost use Rattle.oci_platforms.specs.Promise.{first_for, is_for};
+ghost use Rattle.oci_platforms.specs.Resolvers.{first_for, is_for};
 
 use json_values::{Copied, Text};
 use oci_descriptors::ImageIndexEntry;

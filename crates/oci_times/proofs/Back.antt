@@ -6,17 +6,20 @@ use Rattle.std.proofs.lemmas.Bool.{eqb-true, le-ltb, le-leb}
 use Rattle.json_writing.specs.Again.{ReadsAgain}
 use Rattle.jiff_core.specs.Calendar.{is_leap_year, days_in_month}
 use Rattle.jiff.proofs.SpanFacts.{signed_arith}
-use Rattle.oci_times.specs.Moment.{Moment, is_day, is_clock, checked, at_minute, minutes_of}
-use Rattle.oci_times.specs.Reading.{is_digit, digit_value, two_digits, fraction_length, nanoseconds, civil_of, offset_of, in_utc, moment_of, time_of}
+use Rattle.oci_times.specs.Moment.{Moment, is_day, is_clock, checked}
+use Rattle.oci_times.specs.Shift.{at_minute, minutes_of}
+use Rattle.oci_times.specs.Reader.{fraction_length, nanoseconds, civil_of, in_utc, moment_of, time_of}
+use Rattle.oci_times.specs.Offset.{offset_of}
+use Rattle.oci_times.specs.Digits.{is_digit, digit_value, two_digits}
 use Rattle.oci_times.proofs.Bridge.{day_told, clock_told}
-use Rattle.oci_times.specs.Writing.{digit, three, date_text, clock_text, fraction_text, moment_text, time_written}
+use Rattle.oci_times.specs.Writer.{digit, three, date_text, clock_text, fraction_text, moment_text, time_written}
 
 digit_is : (n : ℕ) → is_digit (digit n) ≡ true
 unfolding is_digit digit
 digit_is n = grind (arith, nat_tests)
 
 digit_counts : (n : ℕ) → digit_value (digit n) ≡ n % 10
-unfolding digit_value digit
+unfolding digit
 digit_counts n = omega arith
 
 z_is_none : is_digit 90 ≡ false

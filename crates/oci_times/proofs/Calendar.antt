@@ -5,7 +5,8 @@ use Rattle.std.proofs.lemmas.Bool.{leb-true, leb-false, ltb-false, eqb-false}
 use Rattle.jiff_core.specs.Calendar.{is_leap_year, days_in_month, day_count}
 use Rattle.jiff_core.proofs.CalendarLemmas.{day_count-day, day_count-next_month, day_count-last_of_year, day_count-next_year}
 use Rattle.jiff.proofs.SpanFacts.{signed_arith}
-use Rattle.oci_times.specs.Moment.{Moment, is_day, is_clock, checked, or_else, on_day, day_after, minutes_of, at_minute, at_minute_of, later, on_last_day, day_before, earlier}
+use Rattle.oci_times.specs.Moment.{Moment, is_day, is_clock, checked}
+use Rattle.oci_times.specs.Shift.{or_else, on_day, day_after, minutes_of, at_minute, at_minute_of, later, on_last_day, day_before, earlier}
 use Rattle.oci_times.specs.Instant.{day_number, minute_number}
 use Rattle.oci_times.proofs.Bridge.{IsDayOf, day_told, day_test}
 

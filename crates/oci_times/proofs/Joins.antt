@@ -3,7 +3,8 @@ use Rattle.std.proofs.Common.{◌≡◌, ℕ, ◌≤◌, List, ◌++◌, length,
 use Rattle.std.proofs.lemmas.Bool.{le-ltb}
 use Rattle.json_tables.specs.Reading.{◌>>=◌}
 use Rattle.oci_times.specs.Moment.{Moment}
-use Rattle.oci_times.specs.Reading.{Offset, fraction_length, nanoseconds, civil_of, offset_of, in_utc, moment_of}
+use Rattle.oci_times.specs.Reader.{fraction_length, nanoseconds, civil_of, in_utc, moment_of}
+use Rattle.oci_times.specs.Offset.{Offset, offset_of}
 
 -- three parts are put in one after another
 pub joined3 : (a b c d x y z : List ℕ) → b ≡ a ++ x → c ≡ b ++ y → d ≡ c ++ z → d ≡ a ++ (x ++ (y ++ z))

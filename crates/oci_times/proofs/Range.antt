@@ -5,9 +5,10 @@ use Rattle.std.proofs.lemmas.Bool.Decides.{nat_tests}
 use Rattle.std.proofs.lemmas.Bool.{leb-true, leb-false, ltb-false, ltb-true, eqb-true, eqb-false, le-ltb}
 use Rattle.jiff_core.specs.Calendar.{days_in_month}
 use Rattle.jiff.proofs.SpanFacts.{signed_arith}
-use Rattle.oci_times.specs.Moment.{Moment, is_day, is_clock, checked, or_else, on_day, day_after, minutes_of, at_minute, at_minute_of, later, on_last_day, day_before, earlier}
+use Rattle.oci_times.specs.Moment.{Moment, is_day, is_clock, checked}
+use Rattle.oci_times.specs.Shift.{or_else, on_day, day_after, minutes_of, at_minute, at_minute_of, later, on_last_day, day_before, earlier}
 use Rattle.oci_times.specs.Instant.{IsFirstDay, IsLastDay, IsOutside, IsMoved, MovesMinutes, NoTimeOutside}
-use Rattle.oci_times.specs.Reading.{Offset}
+use Rattle.oci_times.specs.Offset.{Offset}
 use Rattle.oci_times.proofs.Bridge.{IsDayOf, day_told, day_test, clock_told, clock_test}
 use Rattle.oci_times.proofs.Calendar.{some_days, last_of_month, last_of_year, none_is, no_day, parts_shown, first_month, first_day, dated, later_is_sum, earlier_is_difference}
 

@@ -1,8 +1,10 @@
 -- Moments as numbers, by which earlier and later are sums.
 use Rattle.std.specs.Prelude.{◌≡◌, ◌↔◌, ℕ, ◌+◌, ◌*◌, ◌<◌, ◌≤◌, pos, Bool, true, false, Some, None}
 use Rattle.jiff_core.specs.Calendar.{day_count}
-use Rattle.oci_times.specs.Moment.{Moment, checked, minutes_of}
-use Rattle.oci_times.specs.Reading.{Offset, in_utc}
+use Rattle.oci_times.specs.Moment.{Moment, checked}
+use Rattle.oci_times.specs.Shift.{minutes_of}
+use Rattle.oci_times.specs.Reader.{in_utc}
+use Rattle.oci_times.specs.Offset.{Offset}
 
 -- the number of the day
 abbrev pub day_number : Moment → ℕ

@@ -1,5 +1,8 @@
+pub mod Digits
 pub mod Equalities
 pub mod Instant
 pub mod Moment
-pub mod Reading
-pub mod Writing
+pub mod Offset
+pub mod Reader
+pub mod Shift
+pub mod Writer

@@ -1,9 +1,10 @@
 // Digits in texts.
 ghost use Rattle.std.specs.Prelude.{◌≡◌, ◌+◌, ◌*◌, ◌<◌, ◌≤◌, length, IfSome, IsTrue};
-ghost use Rattle.oci_times.specs.Reading.{is_digit, digit_value, two_at, digit_count};
-ghost use Rattle.oci_times.specs.Reading.{nanoseconds_by};
+ghost use Rattle.oci_times.specs.Reader.{digit_count};
+ghost use Rattle.oci_times.specs.Digits.{is_digit, digit_value, two_at};
+ghost use Rattle.oci_times.specs.Reader.{nanoseconds_by};
 
-#[tactic(auto, unfolding(crate::specs::Reading::is_digit))]
+#[tactic(auto, unfolding(crate::specs::Digits::is_digit))]
 fn is_digit(byte: u8) -> bool
     ensures { result ≡ is_digit byte }
 {
@@ -11,7 +12,7 @@ fn is_digit(byte: u8) -> bool
 }
 
 // The number of the two digits at this place.
-#[tactic(auto, unfolding(crate::specs::Reading::is_digit, crate::specs::Reading::digit_value, crate::specs::Reading::two_digits))]
+#[tactic(auto, unfolding(crate::specs::Digits::is_digit, crate::specs::Digits::two_digits))]
 pub(crate) fn two_at(place: usize, text: &[u8]) -> Option<u8>
     requires { place + 1 < length text.now }
     ensures value { result ≡ two_at place text.now }
@@ -41,7 +42,7 @@ pub(crate) fn digit_count(text: &[u8]) -> usize
 }
 
 // What a digit counts at its place.
-#[tactic(auto, using(crate::proofs::Shares::digit_share), unfolding(crate::specs::Reading::is_digit, crate::specs::Reading::digit_value))]
+#[tactic(auto, using(crate::proofs::Shares::digit_share), unfolding(crate::specs::Digits::is_digit))]
 fn share(byte: u8, place: u32) -> u32
     requires digit { IsTrue (is_digit byte) }
     requires small { place ≤ 100000000 }

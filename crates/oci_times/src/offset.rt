@@ -1,6 +1,7 @@
 // Fractions of a second, and offsets from UTC.
 ghost use Rattle.std.specs.Prelude.{◌≡◌, ◌<◌, ◌≤◌, length, IfSome};
-ghost use Rattle.oci_times.specs.Reading.{fraction_length, nanoseconds, numeric_offset, offset_of};
+ghost use Rattle.oci_times.specs.Reader.{fraction_length, nanoseconds};
+ghost use Rattle.oci_times.specs.Offset.{numeric_offset, offset_of};
 
 use crate::digits::{digit_count, nanoseconds as nanoseconds_of_digits, two_at};
 

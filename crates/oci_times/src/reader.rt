@@ -1,6 +1,6 @@
 // Times in texts.
 ghost use Rattle.std.specs.Prelude.{◌≡◌, ◌+◌, ◌<◌, ◌≤◌, length, drop};
-ghost use Rattle.oci_times.specs.Reading.{has_marks, civil_of, in_utc, moment_of, time_of};
+ghost use Rattle.oci_times.specs.Reader.{has_marks, civil_of, in_utc, moment_of, time_of};
 
 use crate::digits::two_at;
 use crate::offset::{fraction_length, nanoseconds, offset_in};
@@ -49,7 +49,7 @@ fn after(count: usize, text: &[u8]) -> &[u8]
     &text[count..]
 }
 
-#[tactic(auto, unfolding(crate::specs::Reading::moment_of))]
+#[tactic(auto, unfolding(crate::specs::Reader::moment_of))]
 fn moment_in(text: &[u8]) -> Option<Time>
     ensures { result ≡ moment_of text.now }
 {
@@ -79,7 +79,7 @@ fn in_utc(offset: (bool, u16), civil: &Time) -> Option<Time>
 impl Reads for Time {
     ghost reading = { time_of };
 
-    #[tactic(auto, unfolding(crate::specs::Reading::time_of))]
+    #[tactic(auto, unfolding(crate::specs::Reader::time_of))]
     fn read_value(_alloc: Global, value: &Value) -> Result<Time, ReadError> {
         let Some(text) = value.as_str() else {
             return Err(ReadError::Shape);

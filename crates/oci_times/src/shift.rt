@@ -1,6 +1,6 @@
 // The same instant on a clock with another offset.
 ghost use Rattle.std.specs.Prelude.{◌≡◌, ◌<◌, ◌≤◌};
-ghost use Rattle.oci_times.specs.Moment.{day_after, day_before, on_last_day, later, earlier};
+ghost use Rattle.oci_times.specs.Shift.{day_after, day_before, on_last_day, later, earlier};
 
 use crate::time::Time;
 

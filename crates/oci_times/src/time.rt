@@ -1,6 +1,7 @@
 ghost use Rattle.std.specs.Prelude.{◌≡◌, ◌↔◌, ◌<◌, ◌≤◌, Some, IsSome, IfSome, IsTrue, pos};
 ghost use Rattle.jiff_core.specs.Calendar.{IsBetween};
-ghost use Rattle.oci_times.specs.Moment.{moment_at, checked, on_day, at_minute, minutes_of};
+ghost use Rattle.oci_times.specs.Moment.{moment_at, checked};
+ghost use Rattle.oci_times.specs.Shift.{on_day, at_minute, minutes_of};
 
 use jiff::civil::DateTime;
 use json_values::Copied;

@@ -1,8 +1,8 @@
 // Times as texts.
 ghost use Rattle.std.specs.Prelude.{◌≡◌, ◌++◌, [], ◌∷◌, OnOk, IfOk, string_bytes, Some};
 ghost use Rattle.oci_times.specs.Moment.{checked};
-ghost use Rattle.oci_times.specs.Writing.{digit, two, three, date_text, clock_text, civil_text};
-ghost use Rattle.oci_times.specs.Writing.{fraction_text, moment_text};
+ghost use Rattle.oci_times.specs.Writer.{digit, two, three, date_text, clock_text, civil_text};
+ghost use Rattle.oci_times.specs.Writer.{fraction_text, moment_text};
 
 use crate::time::Time;
 use json_values::ToValue;
@@ -10,7 +10,7 @@ use json_writing::Writes;
 use serde_json::Value;
 use std::alloc::{AllocError, Global};
 
-#[tactic(auto, unfolding(crate::specs::Writing::digit))]
+#[tactic(auto, unfolding(crate::specs::Writer::digit))]
 fn put_digit(text: &mut String, number: u32) -> Result<(), AllocError>
     ensures { OnOk result (string_bytes text.new ≡ string_bytes text.old ++ digit number ∷ []) }
 {
@@ -91,7 +91,7 @@ fn put_civil(text: &mut String, time: &Time) -> Result<(), AllocError>
     Ok(())
 }
 
-#[tactic(auto, unfolding(crate::specs::Writing::moment_text))]
+#[tactic(auto, unfolding(crate::specs::Writer::moment_text))]
 fn put_time(text: &mut String, time: &Time) -> Result<(), AllocError>
     ensures shown { OnOk result (checked time.now ≡ Some time.now) }
     ensures bytes { OnOk result
@@ -114,7 +114,7 @@ fn time_text(alloc: Global, time: &Time) -> Result<String, AllocError>
 }
 
 impl Writes for Time {
-    ghost use Rattle.oci_times.specs.Writing.{time_written};
+    ghost use Rattle.oci_times.specs.Writer.{time_written};
 
     ghost written = { time_written };
 
@@ -126,7 +126,7 @@ impl Writes for Time {
 }
 
 impl ToValue for Time {
-    ghost use Rattle.oci_times.specs.Writing.{time_written};
+    ghost use Rattle.oci_times.specs.Writer.{time_written};
 
     ghost written = { time_written };
 

@@ -1,3 +1,3 @@
-pub mod Calming
 pub mod Fields
-pub mod Playing
+pub mod ScriptAnswers
+pub mod ScriptCalm

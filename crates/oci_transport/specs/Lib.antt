@@ -3,7 +3,7 @@ pub mod HeaderNames
 pub mod Headers
 pub mod Link
 pub mod Pieces
-pub mod Playback
+pub mod Recorded
 pub mod Redirects
 pub mod Script
 pub mod Urls

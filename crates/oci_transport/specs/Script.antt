@@ -5,7 +5,7 @@ use Rattle.oci_transport.specs.declared.recorded.Recorded.{Recorded}
 use Rattle.oci_transport.specs.declared.message.Answer.{Answer}
 use Rattle.oci_transport.specs.Link.{Link}
 use Rattle.oci_transport.specs.Pieces.{joined}
-use Rattle.oci_transport.specs.Playback.{answering, recorded_answer, fails_before_of, last_pieces, last_stop}
+use Rattle.oci_transport.specs.Recorded.{recorded_answer, fails_before_of, answering, last_pieces, last_stop}
 
 -- the recorded answers
 abbrev pub answers_of : Script → List Recorded

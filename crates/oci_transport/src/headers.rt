@@ -21,8 +21,8 @@ use thiserror::Error;
 /// The header that names the digest of what was answered (OCI distribution specification, "Pulling manifests").
 pub const DIGEST_HEADER: &str = "docker-content-digest";
 
-/// Header fields (RFC 9110, section 5): at most 1000 values. A contract sees a map from each name, which is a field name
-/// in lower case, to its values in order. The case of a name that is asked for does not matter.
+/// Header fields (RFC 9110, section 5): at most 1000 values. A contract sees a map from each name, which is a field
+/// name in lower case, to its values in order. The case of a name that is asked for does not matter.
 #[derive(Drop)]
 pub struct Headers {
     alloc: Global,

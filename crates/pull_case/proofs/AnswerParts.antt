@@ -3,7 +3,9 @@ use Rattle.std.proofs.Common.{◌≡◌, ℕ, List, [], ◌∷◌, Option, Some,
 use Rattle.std.specs.Prelude.{⊤}
 use Rattle.std.specs.FinMap.{empty}
 use Rattle.serde_json.specs.Data.{Data}
-use Rattle.json_tables.specs.Reading.{list_of, required, at_name, only}
+use Rattle.json_tables.specs.Reading.{list_of}
+use Rattle.json_tables.specs.Objects.{only}
+use Rattle.json_tables.specs.Member.{required, at_name}
 use Rattle.json_tables.specs.Bytes.{bytes_of}
 use Rattle.oci_transport.specs.Headers.{Fields}
 use Rattle.oci_transport.specs.Pieces.{NoneEmpty}

@@ -5,10 +5,12 @@ use Rattle.std.specs.Prelude.{[], false, IsTrue, option_map}
 use Rattle.std.specs.FinMap.{empty}
 use Rattle.serde_json.specs.Data.{Data}
 use Rattle.serde_json.specs.Find.{get}
-use Rattle.json_tables.specs.Reading.{◌>>=◌, text_of, bool_of, u64_of, list_of, required, optional, at_name, only}
+use Rattle.json_tables.specs.Reading.{◌>>=◌, text_of, bool_of, u64_of, list_of}
+use Rattle.json_tables.specs.Objects.{only}
+use Rattle.json_tables.specs.Member.{required, optional, at_name}
 use Rattle.json_tables.specs.Bytes.{bytes_of}
 use Rattle.engine_terms.specs.declared.settings.ClientProtocol.TheVariants.{Https}
-use Rattle.oci_names.specs.References.{reference_of}
+use Rattle.oci_names.specs.Reference.{reference_of}
 use Rattle.pull_case.specs.declared.case.Case.{Case}
 use Rattle.pull_case.specs.Members.{passing, unless_absent, number_of}
 use Rattle.pull_case.specs.Case.{case_of, reference_text_of, protocol_of, moments_of, members, IsReady}

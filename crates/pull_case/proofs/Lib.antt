@@ -1,6 +1,6 @@
-pub mod Added
 pub mod AnswerParts
 pub mod CaseParts
 pub mod Full
-pub mod Quieting
+pub mod HeaderSteps
+pub mod ShelfCalm
 pub mod Written

@@ -6,7 +6,9 @@ use Rattle.std.proofs.Math.Nat.{zero-lt-suc}
 use Rattle.std.proofs.lemmas.List.Elements.{All-nil, All-cons}
 use Rattle.http_header.specs.FieldName.{is_field_name}
 use Rattle.serde_json.specs.Data.{Data, string}
-use Rattle.json_tables.specs.Reading.{◌>>=◌, text_of, u16_of, list_of, pair_of, required, at_name, only}
+use Rattle.json_tables.specs.Reading.{◌>>=◌, text_of, u16_of, list_of, pair_of}
+use Rattle.json_tables.specs.Objects.{only}
+use Rattle.json_tables.specs.Member.{required, at_name}
 use Rattle.json_tables.specs.Bytes.{bytes_of}
 use Rattle.json_tables.specs.Outcomes.{Refuses}
 use Rattle.json_tables.specs.declared.error.ReadError.{ReadError}

@@ -3,7 +3,9 @@ use Rattle.std.specs.Prelude.{[], ◌∷◌, Option, Some, None, if◌then◌els
 use Rattle.std.specs.Str.{bytes_eq}
 use Rattle.std.specs.Option.{option_or}
 use Rattle.serde_json.specs.Data.{Data, string}
-use Rattle.json_tables.specs.Reading.{◌>>=◌, text_of, pair_of, required, only}
+use Rattle.json_tables.specs.Reading.{◌>>=◌, text_of, pair_of}
+use Rattle.json_tables.specs.Objects.{only}
+use Rattle.json_tables.specs.Member.{required}
 use Rattle.oci_auth.specs.declared.auth.RegistryAuth.{RegistryAuth}
 use Rattle.oci_auth.specs.declared.auth.RegistryAuth.TheVariants.{Anonymous, Basic, Bearer}
 

@@ -1,20 +1,19 @@
 -- Recorded cases: what to pull, under which policy, and what the registry answers.
-use Rattle.std.specs.Prelude.{ℕ, nat_lt, false, List, [], ◌∷◌, Option, Some, None, is_ok, IsOk}
-use Rattle.std.specs.Prelude.{length, if◌then◌else◌, codes}
+use Rattle.std.specs.Prelude.{ℕ, nat_lt, false, List, [], ◌∷◌, Option, Some, None, is_ok, IsOk, length, codes}
 use Rattle.std.specs.FinMap.{empty}
-use Rattle.std.specs.Str.{bytes_eq}
 use Rattle.serde_json.specs.Data.{Data}
 use Rattle.json_values.specs.JsonText.{plain_json_of}
-use Rattle.json_tables.specs.Reading.{◌>>=◌, text_of, bool_of, u64_of, list_of, required, optional}
-use Rattle.json_tables.specs.Reading.{at_name, only}
+use Rattle.json_tables.specs.Reading.{◌>>=◌, text_of, bool_of, u64_of, list_of}
+use Rattle.json_tables.specs.Member.{required, optional, at_name}
+use Rattle.json_tables.specs.Objects.{only}
 use Rattle.json_tables.specs.Bytes.{bytes_of}
-use Rattle.oci_names.specs.References.{reference_of}
+use Rattle.oci_names.specs.Reference.{reference_of}
 use Rattle.oci_auth.specs.declared.auth.RegistryAuth.TheVariants.{Anonymous}
 use Rattle.engine_terms.specs.declared.settings.ClientProtocol.{ClientProtocol}
-use Rattle.engine_terms.specs.declared.settings.ClientProtocol.TheVariants.{Http, Https}
+use Rattle.engine_terms.specs.declared.settings.ClientProtocol.TheVariants.{Https}
 use Rattle.pull_case.specs.Auth.{auth_of}
 use Rattle.pull_case.specs.Constraint.{constraint_of}
-use Rattle.pull_case.specs.Members.{unless_absent, number_of, passing}
+use Rattle.pull_case.specs.Members.{unless_absent, number_of, passing, protocol_named}
 use Rattle.pull_case.specs.Platform.{platform_of}
 use Rattle.pull_case.specs.Registry.{registry_of, Leads}
 use Rattle.pull_case.specs.Trust.{signature_of, judge_of, judge_by, log_keys_of}
@@ -23,12 +22,6 @@ use Rattle.pull_case.specs.declared.case.Case.{Case}
 -- a text that reads as a reference
 unfoldable pub reference_text_of : Data → Option (List ℕ)
 reference_text_of d = text_of d >>= passing (λ text. is_ok (reference_of text))
-
--- the protocol of this name
-abbrev pub protocol_named : List ℕ → Option ClientProtocol
-protocol_named text =
-    if bytes_eq text (codes "http") then Some Http
-    else (if bytes_eq text (codes "https") then Some Https else None)
 
 unfoldable pub protocol_of : Data → Option ClientProtocol
 protocol_of d = text_of d >>= protocol_named

@@ -2,7 +2,9 @@
 use Rattle.std.specs.Prelude.{[], ◌∷◌, Option, Some, option_map, codes}
 use Rattle.std.specs.Option.{option_or}
 use Rattle.serde_json.specs.Data.{Data}
-use Rattle.json_tables.specs.Reading.{◌>>=◌, text_of, map_of, required, only}
+use Rattle.json_tables.specs.Reading.{◌>>=◌, text_of, map_of}
+use Rattle.json_tables.specs.Objects.{only}
+use Rattle.json_tables.specs.Member.{required}
 use Rattle.cosign_layers.specs.declared.constraint.AnnotationVerifier.{AnnotationVerifier}
 use Rattle.cosign_layers.specs.declared.subject.CertSubjectEmailVerifier.{CertSubjectEmailVerifier}
 use Rattle.cosign_layers.specs.declared.subject.CertSubjectUrlVerifier.{CertSubjectUrlVerifier}

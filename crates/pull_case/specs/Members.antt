@@ -1,7 +1,10 @@
 -- Members with a rule of their own.
-use Rattle.std.specs.Prelude.{ℕ, option_map, Bool, if◌then◌else◌, Option, Some, None}
+use Rattle.std.specs.Prelude.{ℕ, option_map, Bool, if◌then◌else◌, Option, Some, None, List, codes}
 use Rattle.serde_json.specs.Data.{Data, null}
 use Rattle.json_tables.specs.Reading.{u64_of}
+use Rattle.std.specs.Str.{bytes_eq}
+use Rattle.engine_terms.specs.declared.settings.ClientProtocol.{ClientProtocol}
+use Rattle.engine_terms.specs.declared.settings.ClientProtocol.TheVariants.{Http, Https}
 
 -- x where nothing was found, else what f reads, null too
 abbrev pub unless_absent : {X : Type 0} → X → (Data → Option X) → Option Data → Option X
@@ -20,3 +23,9 @@ number_of d = option_map Some (u64_of d)
 abbrev pub null_or : {X : Type 0} → (Data → Option X) → Data → Option (Option X)
 null_or f null = Some None
 null_or f d = option_map Some (f d)
+
+-- the protocol of this name
+abbrev pub protocol_named : List ℕ → Option ClientProtocol
+protocol_named text =
+    if bytes_eq text (codes "http") then Some Http
+    else (if bytes_eq text (codes "https") then Some Https else None)

@@ -2,7 +2,9 @@
 use Rattle.std.specs.Prelude.{ℕ, List, [], ◌∷◌, length, nat_lt, ◌==◌, Option, Some, None, codes, if◌then◌else◌}
 use Rattle.std.specs.List.{position_or_len, before_first, after_first}
 use Rattle.serde_json.specs.Data.{Data, string}
-use Rattle.json_tables.specs.Reading.{◌>>=◌, text_of, required, only}
+use Rattle.json_tables.specs.Reading.{◌>>=◌, text_of}
+use Rattle.json_tables.specs.Objects.{only}
+use Rattle.json_tables.specs.Member.{required}
 use Rattle.oci_platforms.specs.declared.promise.ResolverPromise.{ResolverPromise}
 use Rattle.oci_platforms.specs.declared.promise.ResolverPromise.TheVariants.{FirstMatch, Fixed}
 

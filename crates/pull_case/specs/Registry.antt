@@ -4,7 +4,7 @@ use Rattle.serde_json.specs.Data.{Data}
 use Rattle.serde_json.specs.Find.{get}
 use Rattle.json_tables.specs.Reading.{list_of}
 use Rattle.oci_transport.specs.Link.{Answering}
-use Rattle.oci_transport.specs.Playback as recorded
+use Rattle.oci_transport.specs.Recorded as recorded
 use Rattle.oci_link.specs.Leads.{redirects_lead}
 use Rattle.oci_link.specs.State as shelf
 use Rattle.pull_case.specs.Answer.{answer_of}

@@ -2,7 +2,7 @@
 use Rattle.std.specs.Prelude.{◌≡◌, IsTrue, List, Some, None}
 use Rattle.oci_transport.specs.Calm.{calm}
 use Rattle.oci_transport.specs.Link.{Link, Answering}
-use Rattle.oci_transport.specs.Playback as recorded
+use Rattle.oci_transport.specs.Recorded as recorded
 use Rattle.oci_transport.specs.Script as script
 use Rattle.oci_transport.specs.declared.message.Exchange.{Exchange}
 use Rattle.oci_link.specs.State as shelf

@@ -2,7 +2,9 @@
 use Rattle.std.specs.Prelude.{List, [], ◌∷◌, ℕ, Option, Some, codes}
 use Rattle.std.specs.FinMap.{empty}
 use Rattle.serde_json.specs.Data.{Data}
-use Rattle.json_tables.specs.Reading.{◌>>=◌, text_of, map_of, required, at_name, only}
+use Rattle.json_tables.specs.Reading.{◌>>=◌, text_of, map_of}
+use Rattle.json_tables.specs.Objects.{only}
+use Rattle.json_tables.specs.Member.{required, at_name}
 use Rattle.json_tables.specs.Bytes.{bytes_of}
 use Rattle.oci_link.specs.Leads.{redirects_lead}
 use Rattle.oci_link.specs.declared.shelf.Shelf.{Shelf}

@@ -2,7 +2,9 @@
 use Rattle.std.specs.Prelude.{ℕ, List, [], ◌∷◌, Option, Some, None, codes, if◌then◌else◌}
 use Rattle.std.specs.FinMap.{FinMap}
 use Rattle.serde_json.specs.Data.{Data}
-use Rattle.json_tables.specs.Reading.{◌>>=◌, text_of, list_of, map_of, required, optional, only}
+use Rattle.json_tables.specs.Reading.{◌>>=◌, text_of, list_of, map_of}
+use Rattle.json_tables.specs.Objects.{only}
+use Rattle.json_tables.specs.Member.{required, optional}
 use Rattle.json_tables.specs.Bytes.{bytes_of}
 use Rattle.json_values.specs.Places.{by_bytes}
 use Rattle.cosign_layers.specs.Judge.{has_two_equal}

@@ -3,7 +3,8 @@ ghost use Rattle.std.specs.Prelude.{◌≡◌, ◌↔◌, [], None, IsTrue, code
 ghost use Rattle.serde_json.specs.View.{view};
 ghost use Rattle.json_tables.specs.Outcomes.{Gives};
 ghost use Rattle.json_tables.specs.Bytes.{bytes_of};
-ghost use Rattle.json_tables.specs.Reading.{at_name, list_of, required};
+ghost use Rattle.json_tables.specs.Reading.{list_of};
+ghost use Rattle.json_tables.specs.Member.{at_name, required};
 ghost use Rattle.oci_transport.specs.Pieces.{NoneEmpty};
 ghost use Rattle.pull_case.specs.Answer.{status_of, failing, answering};
 ghost use Rattle.pull_case.specs.Members.{unless_absent, number_of};

@@ -2,7 +2,8 @@
 ghost use Rattle.std.specs.Prelude.{codes, option_map};
 ghost use Rattle.serde_json.specs.View.{view};
 ghost use Rattle.json_tables.specs.Outcomes.{Gives};
-ghost use Rattle.json_tables.specs.Reading.{required, text_of};
+ghost use Rattle.json_tables.specs.Reading.{text_of};
+ghost use Rattle.json_tables.specs.Member.{required};
 ghost use Rattle.pull_case.specs.Constraint.{annotations_of, email_of, subject_of, url_of};
 ghost use Rattle.pull_case.specs.Members.{null_or};
 

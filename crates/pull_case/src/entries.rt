@@ -4,7 +4,8 @@ ghost use Rattle.serde_json.specs.View.{view, items_view, members_view};
 ghost use Rattle.std.specs.Prelude.{◌≡◌, Option};
 ghost use Rattle.std.specs.FinMap.{empty};
 ghost use Rattle.json_tables.specs.Outcomes.{Gives};
-ghost use Rattle.json_tables.specs.Reading.{items_by, list_of, map_of, members_by, present};
+ghost use Rattle.json_tables.specs.Reading.{items_by, list_of, map_of, members_by};
+ghost use Rattle.json_tables.specs.Member.{present};
 ghost use Rattle.pull_case.specs.Members.{unless_absent};
 
 use json_tables::{Member, ReadError};

@@ -3,7 +3,7 @@ ghost use Rattle.std.specs.Prelude.{codes};
 ghost use Rattle.std.specs.FinMap.{empty};
 ghost use Rattle.serde_json.specs.View.{view};
 ghost use Rattle.json_tables.specs.Outcomes.{Gives};
-ghost use Rattle.json_tables.specs.Reading.{at_name};
+ghost use Rattle.json_tables.specs.Member.{at_name};
 ghost use Rattle.pull_case.specs.Answer.{with_headers, headers_of, Adds};
 ghost use Rattle.pull_case.specs.Members.{unless_absent};
 

@@ -1,9 +1,10 @@
 // Members of a case that have a rule of their own.
 ghost use Rattle.std.specs.Prelude.{◌≡◌, IfOk, Some, is_ok, option_map};
-ghost use Rattle.json_tables.specs.Reading.{present};
-ghost use Rattle.oci_names.specs.References.{reference_of};
+ghost use Rattle.json_tables.specs.Member.{present};
+ghost use Rattle.oci_names.specs.Reference.{reference_of};
 ghost use Rattle.engine_terms.specs.declared.settings.ClientProtocol.TheVariants.{Https};
-ghost use Rattle.pull_case.specs.Case.{reference_text_of, protocol_named, protocol_of, moments_of};
+ghost use Rattle.pull_case.specs.Case.{reference_text_of, protocol_of, moments_of};
+ghost use Rattle.pull_case.specs.Members.{protocol_named};
 ghost use Rattle.pull_case.specs.Members.{number_of};
 
 use crate::entries::{Entry, Usual};

@@ -1,7 +1,7 @@
 // Which image of an index is meant.
 ghost use Rattle.serde_json.specs.View.{view};
 ghost use Rattle.json_tables.specs.Outcomes.{Gives};
-ghost use Rattle.json_tables.specs.Reading.{unless_null};
+ghost use Rattle.json_tables.specs.Member.{unless_null};
 ghost use Rattle.pull_case.specs.Platform.{fixed_of, platform_named, platform_of};
 
 use json_tables::{Member, ReadError, only, required};

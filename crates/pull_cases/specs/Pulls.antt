@@ -4,7 +4,7 @@ use Rattle.oci_transport.specs.Link.{AnsweredBy}
 use Rattle.oci_transport.specs.Calm.{calm}
 use Rattle.oci_transport.specs.declared.message.Exchange.{Exchange}
 use Rattle.oci_names.specs.declared.reference.Reference.{Reference}
-use Rattle.oci_names.specs.References.{reference_of}
+use Rattle.oci_names.specs.Reference.{reference_of}
 use Rattle.oci_protocol.specs.Runs.{Runs}
 use Rattle.engine_terms.specs.Contexts.{within}
 use Rattle.engine_terms.specs.declared.settings.Settings.{Settings}

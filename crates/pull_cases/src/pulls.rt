@@ -1,7 +1,7 @@
 // The pulls of a case.
 ghost use Rattle.std.specs.Prelude.{◌≡◌, ◌++◌, ◌||◌, false, not, Ok, IsErr, IfOk, OnOk};
 ghost use Rattle.oci_engine.specs.Clients.{default_config};
-ghost use Rattle.oci_names.specs.References.{reference_of};
+ghost use Rattle.oci_names.specs.Reference.{reference_of};
 ghost use Rattle.sig_calls.specs.Direct.{reference_in};
 ghost use Rattle.sig_settings.specs.Auths.{registry_auth};
 ghost use Rattle.pull_case.specs.Policy.{constraints_by};

@@ -1,3 +1,3 @@
-pub mod Building
-pub mod Holding
+pub mod BuiltImages
+pub mod ChainHolds
 pub mod Ready

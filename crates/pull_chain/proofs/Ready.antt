@@ -3,7 +3,9 @@ use Rattle.std.proofs.Common.{◌≡◌, Option, Some, None, IfSome, codes, refl
 use Rattle.std.specs.Prelude.{[], ◌∷◌}
 use Rattle.serde_json.specs.Data.{Data}
 use Rattle.serde_json.specs.Find.{get}
-use Rattle.json_tables.specs.Reading.{◌>>=◌, required, only}
+use Rattle.json_tables.specs.Reading.{◌>>=◌}
+use Rattle.json_tables.specs.Objects.{only}
+use Rattle.json_tables.specs.Member.{required}
 use Rattle.pull_case.specs.Case.{case_of, IsReady}
 use Rattle.pull_case.specs.declared.case.Case.{Case}
 use Rattle.pull_case.proofs.CaseParts.{case_ready}

@@ -8,7 +8,7 @@ use Rattle.oci_manifests.specs.Manifest.{manifest_of}
 use Rattle.oci_manifests.specs.declared.blob.ImageLayer.{ImageLayer}
 use Rattle.oci_descriptors.specs.declared.descriptor.OciDescriptor.{OciDescriptor}
 use Rattle.oci_manifests.specs.declared.manifest.OciImageManifest.{OciImageManifest}
-use Rattle.engine_rows.specs.Images.{layer_of, config_of}
+use Rattle.engine_rows.specs.Image.{layer_of, config_of}
 use Rattle.cosign_layers.specs.Checks.{Input}
 use Rattle.cosign_layers.specs.Read.{Gives}
 use Rattle.cosign_layers.specs.Trust.{Trust}
@@ -17,6 +17,7 @@ use Rattle.cosign_chain.specs.declared.image.VerifiedImage.{VerifiedImage}
 use Rattle.pull_chain.specs.declared.input.WrittenChain.{WrittenChain}
 use Rattle.pull_chain.specs.declared.input.WrittenEntry.{WrittenEntry}
 use Rattle.pull_chain.specs.declared.input.WrittenSignature.{WrittenSignature}
+use Rattle.pull_chain.specs.declared.built.Parts.{Parts}
 
 -- the document of the manifest: that of the entry, else the first one
 abbrev pub manifest_bytes : Option WrittenEntry → List ℕ → List ℕ
@@ -93,3 +94,29 @@ abbrev pub Builds : Trust → WrittenChain → Option VerifiedImage → Type 0
 Builds trust chain (Some found) =
     IsBuilt trust chain found × ((other : VerifiedImage) → IsBuilt trust chain other → other ≡ found)
 Builds trust chain None = (found : VerifiedImage) → IsBuilt trust chain found → ⊥
+
+-- those that are written
+abbrev pub parts_of : WrittenChain → OciImageManifest → Parts
+parts_of chain manifest = record {
+  digest = chain.digest;
+  first = chain.first;
+  manifest_bytes = manifest_bytes chain.entry chain.first;
+  manifest_digest = manifest_digest chain.entry chain.digest;
+  list_digest = list_digest chain.entry chain.digest;
+  config = config_of manifest chain.config;
+  layers = layers_of manifest.layers chain.layers;
+}
+
+-- the image of these
+abbrev pub image_with : Parts → OciImageManifest → SignatureLayer → VerifiedImage
+image_with parts manifest signature = record {
+  digest = parts.digest;
+  first = parts.first;
+  manifest_bytes = parts.manifest_bytes;
+  manifest = manifest;
+  manifest_digest = parts.manifest_digest;
+  list_digest = parts.list_digest;
+  config = parts.config;
+  layers = parts.layers;
+  signature = signature;
+}

@@ -1,6 +1,6 @@
 -- When a written chain holds.
 use Rattle.std.specs.Prelude.{◌≡◌, ℕ, List, Option, Ok}
-use Rattle.oci_names.specs.References.{reference_of}
+use Rattle.oci_names.specs.Reference.{reference_of}
 use Rattle.oci_names.specs.declared.reference.Reference.{Reference}
 use Rattle.oci_platforms.specs.declared.promise.ResolverPromise.{ResolverPromise}
 use Rattle.cosign_layers.specs.Standing.{Meaning}

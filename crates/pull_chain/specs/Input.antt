@@ -2,7 +2,9 @@
 use Rattle.std.specs.Prelude.{ℕ, List, [], ◌∷◌, Option, Some, None, option_map, if◌then◌else◌, codes, bytes_eq}
 use Rattle.serde_json.specs.Data.{Data}
 use Rattle.json_values.specs.JsonText.{plain_json_of}
-use Rattle.json_tables.specs.Reading.{◌>>=◌, text_of, list_of, map_of, required, at_name, only}
+use Rattle.json_tables.specs.Reading.{◌>>=◌, text_of, list_of, map_of}
+use Rattle.json_tables.specs.Objects.{only}
+use Rattle.json_tables.specs.Member.{required, at_name}
 use Rattle.json_tables.specs.Bytes.{bytes_of}
 use Rattle.cosign_layers.specs.declared.layer.LayerKind.{LayerKind}
 use Rattle.cosign_layers.specs.declared.layer.LayerKind.TheVariants.{Payload, Bundle}

@@ -1,4 +1,3 @@
 pub mod Built
 pub mod Holds
 pub mod Input
-pub mod Parts

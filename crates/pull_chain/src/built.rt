@@ -3,7 +3,7 @@ ghost use Rattle.std.specs.Prelude.{◌≡◌, IfOk, IfErr};
 ghost use Rattle.cosign_layers.specs.Read.{Gives, HasOneOutcome, RejectedUnlessMemory};
 ghost use Rattle.cosign_layers.specs.Trust.{trust};
 ghost use Rattle.pull_chain.specs.Built as words;
-ghost use Rattle.pull_chain.specs.Parts.{image_with, parts_of};
+ghost use Rattle.pull_chain.specs.Built.{image_with, parts_of};
 
 use crate::input::{WrittenChain, WrittenEntry, WrittenSignature};
 use cosign_chain::VerifiedImage;

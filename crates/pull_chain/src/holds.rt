@@ -1,6 +1,6 @@
 // Whether a written chain holds.
 ghost use Rattle.std.specs.Prelude.{◌≡◌, ◌↔◌, IfOk, IsOk, IsTrue, Ok, option_copied};
-ghost use Rattle.oci_names.specs.References.{reference_of};
+ghost use Rattle.oci_names.specs.Reference.{reference_of};
 ghost use Rattle.cosign_layers.specs.Standing.{meaning};
 ghost use Rattle.cosign_layers.specs.Trust.{trust};
 ghost use Rattle.cosign_layers.specs.Judge.{vouched_in};

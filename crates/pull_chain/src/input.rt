@@ -2,7 +2,7 @@
 ghost use Rattle.std.specs.Prelude.{◌≡◌, IfOk, IfSome, None, codes};
 ghost use Rattle.serde_json.specs.View.{view};
 ghost use Rattle.json_tables.specs.Outcomes.{Gives};
-ghost use Rattle.json_tables.specs.Reading.{at_name, present, required};
+ghost use Rattle.json_tables.specs.Member.{at_name, present, required};
 ghost use Rattle.pull_case.specs.Case.{IsReady};
 ghost use Rattle.pull_case.specs.Members.{unless_absent};
 ghost use Rattle.pull_chain.specs.Input.{chain_input_in, kind_of, kind_named, some_entry_of};

@@ -1,3 +1,4 @@
+pub mod Constants
 pub mod MemorySource
 pub mod PlainSource
 pub mod Reading

@@ -11,7 +11,7 @@ mod std_source;
 
 pub use memory_source::MemorySource;
 pub use plain_source::PlainSource;
-pub use reading::{ReadRefusal, read_all};
+pub use reading::{INPUT_LIMIT, ReadRefusal, read_all};
 pub use source::{Failed, Source};
 pub use std_sink::StdSink;
 pub use std_source::StdSource;

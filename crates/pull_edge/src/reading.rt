@@ -7,6 +7,9 @@ use json_values::{Blob, Copied};
 use std::alloc::{AllocError, Global};
 use thiserror::Error;
 
+/// How many bytes a program's input may have.
+pub const INPUT_LIMIT: u64 = 67108864;
+
 /// How many bytes are taken at most at one time.
 const PIECE: usize = 65536;
 
@@ -18,7 +21,7 @@ pub enum ReadRefusal {
     TooLong,
     #[error("the source failed: what was read of it is let go, so read it again from its start")]
     SourceFault,
-    #[error("out of memory")]
+    #[error("out of memory: free some and try again")]
     WantOfMemory,
 }
 

@@ -25,7 +25,7 @@ use Rattle.cosign_rows.specs.Verified.{after_search, verified}
 use Rattle.cosign_rows.specs.declared.refusal.PullRefusal.{PullRefusal}
 use Rattle.cosign_rows.specs.declared.refusal.PullRefusal.TheVariants as refusal
 use Rattle.generated_image.specs.Shelf.{generated_shelf, HasTwoDigests}
-use Rattle.pull_generated.specs.Generated.{generated_settings, generated_context, fresh, generated_reference, generated_types, any_layer, generated_policy, signed_row, meaning_with, generated_row, PullsGenerated, IsCount}
+use Rattle.pull_generated.specs.Terms.{generated_settings, generated_context, fresh, generated_reference, generated_types, any_layer, generated_policy, signed_row, meaning_with, generated_row, PullsGenerated, IsCount}
 use Rattle.pull_generated.proofs.Valid.{valid}
 
 -- ---- memory was wanting before

@@ -23,13 +23,13 @@ use Rattle.json_values.specs.Places.{by_bytes}
 use Rattle.oci_digests.specs.Names.{names}
 use Rattle.oci_digests.specs.declared.digester.Algorithm.TheVariants.{Sha256}
 use Rattle.oci_digests.proofs.Equal.{named}
-use Rattle.oci_names.specs.References.{reads_back}
+use Rattle.oci_names.specs.Reference.{reads_back}
 use Rattle.oci_auth.specs.declared.auth.RegistryAuth.TheVariants.{Anonymous}
 use Rattle.oci_manifests.specs.declared.blob.ImageLayer.{ImageLayer}
 use Rattle.oci_descriptors.specs.declared.descriptor.OciDescriptor.{OciDescriptor}
 use Rattle.oci_transport.specs.Urls.{request_url}
 use Rattle.oci_link.specs.Leads.{entry_leads, redirects_lead}
-use Rattle.engine_rows.specs.Images.{layer_of}
+use Rattle.engine_rows.specs.Image.{layer_of}
 use Rattle.shelf_laws.specs.Home.{IsWrittenPlainly, front_of}
 use Rattle.shelf_laws.specs.Shelves.{layer_on, layers_on}
 use Rattle.shelf_laws.proofs.DigestTags.{dashed_text}
@@ -46,8 +46,8 @@ use Rattle.generated_image.specs.Shelf.{tag_for, payload_of, generated_shelf, Ha
 use Rattle.generated_image.specs.Texts.{sha256_text, image_text, payload_type, signatures_text}
 use Rattle.generated_image.proofs.Layer.{input_of, layer_for, layer_is, spells}
 use Rattle.generated_image.proofs.ManifestTexts.{describing, signatures_manifest}
-use Rattle.generated_image.proofs.Served.{image_on, has_signatures, payload_blobs, payload_there, tagged, signatures_tagged, is_short}
-use Rattle.pull_generated.specs.Generated.{generated_settings, generated_reference, generated_types, any_layer, generated_trust, meaning_with}
+use Rattle.generated_image.proofs.ShelfContents.{image_on, has_signatures, payload_blobs, payload_there, tagged, signatures_tagged, is_short}
+use Rattle.pull_generated.specs.Terms.{generated_settings, generated_reference, generated_types, any_layer, generated_trust, meaning_with}
 
 -- ---- the reference and the registry
 

@@ -8,8 +8,8 @@ ghost use Rattle.cosign_rows.specs.Refusal.{FaultCounted, NoSinkFault};
 ghost use Rattle.cosign_rows.specs.Shelves.{AnswersFrom, OkOrMemory};
 ghost use Rattle.cosign_rows.specs.Sound.{Backed};
 ghost use Rattle.generated_image.specs.Shelf.{generated_shelf, HasTwoDigests};
-ghost use Rattle.pull_generated.specs.Generated.{generated_context, fresh, generated_reference};
-ghost use Rattle.pull_generated.specs.Generated.{generated_types, generated_meaning, PullsGenerated, IsCaused, IsCount};
+ghost use Rattle.pull_generated.specs.Terms.{generated_context, fresh, generated_reference};
+ghost use Rattle.pull_generated.specs.Terms.{generated_types, generated_meaning, PullsGenerated, IsCaused, IsCount};
 
 use crate::terms::{fresh_client, terms_for};
 use cosign_client::{PullRefusal, VerifiedImage};

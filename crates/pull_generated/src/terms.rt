@@ -3,8 +3,8 @@ ghost use Rattle.std.specs.Prelude.{◌≡◌, [], ◌∷◌, Some, None, IfOk, 
 ghost use Rattle.std.specs.FinMap as map;
 ghost use Rattle.cosign_client.specs.State.{client_state};
 ghost use Rattle.sig_calls.specs.Direct.{reference_in};
-ghost use Rattle.pull_generated.specs.Generated.{generated_settings, fresh, generated_reference};
-ghost use Rattle.pull_generated.specs.Generated.{generated_types, any_layer, signed_row};
+ghost use Rattle.pull_generated.specs.Terms.{generated_settings, fresh, generated_reference};
+ghost use Rattle.pull_generated.specs.Terms.{generated_types, any_layer, signed_row};
 
 use cosign_client::Client;
 use cosign_layers::{AnnotationVerifier, Constraint, PullPolicy, SignedRow, TableVerifier};

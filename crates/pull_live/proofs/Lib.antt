@@ -1,7 +1,7 @@
-pub mod Carrying
-pub mod Causing
-pub mod Ending
+pub mod CarriedCalls
+pub mod EarlyEnds
 pub mod Loops
 pub mod Meanings
+pub mod PartsTogether
 pub mod Policies
 pub mod Ready

@@ -3,7 +3,9 @@ use Rattle.std.proofs.Common.{◌≡◌, Option, Some, None, IfSome, subst, code
 use Rattle.std.specs.FinMap.{empty}
 use Rattle.serde_json.specs.Data.{Data}
 use Rattle.serde_json.specs.Find.{get}
-use Rattle.json_tables.specs.Reading.{text_of, u64_of, bool_of, list_of, required, optional, at_name, only}
+use Rattle.json_tables.specs.Reading.{text_of, u64_of, bool_of, list_of}
+use Rattle.json_tables.specs.Objects.{only}
+use Rattle.json_tables.specs.Member.{required, optional, at_name}
 use Rattle.oci_auth.specs.declared.auth.RegistryAuth.TheVariants.{Anonymous}
 use Rattle.engine_terms.specs.declared.settings.ClientProtocol.TheVariants.{Https}
 use Rattle.pull_case.specs.Auth.{auth_of}

@@ -1,7 +1,7 @@
 -- A live pull: the settings, the search, the host's answers, the pull, and what goes out.
 use Rattle.std.specs.Prelude.{◌≡◌, true, false, List, [], None, Result, Ok, Err}
 use Rattle.serde_json.specs.Data.{Data}
-use Rattle.oci_names.specs.References.{reference_of}
+use Rattle.oci_names.specs.Reference.{reference_of}
 use Rattle.oci_names.specs.declared.reference.Reference.{Reference}
 use Rattle.sig_calls.specs.Clients.{Kept}
 use Rattle.cosign_layers.specs.declared.layer.SignatureLayer.{SignatureLayer}

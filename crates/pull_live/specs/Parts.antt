@@ -3,7 +3,7 @@ use Rattle.std.specs.Prelude.{◌≡◌, ℕ, Bool, true, false, List, Some, Non
 use Rattle.std.specs.FinMap.{FinMap}
 use Rattle.serde_json.specs.Data.{Data}
 use Rattle.json_values.specs.Places.{by_bytes}
-use Rattle.oci_names.specs.References.{reference_of}
+use Rattle.oci_names.specs.Reference.{reference_of}
 use Rattle.engine_terms.specs.Contexts.{within}
 use Rattle.engine_terms.specs.declared.settings.Settings.{Settings}
 use Rattle.sig_calls.specs.Clients.{Kept, Row}

@@ -3,9 +3,11 @@ use Rattle.std.specs.Prelude.{ℕ, List, [], ◌∷◌, Option, Some, None, IsOk
 use Rattle.std.specs.FinMap.{FinMap, empty}
 use Rattle.serde_json.specs.Data.{Data}
 use Rattle.json_values.specs.Places.{by_bytes}
-use Rattle.json_tables.specs.Reading.{◌>>=◌, text_of, u64_of, bool_of, list_of, map_of, required, optional, at_name, only}
+use Rattle.json_tables.specs.Reading.{◌>>=◌, text_of, u64_of, bool_of, list_of, map_of}
+use Rattle.json_tables.specs.Objects.{only}
+use Rattle.json_tables.specs.Member.{required, optional, at_name}
 use Rattle.json_tables.specs.Bytes.{base64_of}
-use Rattle.oci_names.specs.References.{reference_of}
+use Rattle.oci_names.specs.Reference.{reference_of}
 use Rattle.oci_auth.specs.declared.auth.RegistryAuth.TheVariants.{Anonymous}
 use Rattle.engine_terms.specs.declared.settings.ClientProtocol.TheVariants.{Https}
 use Rattle.pull_case.specs.Auth.{auth_of}

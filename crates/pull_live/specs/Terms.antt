@@ -5,7 +5,7 @@ use Rattle.json_values.specs.Places.{by_bytes}
 use Rattle.engine_terms.specs.Contexts.{within}
 use Rattle.engine_terms.specs.declared.settings.Settings.{Settings}
 use Rattle.sig_calls.specs.Clients.{Kept}
-use Rattle.sig_calls.specs.Errors.{is_memory as of_memory}
+use Rattle.sig_calls.specs.Error.{is_memory as of_memory}
 use Rattle.sig_settings.specs.Auths.{registry_auth}
 use Rattle.sig_calls.specs.Direct.{reference_in}
 use Rattle.sig_calls.specs.declared.error.SigstoreError.{SigstoreError}

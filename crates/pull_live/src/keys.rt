@@ -2,7 +2,8 @@
 ghost use Rattle.serde_json.specs.View.{items_view, members_view};
 ghost use Rattle.std.specs.FinMap.{empty};
 ghost use Rattle.json_tables.specs.Outcomes.{Gives};
-ghost use Rattle.json_tables.specs.Reading.{items_by, members_by, present};
+ghost use Rattle.json_tables.specs.Reading.{items_by, members_by};
+ghost use Rattle.json_tables.specs.Member.{present};
 ghost use Rattle.pull_case.specs.Members.{unless_absent};
 ghost use Rattle.pull_live.specs.Settings.{key_of, keys_of, log_keys_of};
 ghost use Rattle.serde_json.specs.View.{view};

@@ -1,7 +1,5 @@
 -- The report of a pull.
 use Rattle.std.specs.Prelude.{ℕ, List, [], ◌∷◌, ◌++◌, Result, Ok, Err, codes, decimal, flat_map}
-use Rattle.oci_transport.specs.declared.message.Method.{Method}
-use Rattle.oci_transport.specs.declared.message.Method.TheVariants.{Get, Head, Post, Put, Patch}
 use Rattle.oci_transport.specs.declared.message.Exchange.{Exchange}
 use Rattle.oci_descriptors.specs.declared.descriptor.OciDescriptor.{OciDescriptor}
 use Rattle.cosign_layers.specs.declared.layer.SignatureLayer.{SignatureLayer}
@@ -11,17 +9,7 @@ use Rattle.cosign_rows.specs.declared.refusal.PullRefusal.{PullRefusal}
 use Rattle.cosign_rows.specs.declared.refusal.PullRefusal.TheVariants.{Unsatisfied}
 use Rattle.pull_report.specs.Words.{line}
 use Rattle.pull_report.specs.Prints.{skipped_print, refusal_print}
-
-abbrev pub method_name : Method → List ℕ
-method_name Get = codes "GET"
-method_name Head = codes "HEAD"
-method_name Post = codes "POST"
-method_name Put = codes "PUT"
-method_name Patch = codes "PATCH"
-
--- what was asked
-abbrev pub exchange_line : Exchange → List ℕ
-exchange_line exchange = line (method_name exchange.request.method ∷ exchange.request.url ∷ [])
+use Rattle.pull_report.specs.Lines.{exchange_line}
 
 abbrev pub layer_line : OciDescriptor → List ℕ
 layer_line layer = line (codes "layer" ∷ layer.digest ∷ [])

@@ -1,7 +1,7 @@
 // Lines of a report: words with one space between each two, and a line feed.
 ghost use Rattle.std.specs.Prelude.{◌≡◌, [], ◌∷◌, ◌++◌, OnOk, flat_map};
 ghost use Rattle.pull_report.specs.Words.{line};
-ghost use Rattle.pull_report.specs.Report.{method_name};
+ghost use Rattle.pull_report.specs.Lines.{method_name};
 
 use crate::printed::{Printed, print1, word};
 use cosign_layers::SignatureLayer;
@@ -71,7 +71,7 @@ fn method_name(method: Method) -> &'static str
 }
 
 impl Line for Exchange {
-    ghost use Rattle.pull_report.specs.Report.{exchange_line};
+    ghost use Rattle.pull_report.specs.Lines.{exchange_line};
 
     ghost line = { exchange_line };
 

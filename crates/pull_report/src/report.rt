@@ -78,6 +78,6 @@ pub fn write_report(
     Ok(())
 }
 
-/// Lets an outcome go. Where one is dropped beside other values, each of its many cases is proved with them again; here it
-/// stands alone.
+/// Lets an outcome go. Where one is dropped beside other values, each of its many cases is proved with them again; here
+/// it stands alone.
 pub fn let_go(_outcome: Result<VerifiedImage, PullRefusal>) {}

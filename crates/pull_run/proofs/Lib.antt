@@ -1,7 +1,7 @@
-pub mod Answering
+pub mod CaseStatuses
 pub mod Commands
-pub mod Completing
-pub mod Generating
+pub mod GeneratedReports
 pub mod Inputs
+pub mod ShelfPulls
 pub mod Statuses
 pub mod Verdicts

@@ -13,7 +13,7 @@ use Rattle.pull_run.specs.declared.word.Word.{Word}
 use Rattle.pull_run.specs.Input.{input_limit, IsInput, IsRead, ReadsInput}
 use Rattle.pull_run.specs.Output.{Puts}
 use Rattle.pull_run.specs.Command.{command_of}
-use Rattle.pull_run.specs.Gen.{Generated, SaysGenerated}
+use Rattle.pull_run.specs.Generated.{Generated, SaysGenerated}
 use Rattle.pull_run.specs.declared.command.Command.{Command}
 use Rattle.pull_run.specs.declared.command.Command.TheVariants.{Reads, Generates}
 use Rattle.pull_run.specs.Program.{SaysTask, SaysCommand, Says, EndsWith, EndsUnread, EndsLong, EndsPast}

@@ -1,7 +1,7 @@
 -- What the words ask for.
 use Rattle.std.specs.Prelude.{ℕ, List, [], ◌∷◌, ◌==◌, ◌&&◌, Option, Some, None, option_map, if◌then◌else◌, codes, bytes_eq, nat_le, slice_index}
-use Rattle.engine_streams.specs.Heads.{decimal_of}
-use Rattle.pull_generated.specs.Generated.{IsCount}
+use Rattle.engine_streams.specs.Head.{decimal_of}
+use Rattle.pull_generated.specs.Terms.{IsCount}
 use Rattle.pull_run.specs.Word.{word_of}
 use Rattle.pull_run.specs.declared.command.Command.{Command}
 use Rattle.pull_run.specs.declared.command.Command.TheVariants.{Reads, Generates}

@@ -4,7 +4,7 @@ use Rattle.json_values.specs.Counts.{Rose}
 use Rattle.json_values.specs.Tray.{Tray}
 use Rattle.pull_edge.specs.Source.{Spring}
 use Rattle.oci_link.specs.declared.shelf.Shelf.{Shelf}
-use Rattle.oci_names.specs.References.{reference_of}
+use Rattle.oci_names.specs.Reference.{reference_of}
 use Rattle.oci_names.specs.declared.reference.Reference.{Reference}
 use Rattle.cosign_rows.specs.Shelves.{WideShelf}
 use Rattle.pull_case.specs.Case.{case_in}

@@ -2,7 +2,7 @@ pub mod Canon
 pub mod Check
 pub mod Command
 pub mod Complete
-pub mod Gen
+pub mod Generated
 pub mod Input
 pub mod Output
 pub mod Program

@@ -6,7 +6,7 @@ use Rattle.pull_edge.specs.Source.{Spring}
 use Rattle.pull_edge.specs.Reading.{TakesWithin}
 use Rattle.pull_edge.specs.declared.reading.ReadRefusal.TheVariants as read
 use Rattle.pull_run.specs.Command.{command_of}
-use Rattle.pull_run.specs.Gen.{SaysGenerated}
+use Rattle.pull_run.specs.Generated.{SaysGenerated}
 use Rattle.pull_run.specs.Input.{input_limit, IsCut, IsOther, IsRead}
 use Rattle.pull_run.specs.Status.{code_of}
 use Rattle.pull_run.specs.Task.{Task, task_of}

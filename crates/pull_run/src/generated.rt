@@ -2,8 +2,8 @@
 ghost use Rattle.std.specs.Prelude.{◌≡◌, IfOk};
 ghost use Rattle.cosign_rows.specs.Shelves.{OkOrMemory};
 ghost use Rattle.pull_edge.specs.Source.{Spring};
-ghost use Rattle.pull_generated.specs.Generated.{IsCount};
-ghost use Rattle.pull_run.specs.Gen.{generated_lines, WritesGenerated, Generated, SaysGenerated};
+ghost use Rattle.pull_generated.specs.Terms.{IsCount};
+ghost use Rattle.pull_run.specs.Generated.{generated_lines, WritesGenerated, Generated, SaysGenerated};
 
 use crate::output::deliver;
 use crate::status::Status;

@@ -4,11 +4,8 @@ ghost use Rattle.pull_run.specs.Input.{ReadsInput};
 
 use crate::status::Status;
 use crate::task::Task;
-use pull_edge::{Source, read_all};
+use pull_edge::{INPUT_LIMIT, Source, read_all};
 use std::alloc::Global;
-
-/// How many bytes the input may have.
-const INPUT_LIMIT: u64 = 67108864;
 
 /// Reads the input to its end, and what it says.
 pub fn read_input<T: Task + Drop, S: Source>(alloc: Global, source: &mut S) -> Result<T, Status>

@@ -1,7 +1,7 @@
 //! Which image is asked for, and by whom.
 ghost use Rattle.std.specs.Prelude.{◌≡◌, Ok, IsOk, IfOk};
 ghost use Rattle.oci_engine.specs.Clients.{default_config};
-ghost use Rattle.oci_names.specs.References.{reference_of};
+ghost use Rattle.oci_names.specs.Reference.{reference_of};
 ghost use Rattle.sig_calls.specs.Direct.{reference_in};
 ghost use Rattle.sig_settings.specs.Auths.{registry_auth};
 

@@ -11,14 +11,14 @@ use Rattle.url.specs.Parts.{Parts, serialize}
 use Rattle.json_values.specs.Places.{by_bytes}
 use Rattle.hex.specs.Hex.{encode_lower}
 use Rattle.oci_names.specs.declared.reference.Reference.{Reference}
-use Rattle.oci_names.specs.References.{digest_of, tag_of}
+use Rattle.oci_names.specs.Reference.{digest_of, tag_of}
 use Rattle.oci_digests.specs.Names.{Names, digest_text, name_of, hash_of}
 use Rattle.oci_digests.specs.Checks.{header_digest as digest_in, is_header_text, and_then}
-use Rattle.oci_digests.specs.Parts.{parts_of, named_by, named_algorithm}
+use Rattle.oci_digests.specs.Checks.{parts_of, named_by, named_algorithm}
 use Rattle.oci_digests.specs.declared.digester.Algorithm.{Algorithm}
 use Rattle.oci_digests.specs.declared.digester.Algorithm.TheVariants.{Sha256, Sha384, Sha512}
 use Rattle.oci_digests.specs.declared.error.DigestError.TheVariants as digest_refusal
-use Rattle.oci_digests.proofs.Validated.{algorithm_named, is_validated}
+use Rattle.oci_digests.proofs.ExactChecks.{algorithm_named, is_validated}
 use Rattle.oci_transport.specs.Headers.{Fields, values_of, first_of, added, held, is_header_value, digest_header}
 use Rattle.oci_transport.specs.Redirects.{may_follow}
 use Rattle.oci_transport.specs.declared.message.Request.{Request}
@@ -44,7 +44,7 @@ use Rattle.engine_requests.specs.Addresses.{manifest_name, manifest_text, blob_t
 use Rattle.engine_answers.specs.Answers.{accepted, or_digest_error, header_digest, body_digest, answer_digest, document_in, agreed, fits_reference, refused_answer, is_success, is_error}
 use Rattle.engine_answers.specs.Blobs.{digest_expected, pouring, plan_by, planned, plan_of, compared}
 use Rattle.engine_terms.specs.Contexts.{Context}
-use Rattle.engine_terms.specs.Errors.{◌>>=◌ as ◌into◌, ◌>>◌ as ◌and◌}
+use Rattle.engine_terms.specs.Error.{◌>>=◌ as ◌into◌, ◌>>◌ as ◌and◌}
 use Rattle.engine_requests.specs.Requests.{manifest_types}
 use Rattle.engine_requests.specs.Sources.{Layer, places_of, asked_at}
 use Rattle.engine_requests.specs.declared.sources.Place.{Place}
@@ -57,9 +57,9 @@ use Rattle.engine_rows.specs.Pulls.{document, manifest_document, pull_manifest_r
 use Rattle.shelf_laws.specs.Comes.{Comes, Yields, Gives, IsHeld}
 use Rattle.shelf_laws.specs.Home.{front_of, Home, IsAt, CanBeShown, Settled}
 use Rattle.shelf_laws.specs.Shelves.{IsShort, HasDocument, HasBlob}
-use Rattle.shelf_laws.proofs.Coming.{Gives-done, Gives-next}
+use Rattle.shelf_laws.proofs.TableSteps.{Gives-done, Gives-next}
 use Rattle.shelf_laws.proofs.DigestTexts.{digest_all, is_lower_digit}
-use Rattle.shelf_laws.proofs.Leading.{none_held, Answers, Comes-led}
+use Rattle.shelf_laws.proofs.ShelfRedirects.{none_held, Answers, Comes-led}
 use Rattle.shelf_laws.proofs.PlainNames.{digest_segment, item_plain}
 use Rattle.shelf_laws.proofs.Places.{item_path, answers_manifest, answers_blob, manifest_text_is, blob_text_is}
 use Rattle.shelf_laws.proofs.Requests.{yields_ok, IsFor, url_reads, within_reads}

@@ -11,7 +11,7 @@ use Rattle.percent_encoding.proofs.PercentLemmas.{IsByte}
 use Rattle.json_values.specs.Places.{by_bytes}
 use Rattle.url.specs.Parts.{Parts}
 use Rattle.oci_names.specs.declared.reference.Reference.{Reference}
-use Rattle.oci_names.specs.References.{repository_of, tag_of, digest_of, namespace_of}
+use Rattle.oci_names.specs.Reference.{repository_of, tag_of, digest_of, namespace_of}
 use Rattle.oci_transport.specs.Headers.{first_of, values_of, added, held, is_header_value}
 use Rattle.oci_transport.specs.Redirects.{may_follow, is_redirect_status}
 use Rattle.oci_transport.specs.declared.message.Request.{Request}
@@ -21,17 +21,17 @@ use Rattle.oci_link.specs.PlainPaths.{PlainPath, Segment, Scheme, ReadsAs, Plain
 use Rattle.oci_link.specs.Table.{answer, at_path, unless_redirected, redirect_to, manifest_answer, blob_answer, referrers_answer, is_get, is_get_or_head, found, not_found}
 use Rattle.oci_link.specs.declared.shelf.Shelf.{Shelf}
 use Rattle.oci_link.specs.Paths.{path_of}
-use Rattle.oci_link.proofs.PlainReading.{plain_paths_read}
+use Rattle.oci_link.proofs.PlainPathReads.{plain_paths_read}
 use Rattle.oci_link.proofs.ShelfAnswers.{path_of-at, answer-base, answer-manifest, answer-blob, answer-referrers}
 use Rattle.engine_terms.specs.declared.settings.ClientProtocol.{ClientProtocol}
 use Rattle.engine_terms.specs.declared.settings.ClientProtocol.TheVariants.{Http, Https, HttpsExcept}
 use Rattle.engine_terms.specs.declared.settings.Settings.{Settings}
 use Rattle.engine_requests.specs.ReferrerLists.{referrers_text}
 use Rattle.engine_requests.specs.Addresses.{registry_text, base_text, manifest_name, manifest_text, blob_text, mirrored}
-use Rattle.engine_terms.specs.Schemes.{is_listed, scheme_for}
+use Rattle.engine_terms.specs.Settings.{is_listed, scheme_for}
 use Rattle.shelf_laws.specs.Home.{front_of, IsWrittenPlainly, Home, IsAt}
 use Rattle.shelf_laws.proofs.DigestTexts.{and_both}
-use Rattle.shelf_laws.proofs.Leading.{byte_below, Answers, without_redirects, at_path_is}
+use Rattle.shelf_laws.proofs.ShelfRedirects.{byte_below, Answers, without_redirects, at_path_is}
 use Rattle.shelf_laws.proofs.ReadUrls.{Visible, front_all, request_read}
 use Rattle.shelf_laws.proofs.PlainNames.{base_plain, item_plain, plain_asks_nothing, domain_slashless}
 

@@ -10,7 +10,7 @@ use Rattle.sha2.proofs.Facts256.{length-sha256}
 use Rattle.sha2.proofs.Facts512.{length-sha384, length-sha512}
 use Rattle.oci_names.specs.Grammar.{is_hexadecimal, before, after, is_path_letter, is_tag_byte, is_digest}
 use Rattle.oci_names.specs.Parts.{Parts, parts_of, domain_in, rest_in, is_domain_part, is_grammatical, registry_named, library_for, repository_named, tag_named, digest_refusal, refusal_of, marked, is_slash}
-use Rattle.oci_names.specs.References.{reference_named, reference_of, whole_text, resolved_registry, reads_back}
+use Rattle.oci_names.specs.Reference.{reference_named, reference_of, whole_text, resolved_registry, reads_back}
 use Rattle.oci_names.specs.Words.{Run, Domain, PathSeparator, PathComponent, Path, Tag, Encoded, InGrammar}
 use Rattle.oci_names.specs.declared.parse_error.ParseError.{ParseError}
 use Rattle.oci_names.specs.declared.parse_error.ParseError.TheVariants.{NameEmpty, ReferenceInvalidFormat, NameTooLong, DigestInvalidLength}

@@ -12,7 +12,7 @@ use Rattle.oci_transport.specs.Urls.{request_url}
 use Rattle.oci_transport.specs.declared.message.Request.{Request}
 use Rattle.oci_transport.specs.declared.message.Answer.{Answer}
 use Rattle.oci_transport.specs.declared.message.Method.{Method}
-use Rattle.oci_auth.specs.Credentials.{authorization_of}
+use Rattle.oci_auth.specs.Auth.{authorization_of}
 use Rattle.oci_auth.specs.declared.token_type.RegistryTokenType.{RegistryTokenType}
 use Rattle.oci_protocol.specs.Proto.{Within, Answered, TooLong}
 use Rattle.oci_protocol.specs.Drive.{reply_of}
@@ -25,7 +25,7 @@ use Rattle.engine_requests.specs.Addresses.{url_or, url_read}
 use Rattle.engine_requests.specs.Requests.{with_header, with_token, request_of}
 use Rattle.shelf_laws.specs.Comes.{Yields}
 use Rattle.shelf_laws.specs.Home.{front_of, Home}
-use Rattle.shelf_laws.proofs.Leading.{no_entries, none_held}
+use Rattle.shelf_laws.proofs.ShelfRedirects.{no_entries, none_held}
 use Rattle.shelf_laws.proofs.Places.{reads_at}
 
 pub yields_ok : {A E : Type 0} (P : A → Type 0) (r : Result A E) (a : A) → r ≡ Ok a → P a → Yields P r

@@ -9,7 +9,7 @@ use Rattle.std.proofs.Common.{◌≡◌, inl, inr, ℕ, Bool, true, false, cond,
 use Rattle.url.specs.Parts.{Parts, serialize}
 use Rattle.json_values.specs.Places.{by_bytes}
 use Rattle.oci_names.specs.declared.reference.Reference.{Reference}
-use Rattle.oci_names.specs.References.{repository_of, resolved_registry}
+use Rattle.oci_names.specs.Reference.{repository_of, resolved_registry}
 use Rattle.oci_transport.specs.Headers.{first_of, is_header_value}
 use Rattle.oci_transport.specs.Urls.{request_url}
 use Rattle.oci_transport.specs.declared.message.Request.{Request}
@@ -25,8 +25,8 @@ use Rattle.oci_auth.specs.declared.token.RegistryToken.TheVariants.{Token}
 use Rattle.oci_auth.specs.declared.token_type.RegistryOperation.TheVariants.{Pull}
 use Rattle.oci_auth.specs.declared.token_type.RegistryTokenType.{RegistryTokenType}
 use Rattle.oci_auth.specs.declared.token_type.RegistryTokenType.TheVariants as shown
-use Rattle.oci_auth.specs.Caches.{key_of, kept_until, kept_token, given_at, token_at}
-use Rattle.oci_auth.specs.Keys.{Key, under, kept_under, inserted}
+use Rattle.oci_auth.specs.Cache.{key_of, kept_until, kept_token, given_at, token_at}
+use Rattle.oci_auth.specs.Kept.{Key, under, kept_under, inserted}
 use Rattle.oci_auth.specs.Memory.{fresh, stored}
 use Rattle.oci_auth.proofs.Places.{is_kept}
 use Rattle.oci_protocol.specs.Proto.{read_none, bind}
@@ -41,7 +41,7 @@ use Rattle.engine_requests.specs.Tokens.{wanted, wanted_in}
 use Rattle.engine_rows.specs.Rows.{Row, head_reply, head_after, store, fetched, registry_asked, token_step, with_kept, taken, token_asked, kept_or_asked, token_by, token_for, goes_to, token_where, authorized, prepared, kept_text, token_given}
 use Rattle.shelf_laws.specs.Comes.{Comes, Yields, Gives}
 use Rattle.shelf_laws.specs.Home.{front_of, Home, IsAt, CanBeShown, shown_unasked, NoneBut, IsToken, Settled}
-use Rattle.shelf_laws.proofs.Coming.{Comes-follow, Gives-done, Gives-next, Gives-more, Gives-caught}
+use Rattle.shelf_laws.proofs.TableSteps.{Comes-follow, Gives-done, Gives-next, Gives-more, Gives-caught}
 use Rattle.shelf_laws.proofs.Places.{base_unasked, base_text_is, registry_text_is}
 use Rattle.shelf_laws.proofs.PlainNames.{base_plain}
 use Rattle.shelf_laws.proofs.Requests.{yields_ok, CanStand, IsFor, request_made, bare_made, url_reads}

@@ -3,7 +3,7 @@ use Rattle.std.specs.Prelude.{◌≡◌, ◌⊎◌, ℕ, List, ◌++◌, Option,
 use Rattle.std.specs.FinMap as map
 use Rattle.url.specs.Parts.{Parts, serialize}
 use Rattle.oci_names.specs.declared.reference.Reference.{Reference}
-use Rattle.oci_names.specs.References.{repository_of, resolved_registry, namespace_of}
+use Rattle.oci_names.specs.Reference.{repository_of, resolved_registry, namespace_of}
 use Rattle.oci_names.specs.Words.{Domain, Path}
 use Rattle.oci_transport.specs.Urls.{request_url}
 use Rattle.oci_transport.specs.Headers.{is_header_value}
@@ -17,8 +17,8 @@ use Rattle.oci_auth.specs.declared.token.RegistryToken.TheVariants.{Token}
 use Rattle.oci_auth.specs.declared.token_type.RegistryOperation.TheVariants.{Pull}
 use Rattle.oci_auth.specs.declared.token_type.RegistryTokenType.{RegistryTokenType}
 use Rattle.oci_auth.specs.declared.token_type.RegistryTokenType.TheVariants as shown
-use Rattle.oci_auth.specs.Keys.{under, kept_under}
-use Rattle.engine_terms.specs.Schemes.{scheme_for}
+use Rattle.oci_auth.specs.Kept.{under, kept_under}
+use Rattle.engine_terms.specs.Settings.{scheme_for}
 use Rattle.engine_terms.specs.declared.settings.Settings.{Settings}
 
 -- the text before the paths of a registry's URLs

@@ -15,7 +15,7 @@ use Rattle.engine_terms.specs.declared.settings.Settings.{Settings}
 use Rattle.engine_answers.specs.Documents.{document_read}
 use Rattle.engine_answers.specs.Index.{entry_found}
 use Rattle.engine_answers.specs.Referrers.{index_read, referrers_tag}
-use Rattle.engine_rows.specs.Images.{layer_of}
+use Rattle.engine_rows.specs.Image.{layer_of}
 
 -- no document, blob or list of referrers is longer than a body may be
 pub record IsShort (s : Settings) (shelf : Shelf) : Type 0 where

@@ -6,7 +6,7 @@ use Rattle.oci_names.specs.declared.parse_error.ParseError.{ParseError}
 use Rattle.oci_names.specs.declared.parse_error.ParseError.TheVariants.{NameEmpty}
 use Rattle.oci_names.specs.declared.reference.Reference.{Reference}
 use Rattle.oci_names.specs.Parts.{Parts, parts_of, refusal_of}
-use Rattle.oci_names.specs.References.{reference_of, reference_named, mirror_of}
+use Rattle.oci_names.specs.Reference.{reference_of, reference_named, mirror_of}
 
 abbrev mirror_in : Result Reference ParseError → Option (List ℕ)
 mirror_in (Ok r) = mirror_of r

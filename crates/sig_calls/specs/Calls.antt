@@ -1,7 +1,7 @@
 -- The calls of a client, each as the engine's, with its refusals in the words of the call.
 use Rattle.std.specs.Prelude.{ℕ, List, Option}
 use Rattle.oci_names.specs.declared.reference.Reference.{Reference}
-use Rattle.oci_names.specs.References.{whole_text, reads_back}
+use Rattle.oci_names.specs.Reference.{whole_text, reads_back}
 use Rattle.oci_auth.specs.declared.auth.RegistryAuth.{RegistryAuth}
 use Rattle.oci_auth.specs.declared.token_type.RegistryOperation.TheVariants as operation
 use Rattle.oci_manifests.specs.declared.document.OciManifest.{OciManifest}
@@ -12,7 +12,7 @@ use Rattle.engine_terms.specs.Contexts.{Context}
 use Rattle.engine_requests.specs.Sources.{Layer}
 use Rattle.engine_rows.specs.Rows.{Row as Engine, token_given}
 use Rattle.engine_rows.specs.Pulls.{fetch_manifest_digest, pull_manifest, pull_manifest_raw, held_blob}
-use Rattle.engine_rows.specs.Images.{pull}
+use Rattle.engine_rows.specs.Image.{pull}
 use Rattle.engine_rows.specs.Referrers.{pull_referrers}
 use Rattle.engine_rows.specs.declared.image.ImageData.{ImageData}
 use Rattle.sig_answers.specs.Answers.{as_digest, as_manifest, as_image, as_referrers}
@@ -21,7 +21,7 @@ use Rattle.sig_answers.specs.declared.answer.Kind.TheVariants as kinds
 use Rattle.sig_settings.specs.Keys.{manifest_key, pull_key, referrers_key}
 use Rattle.sig_calls.specs.declared.wording.Called.{Called}
 use Rattle.sig_calls.specs.declared.wording.Called.TheVariants.{FetchManifest, Pull, PullManifest}
-use Rattle.sig_calls.specs.Errors.{worded}
+use Rattle.sig_calls.specs.Wording.{worded}
 use Rattle.sig_calls.specs.Caching.{Cache, cached}
 use Rattle.sig_calls.specs.Clients.{Plain, Row}
 

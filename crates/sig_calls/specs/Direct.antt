@@ -4,7 +4,7 @@ use Rattle.std.specs.Cmp.{IsEquivalence, on_equiv}
 use Rattle.oci_names.specs.declared.parse_error.ParseError.{ParseError}
 use Rattle.oci_names.specs.declared.reference.Reference.{Reference}
 use Rattle.oci_names.specs.Equalities.{references as equal_references}
-use Rattle.oci_names.specs.References.{reference_of, is_same}
+use Rattle.oci_names.specs.Reference.{reference_of, is_same}
 use Rattle.sig_calls.specs.declared.reference.OciReference.{OciReference}
 use Rattle.sig_calls.specs.declared.error.SigstoreError.{SigstoreError}
 use Rattle.sig_calls.specs.declared.error.SigstoreError.TheVariants as sigstore

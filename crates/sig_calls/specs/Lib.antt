@@ -3,5 +3,6 @@ pub mod Calls
 pub mod Clients
 pub mod Confinement
 pub mod Direct
-pub mod Errors
+pub mod Error
 pub mod Log
+pub mod Wording

@@ -1,10 +1,9 @@
 -- The calls of one client over time, and where their answers come from.
-use Rattle.std.specs.Prelude.{◌≡◌, ◌⊎◌, ◌≤◌, ◌<◌, ◌-◌, ℕ, List, [], ◌∷◌, Option, Some, None, Result}
-use Rattle.std.specs.Prelude.{Ok, Err, true}
+use Rattle.std.specs.Prelude.{◌≡◌, ◌⊎◌, ◌≤◌, ◌<◌, ◌-◌, ℕ, List, [], ◌∷◌, Option, Some, None, Result, Ok, Err, true}
 use Rattle.oci_transport.specs.declared.message.Exchange.{Exchange}
 use Rattle.oci_transport.specs.Link.{Link, Extends}
 use Rattle.oci_names.specs.declared.reference.Reference.{Reference}
-use Rattle.oci_names.specs.References.{reads_back}
+use Rattle.oci_names.specs.Reference.{reads_back}
 use Rattle.oci_auth.specs.declared.auth.RegistryAuth.{RegistryAuth}
 use Rattle.oci_auth.specs.declared.memory.Memory.{Memory}
 use Rattle.oci_protocol.specs.Proto.{Done, bind}
@@ -22,7 +21,7 @@ use Rattle.sig_calls.specs.Caching.{Cache, known}
 use Rattle.sig_calls.specs.Calls.{digests, manifests, images, referrers}
 use Rattle.sig_calls.specs.Calls.{digest_made, manifest_made, image_made, referrers_made}
 use Rattle.sig_calls.specs.Clients.{Client, Plain}
-use Rattle.sig_calls.specs.Errors.{Says}
+use Rattle.sig_calls.specs.Error.{Says}
 use Rattle.sig_calls.specs.declared.error.SigstoreError.{SigstoreError}
 
 -- a call whose answer may be kept, with what it is asked with

@@ -9,7 +9,7 @@ ghost use Rattle.sig_calls.specs.Calls.{digest_call, manifest_call, image_call, 
 ghost use Rattle.sig_calls.specs.Calls.{referrers_call};
 ghost use Rattle.sig_calls.specs.Clients.{Client, Fulfils, KeepsAnswers, RefusalKeeps};
 ghost use Rattle.sig_calls.specs.Confinement.{Stays, StaysWithTag};
-ghost use Rattle.sig_calls.specs.Errors.{is_memory, FaultCounted, NoSinkFault};
+ghost use Rattle.sig_calls.specs.Error.{is_memory, FaultCounted, NoSinkFault};
 ghost use Rattle.sig_calls.specs.Log.{DigestCall, ManifestCall, ImageCall, ReferrersCall, Recalled, Logged};
 
 use crate::error::SigstoreError;

@@ -1,6 +1,6 @@
 // Why a call was refused, with the image that it was made for.
 ghost use Rattle.std.specs.Prelude.{◌≡◌};
-ghost use Rattle.sig_calls.specs.Errors.{is_memory};
+ghost use Rattle.sig_calls.specs.Error.{is_memory};
 
 use engine_terms::OciDistributionError;
 use json_values::{Copied, Text, copy_all, row};

@@ -1,8 +1,8 @@
 // References without a mirror.
 ghost use Rattle.std.specs.Prelude.{◌≡◌, ◌↔◌, IsTrue, IfOk, IfErr, option_copied, None, Some, Ok};
-ghost use Rattle.oci_names.specs.References.{registry_of, repository_of, tag_of, digest_of};
-ghost use Rattle.oci_names.specs.References.{mirror_of, resolved_registry, whole_text};
-ghost use Rattle.oci_names.specs.References.{reference_of};
+ghost use Rattle.oci_names.specs.Reference.{registry_of, repository_of, tag_of, digest_of};
+ghost use Rattle.oci_names.specs.Reference.{mirror_of, resolved_registry, whole_text};
+ghost use Rattle.oci_names.specs.Reference.{reference_of};
 
 use crate::error::SigstoreError;
 use json_values::{Copied, Text};

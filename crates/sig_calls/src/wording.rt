@@ -1,7 +1,8 @@
 // Refusals of the registry's client, in the words of the call.
 ghost use Rattle.std.specs.Prelude.{◌≡◌, IfOk};
-ghost use Rattle.oci_names.specs.References.{whole_text};
-ghost use Rattle.sig_calls.specs.Errors.{refusal, worded, Says};
+ghost use Rattle.oci_names.specs.Reference.{whole_text};
+ghost use Rattle.sig_calls.specs.Error.{Says};
+ghost use Rattle.sig_calls.specs.Wording.{refusal, worded};
 
 use crate::error::SigstoreError;
 use engine_terms::OciDistributionError;

@@ -1,2 +1,2 @@
 mod ReadBack
-mod Unescaped
+mod Base64InJson

@@ -4,7 +4,8 @@ use Rattle.base64.specs.Engines.{standard}
 use Rattle.base64.specs.GeneralPurpose.{encode_of}
 use Rattle.serde_json.specs.Data.{Data}
 use Rattle.json_tables.specs.Bytes.{base64_of}
-use Rattle.json_tables.specs.Reading.{◌>>=◌, required, text_of}
+use Rattle.json_tables.specs.Reading.{◌>>=◌, text_of}
+use Rattle.json_tables.specs.Member.{required}
 use Rattle.sig_envelope.specs.Scrypt.{params_of}
 use Rattle.sig_envelope.specs.declared.envelope.Cipher.{Cipher}
 use Rattle.sig_envelope.specs.declared.envelope.Derivation.{Derivation}

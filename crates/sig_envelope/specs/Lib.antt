@@ -2,5 +2,5 @@ pub mod Constants
 pub mod Decrypt
 pub mod Encrypt
 pub mod Envelope
-pub mod Refusals
+pub mod Error
 pub mod Scrypt

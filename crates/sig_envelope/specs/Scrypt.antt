@@ -1,7 +1,8 @@
 -- The parameters of scrypt (RFC 7914, 2).
 use Rattle.std.specs.Prelude.{ℕ, Bool, ◌==◌, ◌&&◌, ◌||◌, if◌then◌else◌, Option, Some, codes}
 use Rattle.serde_json.specs.Data.{Data}
-use Rattle.json_tables.specs.Reading.{◌>>=◌, required, u32_of}
+use Rattle.json_tables.specs.Reading.{◌>>=◌, u32_of}
+use Rattle.json_tables.specs.Member.{required}
 use Rattle.sig_envelope.specs.declared.scrypt.ScryptParams.{ScryptParams}
 
 -- cosign's parameters

@@ -1,6 +1,6 @@
 //! Why an envelope is not opened.
 ghost use Rattle.std.specs.Prelude.{◌≡◌};
-ghost use Rattle.sig_envelope.specs.Refusals.{is_memory};
+ghost use Rattle.sig_envelope.specs.Error.{is_memory};
 
 use json_values::{Copied, Text};
 use std::alloc::{AllocError, Global};
@@ -16,7 +16,7 @@ pub enum DecryptCause {
     #[error("the key derivation is not scrypt: encrypt the key with cosign")]
     UnknownKdf(Text),
     /// N is neither 32768 nor 65536, r is not 8, or p is not 1.
-    #[error("the parameters of scrypt are none that cosign writes")]
+    #[error("the parameters of scrypt are none that cosign writes: encrypt the key with cosign")]
     UnexpectedParameters,
     /// The nonce has not 24 bytes.
     #[error("the nonce has not 24 bytes: the envelope was changed")]
@@ -35,7 +35,7 @@ pub enum KdfError {
     /// The envelope reads, and is not opened.
     #[error("the private key is not decrypted: {0}")]
     PrivateKeyDecryptError(DecryptCause),
-    #[error("out of memory")]
+    #[error("out of memory: free some and try again")]
     WantOfMemory,
 }
 

@@ -5,7 +5,7 @@ ghost use Rattle.json_values.specs.Refusals.{Says};
 ghost use Rattle.sig_envelope.specs.Decrypt.{checked, decrypted, plain_of};
 ghost use Rattle.sig_envelope.specs.Encrypt.{encrypted, OpensWhatItSeals};
 ghost use Rattle.sig_envelope.specs.Envelope.{envelope_of, envelope_text, envelope_with};
-ghost use Rattle.sig_envelope.specs.Refusals.{is_memory};
+ghost use Rattle.sig_envelope.specs.Error.{is_memory};
 ghost use Rattle.sig_envelope.specs.declared.error.KdfError.TheVariants.{PrivateKeyDecryptError};
 
 use crate::base64_text::push_base64;

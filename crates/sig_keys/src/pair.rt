@@ -1,7 +1,8 @@
 //! Keys of any kind.
 ghost use Rattle.std.specs.Prelude.{◌≡◌, IfOk};
 ghost use Rattle.json_values.specs.Refusals.{Says};
-ghost use Rattle.sig_schemes.specs.Outcomes.{Parses, is_memory};
+ghost use Rattle.sig_schemes.specs.Outcomes.{Parses};
+ghost use Rattle.sig_schemes.specs.Error.{is_memory};
 ghost use Rattle.sig_keys.specs.Pair.{pair_read, pair_kind, pair_public, pair_private, pair_scheme, signer_under};
 
 use crate::ecdsa::ECDSAKeys;

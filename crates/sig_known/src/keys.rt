@@ -1,6 +1,6 @@
 // The texts that answers are kept under.
 ghost use Rattle.std.specs.Prelude.{◌≡◌, IfOk, option_copied};
-ghost use Rattle.oci_names.specs.References.{reads_back};
+ghost use Rattle.oci_names.specs.Reference.{reads_back};
 ghost use Rattle.sig_settings.specs.Keys.{manifest_key, pull_key, referrers_key};
 ghost use Rattle.sig_calls.specs.Caching.{key_if};
 

@@ -4,7 +4,8 @@ use Rattle.std.specs.List.{list_any}
 use Rattle.serde_json.specs.Data.{Data, string}
 use Rattle.serde_json.specs.Find.{get}
 use Rattle.json_values.specs.Writing.{listed}
-use Rattle.json_tables.specs.Reading.{text_of, i32_of, list_of, present, unless_null}
+use Rattle.json_tables.specs.Reading.{text_of, i32_of, list_of}
+use Rattle.json_tables.specs.Member.{present, unless_null}
 use Rattle.json_writing.specs.Fields.{fields}
 use Rattle.json_writing.specs.Again.{ReadsAgain, MemberReadsAgain}
 use Rattle.json_writing.proofs.Members.{among, or_else, or_else-none, get-fields, fields_plain}

@@ -2,7 +2,8 @@
 use Rattle.std.specs.Prelude.{List, [], ◌∷◌, Bool, Option, Some, codes}
 use Rattle.serde_json.specs.Data.{Data, string}
 use Rattle.serde_json.specs.Written.{has_float}
-use Rattle.json_tables.specs.Reading.{◌>>=◌, text_of, required}
+use Rattle.json_tables.specs.Reading.{◌>>=◌, text_of}
+use Rattle.json_tables.specs.Member.{required}
 use Rattle.json_writing.specs.Fields.{Field, fields}
 use Rattle.sig_models.specs.Values.{any_value}
 use Rattle.sig_models.specs.declared.all_of.EntryAllOf.{EntryAllOf}

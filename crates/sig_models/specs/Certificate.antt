@@ -4,7 +4,8 @@ use Rattle.std.specs.Str.{bytes_eq}
 use Rattle.serde_json.specs.Data.{Data}
 use Rattle.json_tables.specs.Bytes.{base64_of}
 use Rattle.json_tables.specs.Plain.{read_plain}
-use Rattle.json_tables.specs.Reading.{◌>>=◌, text_of, list_of, required}
+use Rattle.json_tables.specs.Reading.{◌>>=◌, text_of, list_of}
+use Rattle.json_tables.specs.Member.{required}
 use Rattle.sig_models.specs.Sct.{inner_sct_of}
 use Rattle.sig_models.specs.Single.{single_of}
 use Rattle.sig_models.specs.declared.certificate.CertificateChain.{CertificateChain}

@@ -1,7 +1,8 @@
 -- What the log says of a refusal (Rekor's API, `Error`).
 use Rattle.std.specs.Prelude.{List, [], ◌∷◌, Option, Some, option_map, codes}
 use Rattle.serde_json.specs.Data.{Data, string}
-use Rattle.json_tables.specs.Reading.{◌>>=◌, text_of, i32_of, optional}
+use Rattle.json_tables.specs.Reading.{◌>>=◌, text_of, i32_of}
+use Rattle.json_tables.specs.Member.{optional}
 use Rattle.json_writing.specs.Fields.{Field, fields}
 use Rattle.sig_models.specs.declared.error.Error.{Error}
 use Rattle.sig_models.specs.Numbers.{whole}

@@ -1,7 +1,8 @@
 -- A part of the log that takes no more entries (Rekor's API, `InactiveShardLogInfo`).
 use Rattle.std.specs.Prelude.{List, [], ◌∷◌, Option, Some, codes}
 use Rattle.serde_json.specs.Data.{Data, string}
-use Rattle.json_tables.specs.Reading.{◌>>=◌, text_of, u64_of, required}
+use Rattle.json_tables.specs.Reading.{◌>>=◌, text_of, u64_of}
+use Rattle.json_tables.specs.Member.{required}
 use Rattle.json_writing.specs.Fields.{Field, fields}
 use Rattle.sig_models.specs.Numbers.{size}
 use Rattle.sig_models.specs.declared.inactive_shard.InactiveShardLogInfo.{InactiveShardLogInfo}

@@ -1,7 +1,8 @@
 -- An entry of the log (Rekor's API, `LogEntry`).
 use Rattle.std.specs.Prelude.{Option, Some}
 use Rattle.serde_json.specs.Data.{Data}
-use Rattle.json_tables.specs.Reading.{◌>>=◌, an_object}
+use Rattle.json_tables.specs.Reading.{◌>>=◌}
+use Rattle.json_tables.specs.Objects.{an_object}
 use Rattle.sig_models.specs.Single.{single_of}
 use Rattle.sig_models.specs.declared.log_entry.LogEntry.{LogEntry}
 

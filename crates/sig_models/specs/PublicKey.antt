@@ -1,7 +1,8 @@
 -- A public key that the log is searched by (Rekor's API, `SearchIndex`).
 use Rattle.std.specs.Prelude.{List, [], ◌∷◌, Option, Some, option_map, codes}
 use Rattle.serde_json.specs.Data.{Data, string}
-use Rattle.json_tables.specs.Reading.{◌>>=◌, text_of, required, optional}
+use Rattle.json_tables.specs.Reading.{◌>>=◌, text_of}
+use Rattle.json_tables.specs.Member.{required, optional}
 use Rattle.json_writing.specs.Fields.{Field, fields}
 use Rattle.sig_models.specs.Format.{format_of, format_written}
 use Rattle.sig_models.specs.declared.public_key.SearchIndexPublicKey.{SearchIndexPublicKey}

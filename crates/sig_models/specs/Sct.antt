@@ -2,7 +2,8 @@
 use Rattle.std.specs.Prelude.{ℕ, ◌+◌, ◌*◌, List, ◌∷◌, length, nat_eq, if◌then◌else◌, Option, Some, None, Result, Ok, Err, codes}
 use Rattle.serde_json.specs.Data.{Data}
 use Rattle.json_tables.specs.Bytes.{base64_of}
-use Rattle.json_tables.specs.Reading.{◌>>=◌, u64_of, required}
+use Rattle.json_tables.specs.Reading.{◌>>=◌, u64_of}
+use Rattle.json_tables.specs.Member.{required}
 use Rattle.sig_models.specs.declared.sct.SctError.{SctError}
 use Rattle.sig_models.specs.declared.sct.SctError.TheVariants.{TooShort, LengthMismatch}
 use Rattle.sig_models.specs.declared.sct.SCTVersion.{SCTVersion}

@@ -1,7 +1,8 @@
 -- What the log's index is searched by (Rekor's API, `SearchIndex`).
 use Rattle.std.specs.Prelude.{List, [], ◌∷◌, Option, Some, option_map, codes}
 use Rattle.serde_json.specs.Data.{Data, string}
-use Rattle.json_tables.specs.Reading.{◌>>=◌, text_of, optional}
+use Rattle.json_tables.specs.Reading.{◌>>=◌, text_of}
+use Rattle.json_tables.specs.Member.{optional}
 use Rattle.json_writing.specs.Fields.{Field, fields}
 use Rattle.sig_models.specs.PublicKey.{public_key_of, public_key_written}
 use Rattle.sig_models.specs.declared.search_index.SearchIndex.{SearchIndex}

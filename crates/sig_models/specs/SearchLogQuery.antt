@@ -3,7 +3,8 @@ use Rattle.std.specs.Prelude.{List, [], ◌∷◌, Bool, false, Option, Some, op
 use Rattle.std.specs.List.{list_any}
 use Rattle.serde_json.specs.Data.{Data, string}
 use Rattle.json_values.specs.Writing.{listed}
-use Rattle.json_tables.specs.Reading.{◌>>=◌, text_of, i32_of, list_of, optional}
+use Rattle.json_tables.specs.Reading.{◌>>=◌, text_of, i32_of, list_of}
+use Rattle.json_tables.specs.Member.{optional}
 use Rattle.json_writing.specs.Fields.{Field, fields}
 use Rattle.sig_models.specs.Numbers.{whole}
 use Rattle.sig_models.specs.ProposedEntry.{proposed_entry_of, proposed_entry_written, spec_has_float}

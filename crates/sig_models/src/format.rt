@@ -79,7 +79,7 @@ impl Reads for Format {
 }
 
 impl Member for Format {
-    ghost use Rattle.json_tables.specs.Reading.{present};
+    ghost use Rattle.json_tables.specs.Member.{present};
     ghost use Rattle.sig_models.specs.Format.{format_of};
 
     ghost found = { present format_of };

@@ -2,7 +2,8 @@
 ghost use Rattle.std.specs.Prelude.{◌≡◌, IfOk, Some, false};
 ghost use Rattle.serde_json.specs.Data.{number, unsigned};
 ghost use Rattle.serde_json.specs.Find.{of_integer};
-ghost use Rattle.json_tables.specs.Reading.{i32_of, u64_of, present};
+ghost use Rattle.json_tables.specs.Reading.{i32_of, u64_of};
+ghost use Rattle.json_tables.specs.Member.{present};
 ghost use Rattle.json_writing.specs.Again.{MemberReadsAgain};
 
 use json_tables::{ReadError, Reads};

@@ -5,15 +5,15 @@ use Rattle.std.specs.Result.{IsErrAnd}
 use Rattle.std.proofs.lemmas.Result.{err_from_is_err_and}
 use Rattle.oci_transport.specs.Link.{Link}
 use Rattle.oci_names.specs.declared.reference.Reference.{Reference}
-use Rattle.oci_names.specs.References.{reads_back}
+use Rattle.oci_names.specs.Reference.{reads_back}
 use Rattle.oci_auth.specs.declared.auth.RegistryAuth.{RegistryAuth}
 use Rattle.oci_auth.specs.declared.memory.Memory.{Memory as Memories}
 use Rattle.oci_manifests.specs.declared.document.OciManifest.{OciManifest}
 use Rattle.oci_manifests.specs.declared.index.OciImageIndex.{OciImageIndex}
 use Rattle.oci_protocol.specs.Lift.{lifted}
 use Rattle.oci_protocol.specs.Runs.{Meets, Told}
-use Rattle.oci_protocol.proofs.Extending.{Extends-none}
-use Rattle.oci_protocol.proofs.Lifting.{Meets-lifted}
+use Rattle.oci_protocol.proofs.Conversations.{Extends-none}
+use Rattle.oci_protocol.proofs.WiderMemory.{Meets-lifted}
 use Rattle.engine_terms.specs.declared.settings.Settings.{Settings}
 use Rattle.engine_terms.specs.declared.error.OciDistributionError.{OciDistributionError}
 use Rattle.engine_terms.specs.Contexts.{within}
@@ -28,13 +28,13 @@ use Rattle.sig_answers.specs.declared.answer.Answer.TheVariants.{Digest, Manifes
 use Rattle.sig_answers.specs.declared.answers.Answers.{Answers}
 use Rattle.sig_calls.specs.declared.error.SigstoreError.{SigstoreError}
 use Rattle.sig_calls.specs.declared.error.SigstoreError.TheVariants as refusal
-use Rattle.sig_calls.specs.Errors.{is_memory, Says, registry_refusal, IsRefusedBy}
+use Rattle.sig_calls.specs.Error.{is_memory, Says, registry_refusal, IsRefusedBy}
 use Rattle.sig_calls.specs.Clients.{Kept, Plain, Client, Fulfils, RefusalKeeps}
 use Rattle.sig_registry.specs.States.{engine_state, PlainlyMade}
 use Rattle.sig_calls.specs.Caching.{Cache, known, cached, key_if}
 use Rattle.sig_calls.specs.Calls.{digests, manifests, images, referrers}
 use Rattle.sig_calls.specs.Log.{Call, image_called, kind_called, key_called, answering, call_made, Recalled, Logged}
-use Rattle.sig_registry.proofs.Cached as kept
+use Rattle.sig_registry.proofs.CachedAnswers as kept
 use Rattle.sig_registry.proofs.Logs.{IsCache, logged as logged_call}
 
 -- ---- how the four kinds are kept

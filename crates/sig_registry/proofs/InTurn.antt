@@ -20,17 +20,18 @@ use Rattle.engine_terms.specs.declared.error.OciDistributionError.TheVariants as
 use Rattle.oci_transport.specs.declared.message.Exchange.{Exchange}
 use Rattle.oci_engine.specs.declared.client.Client.{Client}
 use Rattle.oci_engine.specs.Refusals.{RefusedFor}
-use Rattle.engine_terms.specs.Errors.{is_memory as engine_is_memory}
+use Rattle.engine_terms.specs.Error.{is_memory as engine_is_memory}
 use Rattle.engine_rows.specs.Rows.{Row as Engine, token_given}
 use Rattle.engine_rows.specs.Referrers.{pull_referrers}
 use Rattle.engine_laws.specs.Confined.{Within}
 use Rattle.engine_laws.specs.Held.{Entry, pulling}
 use Rattle.engine_laws.specs.Referrers.{WithinReferrers}
-use Rattle.engine_laws.proofs.ReferrersConfined.{given_referrers_confined}
+use Rattle.engine_laws.proofs.ReferrersConfinement.{given_referrers_confined}
 use Rattle.sig_calls.specs.declared.error.SigstoreError.{SigstoreError}
 use Rattle.sig_calls.specs.declared.error.SigstoreError.TheVariants as sigstore
 use Rattle.sig_calls.specs.declared.wording.Called.{Called}
-use Rattle.sig_calls.specs.Errors.{is_memory, refusal, worded, Says, IsRefusedBy, NoSinkFault}
+use Rattle.sig_calls.specs.Error.{is_memory, Says, IsRefusedBy, NoSinkFault}
+use Rattle.sig_calls.specs.Wording.{refusal, worded}
 use Rattle.sig_registry.proofs.InWords.{worded_fault, worded_no_sink}
 use Rattle.sig_calls.specs.Clients.{Plain}
 use Rattle.sig_registry.specs.States.{PlainlyMade}

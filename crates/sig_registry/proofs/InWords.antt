@@ -4,7 +4,7 @@ use Rattle.std.specs.Prelude.{MatchBool, if◌then◌else◌}
 use Rattle.oci_transport.specs.declared.message.Exchange.{Exchange}
 use Rattle.oci_transport.specs.Link.{Link}
 use Rattle.oci_names.specs.declared.reference.Reference.{Reference}
-use Rattle.oci_names.specs.References.{whole_text}
+use Rattle.oci_names.specs.Reference.{whole_text}
 use Rattle.oci_auth.specs.declared.memory.Memory.{Memory}
 use Rattle.oci_protocol.specs.Proto.{Done, bind}
 use Rattle.oci_protocol.specs.Runs.{Meets, Breaks, Performs}
@@ -12,7 +12,7 @@ use Rattle.oci_protocol.proofs.Laws.{Meets-ok, Meets-caught, Breaks-start, Break
 use Rattle.engine_terms.specs.declared.settings.Settings.{Settings}
 use Rattle.engine_terms.specs.declared.error.OciDistributionError.{OciDistributionError}
 use Rattle.engine_terms.specs.declared.error.OciDistributionError.TheVariants as engine_refusal
-use Rattle.engine_terms.specs.Errors.{is_memory as engine_is_memory}
+use Rattle.engine_terms.specs.Error.{is_memory as engine_is_memory}
 use Rattle.oci_engine.specs.Refusals.{RefusedFor}
 use Rattle.sig_calls.specs.declared.wording.Called.TheVariants.{FetchManifest, Pull, PullManifest}
 use Rattle.engine_rows.specs.Rows.{Row as Engine}
@@ -20,7 +20,8 @@ use Rattle.oci_engine.specs.declared.client.Client.{Client}
 use Rattle.sig_calls.specs.declared.error.SigstoreError.{SigstoreError}
 use Rattle.sig_calls.specs.declared.error.SigstoreError.TheVariants as sigstore
 use Rattle.sig_calls.specs.declared.wording.Called.{Called}
-use Rattle.sig_calls.specs.Errors.{is_memory, refusal, worded, Says, registry_refusal, IsRefusedBy, NoSinkFault}
+use Rattle.sig_calls.specs.Error.{is_memory, Says, registry_refusal, IsRefusedBy, NoSinkFault}
+use Rattle.sig_calls.specs.Wording.{refusal, worded}
 use Rattle.sig_calls.specs.Clients.{Plain}
 use Rattle.sig_registry.specs.States.{PlainlyMade}
 use Rattle.sig_calls.specs.Calls.{in_words}

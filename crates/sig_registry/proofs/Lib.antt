@@ -1,4 +1,4 @@
-pub mod Cached
+pub mod CachedAnswers
 pub mod Facts
 pub mod InTurn
 pub mod InWords

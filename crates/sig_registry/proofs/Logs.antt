@@ -7,14 +7,14 @@ use Rattle.std.proofs.lemmas.Slice.Eq.{bytes_eq-Decides}
 use Rattle.oci_transport.specs.declared.message.Exchange.{Exchange}
 use Rattle.oci_transport.specs.Link.{Link, Extends}
 use Rattle.oci_names.specs.declared.reference.Reference.{Reference}
-use Rattle.oci_names.specs.References.{reads_back, reference_of, whole_text}
+use Rattle.oci_names.specs.Reference.{reads_back, reference_of, whole_text}
 use Rattle.oci_names.proofs.ReadsBack.{reads_back-means}
 use Rattle.oci_auth.specs.declared.memory.Memory.{Memory}
 use Rattle.oci_protocol.specs.Proto.{Proto, Done, bind, unless_refused, ◌>>=◌, ◌>>◌}
 use Rattle.oci_protocol.specs.Lift.{lifted}
 use Rattle.oci_protocol.specs.Runs.{Runs, Performs, Breaks, Outcome, Meets}
 use Rattle.oci_protocol.proofs.Laws.{Runs-bind}
-use Rattle.oci_protocol.proofs.Lifting.{Runs-unlifted}
+use Rattle.oci_protocol.proofs.WiderMemory.{Runs-unlifted}
 use Rattle.oci_protocol.proofs.Parts.{Parts, Runs-parts}
 use Rattle.engine_terms.specs.declared.settings.Settings.{Settings}
 use Rattle.engine_terms.specs.Contexts.{Context, within}
@@ -27,7 +27,7 @@ use Rattle.sig_answers.specs.declared.answers.Answers.{Answers}
 use Rattle.sig_answers.specs.declared.answers.Bounds.{Bounds}
 use Rattle.sig_answers.specs.declared.answers.Entry.{Entry}
 use Rattle.sig_calls.specs.declared.error.SigstoreError.{SigstoreError}
-use Rattle.sig_calls.specs.Errors.{is_memory}
+use Rattle.sig_calls.specs.Error.{is_memory}
 use Rattle.sig_calls.specs.Clients.{Kept, Plain, Row, Client, Fulfils, RefusalKeeps}
 use Rattle.sig_calls.specs.Caching.{Cache, known, keeping, known_or, recalled, cached}
 use Rattle.sig_calls.specs.Log.{Call, DigestCall, ManifestCall, ImageCall, ReferrersCall, image_called, kind_called, key_called, answered, answering, call_made, Place, IsStep, AnyOf, IsOrigin, IsSource, HasSource, IsRun, EachBacked, IsBacked, place_of, IsLawful, Logged}

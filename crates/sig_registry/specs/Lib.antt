@@ -1,3 +1,3 @@
-pub mod Certificates
+pub mod Certificate
 pub mod Config
 pub mod States

@@ -6,7 +6,7 @@ use Rattle.engine_terms.specs.declared.settings.Settings.{Settings}
 use Rattle.oci_engine.specs.declared.client.Client.{Client as Engine}
 use Rattle.sig_answers.specs.declared.answers.Answers.{Answers}
 use Rattle.sig_calls.specs.Clients.{Client, Plain}
-use Rattle.sig_calls.specs.Errors.{is_memory}
+use Rattle.sig_calls.specs.Error.{is_memory}
 use Rattle.sig_calls.specs.declared.error.SigstoreError.{SigstoreError}
 use Rattle.sig_registry.specs.declared.caching.OciCachingClient.{OciCachingClient}
 use Rattle.sig_registry.specs.declared.plain.OciClient.{OciClient}

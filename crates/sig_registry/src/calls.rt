@@ -8,7 +8,7 @@ ghost use Rattle.sig_calls.specs.Calls.{digest_made, manifest_made, image_made, 
 ghost use Rattle.sig_calls.specs.Calls.{referrers_made};
 ghost use Rattle.sig_registry.specs.States.{PlainlyMade, engine_state};
 ghost use Rattle.sig_calls.specs.Confinement.{Stays, StaysWithTag};
-ghost use Rattle.sig_calls.specs.Errors.{FaultCounted, NoSinkFault};
+ghost use Rattle.sig_calls.specs.Error.{FaultCounted, NoSinkFault};
 
 use json_values::{Blob, Text};
 use oci_auth::{RegistryAuth, RegistryOperation};

@@ -1,6 +1,6 @@
 // Certificates of registries.
 ghost use Rattle.std.specs.Prelude.{◌≡◌, ◌↔◌, IsTrue};
-ghost use Rattle.sig_registry.specs.Certificates.{place};
+ghost use Rattle.sig_registry.specs.Certificate.{place};
 
 use json_values::{Blob, Copied};
 use std::alloc::{AllocError, Global};
@@ -26,7 +26,7 @@ impl CertificateEncoding {
 
 impl PartialEq for CertificateEncoding {
     ghost use Rattle.std.specs.Cmp.{partial_equiv_from_equiv};
-    ghost use Rattle.sig_registry.specs.Certificates.{is_same_encoding, equal_encodings};
+    ghost use Rattle.sig_registry.specs.Certificate.{is_same_encoding, equal_encodings};
 
     ghost eq = { is_same_encoding };
 
@@ -41,13 +41,13 @@ impl PartialEq for CertificateEncoding {
 }
 
 impl Eq for CertificateEncoding {
-    ghost use Rattle.sig_registry.specs.Certificates.{equal_encodings};
+    ghost use Rattle.sig_registry.specs.Certificate.{equal_encodings};
 
     ghost laws = { equal_encodings };
 }
 
 impl From<CertificateEncoding> for oci_engine::CertificateEncoding {
-    ghost use Rattle.sig_registry.specs.Certificates.{oci_encoding};
+    ghost use Rattle.sig_registry.specs.Certificate.{oci_encoding};
 
     ghost from_gives = { λ given encoding. encoding ≡ oci_encoding given };
 
@@ -67,7 +67,7 @@ pub struct Certificate {
 }
 
 impl From<Certificate> for oci_engine::Certificate {
-    ghost use Rattle.sig_registry.specs.Certificates.{oci_certificate};
+    ghost use Rattle.sig_registry.specs.Certificate.{oci_certificate};
 
     ghost from_gives = { λ given certificate. certificate ≡ oci_certificate given };
 
@@ -99,7 +99,7 @@ impl Copied for Certificate {
 /// Equality is that of the contents and of the encodings.
 impl PartialEq for Certificate {
     ghost use Rattle.std.specs.Cmp.{partial_equiv_from_equiv};
-    ghost use Rattle.sig_registry.specs.Certificates.{is_same, equal};
+    ghost use Rattle.sig_registry.specs.Certificate.{is_same, equal};
 
     ghost eq = { is_same };
 
@@ -114,14 +114,14 @@ impl PartialEq for Certificate {
 }
 
 impl Eq for Certificate {
-    ghost use Rattle.sig_registry.specs.Certificates.{equal};
+    ghost use Rattle.sig_registry.specs.Certificate.{equal};
 
     ghost laws = { equal };
 }
 
 impl PartialOrd for Certificate {
     ghost use Rattle.std.specs.Prelude.{Some};
-    ghost use Rattle.sig_registry.specs.Certificates.{order, partly_ordered};
+    ghost use Rattle.sig_registry.specs.Certificate.{order, partly_ordered};
 
     ghost partial_cmp = { λ a b. Some (order a b) };
 
@@ -136,7 +136,7 @@ impl PartialOrd for Certificate {
 impl Ord for Certificate {
     ghost use Rattle.std.proofs.Common.{rules};
     ghost use Rattle.std.specs.Cmp.Rules.{comparing};
-    ghost use Rattle.sig_registry.specs.Certificates.{order, ordered};
+    ghost use Rattle.sig_registry.specs.Certificate.{order, ordered};
 
     ghost cmp = { order };
 

@@ -1,3 +1,4 @@
+pub mod Error
 pub mod KeyPair
 pub mod Outcomes
 pub mod Scheme

@@ -1,15 +1,9 @@
 -- What calls on keys answer. Only want of memory is free.
 use Rattle.std.specs.Prelude.{◌≡◌, ℕ, List, Bool, true, false, Option, Some, None, Result, Ok, Err, ⊤, MatchBool}
 use Rattle.sig_schemes.specs.declared.error.KeyError.{KeyError}
-use Rattle.sig_schemes.specs.declared.error.KeyError.TheVariants.{KeyParseError, KeyGenerationError, SigningError, UnmatchedKeyAndSigningScheme, WantOfMemory}
+use Rattle.sig_schemes.specs.declared.error.KeyError.TheVariants.{KeyParseError, KeyGenerationError, SigningError}
 use Rattle.sig_schemes.specs.declared.scheme.SigningScheme.{SigningScheme}
-
-abbrev pub is_memory : KeyError → Bool
-is_memory KeyParseError = false
-is_memory KeyGenerationError = false
-is_memory SigningError = false
-is_memory (UnmatchedKeyAndSigningScheme key scheme) = false
-is_memory WantOfMemory = true
+use Rattle.sig_schemes.specs.Error.{is_memory}
 
 -- none exactly where it cannot be
 abbrev pub GivesIf : {A : Type 0} → Bool → (A → Type 0) → Option A → Type 0

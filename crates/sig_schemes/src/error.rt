@@ -1,6 +1,6 @@
 //! Why a call on keys is refused.
 ghost use Rattle.std.specs.Prelude.{◌≡◌};
-ghost use Rattle.sig_schemes.specs.Outcomes.{is_memory};
+ghost use Rattle.sig_schemes.specs.Error.{is_memory};
 
 use crate::scheme::{KeyKind, SigningScheme};
 use json_values::Copied;
@@ -22,7 +22,7 @@ pub enum KeyError {
     /// Keys of this kind do not sign under this scheme.
     #[error("{key:?} keys do not sign under {scheme:?}: choose the scheme of the keys")]
     UnmatchedKeyAndSigningScheme { key: KeyKind, scheme: SigningScheme },
-    #[error("out of memory")]
+    #[error("out of memory: free some and try again")]
     WantOfMemory,
 }
 

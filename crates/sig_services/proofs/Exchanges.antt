@@ -8,7 +8,7 @@ use Rattle.oci_protocol.specs.Proto.{limit_of, read_within}
 use Rattle.oci_protocol.specs.Follow.{Reaches, Misses, Cuts}
 use Rattle.oci_protocol.specs.Runs.{Meets}
 use Rattle.oci_protocol.proofs.Laws.{Meets-ok, Meets-err}
-use Rattle.oci_protocol.proofs.Following.{reached_answered, reached_long, reached_failed, reached_cut, missed, cut}
+use Rattle.oci_protocol.proofs.RedirectSteps.{reached_answered, reached_long, reached_failed, reached_cut, missed, cut}
 use Rattle.sig_services.specs.Exchange.{whole, whole_reply}
 
 within : (limit : ℕ) (head : AnswerHead) → limit_of (read_within limit head) ≡ Some limit

@@ -1,5 +1,5 @@
-pub mod Causing
+pub mod CallCauses
 pub mod Exchanges
 pub mod Exits
-pub mod Showing
+pub mod HeaderSteps
 pub mod Values

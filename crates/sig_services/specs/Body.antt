@@ -3,7 +3,8 @@ use Rattle.std.specs.Prelude.{ℕ, List, Option, Some, None, if◌then◌else◌
 use Rattle.std.specs.Str.{is_utf8}
 use Rattle.serde_json.specs.Data.{Data}
 use Rattle.json_values.specs.JsonText.{plain_json_of}
-use Rattle.json_tables.specs.Reading.{◌>>=◌, an_object}
+use Rattle.json_tables.specs.Reading.{◌>>=◌}
+use Rattle.json_tables.specs.Objects.{an_object}
 
 -- UTF-8
 abbrev pub text_body : List ℕ → Option (List ℕ)

@@ -3,9 +3,10 @@ ghost use Rattle.std.specs.Prelude.{◌≡◌, ◌++◌, codes, IfOk, option_cop
 ghost use Rattle.serde_json.specs.Written.{compact_text};
 ghost use Rattle.oci_protocol.specs.Runs.{Meets};
 ghost use Rattle.sig_models.specs.CertificateRequest.{request_written, signing_request_written};
-ghost use Rattle.sig_services.specs.Fulcio.{Says, is_memory, asked, certificate_in, headers_of, joined};
-ghost use Rattle.sig_services.specs.Fulcio.{parted, request_of, response_in, response_of};
-ghost use Rattle.sig_services.specs.Fulcio as row;
+ghost use Rattle.sig_services.specs.Client.{asked, certificate_in, headers_of, joined};
+ghost use Rattle.sig_services.specs.FulcioError.{Says, is_memory};
+ghost use Rattle.sig_services.specs.Client.{parted, request_of, response_in, response_of};
+ghost use Rattle.sig_services.specs.Client as row;
 ghost use Rattle.sig_services.specs.Token.{token_of};
 
 use crate::body::Body;
@@ -104,7 +105,7 @@ fn with_accept(headers: Headers, accept: Option<&str>) -> Result<Option<Headers>
     }
 }
 
-#[tactic(auto, unfolding(crate::specs::Fulcio::headers_with))]
+#[tactic(auto, unfolding(crate::specs::Client::headers_with))]
 fn headers_with(
     alloc: Global,
     credentials: &str,
@@ -133,7 +134,7 @@ fn headers_of(alloc: Global, token: &str, accept: Option<&str>) -> Result<Header
     }
 }
 
-#[tactic(auto, unfolding(crate::specs::Fulcio::request_of))]
+#[tactic(auto, unfolding(crate::specs::Client::request_of))]
 fn request_of(
     alloc: Global,
     root: &Url,

@@ -10,6 +10,7 @@ use json_values::{Copied, Json};
 use serde_json::Value;
 use sig_models as models;
 use std::alloc::{AllocError, Global};
+use thiserror::Error;
 
 /// What the JSON of a refusal reads as: the first variant that reads it.
 pub trait Entity: Sized {
@@ -20,70 +21,93 @@ pub trait Entity: Sized {
 }
 
 /// What the log says where `create_log_entry` is refused.
-#[derive(Debug, Drop)]
+#[derive(Debug, Drop, Error)]
 pub enum CreateLogEntryError {
+    #[error("the log did not accept the request: look at what it says")]
     Status400(models::Error),
     /// Never the first that reads.
+    #[error("the log has the entry already: ask for that one")]
     Status409(models::Error),
     /// Never the first that reads.
+    #[error("the log refused the request: look at what it says")]
     DefaultResponse(models::Error),
+    #[error("the refusal reads as none that is known: look at the status and the content")]
     UnknownValue(Json),
 }
 
 /// What the log says where `get_log_entry_by_index` is refused.
-#[derive(Debug, Drop)]
+#[derive(Debug, Drop, Error)]
 pub enum GetLogEntryByIndexError {
+    #[error("the log has no such entry: ask for another one")]
     Status404,
+    #[error("the log refused the request: look at what it says")]
     DefaultResponse(models::Error),
+    #[error("the refusal reads as none that is known: look at the status and the content")]
     UnknownValue(Json),
 }
 
 /// What the log says where `get_log_entry_by_uuid` is refused.
-#[derive(Debug, Drop)]
+#[derive(Debug, Drop, Error)]
 pub enum GetLogEntryByUuidError {
+    #[error("the log has no such entry: ask for another one")]
     Status404,
+    #[error("the log refused the request: look at what it says")]
     DefaultResponse(models::Error),
+    #[error("the refusal reads as none that is known: look at the status and the content")]
     UnknownValue(Json),
 }
 
 /// What the log says where `search_log_query` is refused.
-#[derive(Debug, Drop)]
+#[derive(Debug, Drop, Error)]
 pub enum SearchLogQueryError {
+    #[error("the log did not accept the request: look at what it says")]
     Status400(models::Error),
     /// Never the first that reads.
+    #[error("the log refused the request: look at what it says")]
     DefaultResponse(models::Error),
+    #[error("the refusal reads as none that is known: look at the status and the content")]
     UnknownValue(Json),
 }
 
 /// What the log says where `search_index` is refused.
-#[derive(Debug, Drop)]
+#[derive(Debug, Drop, Error)]
 pub enum SearchIndexError {
+    #[error("the log did not accept the request: look at what it says")]
     Status400(models::Error),
     /// Never the first that reads.
+    #[error("the log refused the request: look at what it says")]
     DefaultResponse(models::Error),
+    #[error("the refusal reads as none that is known: look at the status and the content")]
     UnknownValue(Json),
 }
 
 /// What the log says where `get_public_key` is refused.
-#[derive(Debug, Drop)]
+#[derive(Debug, Drop, Error)]
 pub enum GetPublicKeyError {
+    #[error("the log refused the request: look at what it says")]
     DefaultResponse(models::Error),
+    #[error("the refusal reads as none that is known: look at the status and the content")]
     UnknownValue(Json),
 }
 
 /// What the log says where `get_log_info` is refused.
-#[derive(Debug, Drop)]
+#[derive(Debug, Drop, Error)]
 pub enum GetLogInfoError {
+    #[error("the log refused the request: look at what it says")]
     DefaultResponse(models::Error),
+    #[error("the refusal reads as none that is known: look at the status and the content")]
     UnknownValue(Json),
 }
 
 /// What the log says where `get_log_proof` is refused.
-#[derive(Debug, Drop)]
+#[derive(Debug, Drop, Error)]
 pub enum GetLogProofError {
+    #[error("the log did not accept the request: look at what it says")]
     Status400(models::Error),
     /// Never the first that reads.
+    #[error("the log refused the request: look at what it says")]
     DefaultResponse(models::Error),
+    #[error("the refusal reads as none that is known: look at the status and the content")]
     UnknownValue(Json),
 }
 

@@ -8,10 +8,10 @@ ghost use Rattle.sig_models.specs.SearchLogQuery.{query_written};
 ghost use Rattle.sig_services.specs.Error.{is_memory};
 ghost use Rattle.sig_services.specs.Call.{Posts};
 ghost use Rattle.sig_services.specs.Body.{text_body};
-ghost use Rattle.sig_services.specs.Calls.{index_path, uuid_path};
+ghost use Rattle.sig_services.specs.Entries.{index_path, uuid_path};
 ghost use Rattle.sig_services.specs.Causes.{RefusedFor};
 ghost use Rattle.sig_services.specs.Entities.{create_error, by_index_error, by_uuid_error, search_log_error};
-ghost use Rattle.sig_services.specs.Calls as row;
+ghost use Rattle.sig_services.specs.Entries as row;
 ghost use Rattle.sig_services.specs.declared.entries.ParseResponseError.TheVariants.{WantOfMemory as out_of_memory};
 
 use crate::call::{call, compact};

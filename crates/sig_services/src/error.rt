@@ -22,7 +22,7 @@ pub enum Error<E> {
     #[error("the connection to the log failed: send the request again")]
     Link,
     /// The body of the answer has more bytes than `max_body_bytes`.
-    #[error("the log's answer has more bytes than the configuration allows")]
+    #[error("the log's answer has more bytes than the configuration allows: raise its limit or ask for less")]
     BodyTooLong,
     /// This text is no URL of a request.
     #[error("the URL of the request does not read: look at the base path")]

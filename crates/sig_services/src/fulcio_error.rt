@@ -12,7 +12,7 @@ pub enum FulcioError {
     #[error("the connection to the certificate authority failed: send the request again")]
     Link,
     /// The body of the answer has 4 GiB and more.
-    #[error("the certificate authority's answer has 4 GiB and more")]
+    #[error("the certificate authority's answer has 4 GiB and more: ask whether the root is that of an authority")]
     BodyTooLong,
     /// This path does not join to the root.
     #[error("the path does not join to the root: give a root that has a host")]
@@ -56,7 +56,7 @@ impl Copied for FulcioError {
 
 impl Refusal for FulcioError {
     ghost use Rattle.std.specs.Prelude.{refl};
-    ghost use Rattle.sig_services.specs.Fulcio.{is_memory};
+    ghost use Rattle.sig_services.specs.FulcioError.{is_memory};
     ghost use Rattle.sig_services.specs.declared.fulcio_error.FulcioError.TheVariants as refusal;
 
     ghost link = { refusal.Link };

@@ -6,7 +6,7 @@ ghost use Rattle.serde_json.specs.Written.{compact_text};
 ghost use Rattle.oci_protocol.specs.Runs.{Meets};
 ghost use Rattle.sig_models.specs.SearchIndex.{search_index_written};
 ghost use Rattle.sig_services.specs.Error.{is_memory};
-ghost use Rattle.sig_services.specs.Calls as row;
+ghost use Rattle.sig_services.specs.Index as row;
 ghost use Rattle.sig_services.specs.Causes.{RefusedFor};
 ghost use Rattle.sig_services.specs.Entities.{search_index_error};
 

@@ -3,8 +3,8 @@ ghost use Rattle.std.specs.Prelude.{◌≡◌, IfOk, OnOk, option_copied, codes}
 ghost use Rattle.form_urlencoded.specs.Form.{extend_pairs};
 ghost use Rattle.oci_protocol.specs.Runs.{Meets};
 ghost use Rattle.sig_services.specs.Error.{is_memory};
-ghost use Rattle.sig_services.specs.Calls.{field, key_path, proof_path};
-ghost use Rattle.sig_services.specs.Calls as row;
+ghost use Rattle.sig_services.specs.Log.{field, key_path, proof_path};
+ghost use Rattle.sig_services.specs.Log as row;
 ghost use Rattle.sig_services.specs.Body.{text_body, json_body};
 ghost use Rattle.sig_services.specs.Causes.{RefusedFor};
 ghost use Rattle.sig_services.specs.Entities.{public_key_error, log_info_error, log_proof_error};

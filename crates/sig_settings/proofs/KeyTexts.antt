@@ -12,7 +12,7 @@ use Rattle.json_events.specs.Canonical.{Canonical, CanonicalItems, Entry, Rises,
 use Rattle.json_events.specs.Refused.{refused}
 use Rattle.json_events.specs.Units.{units}
 use Rattle.json_events.proofs.Unique.{unique, plain}
-use Rattle.oci_names.specs.References.{whole_text}
+use Rattle.oci_names.specs.Reference.{whole_text}
 use Rattle.oci_auth.specs.declared.auth.RegistryAuth.{RegistryAuth}
 use Rattle.oci_auth.specs.declared.auth.RegistryAuth.TheVariants.{Anonymous, Basic, Bearer}
 use Rattle.sig_settings.specs.declared.manifest_settings.PullManifestSettings.{PullManifestSettings}

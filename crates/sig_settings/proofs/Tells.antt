@@ -10,7 +10,7 @@ use Rattle.json_events.specs.Units.{units}
 use Rattle.json_canon.specs.AsMaps.{as_maps, items_as_maps}
 use Rattle.json_canon.proofs.Maps.{Told, AreApart, ItemsApart, MembersApart}
 use Rattle.json_canon.proofs.ReadBack.{spells, one_value}
-use Rattle.oci_names.specs.References.{whole_text}
+use Rattle.oci_names.specs.Reference.{whole_text}
 use Rattle.oci_auth.specs.declared.auth.RegistryAuth.{RegistryAuth}
 use Rattle.oci_auth.specs.declared.auth.RegistryAuth.TheVariants.{Anonymous, Basic, Bearer}
 use Rattle.sig_settings.specs.declared.manifest_settings.PullManifestSettings.{PullManifestSettings}

@@ -4,7 +4,7 @@ use Rattle.serde_json.specs.Data.{Data, string}
 use Rattle.json_values.specs.Writing.{listed, null_or}
 use Rattle.json_writing.specs.Fields.{fields}
 use Rattle.oci_names.specs.declared.reference.Reference.{Reference}
-use Rattle.oci_names.specs.References.{whole_text}
+use Rattle.oci_names.specs.Reference.{whole_text}
 use Rattle.oci_auth.specs.declared.auth.RegistryAuth.{RegistryAuth}
 use Rattle.sig_settings.specs.declared.manifest_settings.PullManifestSettings.{PullManifestSettings}
 use Rattle.sig_settings.specs.declared.pull_settings.PullSettings.{PullSettings}

@@ -1,5 +1,5 @@
-//! Pulls a blob of so many MiB as a stream (`stream MIB DIGEST`), or only hashes the same bytes (`hash MIB DIGEST`), to be
-//! timed. No bytes are kept: each piece is made as it is asked for.
+//! Pulls a blob of so many MiB as a stream (`stream MIB DIGEST`), or only hashes the same bytes (`hash MIB DIGEST`), to
+//! be timed. No bytes are kept: each piece is made as it is asked for.
 //!
 //! It ends with 1 where the digest is another one, with 2 for other words, and with 6 where memory was wanting.
 #![tactic(auto)]

@@ -13,7 +13,7 @@ use Rattle.std.proofs.lemmas.List.{nil_from_length}
 use Rattle.std.proofs.lemmas.List.Elements.{All-nil, All-cons}
 use Rattle.json_values.specs.Places.{by_bytes}
 use Rattle.oci_names.specs.Words.{Tag}
-use Rattle.oci_names.specs.References.{repository_of, digest_of, tag_of}
+use Rattle.oci_names.specs.Reference.{repository_of, digest_of, tag_of}
 use Rattle.oci_names.specs.declared.reference.Reference.{Reference}
 use Rattle.oci_auth.specs.declared.auth.RegistryAuth.{RegistryAuth}
 use Rattle.oci_digests.specs.Names.{names, hash_of}
@@ -29,9 +29,9 @@ use Rattle.oci_link.specs.declared.shelf.Shelf.{Shelf}
 use Rattle.oci_link.specs.declared.shelf.ShelfDocument.{ShelfDocument}
 use Rattle.engine_requests.specs.Addresses.{manifest_name}
 use Rattle.engine_terms.specs.declared.settings.Settings.{Settings}
-use Rattle.engine_rows.specs.Images.{layer_of}
+use Rattle.engine_rows.specs.Image.{layer_of}
 use Rattle.shelf_laws.specs.Shelves.{IsShort, HasDocument, HasBlob, HasLayer, HasBlobs, ImageOn, layers_on}
-use Rattle.shelf_laws.proofs.Pointing.{tag_named}
+use Rattle.shelf_laws.proofs.ShelfReferences.{tag_named}
 use Rattle.shelf_laws.proofs.References.{spelled}
 use Rattle.cosign_layers.specs.Standing.{Meaning}
 use Rattle.cosign_rows.specs.Part.{named_layer, read_layer}

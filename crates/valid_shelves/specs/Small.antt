@@ -1,11 +1,10 @@
 -- A shelf that is built of the bytes of an image of one layer and of a signature of it.
-use Rattle.std.specs.Prelude.{Contains, IsTrue}
+use Rattle.std.specs.Prelude.{Contains, IsTrue, ◌≡◌, ◌≤◌, ℕ, true, List, [], ◌∷◌, length, Some, None, Ok}
 use Rattle.std.specs.FinMap as map
 use Rattle.std.specs.FinMap.{FinMap}
 use Rattle.std.specs.List.{All}
-use Rattle.std.specs.Prelude.{◌≡◌, ◌≤◌, ℕ, true, List, [], ◌∷◌, length, Some, None, Ok}
 use Rattle.json_values.specs.Places.{by_bytes}
-use Rattle.oci_names.specs.References.{digest_of, tag_of, resolved_registry, reads_back}
+use Rattle.oci_names.specs.Reference.{digest_of, tag_of, resolved_registry, reads_back}
 use Rattle.oci_names.specs.declared.reference.Reference.{Reference}
 use Rattle.oci_auth.specs.declared.auth.RegistryAuth.{RegistryAuth}
 use Rattle.oci_digests.specs.Names.{digest_text}
@@ -18,7 +17,7 @@ use Rattle.oci_link.specs.declared.shelf.Shelf.{Shelf}
 use Rattle.oci_link.specs.declared.shelf.ShelfDocument.{ShelfDocument}
 use Rattle.engine_answers.specs.Documents.{document_read}
 use Rattle.engine_terms.specs.declared.settings.Settings.{Settings}
-use Rattle.engine_rows.specs.Images.{layer_of}
+use Rattle.engine_rows.specs.Image.{layer_of}
 use Rattle.shelf_laws.specs.Home.{IsWrittenPlainly, CanBeShown}
 use Rattle.cosign_layers.specs.Standing.{Meaning, StandsFor}
 use Rattle.cosign_layers.specs.declared.layer.SignatureLayer.{SignatureLayer}

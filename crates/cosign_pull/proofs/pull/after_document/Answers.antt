@@ -1,5 +1,5 @@
 use Rattle.std.proofs.Common.{Ok, Err, refl}
-use Rattle.oci_names.specs.References.{whole_text}
+use Rattle.oci_names.specs.Reference.{whole_text}
 use Rattle.sig_calls.specs.declared.wording.Called.TheVariants.{Pull}
 use Rattle.cosign_rows.specs.Image.{document_in}
 use Rattle.cosign_rows.proofs.Exits.{and_then, refused, worded_said, done}

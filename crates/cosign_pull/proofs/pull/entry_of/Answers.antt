@@ -1,4 +1,4 @@
-use Rattle.oci_names.specs.References.{whole_text}
+use Rattle.oci_names.specs.Reference.{whole_text}
 use Rattle.sig_calls.specs.declared.wording.Called.TheVariants.{Pull}
 use Rattle.cosign_rows.proofs.Exits.{in_words_said}
 use Rattle.cosign_pull.proofs.pull.entry_of.Goals as goal

@@ -1,6 +1,6 @@
 use Rattle.std.proofs.Common.{Ok, Err, refl}
-use Rattle.oci_names.specs.References.{whole_text}
-use Rattle.engine_rows.specs.Images.{layers_accepted}
+use Rattle.oci_names.specs.Reference.{whole_text}
+use Rattle.engine_rows.specs.Image.{layers_accepted}
 use Rattle.sig_calls.specs.declared.wording.Called.TheVariants.{Pull}
 use Rattle.cosign_rows.specs.Image.{blobs_row}
 use Rattle.cosign_rows.proofs.Exits.{and_then, refused, wanting, worded_said, done}

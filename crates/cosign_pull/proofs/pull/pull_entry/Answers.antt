@@ -1,7 +1,7 @@
 use Rattle.std.proofs.Common.{Ok, Err, refl}
-use Rattle.oci_names.specs.References.{whole_text}
+use Rattle.oci_names.specs.Reference.{whole_text}
 use Rattle.engine_answers.specs.Index.{entry_found}
-use Rattle.sig_calls.specs.Errors.{worded}
+use Rattle.sig_calls.specs.Wording.{worded}
 use Rattle.sig_calls.specs.declared.wording.Called.TheVariants.{Pull}
 use Rattle.cosign_rows.specs.Image.{entry_in, entry_row}
 use Rattle.cosign_rows.proofs.Exits.{and_then, refused, worded_said, said_at, done}

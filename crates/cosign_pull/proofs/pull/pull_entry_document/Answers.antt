@@ -1,5 +1,5 @@
 use Rattle.std.proofs.Common.{refl}
-use Rattle.oci_names.specs.References.{whole_text}
+use Rattle.oci_names.specs.Reference.{whole_text}
 use Rattle.cosign_rows.specs.Image.{with_image, entry_call}
 use Rattle.cosign_rows.proofs.Exits.{wanting, said_of, with_stays}
 use Rattle.cosign_pull.proofs.pull.pull_entry_document.Goals as goal

@@ -5,7 +5,7 @@ use Rattle.cosign_rows.specs.Search.{or_skipped, referrer_part}
 use Rattle.cosign_rows.specs.declared.found.Skipped.TheVariants.{Referrer}
 use Rattle.cosign_rows.proofs.Exits.{wanting, done, said_of}
 use Rattle.cosign_search.specs.Gathered.{put_behind}
-use Rattle.cosign_search.proofs.Gathering.{made_done}
+use Rattle.cosign_search.proofs.GatheredParts.{made_done}
 use Rattle.cosign_search.proofs.referrers.referrer_by.Goals as goal
 
 pub returns-in_err-reads_back : goal.returns-in_err-reads_back

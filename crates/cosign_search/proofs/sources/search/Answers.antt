@@ -2,7 +2,7 @@ use Rattle.std.proofs.Common.{Ok, refl}
 use Rattle.oci_protocol.specs.Proto.{Done}
 use Rattle.cosign_rows.specs.Search.{searched, trusted_layers}
 use Rattle.cosign_rows.proofs.Exits.{and_then, refused, wanting, said, done}
-use Rattle.cosign_search.proofs.Gathering.{made_then}
+use Rattle.cosign_search.proofs.GatheredParts.{made_then}
 use Rattle.cosign_search.proofs.sources.search.Goals as goal
 
 pub returns-in_err-digest : goal.returns-in_err-digest

@@ -1,5 +1,5 @@
 use Rattle.std.proofs.Common.{refl}
-use Rattle.oci_names.specs.References.{reads_back}
+use Rattle.oci_names.specs.Reference.{reads_back}
 use Rattle.cosign_rows.specs.Verified.{is_unconstrained, verified}
 use Rattle.cosign_rows.proofs.Exits.{and_then, refused, wanting, passed, said_whole, says_same, part_answered, part_refused, empty_policy, not_empty, readable_not}
 use Rattle.cosign_verified.proofs.verified.pull_verified.Goals as goal

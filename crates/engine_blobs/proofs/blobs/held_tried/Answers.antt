@@ -1,7 +1,7 @@
 use Rattle.std.proofs.Common.{sym, ◌∙◌}
 use Rattle.std.proofs.lemmas.List.{drop_all}
 use Rattle.engine_rows.proofs.Exits.{passed_on, wanting}
-use Rattle.engine_blobs.proofs.Trying.{held_last, held_over, held_at, held_unasked, held_asked, held_taken, held_passed}
+use Rattle.engine_blobs.proofs.PlacesInTurn.{held_last, held_over, held_at, held_unasked, held_asked, held_taken, held_passed}
 use Rattle.engine_blobs.proofs.blobs.held_tried.Goals as goal
 
 pub loop-url-init : goal.loop-url-init

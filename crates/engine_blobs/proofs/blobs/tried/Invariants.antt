@@ -2,7 +2,7 @@ use Rattle.std.proofs.Common.{drop}
 use Rattle.engine_requests.specs.Sources.{places_of}
 use Rattle.engine_rows.specs.Blobs.{IntoSink}
 use Rattle.engine_rows.specs.Offers.{tried}
-use Rattle.engine_blobs.proofs.Trying.{LeadsInto}
+use Rattle.engine_blobs.proofs.PlacesInTurn.{LeadsInto}
 use Rattle.engine_blobs.proofs.blobs.tried.Given as goal
 
 -- what was asked so far leads to the places that are left

@@ -1,5 +1,5 @@
 use Rattle.engine_rows.proofs.Exits.{passed_on}
-use Rattle.engine_documents.proofs.Tagged.{listed_met, by_tag_met}
+use Rattle.engine_documents.proofs.TagLists.{listed_met, by_tag_met}
 use Rattle.engine_documents.proofs.referrers.referrers_by.Goals as goal
 
 pub returns-in_err-index : goal.returns-in_err-index

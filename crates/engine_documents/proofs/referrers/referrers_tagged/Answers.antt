@@ -1,7 +1,7 @@
 use Rattle.std.specs.Prelude.{option_copied}
 use Rattle.engine_rows.proofs.Exits.{wanting}
 use Rattle.engine_rows.specs.Referrers.{referrers_tagged}
-use Rattle.engine_documents.proofs.Tagged.{tagged_met}
+use Rattle.engine_documents.proofs.TagLists.{tagged_met}
 use Rattle.engine_documents.proofs.referrers.referrers_tagged.Goals as goal
 
 pub returns-in_err-image : goal.returns-in_err-image

@@ -1,6 +1,6 @@
 use Rattle.engine_rows.proofs.Exits.{refused, and_then, done}
-use Rattle.engine_rows.specs.Images.{pull}
-use Rattle.engine_pull.proofs.Parted.{image_with}
+use Rattle.engine_rows.specs.Image.{pull}
+use Rattle.engine_pull.proofs.ImageParts.{image_with}
 use Rattle.engine_pull.proofs.image.pull.Goals as goal
 
 pub returns-in_err-found : goal.returns-in_err-found

@@ -2,7 +2,7 @@ use Rattle.std.proofs.Common.{refl}
 use Rattle.engine_rows.proofs.Exits.{refused, wanting, and_then, said}
 use Rattle.engine_blobs.proofs.Layers.{held_as}
 use Rattle.engine_terms.specs.Contexts.{context_of}
-use Rattle.engine_pull.proofs.Parted.{parts_refused}
+use Rattle.engine_pull.proofs.ImageParts.{parts_refused}
 use Rattle.engine_pull.proofs.image.pull_parts.Goals as goal
 
 pub returns-in_err-content : goal.returns-in_err-content

@@ -1,4 +1,4 @@
-use Rattle.engine_requests.proofs.Handing.{says_on}
+use Rattle.engine_requests.proofs.Refusals.{says_on}
 use Rattle.engine_requests.proofs.requests.with_token.Goals as goal
 
 pub returns-in_err-headers-in-Some : goal.returns-in_err-headers-in-Some

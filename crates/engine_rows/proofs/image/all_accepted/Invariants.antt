@@ -1,5 +1,5 @@
 use Rattle.std.proofs.Common.{◌≡◌, drop}
-use Rattle.engine_rows.specs.Images.{all_accepted}
+use Rattle.engine_rows.specs.Image.{all_accepted}
 use Rattle.engine_rows.proofs.image.all_accepted.Given as goal
 
 -- the first ones are accepted, so the others decide

@@ -1,5 +1,5 @@
 use Rattle.std.proofs.Common.{◌≡◌, drop}
-use Rattle.engine_rows.specs.Images.{is_accepted}
+use Rattle.engine_rows.specs.Image.{is_accepted}
 use Rattle.engine_rows.proofs.image.is_accepted.Given as goal
 
 -- none of the first ones, so the others decide

@@ -1,6 +1,6 @@
 use Rattle.std.proofs.Common.{refl, sym, ◌∙◌}
 use Rattle.engine_steps.proofs.HelperTrees.{not_ok}
-use Rattle.engine_streams.proofs.Judging.{judged_missed, judged_cut, judged_refused, judged_on, judged_taken, streams_is, left_here}
+use Rattle.engine_streams.proofs.HeadOutcomes.{judged_missed, judged_cut, judged_refused, judged_on, judged_taken, streams_is, left_here}
 use Rattle.engine_streams.proofs.asking.asked.Goals as goal
 
 pub returns-in-Err-Failed : goal.returns-in-Err-Failed

@@ -1,7 +1,7 @@
 use Rattle.std.proofs.Common.{drop}
 use Rattle.engine_requests.specs.Sources.{places_of}
-use Rattle.engine_streams.specs.Rows.{tried}
-use Rattle.engine_streams.proofs.Walking.{Leads}
+use Rattle.engine_streams.specs.Blobs.{tried}
+use Rattle.engine_streams.proofs.NextPlaces.{Leads}
 use Rattle.engine_streams.proofs.asking.tried.Given as goal
 
 -- what was asked so far leads to the URLs that are left

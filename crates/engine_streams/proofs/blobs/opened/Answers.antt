@@ -1,7 +1,7 @@
 use Rattle.engine_rows.proofs.Exits.{refused, and_then, said, passed_on}
 use Rattle.engine_steps.proofs.HelperTrees.{not_ok}
-use Rattle.engine_streams.proofs.Walking.{left_more, met_told}
-use Rattle.engine_streams.specs.Rows.{opened}
+use Rattle.engine_streams.proofs.NextPlaces.{left_more, met_told}
+use Rattle.engine_streams.specs.Blobs.{opened}
 use Rattle.engine_streams.proofs.blobs.opened.Goals as goal
 
 pub returns-in_err-text : goal.returns-in_err-text

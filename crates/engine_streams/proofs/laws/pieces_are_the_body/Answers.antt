@@ -1,4 +1,4 @@
-use Rattle.engine_streams.proofs.Joining.{pieces_are_front, pieces_are_whole}
+use Rattle.engine_streams.proofs.JoinedPieces.{pieces_are_front, pieces_are_whole}
 use Rattle.engine_streams.proofs.laws.pieces_are_the_body.Goals as goal
 
 pub returns-clause-front : goal.returns-clause-front

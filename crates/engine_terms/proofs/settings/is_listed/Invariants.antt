@@ -1,5 +1,5 @@
 use Rattle.std.proofs.Common.{◌≡◌, drop}
-use Rattle.engine_terms.specs.Schemes.{is_listed}
+use Rattle.engine_terms.specs.Settings.{is_listed}
 use Rattle.engine_terms.proofs.settings.is_listed.Given as goal
 
 -- not among the first ones, so the others decide

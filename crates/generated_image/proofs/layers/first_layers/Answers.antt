@@ -1,4 +1,4 @@
-use Rattle.generated_image.proofs.Growing.{blobs_grow, descriptors_grow}
+use Rattle.generated_image.proofs.OneLayerMore.{blobs_grow, descriptors_grow}
 use Rattle.generated_image.proofs.layers.first_layers.Goals as goal
 
 pub loop-place-preserved : goal.loop-place-preserved

@@ -1,6 +1,6 @@
 use Rattle.std.proofs.Common.{sym, ap, ◌∙◌, ◌∷◌, ◌++◌, refl}
 use Rattle.std.specs.Option.{option_copied}
-use Rattle.http_challenges.specs.Elements.{challenges_of, whole}
+use Rattle.http_challenges.specs.Element.{challenges_of, whole}
 use Rattle.http_challenges.proofs.Commas.{taken, elements_left}
 use Rattle.http_challenges.proofs.challenge.listed.Goals as goal
 

@@ -1,7 +1,8 @@
 use Rattle.std.proofs.Common.{◌≡◌, ◌++◌, map, None}
 use Rattle.std.specs.Option.{option_copied}
 use Rattle.http_challenges.specs.declared.split.Place.TheVariants.{Outside}
-use Rattle.http_challenges.specs.Elements.{split_from, element_of, whole}
+use Rattle.http_challenges.specs.Element.{element_of, whole}
+use Rattle.http_challenges.specs.Split.{split_from}
 use Rattle.http_challenges.proofs.Commas.{elements_left, bytes_left}
 use Rattle.http_challenges.proofs.challenge.listed.Given as goal
 

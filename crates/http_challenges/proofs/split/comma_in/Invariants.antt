@@ -1,6 +1,6 @@
 use Rattle.std.proofs.Common.{◌≡◌, take, drop}
 use Rattle.http_challenges.specs.declared.split.Place.TheVariants.{Outside}
-use Rattle.http_challenges.specs.Elements.{split_from}
+use Rattle.http_challenges.specs.Split.{split_from}
 use Rattle.http_challenges.proofs.Commas.{onto_front}
 use Rattle.http_challenges.proofs.split.comma_in.Given as goal
 

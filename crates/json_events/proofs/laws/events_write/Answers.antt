@@ -1,6 +1,6 @@
-use Rattle.json_events.proofs.Holding.{events_write, front_goes_out, holds_first, holds_next}
+use Rattle.json_events.proofs.DraftsAfter.{events_write, front_goes_out, holds_first, holds_next}
 use Rattle.json_events.proofs.Shapes.{texts_so_far}
-use Rattle.json_events.proofs.Valued.{finished_spells}
+use Rattle.json_events.proofs.WholeLists.{finished_spells}
 use Rattle.json_events.proofs.laws.events_write.Goals as goal
 
 pub returns-clause-values : goal.returns-clause-values

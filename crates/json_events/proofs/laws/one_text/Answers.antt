@@ -1,4 +1,4 @@
-use Rattle.json_events.proofs.Spelled.{new_comes}
+use Rattle.json_events.proofs.ValueTexts.{new_comes}
 use Rattle.json_events.proofs.Unique.{unique, plain}
 use Rattle.json_events.proofs.laws.one_text.Goals as goal
 

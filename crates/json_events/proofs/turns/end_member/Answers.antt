@@ -1,7 +1,7 @@
 use Rattle.std.proofs.Common.{inl, refl, sym, ap, ◌∙◌}
 use Rattle.json_events.specs.States.{draft_of}
 use Rattle.json_events.specs.Units.{units}
-use Rattle.json_events.proofs.Turning.{duplicate}
+use Rattle.json_events.proofs.DraftTurns.{duplicate}
 use Rattle.json_events.proofs.turns.end_member.Goals as goal
 
 pub returns-then-contains : goal.returns-then-contains

@@ -1,7 +1,7 @@
 use Rattle.std.proofs.Common.{sym, ◌∙◌}
 use Rattle.json_events.specs.declared.spot.Spot.TheVariants.{Names}
 use Rattle.json_events.specs.States.{draft_of, level_of}
-use Rattle.json_events.proofs.Turning.{tried, closes_object}
+use Rattle.json_events.proofs.DraftTurns.{tried, closes_object}
 use Rattle.json_events.proofs.turns.end_object.Goals as goal
 
 pub returns-clause-turns : goal.returns-clause-turns

@@ -1,6 +1,6 @@
 use Rattle.std.proofs.Common.{◌≡◌, map}
 use Rattle.serde_json.specs.View.{members_view}
-use Rattle.json_tables.specs.Reading.{names_within}
+use Rattle.json_tables.specs.Objects.{names_within}
 use Rattle.json_tables.proofs.objects.are_within.Given as goal
 
 abbrev pub invariant-loop-name : goal.invariant-loop-name

@@ -1,6 +1,6 @@
 use Rattle.std.proofs.Common.{◌≡◌, map, drop}
 use Rattle.serde_json.specs.View.{view}
-use Rattle.json_tables.specs.Reading.{text_at}
+use Rattle.json_tables.specs.Paths.{text_at}
 use Rattle.json_tables.proofs.paths.text_at.Given as goal
 
 abbrev pub invariant-loop-name : goal.invariant-loop-name

@@ -1,7 +1,8 @@
 use Rattle.std.proofs.Common.{◌≡◌}
 use Rattle.std.specs.FinMap.{empty}
 use Rattle.serde_json.specs.View.{members_view}
-use Rattle.json_tables.specs.Reading.{an_object, members_by}
+use Rattle.json_tables.specs.Reading.{members_by}
+use Rattle.json_tables.specs.Objects.{an_object}
 use Rattle.json_tables.proofs.sets.read_names.Given as goal
 
 abbrev pub invariant-loop-name : goal.invariant-loop-name

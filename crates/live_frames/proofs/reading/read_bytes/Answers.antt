@@ -1,5 +1,5 @@
 use Rattle.std.proofs.Common.{ap, arith, length}
-use Rattle.live_frames.proofs.Framing.{error_is, more_stops, more_want}
+use Rattle.live_frames.proofs.FrameParts.{error_is, more_stops, more_want}
 use Rattle.live_frames.proofs.reading.read_bytes.Goals as goal
 
 pub returns-in_err-piece-clause-reads : goal.returns-in_err-piece-clause-reads

@@ -1,5 +1,5 @@
 use Rattle.std.proofs.Common.{◌≤◌, ◌-◌, length}
-use Rattle.live_frames.proofs.Taking.{BytesSoFar}
+use Rattle.live_frames.proofs.TakenBytes.{BytesSoFar}
 use Rattle.live_frames.proofs.reading.read_bytes.Given as goal
 
 abbrev pub invariant-loop-alloc : goal.invariant-loop-alloc

@@ -1,7 +1,7 @@
 use Rattle.std.proofs.Common.{◌≡◌, Some, subst, arith}
 use Rattle.live_frames.specs.Frame.{head_of}
 use Rattle.live_frames.specs.Parts.{ReadsHead}
-use Rattle.live_frames.proofs.Framing.{error_is, line_stops, head_stops, size_stops, bytes_stop, frame_comes}
+use Rattle.live_frames.proofs.FrameParts.{error_is, line_stops, head_stops, size_stops, bytes_stop, frame_comes}
 use Rattle.live_frames.proofs.reading.read_frame.Goals as goal
 
 pub returns-in_err-line-clause-reads : goal.returns-in_err-line-clause-reads

@@ -1,5 +1,5 @@
 use Rattle.std.proofs.Common.{◌∙◌, ap, arith, length}
-use Rattle.live_frames.proofs.Taking.{one_byte, line_ends, line_wants}
+use Rattle.live_frames.proofs.TakenBytes.{one_byte, line_ends, line_wants}
 use Rattle.live_frames.proofs.reading.read_line.Goals as goal
 
 pub returns-then-room-eq10-clause-reads : goal.returns-then-room-eq10-clause-reads

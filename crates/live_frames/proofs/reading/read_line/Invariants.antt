@@ -1,6 +1,6 @@
 use Rattle.std.proofs.Common.{◌≡◌, ◌+◌, ◌-◌, length}
 use Rattle.live_frames.specs.Frame.{most_bytes}
-use Rattle.live_frames.proofs.Taking.{LineSoFar}
+use Rattle.live_frames.proofs.TakenBytes.{LineSoFar}
 use Rattle.live_frames.proofs.reading.read_line.Given as goal
 
 abbrev pub invariant-loop-room : goal.invariant-loop-room

@@ -1,4 +1,4 @@
-use Rattle.live_host.proofs.Telling.{told_image}
+use Rattle.live_host.proofs.FramesOut.{told_image}
 use Rattle.live_host.proofs.image.give_image.Goals as goal
 
 pub returns-clause-told : goal.returns-clause-told

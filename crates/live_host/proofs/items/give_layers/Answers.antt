@@ -1,5 +1,5 @@
 use Rattle.live_host.specs.Wire.{wire}
-use Rattle.live_host.proofs.Telling.{none_left, none_named, one_less, told_layer}
+use Rattle.live_host.proofs.FramesOut.{none_left, none_named, one_less, told_layer}
 use Rattle.live_host.proofs.items.give_layers.Goals as goal
 
 pub loop-descriptor-init : goal.loop-descriptor-init

@@ -3,7 +3,7 @@ use Rattle.serde_json.specs.View.{view}
 use Rattle.live_host.specs.Heads.{judge_head}
 use Rattle.live_host.specs.Questions.{answer_of}
 use Rattle.live_host.specs.Wire.{wire}
-use Rattle.live_host.proofs.Hearing.{asks, not_vouched, passed_cause}
+use Rattle.live_host.proofs.FramesIn.{asks, not_vouched, passed_cause}
 use Rattle.live_host.proofs.questions.ask_certificate.Goals as goal
 
 pub returns-in_err-vouched-clause-cause : goal.returns-in_err-vouched-clause-cause

@@ -1,4 +1,4 @@
-use Rattle.live_host.proofs.Asking.{asks_one}
+use Rattle.live_host.proofs.QuestionSteps.{asks_one}
 use Rattle.live_host.proofs.questions.ask_key.Goals as goal
 
 pub returns-clause-asked : goal.returns-clause-asked

@@ -1,4 +1,4 @@
-use Rattle.live_host.proofs.Asking.{asks_both, asks_none}
+use Rattle.live_host.proofs.QuestionSteps.{asks_both, asks_none}
 use Rattle.live_host.proofs.questions.ask_keys.Goals as goal
 
 pub loop-key-init : goal.loop-key-init

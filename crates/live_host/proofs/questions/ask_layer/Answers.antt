@@ -1,4 +1,4 @@
-use Rattle.live_host.proofs.Asking.{asks_both, asks_none}
+use Rattle.live_host.proofs.QuestionSteps.{asks_both, asks_none}
 use Rattle.live_host.proofs.questions.ask_layer.Goals as goal
 
 pub returns-in_default-clause-asked : goal.returns-in_default-clause-asked

@@ -1,4 +1,4 @@
-use Rattle.live_host.proofs.Asking.{all_asked, asks_both}
+use Rattle.live_host.proofs.QuestionSteps.{all_asked, asks_both}
 use Rattle.live_host.proofs.questions.ask_layers.Goals as goal
 
 pub loop-layer-preserved : goal.loop-layer-preserved

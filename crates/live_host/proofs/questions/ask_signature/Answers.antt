@@ -3,7 +3,7 @@ use Rattle.serde_json.specs.View.{view}
 use Rattle.live_host.specs.Heads.{verify_head}
 use Rattle.live_host.specs.Questions.{verified_of}
 use Rattle.live_host.specs.Wire.{wire}
-use Rattle.live_host.proofs.Hearing.{asks, not_verified, passed_cause}
+use Rattle.live_host.proofs.FramesIn.{asks, not_verified, passed_cause}
 use Rattle.live_host.proofs.questions.ask_signature.Goals as goal
 
 pub returns-in_err-valid-clause-cause : goal.returns-in_err-valid-clause-cause

@@ -1,4 +1,4 @@
-use Rattle.live_host.proofs.Asking.{asks_both, asks_one}
+use Rattle.live_host.proofs.QuestionSteps.{asks_both, asks_one}
 use Rattle.live_host.proofs.questions.ask_vouched.Goals as goal
 
 pub returns-in_default-clause-asked : goal.returns-in_default-clause-asked

@@ -1,4 +1,4 @@
-use Rattle.live_host.proofs.Hearing.{heard_none}
+use Rattle.live_host.proofs.FramesIn.{heard_none}
 use Rattle.live_host.proofs.streams.hear.Goals as goal
 
 pub returns-in-Err-SourceFault-clause-cause : goal.returns-in-Err-SourceFault-clause-cause

@@ -1,5 +1,5 @@
 use Rattle.serde_json.specs.Written.{compact_text}
-use Rattle.live_host.proofs.Telling.{told_behind}
+use Rattle.live_host.proofs.FramesOut.{told_behind}
 use Rattle.live_host.proofs.streams.put_frame.Goals as goal
 
 pub returns-clause-whole : goal.returns-clause-whole

@@ -1,5 +1,5 @@
 use Rattle.std.proofs.Common.{Err, ap, refl}
-use Rattle.live_link.proofs.Added.{new_headers, bad_name, ok_is_no_err}
+use Rattle.live_link.proofs.HeaderSteps.{new_headers, bad_name, ok_is_no_err}
 use Rattle.live_link.proofs.replies.add_header.Goals as goal
 
 pub returns-in-Ok : goal.returns-in-Ok

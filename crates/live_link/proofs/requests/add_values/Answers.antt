@@ -2,7 +2,7 @@ use Rattle.std.proofs.Common.{sym, ap, ◌∙◌, arith, ◌++◌, map}
 use Rattle.serde_json.specs.View.{view}
 use Rattle.oci_transport.specs.Headers.{values_of}
 use Rattle.live_link.specs.Requests.{header_data}
-use Rattle.live_link.proofs.Writing.{within, take_whole, mapped_next}
+use Rattle.live_link.proofs.HeaderTexts.{within, take_whole, mapped_next}
 use Rattle.live_link.proofs.requests.add_values.Goals as goal
 
 pub loop-value-preserved : goal.loop-value-preserved

@@ -3,7 +3,7 @@ use Rattle.std.specs.FinMap as finmap
 use Rattle.std.specs.List.{flat_map}
 use Rattle.serde_json.specs.View.{view}
 use Rattle.live_link.specs.Requests.{values_data}
-use Rattle.live_link.proofs.Writing.{within, take_whole, flat_next}
+use Rattle.live_link.proofs.HeaderTexts.{within, take_whole, flat_next}
 use Rattle.live_link.proofs.requests.headers_values.Goals as goal
 
 pub loop-name-preserved : goal.loop-name-preserved

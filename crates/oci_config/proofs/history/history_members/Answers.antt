@@ -1,4 +1,4 @@
-use Rattle.json_tables.proofs.Refused.{passed_on}
+use Rattle.json_tables.proofs.Refusals.{passed_on}
 use Rattle.oci_config.specs.History.{history_members}
 use Rattle.oci_config.proofs.history.history_members.Goals as goal
 

@@ -1,4 +1,4 @@
-use Rattle.oci_link.proofs.PlainReading.{plain_paths_read as law}
+use Rattle.oci_link.proofs.PlainPathReads.{plain_paths_read as law}
 use Rattle.oci_link.proofs.plain_paths.plain_paths_read.Goals as goal
 
 pub returns : goal.returns

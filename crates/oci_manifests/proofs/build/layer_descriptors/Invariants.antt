@@ -1,5 +1,5 @@
 use Rattle.std.proofs.Common.{◌≡◌, map, take}
-use Rattle.oci_manifests.specs.Built.{layer_descriptor}
+use Rattle.oci_manifests.specs.Build.{layer_descriptor}
 use Rattle.oci_manifests.proofs.build.layer_descriptors.Given as goal
 
 abbrev pub invariant-loop-layer : goal.invariant-loop-layer

@@ -1,5 +1,5 @@
 use Rattle.std.proofs.Common.{arith, refl}
-use Rattle.oci_protocol.proofs.Reaching.{follows_none, follows_next, follows_count, misses, cuts, cuts_start}
+use Rattle.oci_protocol.proofs.OneMoreExchange.{follows_none, follows_next, follows_count, misses, cuts, cuts_start}
 use Rattle.oci_protocol.proofs.followed.reach.Goals as goal
 
 pub returns-in-Err-clause-cut : goal.returns-in-Err-clause-cut

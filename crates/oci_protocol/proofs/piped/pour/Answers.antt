@@ -1,4 +1,4 @@
-use Rattle.oci_protocol.proofs.Pouring.{takes_as, poured_part, poured_more}
+use Rattle.oci_protocol.proofs.PiecesIntoSink.{takes_as, poured_part, poured_more}
 use Rattle.oci_protocol.proofs.piped.pour.Goals as goal
 
 pub returns-in-Err-Failed-put_all-clause-front : goal.returns-in-Err-Failed-put_all-clause-front

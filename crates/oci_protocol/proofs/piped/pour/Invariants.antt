@@ -1,5 +1,5 @@
 use Rattle.std.proofs.Common.{◌-◌}
-use Rattle.oci_protocol.proofs.Pouring.{Poured}
+use Rattle.oci_protocol.proofs.PiecesIntoSink.{Poured}
 use Rattle.oci_protocol.proofs.piped.pour.Given as goal
 
 abbrev pub invariant-loop-piece : goal.invariant-loop-piece

@@ -1,5 +1,5 @@
 use Rattle.std.proofs.Common.{◌≡◌, ◌+◌, drop}
-use Rattle.oci_times.specs.Reading.{digit_count}
+use Rattle.oci_times.specs.Reader.{digit_count}
 use Rattle.oci_times.proofs.digits.digit_count.Given as goal
 
 abbrev pub invariant-loop-byte : goal.invariant-loop-byte

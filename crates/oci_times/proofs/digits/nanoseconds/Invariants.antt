@@ -1,5 +1,5 @@
 use Rattle.std.proofs.Common.{◌≡◌, ◌+◌, ◌*◌, ◌≤◌, ◌<◌, drop}
-use Rattle.oci_times.specs.Reading.{nanoseconds_by}
+use Rattle.oci_times.specs.Reader.{nanoseconds_by}
 use Rattle.oci_times.proofs.digits.nanoseconds.Given as goal
 
 abbrev pub invariant-loop-byte : goal.invariant-loop-byte

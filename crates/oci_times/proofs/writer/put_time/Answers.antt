@@ -1,4 +1,4 @@
-use Rattle.oci_times.specs.Writing.{moment_text}
+use Rattle.oci_times.specs.Writer.{moment_text}
 use Rattle.oci_times.proofs.Joins.{joined3}
 use Rattle.oci_times.proofs.writer.put_time.Goals as goal
 

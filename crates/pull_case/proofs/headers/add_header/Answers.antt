@@ -1,5 +1,5 @@
 use Rattle.std.proofs.Common.{Err, ap}
-use Rattle.pull_case.proofs.Added.{new_headers, bad_name, ok_is_no_err}
+use Rattle.pull_case.proofs.HeaderSteps.{new_headers, bad_name, ok_is_no_err}
 use Rattle.pull_case.proofs.headers.add_header.Goals as goal
 
 pub returns-in-Ok : goal.returns-in-Ok

@@ -1,7 +1,7 @@
 use Rattle.pull_case.specs.Replay.{state_of}
 use Rattle.cosign_client.specs.State.{client_state}
 use Rattle.pull_cases.specs.Rounds.{row_for}
-use Rattle.pull_cases.proofs.Rounding.{told_round, told_is_calm, no_shorter, from_ok, always}
+use Rattle.pull_cases.proofs.PullsInTurn.{told_round, told_is_calm, no_shorter, from_ok, always}
 use Rattle.pull_cases.proofs.pulls.pull_at.Goals as goal
 
 pub slice_bounds-add_report-count : goal.slice_bounds-add_report-count

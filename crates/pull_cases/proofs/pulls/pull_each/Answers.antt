@@ -1,7 +1,7 @@
 use Rattle.std.proofs.Common.{refl, ◌∙◌}
 use Rattle.std.proofs.lemmas.List.{take_all}
-use Rattle.oci_protocol.proofs.Extending.{Extends-none}
-use Rattle.pull_cases.proofs.Rounding.{none_yet, next_round, played, take_more, new_is_calm, row_as}
+use Rattle.oci_protocol.proofs.Conversations.{Extends-none}
+use Rattle.pull_cases.proofs.PullsInTurn.{none_yet, next_round, played, take_more, new_is_calm, row_as}
 use Rattle.pull_cases.proofs.pulls.pull_each.Goals as goal
 
 pub loop-moment-init : goal.loop-moment-init

@@ -1,5 +1,5 @@
 use Rattle.cosign_layers.specs.Trust.{trust}
-use Rattle.pull_chain.proofs.Building.{built, no_signature, no_manifest}
+use Rattle.pull_chain.proofs.BuiltImages.{built, no_signature, no_manifest}
 use Rattle.pull_chain.proofs.built.image_of.Goals as goal
 
 pub returns-in_default : goal.returns-in_default

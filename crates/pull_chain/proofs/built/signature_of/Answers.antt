@@ -2,7 +2,7 @@ use Rattle.std.proofs.Common.{◌∙◌, sym, ap}
 use Rattle.oci_digests.specs.Names.{digest_text}
 use Rattle.oci_digests.specs.declared.digester.Algorithm.TheVariants.{Sha256}
 use Rattle.cosign_layers.specs.Trust.{trust}
-use Rattle.pull_chain.proofs.Building.{gives_one, gives_none}
+use Rattle.pull_chain.proofs.BuiltImages.{gives_one, gives_none}
 use Rattle.pull_chain.proofs.built.signature_of.Goals as goal
 
 pub returns-in-Ok : goal.returns-in-Ok

@@ -1,5 +1,5 @@
 use Rattle.std.proofs.Common.{refl}
-use Rattle.pull_chain.proofs.Holding.{case_answers}
+use Rattle.pull_chain.proofs.ChainHolds.{case_answers}
 use Rattle.pull_chain.proofs.holds.chain_holds.Goals as goal
 
 pub returns : goal.returns

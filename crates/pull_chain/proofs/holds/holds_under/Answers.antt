@@ -2,7 +2,7 @@ use Rattle.cosign_layers.specs.Judge.{vouched_in}
 use Rattle.cosign_layers.specs.Standing.{meaning}
 use Rattle.cosign_layers.specs.Trust.{trust}
 use Rattle.cosign_layers.specs.Verifier.{valid_in}
-use Rattle.pull_chain.proofs.Holding.{checked_holds, not_built}
+use Rattle.pull_chain.proofs.ChainHolds.{checked_holds, not_built}
 use Rattle.pull_chain.proofs.holds.holds_under.Goals as goal
 
 pub returns-in_default : goal.returns-in_default

@@ -2,7 +2,7 @@ use Rattle.oci_auth.specs.declared.auth.RegistryAuth.TheVariants.{Anonymous}
 use Rattle.cosign_laws.proofs.Causes.{pull_cause}
 use Rattle.cosign_laws.proofs.Chains.{chain_of, links_of, backed_of}
 use Rattle.cosign_laws.proofs.Refusals.{pull_fault, pull_no_sink}
-use Rattle.pull_generated.specs.Generated.{generated_context, fresh, generated_reference, generated_types, generated_meaning}
+use Rattle.pull_generated.specs.Terms.{generated_context, fresh, generated_reference, generated_types, generated_meaning}
 use Rattle.pull_generated.proofs.call.pull_generated.Goals as goal
 
 pub returns-clause-chain : goal.returns-clause-chain

@@ -1,9 +1,9 @@
 use Rattle.std.proofs.Common.{[], refl}
 use Rattle.live_host.specs.Heads.{begin_head}
 use Rattle.live_host.specs.Wire.{wire}
-use Rattle.live_host.proofs.Hearing.{asks}
+use Rattle.live_host.proofs.FramesIn.{asks}
 use Rattle.pull_live.specs.Settings.{settings_of}
-use Rattle.pull_live.proofs.Causing.{host_begins, passed_begin, unread_begins}
+use Rattle.pull_live.proofs.EarlyEnds.{host_begins, passed_begin, unread_begins}
 use Rattle.pull_live.proofs.live.begin.Goals as goal
 
 pub returns-in_err-tell-clause-cause : goal.returns-in_err-tell-clause-cause

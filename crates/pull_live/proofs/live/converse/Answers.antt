@@ -1,6 +1,6 @@
 use Rattle.cosign_client.specs.State.{client_state}
 use Rattle.pull_live.specs.Terms.{TermsConfined}
-use Rattle.pull_live.proofs.Ending.{talked}
+use Rattle.pull_live.proofs.PartsTogether.{talked}
 use Rattle.pull_live.proofs.live.converse.Goals as goal
 
 pub returns-in-Ok-ask_layers : goal.returns-in-Ok-ask_layers

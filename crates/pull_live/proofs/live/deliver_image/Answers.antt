@@ -1,5 +1,5 @@
 use Rattle.std.proofs.Common.{Ok}
-use Rattle.pull_live.proofs.Causing.{host_delivers}
+use Rattle.pull_live.proofs.EarlyEnds.{host_delivers}
 use Rattle.pull_live.proofs.live.deliver_image.Goals as goal
 
 pub returns-in-Err : goal.returns-in-Err

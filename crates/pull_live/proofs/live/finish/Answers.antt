@@ -1,5 +1,5 @@
 use Rattle.cosign_client.specs.State.{client_state}
-use Rattle.pull_live.proofs.Ending.{finished_for}
+use Rattle.pull_live.proofs.PartsTogether.{finished_for}
 use Rattle.pull_live.proofs.live.finish.Goals as goal
 
 pub returns : goal.returns

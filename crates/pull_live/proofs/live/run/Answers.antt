@@ -1,4 +1,4 @@
-use Rattle.pull_live.proofs.Causing.{begun_says, unbegun_says}
+use Rattle.pull_live.proofs.EarlyEnds.{begun_says, unbegun_says}
 use Rattle.pull_live.proofs.live.run.Goals as goal
 
 pub returns-in-Ok : goal.returns-in-Ok

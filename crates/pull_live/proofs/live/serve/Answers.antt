@@ -1,4 +1,4 @@
-use Rattle.pull_live.proofs.Ending.{live_ends, prepared_in, prepares_opened}
+use Rattle.pull_live.proofs.PartsTogether.{live_ends, prepared_in, prepares_opened}
 use Rattle.pull_live.proofs.live.serve.Goals as goal
 
 pub returns : goal.returns

@@ -1,5 +1,5 @@
 use Rattle.live_host.specs.Wire.{wire}
-use Rattle.pull_live.proofs.Carrying.{founded, pulled, shown}
+use Rattle.pull_live.proofs.CarriedCalls.{founded, pulled, shown}
 use Rattle.pull_live.proofs.pulls.pull.Goals as goal
 
 pub returns-clause-pulled : goal.returns-clause-pulled

@@ -1,5 +1,5 @@
 use Rattle.live_host.specs.Wire.{wire}
-use Rattle.pull_live.proofs.Carrying.{found, shown}
+use Rattle.pull_live.proofs.CarriedCalls.{found, shown}
 use Rattle.pull_live.proofs.pulls.search.Goals as goal
 
 pub returns-clause-found : goal.returns-clause-found

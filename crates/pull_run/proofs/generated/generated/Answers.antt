@@ -2,7 +2,7 @@ use Rattle.std.proofs.Common.{Some, length, IsTrue, sym, subst, ap, ◌∙◌}
 use Rattle.oci_link.specs.Leads.{redirects_lead}
 use Rattle.oci_link.specs.State.{answering}
 use Rattle.pull_generated.proofs.Valid.{lead}
-use Rattle.pull_run.proofs.Generating.{gives}
+use Rattle.pull_run.proofs.GeneratedReports.{gives}
 use Rattle.pull_run.proofs.generated.generated.Goals as goal
 
 pub new-transport-requires : goal.new-transport-requires

@@ -1,5 +1,5 @@
 use Rattle.pull_run.proofs.Commands.{command_counts}
-use Rattle.pull_run.proofs.Completing.{says_complete}
+use Rattle.pull_run.proofs.CaseStatuses.{says_complete}
 use Rattle.pull_run.proofs.Statuses.{says_unread, says_long, says_past, says_usage}
 use Rattle.pull_run.proofs.program.run.Goals as goal
 

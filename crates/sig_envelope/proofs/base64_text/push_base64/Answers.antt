@@ -1,7 +1,7 @@
 use Rattle.std.proofs.Common.{refl, ap, arith}
 use Rattle.std.specs.Result.{result_ok}
 use Rattle.base64.specs.GeneralPurpose.{decoded_of}
-use Rattle.sig_envelope.proofs.Unescaped.{unescaped}
+use Rattle.sig_envelope.proofs.Base64InJson.{unescaped}
 use Rattle.sig_envelope.proofs.base64_text.push_base64.Goals as goal
 
 pub returns-clause-back : goal.returns-clause-back

@@ -1,5 +1,5 @@
 use Rattle.oci_engine.specs.Refusals.{PullRefused}
-use Rattle.engine_rows.specs.Images.{pull}
+use Rattle.engine_rows.specs.Image.{pull}
 use Rattle.engine_terms.specs.Contexts.{within}
 use Rattle.sig_calls.specs.Calls.{image_made}
 use Rattle.sig_calls.specs.declared.wording.Called.TheVariants.{Pull}

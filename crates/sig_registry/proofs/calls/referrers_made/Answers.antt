@@ -1,6 +1,6 @@
 use Rattle.std.specs.Prelude.{option_copied}
 use Rattle.oci_auth.specs.declared.token_type.RegistryOperation.TheVariants as operation
-use Rattle.oci_names.specs.References.{whole_text}
+use Rattle.oci_names.specs.Reference.{whole_text}
 use Rattle.oci_engine.specs.Refusals.{ReferrersRefused}
 use Rattle.engine_laws.specs.TokenCauses.{TokenCause}
 use Rattle.engine_laws.proofs.ReferrersCauses.{referrers_no_sink}

@@ -1,5 +1,5 @@
 use Rattle.sig_services.proofs.Exits.{refused, and_then, said, passed_on}
-use Rattle.sig_services.specs.Fulcio.{asked}
+use Rattle.sig_services.specs.Client.{asked}
 use Rattle.sig_services.proofs.client.asked.Goals as goal
 
 pub returns-in_err-request : goal.returns-in_err-request

@@ -1,4 +1,4 @@
-use Rattle.sig_services.proofs.Showing.{three}
+use Rattle.sig_services.proofs.HeaderSteps.{three}
 use Rattle.sig_services.proofs.client.headers_with.Goals as goal
 
 pub returns : goal.returns

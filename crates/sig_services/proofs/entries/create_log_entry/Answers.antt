@@ -6,7 +6,7 @@ use Rattle.sig_models.specs.ProposedEntry.{proposed_entry_written}
 use Rattle.oci_transport.specs.declared.message.Method.TheVariants.{Post}
 use Rattle.sig_services.specs.Entities.{create_error}
 use Rattle.sig_services.proofs.Exits.{wanting}
-use Rattle.sig_services.proofs.Causing.{caused}
+use Rattle.sig_services.proofs.CallCauses.{caused}
 use Rattle.sig_services.proofs.entries.create_log_entry.Goals as goal
 
 pub returns-in_err-value-clause-run : goal.returns-in_err-value-clause-run

@@ -1,11 +1,11 @@
 use Rattle.std.proofs.Common.{◌≡◌, refl, None, to_z-of_z, to_z, of_z, w32, arith}
 use Rattle.json_tables.specs.Plain.{read_plain}
 use Rattle.sig_models.specs.LogEntry.{log_entry_of}
-use Rattle.sig_services.specs.Calls.{index_path}
+use Rattle.sig_services.specs.Entries.{index_path}
 use Rattle.oci_transport.specs.declared.message.Method.TheVariants.{Get}
 use Rattle.sig_services.specs.Entities.{by_index_error}
 use Rattle.sig_services.proofs.Exits.{wanting}
-use Rattle.sig_services.proofs.Causing.{caused}
+use Rattle.sig_services.proofs.CallCauses.{caused}
 use Rattle.sig_services.proofs.entries.get_log_entry_by_index.Goals as goal
 
 pub returns-in_err-path-clause-run : goal.returns-in_err-path-clause-run

@@ -5,7 +5,7 @@ use Rattle.sig_models.specs.SearchLogQuery.{query_written}
 use Rattle.oci_transport.specs.declared.message.Method.TheVariants.{Post}
 use Rattle.sig_services.specs.Entities.{search_log_error}
 use Rattle.sig_services.proofs.Exits.{wanting}
-use Rattle.sig_services.proofs.Causing.{caused}
+use Rattle.sig_services.proofs.CallCauses.{caused}
 use Rattle.sig_services.proofs.entries.search_log_query.Goals as goal
 
 pub returns-in_err-value-clause-run : goal.returns-in_err-value-clause-run

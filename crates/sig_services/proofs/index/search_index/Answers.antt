@@ -4,7 +4,7 @@ use Rattle.json_tables.specs.Reading.{list_of, text_of}
 use Rattle.oci_transport.specs.declared.message.Method.TheVariants.{Post}
 use Rattle.sig_services.specs.Entities.{search_index_error}
 use Rattle.sig_services.proofs.Exits.{wanting}
-use Rattle.sig_services.proofs.Causing.{caused}
+use Rattle.sig_services.proofs.CallCauses.{caused}
 use Rattle.sig_services.proofs.index.search_index.Goals as goal
 
 pub returns-in_err-content-clause-run : goal.returns-in_err-content-clause-run

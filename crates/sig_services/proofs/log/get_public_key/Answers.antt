@@ -1,10 +1,10 @@
 use Rattle.std.proofs.Common.{refl, None, option_copied}
 use Rattle.sig_services.specs.Body.{text_body}
-use Rattle.sig_services.specs.Calls.{key_path}
+use Rattle.sig_services.specs.Log.{key_path}
 use Rattle.oci_transport.specs.declared.message.Method.TheVariants.{Get}
 use Rattle.sig_services.specs.Entities.{public_key_error}
 use Rattle.sig_services.proofs.Exits.{wanting}
-use Rattle.sig_services.proofs.Causing.{caused}
+use Rattle.sig_services.proofs.CallCauses.{caused}
 use Rattle.sig_services.proofs.log.get_public_key.Goals as goal
 
 pub returns-in_err-path-clause-run : goal.returns-in_err-path-clause-run

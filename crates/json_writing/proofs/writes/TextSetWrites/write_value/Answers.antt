@@ -1,6 +1,6 @@
 use Rattle.std.proofs.Common.{refl}
 use Rattle.json_values.specs.Writing.{empty_object}
-use Rattle.json_tables.specs.Reading.{an_object}
+use Rattle.json_tables.specs.Objects.{an_object}
 use Rattle.json_writing.proofs.Entries.{map_again}
 use Rattle.json_writing.proofs.writes.TextSetWrites.write_value.Goals as goal
 

@@ -1,5 +1,5 @@
 use Rattle.live_link.specs.Shown.{exchanges_of}
-use Rattle.live_link.proofs.Opening.{ends}
+use Rattle.live_link.proofs.StreamEnds.{ends}
 use Rattle.live_link.proofs.transport.StreamTransport.finish.Goals as goal
 
 pub returns : goal.returns

@@ -1,6 +1,6 @@
 use Rattle.std.proofs.Common.{◌∷◌, [], ◌++◌, ap, ◌∙◌}
 use Rattle.live_link.specs.State.{exchanges_by}
-use Rattle.live_link.proofs.Opening.{begins}
+use Rattle.live_link.proofs.StreamEnds.{begins}
 use Rattle.live_link.proofs.transport.StreamTransport.new.Goals as goal
 
 pub invariant_of-result : goal.invariant_of-result

@@ -1,6 +1,6 @@
 use Rattle.std.proofs.Common.{◌≡◌, rules}
 use Rattle.std.specs.Prelude.{slice_set}
-use Rattle.oci_auth.specs.Keys.{inserted}
+use Rattle.oci_auth.specs.Kept.{inserted}
 use Rattle.oci_auth.proofs.Places.{kept_from}
 use Rattle.oci_auth.proofs.kept.KeptTokens.insert.Goals as goal
 

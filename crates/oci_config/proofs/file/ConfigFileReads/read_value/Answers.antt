@@ -1,4 +1,4 @@
-use Rattle.json_tables.proofs.Refused.{passed_on}
+use Rattle.json_tables.proofs.Refusals.{passed_on}
 use Rattle.oci_config.specs.File.{file_of}
 use Rattle.oci_config.proofs.file.ConfigFileReads.read_value.Goals as goal
 

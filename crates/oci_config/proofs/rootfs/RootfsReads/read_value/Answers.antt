@@ -1,4 +1,4 @@
-use Rattle.json_tables.proofs.Refused.{passed_on}
+use Rattle.json_tables.proofs.Refusals.{passed_on}
 use Rattle.oci_config.specs.Rootfs.{rootfs_of}
 use Rattle.oci_config.proofs.rootfs.RootfsReads.read_value.Goals as goal
 

@@ -1,4 +1,4 @@
-use Rattle.json_tables.proofs.Refused.{passed_on}
+use Rattle.json_tables.proofs.Refusals.{passed_on}
 use Rattle.oci_descriptors.specs.IndexEntry.{entry_of}
 use Rattle.oci_descriptors.proofs.index_entry.ImageIndexEntryReads.read_value.Goals as goal
 

@@ -1,4 +1,4 @@
-use Rattle.json_tables.proofs.Refused.{passed_on}
+use Rattle.json_tables.proofs.Refusals.{passed_on}
 use Rattle.oci_manifests.specs.Index.{index_of}
 use Rattle.oci_manifests.proofs.index.OciImageIndexReads.read_value.Goals as goal
 

@@ -1,5 +1,5 @@
 use Rattle.std.proofs.Common.{◌≡◌, rules}
-use Rattle.oci_names.specs.References.{reads_back}
+use Rattle.oci_names.specs.Reference.{reads_back}
 use Rattle.oci_names.proofs.ReadsBack.{reads_back-tells}
 use Rattle.oci_names.proofs.reference.Reference.reads_back.Goals as goal
 

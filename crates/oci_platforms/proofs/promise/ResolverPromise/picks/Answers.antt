@@ -1,4 +1,4 @@
-use Rattle.oci_platforms.proofs.Picking.{picked}
+use Rattle.oci_platforms.proofs.ExactPicks.{picked}
 use Rattle.oci_platforms.proofs.promise.ResolverPromise.picks.Goals as goal
 
 pub returns-clause-exact : goal.returns-clause-exact

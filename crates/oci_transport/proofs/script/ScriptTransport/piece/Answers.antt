@@ -1,6 +1,6 @@
 use Rattle.std.proofs.Common.{refl, sym, ◌∙◌}
-use Rattle.oci_transport.proofs.Calming.{stop_given, calm_stop}
-use Rattle.oci_transport.proofs.Playing.{same_answers}
+use Rattle.oci_transport.proofs.ScriptCalm.{stop_given, calm_stop}
+use Rattle.oci_transport.proofs.ScriptAnswers.{same_answers}
 use Rattle.oci_transport.proofs.script.ScriptTransport.piece.Goals as goal
 
 pub returns-then-eq-clause-steady : goal.returns-then-eq-clause-steady

@@ -1,10 +1,10 @@
 use Rattle.std.proofs.Common.{◌≡◌, ◌++◌, ◌∷◌, [], Some, None, refl, sym, ap, subst, IsTrue, ◌∙◌, length, drop, slice_get}
-use Rattle.oci_transport.specs.Playback.{answering, recorded_answer, last_pieces}
+use Rattle.oci_transport.specs.Recorded.{answering, recorded_answer, last_pieces}
 use Rattle.oci_transport.specs.declared.message.Request.{Request}
 use Rattle.oci_transport.specs.Calm.{calm}
 use Rattle.oci_transport.specs.Pieces.{joined}
-use Rattle.oci_transport.proofs.Calming.{calm_push, calm_failed}
-use Rattle.oci_transport.proofs.Playing.{told_next, answered_next, rest_next, nothing_next}
+use Rattle.oci_transport.proofs.ScriptCalm.{calm_push, calm_failed}
+use Rattle.oci_transport.proofs.ScriptAnswers.{told_next, answered_next, rest_next, nothing_next}
 use Rattle.oci_transport.proofs.script.ScriptTransport.send.Goals as goal
 
 pub returns-in_ok-push-in-Some-clause-answered : goal.returns-in_ok-push-in-Some-clause-answered

@@ -1,4 +1,4 @@
-use Rattle.json_tables.proofs.Refused.{passed_on, behind}
+use Rattle.json_tables.proofs.Refusals.{passed_on, behind}
 use Rattle.pull_case.specs.Case.{case_of}
 use Rattle.pull_case.proofs.case.CaseReads.read_value.Goals as goal
 

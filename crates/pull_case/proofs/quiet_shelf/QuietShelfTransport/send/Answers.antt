@@ -1,4 +1,4 @@
-use Rattle.pull_case.proofs.Quieting.{still_quiet}
+use Rattle.pull_case.proofs.ShelfCalm.{still_quiet}
 use Rattle.pull_case.proofs.quiet_shelf.QuietShelfTransport.send.Goals as goal
 
 pub invariant_of-self : goal.invariant_of-self

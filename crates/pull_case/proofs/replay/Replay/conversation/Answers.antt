@@ -1,4 +1,4 @@
-use Rattle.pull_case.proofs.Quieting.{shelf_calm}
+use Rattle.pull_case.proofs.ShelfCalm.{shelf_calm}
 use Rattle.pull_case.proofs.replay.Replay.conversation.Goals as goal
 
 pub returns-in-Shelf-clause-calm : goal.returns-in-Shelf-clause-calm

@@ -1,4 +1,4 @@
-use Rattle.json_tables.proofs.Refused.{passed_on, behind}
+use Rattle.json_tables.proofs.Refusals.{passed_on, behind}
 use Rattle.pull_chain.specs.Input.{chain_of}
 use Rattle.pull_chain.proofs.input.WrittenChainReads.read_value.Goals as goal
 

@@ -1,6 +1,6 @@
 use Rattle.std.proofs.Common.{sym, ◌∙◌}
-use Rattle.json_tables.proofs.Refused.{passed_on, behind}
-use Rattle.live_host.proofs.Named.{behind_some}
+use Rattle.json_tables.proofs.Refusals.{passed_on, behind}
+use Rattle.live_host.proofs.FrameWords.{behind_some}
 use Rattle.pull_live.specs.Settings.{settings_of}
 use Rattle.pull_live.proofs.settings.LiveSettingsReads.read_value.Goals as goal
 

@@ -1,4 +1,4 @@
-use Rattle.json_tables.proofs.Refused.{passed_on}
+use Rattle.json_tables.proofs.Refusals.{passed_on}
 use Rattle.sig_models.specs.InactiveShard.{shard_of}
 use Rattle.sig_models.proofs.inactive_shard.InactiveShardLogInfoReads.read_value.Goals as goal
 

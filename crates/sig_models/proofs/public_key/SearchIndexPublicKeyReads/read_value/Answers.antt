@@ -1,4 +1,4 @@
-use Rattle.json_tables.proofs.Refused.{passed_on}
+use Rattle.json_tables.proofs.Refusals.{passed_on}
 use Rattle.sig_models.specs.PublicKey.{public_key_of}
 use Rattle.sig_models.proofs.public_key.SearchIndexPublicKeyReads.read_value.Goals as goal
 

@@ -1,4 +1,4 @@
-use Rattle.json_tables.proofs.Refused.{passed_on}
+use Rattle.json_tables.proofs.Refusals.{passed_on}
 use Rattle.sig_models.specs.SearchIndex.{search_index_of}
 use Rattle.sig_models.proofs.search_index.SearchIndexReads.read_value.Goals as goal
 

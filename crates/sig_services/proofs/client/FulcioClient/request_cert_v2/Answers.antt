@@ -1,6 +1,6 @@
 use Rattle.std.proofs.Common.{refl}
 use Rattle.sig_services.proofs.Exits.{refused, and_then, said, passed_on, wanting}
-use Rattle.sig_services.specs.Fulcio.{request_cert_v2}
+use Rattle.sig_services.specs.Client.{request_cert_v2}
 use Rattle.sig_services.proofs.client.FulcioClient.request_cert_v2.Goals as goal
 
 pub returns-in_err-body : goal.returns-in_err-body

@@ -1,0 +1,59 @@
+-- The tokens that a client keeps.
+use Rattle.std.specs.Prelude.{◌≡◌, ◌≢◌, ℕ, ◌-◌, ◌^◌, nat_le, if◌then◌else◌, Option, Some, None, option_and_then}
+use Rattle.std.specs.Option.{option_map_or}
+use Rattle.oci_names.specs.declared.reference.Reference.{Reference}
+use Rattle.oci_names.specs.Reference.{resolved_registry, repository_of}
+use Rattle.oci_auth.specs.declared.cache.TokenCache.{TokenCache}
+use Rattle.oci_auth.specs.declared.kept.KeptToken.{KeptToken}
+use Rattle.oci_auth.specs.declared.token_type.RegistryOperation.{RegistryOperation}
+use Rattle.oci_auth.specs.declared.token_type.RegistryTokenType.{RegistryTokenType}
+use Rattle.oci_auth.specs.declared.token_type.RegistryTokenType.TheVariants.{Bearer, Basic}
+use Rattle.oci_auth.specs.Expiration.{expiration_of}
+use Rattle.oci_auth.specs.Kept.{Key, under, kept_under, inserted}
+use Rattle.oci_auth.specs.Token.{token_text}
+
+-- what a token of this reference is kept under: the registry that is asked, the repository and the operation
+abbrev pub key_of : Reference → RegistryOperation → Key
+key_of image operation = under (resolved_registry image) (repository_of image) operation
+
+-- until when a token is kept: credentials are kept for good
+abbrev pub kept_until : RegistryTokenType → ℕ → ℕ → Option ℕ
+kept_until (Bearer token) default moment = expiration_of (token_text token) default moment
+kept_until (Basic user password) default moment = Some (2 ^ 64 - 1)
+
+-- a token with what it is kept under and until when
+abbrev pub kept_token : Key → RegistryTokenType → ℕ → KeptToken
+kept_token key token until = record {
+  registry = key.registry;
+  repository = key.repository;
+  operation = key.operation;
+  token = token;
+  expiration = until;
+}
+
+-- the cache with this token, which is kept where it is known until when
+abbrev pub with_token : TokenCache → Key → RegistryTokenType → ℕ → TokenCache
+with_token cache key token moment =
+    option_map_or
+    (λ until. record cache { tokens = inserted cache.tokens (kept_token key token until) })
+    (kept_until token cache.default_expiration_secs moment)
+    cache
+
+-- a token is given up to its expiration
+abbrev pub given_at : ℕ → KeptToken → Option RegistryTokenType
+given_at moment t = if nat_le moment t.expiration then Some t.token else None
+
+-- the token that a cache gives under a key at a moment
+abbrev pub token_at : TokenCache → Key → ℕ → Option RegistryTokenType
+token_at cache key moment = option_and_then (given_at moment) (kept_under key cache.tokens)
+
+-- afterwards the token is given under its key exactly up to its expiration, and under each other key is given what was
+-- given before
+pub record GivesUntil (old new : TokenCache) (key : Key) (token : RegistryTokenType) (until : ℕ) : Type 0 where
+  pub here : (moment : ℕ) → token_at new key moment ≡ (if nat_le moment until then Some token else None)
+  pub others : (other : Key) (moment : ℕ) → other ≢ key → token_at new other moment ≡ token_at old other moment
+
+-- the token is given from now on, where it is known until when; else nothing changed
+abbrev pub GivesFrom : TokenCache → TokenCache → Key → RegistryTokenType → Option ℕ → Type 0
+GivesFrom old new key token (Some until) = GivesUntil old new key token until
+GivesFrom old new key token None = new ≡ old

@@ -1,0 +1,101 @@
+use Rattle.std.proofs.Common.{◌≡◌, ◌<◌, ◌≤◌, ◌+◌, ◌-◌, ℕ, List, [], ◌++◌, Option, Some, length, length-append, refl, sym, ap, subst, ◌∙◌, append-nil, append_assoc, arith}
+use Rattle.std.proofs.lemmas.List.{nil_from_length}
+use Rattle.oci_transport.specs.Link.{Link, Steady, HasTaken, Takes}
+use Rattle.oci_protocol.proofs.Conversations.{Steady-none, Steady-more}
+use Rattle.json_values.specs.Tray.{Tray, Adds, AddsFront}
+use Rattle.json_values.proofs.Sinks.{adds_none, adds_more}
+use Rattle.oci_digests.specs.declared.digester.Algorithm.{Algorithm}
+use Rattle.oci_digests.specs.declared.both.Digesters.{Digesters}
+use Rattle.oci_digests.specs.Both.{BothHold}
+use Rattle.oci_protocol.specs.Poured.{PouredSoFar, Pours, PoursFront}
+
+pub record Poured (limit taken : ℕ) (from to : Digesters) (old new : Link) (before after : Tray) : Type 0 where
+  pub body : List ℕ
+  pub taken_is : taken ≡ length body
+  pub small : taken ≤ limit
+  pub so_far : PouredSoFar body from to old new before after
+
+pub poured_none : (limit : ℕ) (ds : Digesters) (link : Link) (tray : Tray) → Poured limit 0 ds ds link link tray tray
+poured_none limit ds link tray = record {
+  body = [];
+  taken_is = refl;
+  small = omega arith;
+  so_far = record {
+    taken = record { told = refl; count = omega arith; stays = Steady-none link; front = λ rest h. (rest, refl, h) };
+    put = adds_none tray tray refl;
+    count = omega arith;
+    hashed = λ a b h. h;
+  };
+}
+
+-- the bytes of the piece were taken
+pub takes_as : {bytes piece : List ℕ} {old new : Link} → bytes ≡ piece → Takes piece old new → Takes bytes old new
+takes_as {bytes} {piece} {old} {new} is takes = subst (λ p. Takes p old new) (sym is) takes
+
+-- a piece was taken
+taken_more : (bytes piece : List ℕ) (old mid new : Link) → HasTaken bytes old mid → new.told ≡ mid.told → Steady mid new → mid.faults ≤ new.faults → Takes piece mid new → HasTaken (bytes ++ piece) old new
+taken_more bytes piece old mid new so told steady count takes = record {
+  told = told ∙ so.told;
+  count = omega (arith, so.count);
+  stays = Steady-more old mid new so.stays steady;
+  front = λ rest h.
+      let first = so.front rest h in
+      let next = takes.front first.0 first.2 in
+      (next.0, first.1 ∙ ap (λ (r : List ℕ). bytes ++ r) next.1 ∙ sym (append_assoc bytes piece next.0), next.2);
+}
+
+pub poured_more : (limit taken : ℕ) (piece : List ℕ) (from to' to : Digesters) (old mid new : Link) (before between after : Tray) → Poured limit taken from to' old mid before between
+    → new.told ≡ mid.told → Steady mid new → mid.faults ≤ new.faults → Takes piece mid new → length piece ≤ limit - taken
+    → ((a : Option Algorithm) (b : Algorithm) (m : List ℕ) → BothHold to' a b m → BothHold to a b (m ++ piece))
+    → between.faults ≤ after.faults → Adds piece between after
+    → Poured limit (taken + length piece) from to old new before after
+poured_more limit taken piece from to' to old mid new before between after p told steady count takes small hashes put_count put = record {
+  body = p.body ++ piece;
+  taken_is = omega (arith, p.taken_is, length-append p.body piece);
+  small = omega (arith, p.small);
+  so_far = record {
+    taken = taken_more p.body piece old mid new p.so_far.taken told steady count takes;
+    put = adds_more p.body piece before between after p.so_far.put put;
+    count = omega (arith, p.so_far.count);
+    hashed = λ a b h. hashes a b p.body (p.so_far.hashed a b h);
+  };
+}
+
+-- an empty piece ends it
+pub poured_whole : (limit taken : ℕ) (piece : List ℕ) (from to : Digesters) (old mid new : Link) (before after : Tray) → Poured limit taken from to old mid before after → Takes piece mid new → length piece ≡ 0 → Pours limit from to old new before after
+poured_whole limit taken piece from to old mid new before after p takes empty = record {
+  body = p.body;
+  small = omega (arith, p.small, p.taken_is);
+  whole = λ rest h.
+      let first = p.so_far.taken.front rest h in
+      let none : first.0 ≡ [] = (takes.front first.0 first.2).3 (nil_from_length piece empty) in
+      sym (first.1 ∙ ap (λ (r : List ℕ). p.body ++ r) none ∙ append-nil p.body);
+  put = p.so_far.put;
+  hashed = p.so_far.hashed;
+}
+
+-- what was put so far is a front
+pub poured_front : (limit taken : ℕ) (from to : Digesters) (old mid : Link) (before after new : Tray) → Poured limit taken from to old mid before after → Adds [] after new → PoursFront old before new
+poured_front limit taken from to old mid before after new p none = record {
+  front = p.body;
+  part = λ rest h. let first = p.so_far.taken.front rest h in (first.0, first.1);
+  put = record { took = λ bytes h. none.took (bytes ++ p.body) (p.so_far.put.took bytes h) ∙ ap Some (append-nil (bytes ++ p.body)) };
+}
+
+-- and so is what was put with a front of the next piece
+pub poured_part : (limit taken : ℕ) (piece : List ℕ) (from to : Digesters) (old mid new : Link) (before between after : Tray) → Poured limit taken from to old mid before between → Takes piece mid new → AddsFront piece between after → PoursFront old before after
+poured_part limit taken piece from to old mid new before between after p takes part = record {
+  front = p.body ++ part.front;
+  part = λ rest h.
+      let first = p.so_far.taken.front rest h in
+      let next = takes.front first.0 first.2 in
+      (part.left ++ next.0, first.1 ∙ ap (λ (r : List ℕ). p.body ++ r) (next.1 ∙ ap (λ (r : List ℕ). r ++ next.0) part.split ∙ append_assoc part.front part.left next.0) ∙ sym (append_assoc p.body part.front (part.left ++ next.0)));
+  put = adds_more p.body part.front before between after p.so_far.put part.added;
+}
+
+pub poured_long : (limit taken : ℕ) (piece : List ℕ) (from to : Digesters) (old mid new : Link) (before after : Tray) → Poured limit taken from to old mid before after → Takes piece mid new → limit - taken < length piece → (rest : List ℕ) → old.rest ≡ Some rest → limit < length rest
+poured_long limit taken piece from to old mid new before after p takes long rest h =
+    let first = p.so_far.taken.front rest h in
+    let next = takes.front first.0 first.2 in
+    let all : length rest ≡ length (p.body ++ (piece ++ next.0)) = ap length (first.1 ∙ ap (λ (r : List ℕ). p.body ++ r) next.1) in
+    omega (arith, all, length-append p.body (piece ++ next.0), length-append piece next.0, p.taken_is, p.small)

@@ -1,0 +1,170 @@
+use Rattle.std.proofs.Common.{◌≡◌, ◌≤◌, ◌<◌, ◌+◌, inl, inr, ℕ, suc, zero, Bool, true, List, [], ◌∷◌, ◌++◌, Option, Some, None, Result, Err, length, replicate, refl, ap, ◌∙◌, arith}
+use Rattle.std.proofs.lemmas.List.{length-replicate}
+use Rattle.json_values.specs.Counts.{Rose}
+use Rattle.oci_transport.specs.Link.{Link, Extends, AddsAtMost, Steady, answer_of}
+use Rattle.oci_transport.specs.Redirects.{redirected}
+use Rattle.oci_transport.specs.declared.message.Request.{Request}
+use Rattle.oci_transport.specs.declared.message.AnswerHead.{AnswerHead}
+use Rattle.oci_transport.specs.declared.message.Exchange.{Exchange}
+use Rattle.oci_protocol.specs.Proto.{Reading, Unread, Piped, limit_of, read_none, Reply, Headed, Answered, Failed, TooLong, SinkFailed, Proto}
+use Rattle.oci_protocol.specs.Runs.{Replies, Hears, Runs, Stops, Performs, Breaks, Meets}
+use Rattle.oci_protocol.specs.Follow.{unread_if, turned, turn, follow, reading_at, Trail, Follows, IsFinal, Reaches, Misses, Cuts}
+use Rattle.oci_protocol.proofs.Conversations.{Extends-more, Extends-still, Extends-untold, Steady-more}
+use Rattle.oci_protocol.proofs.Laws.{Meets-ask, Meets-cut, outcome_by}
+use Rattle.oci_protocol.proofs.OneMoreExchange.{follows_count}
+
+-- a redirect's reply, as the followed request reads it
+turned_replies : (request : Request) (reading : AnswerHead → Reading) (m : ℕ) (e : Exchange) (between : ℕ) (head : AnswerHead) (next : Request) → redirected request head ≡ Some next → Replies request read_none m e between (Headed head) → Replies request (turned request reading) m e between (Headed head)
+unfolding turned
+turned_replies request reading m e between head next to r = record {
+  request_is = r.request_is;
+  faults_is = r.faults_is;
+  count = r.count;
+  reply_is = (r.reply_is.0, r.reply_is.1, ap (λ (o : Option Request). unread_if o (reading head)) to);
+}
+
+-- a trail leads from one request to the last one
+trail_runs : {K A : Type 0} (n : ℕ) (request : Request) (reading : AnswerHead → Reading) (next : Request → Reply → Proto K A) (m : ℕ) (c : List Exchange) (left : ℕ) (last : Request) (between : ℕ) (k : K) (d : List Exchange) (after : ℕ) (l : K) (a : A)
+    → Trail n request m c left last between → Runs (follow left last reading next) k between d after l a → Runs (follow n request reading next) k m (c ++ d) after l a
+unfolding Trail Runs follow
+trail_runs n request reading next m [] left last between k d after l a t r = rw (t.0, t.1, t.2) r
+trail_runs zero request reading next m (e ∷ c) left last between k d after l a t r = absurd t
+trail_runs (suc n) request reading next m (e ∷ c) left last between k d after l a t r =
+    (t.0, Headed t.1, turned_replies request reading m e t.0 t.1 t.2 t.3 t.4, rw t.3 (trail_runs n t.2 reading next t.0 c left last between k d after l a t.5 r))
+
+trail_stops : {K A : Type 0} (n : ℕ) (request : Request) (reading : AnswerHead → Reading) (next : Request → Reply → Proto K A) (m : ℕ) (c : List Exchange) (left : ℕ) (last : Request) (between : ℕ) (k : K) (d : List Exchange) (l : K)
+    → Trail n request m c left last between → Stops (follow left last reading next) k between d l → Stops (follow n request reading next) k m (c ++ d) l
+unfolding Trail Stops follow
+trail_stops n request reading next m [] left last between k d l t s = rw (t.0, t.1, t.2) s
+trail_stops zero request reading next m (e ∷ c) left last between k d l t s = absurd t
+trail_stops (suc n) request reading next m (e ∷ c) left last between k d l t s =
+    inr (t.0, Headed t.1, turned_replies request reading m e t.0 t.1 t.2 t.3 t.4, rw t.3 (trail_stops n t.2 reading next t.0 c left last between k d l t.5 s))
+
+-- what the last request does, the first does
+pub follows_met : {K A E : Type 0} {of_memory : E → Bool} (n : ℕ) (request : Request) (reading : AnswerHead → Reading) (next : Request → Reply → Proto K (Result A E)) (left : ℕ) (last : Request) (old mid : Link) {new : Link} {k l : K} {r : Result A E}
+    → Follows n request left last old mid → Meets of_memory (follow left last reading next) mid new k l r → Meets of_memory (follow n request reading next) old new k l r
+follows_met {K} {A} {E} {of_memory} n request reading next left last old mid {new} {k} {l} {r} f met = record { outcome = outcome_by of_memory (follow left last reading next) (follow n request reading next) old mid new k k l performs breaks r met.outcome } where
+  performs : (x : Result A E) → Performs (follow left last reading next) mid new k l x → Performs (follow n request reading next) old new k l x
+  performs x h = record { conversation = f.conversation ++ h.conversation; told = Extends-more old mid new f.conversation h.conversation f.told h.told; runs = trail_runs n request reading next old.faults f.conversation left last mid.faults k h.conversation new.faults l x f.trail h.runs }
+
+  breaks : Breaks (follow left last reading next) mid new k l → Breaks (follow n request reading next) old new k l
+  breaks h = record { conversation = f.conversation ++ h.conversation; told = Extends-more old mid new f.conversation h.conversation f.told h.told; stops = trail_stops n request reading next old.faults f.conversation left last mid.faults k h.conversation l f.trail h.stops; count = omega (arith, follows_count n request left last old mid f, h.count) }
+
+-- the last answer is read as it is to be
+final_reading : (left : ℕ) (last : Request) (reading : AnswerHead → Reading) (head : AnswerHead) → IsFinal left last head → reading_at left last reading head ≡ reading head
+unfolding reading_at turned
+final_reading zero last reading head final = refl
+final_reading (suc left) last reading head (inl none) = absurd (cc none)
+final_reading (suc left) last reading head (inr none) = ap (λ (o : Option Request). unread_if o (reading head)) none
+
+-- this reply is no redirect that is followed
+abbrev Stays : ℕ → Request → Reply → Type 0
+Stays left last (Headed head) = IsFinal left last head
+Stays left last reply = Unit {0}
+
+follow_asked : {K A E : Type 0} {of_memory : E → Bool} (left : ℕ) (last : Request) (reading : AnswerHead → Reading) (next : Request → Reply → Proto K (Result A E)) (reply : Reply) {old mid new : Link} {k l : K} {r : Result A E}
+    → Stays left last reply → Hears last (reading_at left last reading) old mid reply → Meets of_memory (next last reply) mid new k l r → Meets of_memory (follow left last reading next) old new k l r
+unfolding follow reading_at
+follow_asked zero last reading next reply stays h rest = Meets-ask (next last) h rest
+follow_asked {K} {A} {E} (suc left) last reading next (Headed head) (inl none) h rest = absurd (cc none)
+follow_asked {K} {A} {E} (suc left) last reading next (Headed head) (inr none) h rest = Meets-ask (turn last (λ r. follow left r reading next) (next last)) h (rw none rest)
+follow_asked (suc left) last reading next (Answered answer) stays h rest = Meets-ask (turn last (λ r. follow left r reading next) (next last)) h rest
+follow_asked (suc left) last reading next Failed stays h rest = Meets-ask (turn last (λ r. follow left r reading next) (next last)) h rest
+follow_asked (suc left) last reading next TooLong stays h rest = Meets-ask (turn last (λ r. follow left r reading next) (next last)) h rest
+follow_asked (suc left) last reading next SinkFailed stays h rest = Meets-ask (turn last (λ r. follow left r reading next) (next last)) h rest
+
+follow_cut : {K A E : Type 0} (of_memory : E → Bool) (left : ℕ) (last : Request) (reading : AnswerHead → Reading) (next : Request → Reply → Proto K (Result A E)) {old new : Link} (k : K) (e : E)
+    → AddsAtMost last old new → old.faults ≤ new.faults → of_memory e ≡ true → Meets of_memory (follow left last reading next) old new k k (Err e)
+unfolding follow
+follow_cut of_memory zero last reading next k e cut le h = Meets-cut of_memory last reading (next last) k e cut le h
+follow_cut of_memory (suc left) last reading next k e cut le h = Meets-cut of_memory last (turned last reading) (turn last (λ r. follow left r reading next) (next last)) k e cut le h
+
+-- the body was not read
+pub reached_headed : {K A E : Type 0} {of_memory : E → Bool} (n : ℕ) (request : Request) (reading : AnswerHead → Reading) (next : Request → Reply → Proto K (Result A E)) (head : AnswerHead) (last : Request) {old new end : Link} {k l : K} {r : Result A E}
+    → Reaches n request head last old new → reading head ≡ Unread → Meets of_memory (next last (Headed head)) new end k l r → Meets of_memory (follow n request reading next) old end k l r
+reached_headed n request reading next head last {old} {new} reach unread rest = follows_met n request reading next reach.left last old reach.mid reach.follows
+    (follow_asked reach.left last reading next (Headed head) reach.final (record {
+      exchange = record { request = last; answer = Some (answer_of head reach.sent.body); faults = reach.mid.faults };
+      told = reach.sent.added;
+      replies = record { request_is = refl; faults_is = refl; count = reach.count; reply_is = (reach.sent.body, refl, final_reading reach.left last reading head reach.final ∙ unread) };
+    }) rest)
+
+limit_at : (left : ℕ) (last : Request) (reading : AnswerHead → Reading) (head : AnswerHead) (limit : ℕ) → IsFinal left last head → limit_of (reading head) ≡ Some limit → limit_of (reading_at left last reading head) ≡ Some limit
+limit_at left last reading head limit final is = ap limit_of (final_reading left last reading head final) ∙ is
+
+-- the body was read whole
+pub reached_answered : {K A E : Type 0} {of_memory : E → Bool} (n : ℕ) (request : Request) (reading : AnswerHead → Reading) (next : Request → Reply → Proto K (Result A E)) (head : AnswerHead) (last : Request) (limit : ℕ) (body : List ℕ) {old mid new end : Link} {k l : K} {r : Result A E}
+    → Reaches n request head last old mid → limit_of (reading head) ≡ Some limit → mid.faults ≤ new.faults → new.told ≡ mid.told → Steady mid new → length body ≤ limit → ((rest : List ℕ) → mid.rest ≡ Some rest → body ≡ rest)
+    → Meets of_memory (next last (Answered (answer_of head body))) new end k l r → Meets of_memory (follow n request reading next) old end k l r
+reached_answered n request reading next head last limit body {old} {mid} {new} reach is le same steady small whole rest = follows_met n request reading next reach.left last old reach.mid reach.follows
+    (follow_asked reach.left last reading next (Answered (answer_of head body)) tt (by_told reach.mid.told refl) rest) where
+      hears : Extends reach.mid new (record { request = last; answer = Some (answer_of head body); faults = reach.mid.faults } ∷ []) → Hears last (reading_at reach.left last reading) reach.mid new (Answered (answer_of head body))
+      hears told = record {
+        exchange = record { request = last; answer = Some (answer_of head body); faults = reach.mid.faults };
+        told = told;
+        replies = record { request_is = refl; faults_is = refl; count = omega (arith, reach.count); reply_is = (limit, refl, limit_at reach.left last reading head limit reach.final is, small) };
+      }
+
+      by_told : (t : Option (List Exchange)) → reach.mid.told ≡ t → Hears last (reading_at reach.left last reading) reach.mid new (Answered (answer_of head body))
+      by_told None none = hears (Extends-untold reach.mid new _ none (Steady-more reach.mid mid new reach.sent.added.stays steady))
+      by_told (Some before) h = hears (rw (whole reach.sent.body (reach.sent.rest before h)) (Extends-still reach.mid mid new _ reach.sent.added same steady))
+
+-- the body was longer than the limit
+pub reached_long : {K A E : Type 0} {of_memory : E → Bool} (n : ℕ) (request : Request) (reading : AnswerHead → Reading) (next : Request → Reply → Proto K (Result A E)) (head : AnswerHead) (last : Request) (limit : ℕ) {old mid new end : Link} {k l : K} {r : Result A E}
+    → Reaches n request head last old mid → limit_of (reading head) ≡ Some limit → mid.faults ≤ new.faults → new.told ≡ mid.told → Steady mid new → ((rest : List ℕ) → mid.rest ≡ Some rest → limit < length rest)
+    → Meets of_memory (next last TooLong) new end k l r → Meets of_memory (follow n request reading next) old end k l r
+reached_long n request reading next head last limit {old} {mid} {new} reach is le same steady long rest = follows_met n request reading next reach.left last old reach.mid reach.follows
+    (follow_asked reach.left last reading next TooLong tt (by_told reach.mid.told refl) rest) where
+      hears : (body : List ℕ) → limit < length body → Extends reach.mid new (record { request = last; answer = Some (answer_of head body); faults = reach.mid.faults } ∷ []) → Hears last (reading_at reach.left last reading) reach.mid new TooLong
+      hears body h told = record {
+        exchange = record { request = last; answer = Some (answer_of head body); faults = reach.mid.faults };
+        told = told;
+        replies = record { request_is = refl; faults_is = refl; count = omega (arith, reach.count); reply_is = (answer_of head body, limit, refl, limit_at reach.left last reading head limit reach.final is, h) };
+      }
+
+      by_told : (t : Option (List Exchange)) → reach.mid.told ≡ t → Hears last (reading_at reach.left last reading) reach.mid new TooLong
+      by_told None none = hears (replicate (limit + 1) 0) (omega (arith, length-replicate {A = ℕ} (limit + 1) 0)) (Extends-untold reach.mid new _ none (Steady-more reach.mid mid new reach.sent.added.stays steady))
+      by_told (Some before) h = hears reach.sent.body (long reach.sent.body (reach.sent.rest before h)) (Extends-still reach.mid mid new _ reach.sent.added same steady)
+
+-- a fault came while the body was read
+pub reached_failed : {K A E : Type 0} {of_memory : E → Bool} (n : ℕ) (request : Request) (reading : AnswerHead → Reading) (next : Request → Reply → Proto K (Result A E)) (head : AnswerHead) (last : Request) {old mid new end : Link} {k l : K} {r : Result A E}
+    → Reaches n request head last old mid → mid.faults ≤ new.faults → new.told ≡ mid.told → Steady mid new → Rose mid.faults new.faults
+    → Meets of_memory (next last Failed) new end k l r → Meets of_memory (follow n request reading next) old end k l r
+reached_failed n request reading next head last {old} {mid} {new} reach le same steady rose rest = follows_met n request reading next reach.left last old reach.mid reach.follows
+    (follow_asked reach.left last reading next Failed tt (record {
+      exchange = record { request = last; answer = Some (answer_of head reach.sent.body); faults = reach.mid.faults };
+      told = Extends-still reach.mid mid new _ reach.sent.added same steady;
+      replies = record { request_is = refl; faults_is = refl; count = omega (arith, reach.count); reply_is = omega (arith, reach.count) };
+    }) rest)
+
+-- the sink failed while the body was read
+pub reached_spilled : {K A E : Type 0} {of_memory : E → Bool} (n : ℕ) (request : Request) (reading : AnswerHead → Reading) (next : Request → Reply → Proto K (Result A E)) (head : AnswerHead) (last : Request) (limit : ℕ) {old mid new end : Link} {k l : K} {r : Result A E}
+    → Reaches n request head last old mid → reading head ≡ Piped limit → mid.faults ≤ new.faults → new.told ≡ mid.told → Steady mid new
+    → Meets of_memory (next last SinkFailed) new end k l r → Meets of_memory (follow n request reading next) old end k l r
+reached_spilled n request reading next head last limit {old} {mid} {new} reach is le same steady rest = follows_met n request reading next reach.left last old reach.mid reach.follows
+    (follow_asked reach.left last reading next SinkFailed tt (record {
+      exchange = record { request = last; answer = Some (answer_of head reach.sent.body); faults = reach.mid.faults };
+      told = Extends-still reach.mid mid new _ reach.sent.added same steady;
+      replies = record { request_is = refl; faults_is = refl; count = omega (arith, reach.count); reply_is = (answer_of head reach.sent.body, limit, refl, final_reading reach.left last reading head reach.final ∙ is) };
+    }) rest)
+
+-- memory was wanting while the body was read, or before
+pub reached_cut : {K A E : Type 0} (of_memory : E → Bool) (n : ℕ) (request : Request) (reading : AnswerHead → Reading) (next : Request → Reply → Proto K (Result A E)) (head : AnswerHead) (last : Request) {old mid new : Link} (k : K) (e : E)
+    → Reaches n request head last old mid → mid.faults ≤ new.faults → new.told ≡ mid.told → Steady mid new → of_memory e ≡ true → Meets of_memory (follow n request reading next) old new k k (Err e)
+reached_cut of_memory n request reading next head last {old} {mid} {new} k e reach le same steady is = follows_met n request reading next reach.left last old reach.mid reach.follows
+    (follow_cut of_memory reach.left last reading next k e (record { conversation = _; added = Extends-still reach.mid mid new _ reach.sent.added same steady; most = (refl, refl) }) (omega (arith, reach.count)) is)
+
+-- no answer came
+pub missed : {K A E : Type 0} {of_memory : E → Bool} (n : ℕ) (request : Request) (reading : AnswerHead → Reading) (next : Request → Reply → Proto K (Result A E)) {old new end : Link} {k l : K} {r : Result A E}
+    → Misses n request old new → ((last : Request) → Meets of_memory (next last Failed) new end k l r) → Meets of_memory (follow n request reading next) old end k l r
+missed n request reading next {old} {new} m rest = follows_met n request reading next m.left m.last old m.mid m.follows
+    (follow_asked m.left m.last reading next Failed tt (record {
+      exchange = record { request = m.last; answer = None; faults = m.mid.faults };
+      told = m.added;
+      replies = record { request_is = refl; faults_is = refl; count = m.count; reply_is = m.rose };
+    }) (rest m.last))
+
+-- memory was wanting
+pub cut : {K A E : Type 0} (of_memory : E → Bool) (n : ℕ) (request : Request) (reading : AnswerHead → Reading) (next : Request → Reply → Proto K (Result A E)) {old new : Link} (k : K) (e : E)
+    → Cuts n request old new → of_memory e ≡ true → Meets of_memory (follow n request reading next) old new k k (Err e)
+cut of_memory n request reading next {old} {new} k e c is = follows_met n request reading next c.left c.last old c.mid c.follows (follow_cut of_memory c.left c.last reading next k e c.cut c.count is)

@@ -1,0 +1,59 @@
+-- Recorded answers, and what they answer by.
+use Rattle.std.specs.Prelude.{ℕ, List, length, slice_get, Option, Some, None, if◌then◌else◌}
+use Rattle.oci_transport.specs.declared.recorded.Recorded.{Recorded}
+use Rattle.oci_transport.specs.declared.message.Answer.{Answer}
+use Rattle.oci_transport.specs.Link.{Answering}
+use Rattle.oci_transport.specs.Pieces.{joined}
+use Rattle.std.specs.Prelude.{zero, suc, Bool, true, ◌||◌, nat_le, is_some, IsTrue, []}
+use Rattle.oci_transport.specs.Calm.{calm}
+use Rattle.oci_transport.specs.declared.message.Exchange.{Exchange}
+
+-- a record as a whole answer
+abbrev pub answer_in : Recorded → Answer
+answer_in r = record { status = r.status; headers = r.headers; body = joined r.pieces }
+
+-- the answer of a record, none where the send fails or there is no record
+abbrev pub recorded_answer : Option Recorded → Option Answer
+recorded_answer None = None
+recorded_answer (Some r) = if r.fails then None else Some (answer_in r)
+
+-- the pieces of its body
+abbrev pub pieces_of : Option Recorded → List (List ℕ)
+pieces_of None = []
+pieces_of (Some r) = if r.fails then [] else r.pieces
+
+-- a number of pieces, where there are so many
+abbrev pub stop_within : Option ℕ → ℕ → Option ℕ
+stop_within None count = None
+stop_within (Some n) count = if nat_le n count then Some n else None
+
+-- before how many of them a call fails
+abbrev pub fails_before_of : Option Recorded → Option ℕ
+fails_before_of None = None
+fails_before_of (Some r) = if r.fails then None else stop_within r.fails_before (length r.pieces)
+
+-- whether something may fail there
+abbrev pub may_fail : Option Recorded → Bool
+may_fail None = true
+may_fail (Some r) = r.fails || is_some (stop_within r.fails_before (length r.pieces))
+
+-- one record after another, whatever is asked
+unfoldable pub answering : List Recorded → Answering
+answering items = record {
+  answer = λ place request. recorded_answer (slice_get items place);
+  fails = λ place. may_fail (slice_get items place);
+}
+
+-- these exchanges came of the records, this count stands after them, and it rose only where a record may fail
+abbrev pub IsCalm : List Recorded → List Exchange → ℕ → Type 0
+IsCalm items told count = IsTrue (calm (answering items).fails 0 told count)
+
+-- where so many requests were sent, the pieces of the last answer
+abbrev pub last_pieces : List Recorded → ℕ → List (List ℕ)
+last_pieces items zero = []
+last_pieces items (suc place) = pieces_of (slice_get items place)
+
+-- and before how many of them a call fails
+abbrev pub last_stop : List Recorded → ℕ → Option ℕ
+last_stop items zero = None
+last_stop items (suc place) = fails_before_of (slice_get items place)

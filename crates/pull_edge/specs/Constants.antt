@@ -1,0 +1,6 @@
+-- The public constant is its number.
+use Rattle.std.specs.Prelude.{◌≡◌, refl}
+use Rattle.pull_edge.specs.declared.reading.TheConstants as constant
+
+pub input_limit_is : constant.INPUT_LIMIT ≡ 67108864
+input_limit_is = refl

@@ -1,0 +1,148 @@
+-- The pulls of a case whose registry is a shelf that has the image are answered.
+use Rattle.std.specs.Prelude.{nat_eq}
+use Rattle.std.proofs.Common.{◌≡◌, ◌≤◌, ℕ, suc, Bool, true, false, ◌&&◌, ◌||◌, List, [], ◌∷◌, ◌++◌, Result, Ok, Err, refl, sym, ap, ◌∙◌, subst, arith}
+use Rattle.std.proofs.lemmas.Bool.Decides.{nat_tests}
+use Rattle.oci_transport.specs.Link.{Answering, AnsweredBy, NeverFails}
+use Rattle.oci_transport.specs.Calm.{calm}
+use Rattle.oci_transport.specs.declared.message.Exchange.{Exchange}
+use Rattle.oci_names.specs.Reference.{reference_of}
+use Rattle.oci_names.specs.declared.reference.Reference.{Reference}
+use Rattle.oci_protocol.specs.Proto.{Proto, Done, Ask, Recall, Keep}
+use Rattle.oci_protocol.specs.Runs.{Runs}
+use Rattle.oci_protocol.proofs.Laws.{Runs-count}
+use Rattle.oci_link.specs.State.{answering}
+use Rattle.oci_link.specs.declared.shelf.Shelf.{Shelf}
+use Rattle.shelf_laws.specs.Comes.{OrMemory}
+use Rattle.sig_calls.specs.Clients.{Kept}
+use Rattle.cosign_chain.specs.declared.image.VerifiedImage.{VerifiedImage}
+use Rattle.cosign_rows.specs.Refusal.{is_memory}
+use Rattle.cosign_rows.specs.Settled.{IsSettled}
+use Rattle.cosign_rows.specs.Verified.{Whole}
+use Rattle.cosign_rows.specs.declared.refusal.PullRefusal.{PullRefusal}
+use Rattle.cosign_laws.proofs.ShelfCalls.{new_settled}
+use Rattle.cosign_laws.proofs.ShelfPulls.{run_wide, run_settled}
+use Rattle.pull_case.specs.Policy.{meaning_of}
+use Rattle.pull_case.specs.Registry.{answering_by}
+use Rattle.pull_case.specs.declared.case.Case.{Case}
+use Rattle.pull_run.specs.Complete.{HasImage}
+use Rattle.pull_cases.specs.Pulls.{Talk, joined, is_answered, all_answered, is_wanting, EachWhole, InTurn, settings_of, row_of, Pulled}
+use Rattle.pull_setup.specs.Clients.{fresh}
+
+-- ---- counts where nothing may fail
+
+left_of : (a b : Bool) → (a && b) ≡ true → a ≡ true
+left_of true b h = refl
+left_of false b h = absurd (cc h)
+
+right_of : (a b : Bool) → (a && b) ≡ true → b ≡ true
+right_of true b h = h
+right_of false b h = absurd (cc h)
+
+same_count : (fails : Bool) (x y : ℕ) → fails ≡ false → (fails || nat_eq x y) ≡ true → x ≡ y
+same_count fails x y never h = let eq : nat_eq x y ≡ true = ap (λ b. b || nat_eq x y) (sym never) ∙ h in grind (arith, nat_tests, eq)
+
+-- the last count is that of the first exchange
+last_is_first : (fails : ℕ → Bool) → ((place : ℕ) → fails place ≡ false) → (place : ℕ) (e : Exchange) (c : List Exchange) (n : ℕ) → calm fails place (e ∷ c) n ≡ true → n ≡ e.faults
+last_is_first fails never place e [] n h = same_count (fails place) n e.faults (never place) (left_of (fails place || nat_eq n e.faults) true h)
+last_is_first fails never place e (x ∷ c) n h =
+    let first = same_count (fails place) x.faults e.faults (never place) (left_of (fails place || nat_eq x.faults e.faults) (calm fails (suc place) (x ∷ c) n) h) in
+    last_is_first fails never (suc place) x c n (right_of (fails place || nat_eq x.faults e.faults) (calm fails (suc place) (x ∷ c) n) h) ∙ first
+
+-- the first exchange was sent at the count before it
+first_count : {K A : Type 0} (p : Proto K A) (k l : K) (m n : ℕ) (e : Exchange) (c : List Exchange) (a : A) → Runs p k m (e ∷ c) n l a → e.faults ≡ m
+unfolding Runs
+first_count (Done x) k l m n e c a r = absurd r
+first_count (Ask request reading next) k l m n e c a r = r.2.faults_is
+first_count (Recall next) k l m n e c a r = first_count (next k) k l m n e c a r
+first_count (Keep kept rest) k l m n e c a r = first_count rest kept l m n e c a r
+
+-- without an exchange the count stays
+none_count : {K A : Type 0} (p : Proto K A) (k l : K) (m n : ℕ) (a : A) → Runs p k m [] n l a → n ≡ m
+unfolding Runs
+none_count (Done x) k l m n a r = sym r.0
+none_count (Ask request reading next) k l m n a r = absurd r
+none_count (Recall next) k l m n a r = none_count (next k) k l m n a r
+none_count (Keep kept rest) k l m n a r = none_count rest kept l m n a r
+
+-- ---- the pull
+
+never_fails : (shelf : Shelf) → NeverFails (answering shelf)
+unfolding answering
+never_fails shelf = λ place. refl
+
+answered_is : (r : Result VerifiedImage PullRefusal) → OrMemory is_memory (λ (v : VerifiedImage). Unit {0}) r → is_wanting r ≡ false → is_answered r ≡ true
+answered_is (Ok v) h whole = refl
+answered_is (Err e) h whole = absurd (cc (sym h ∙ whole))
+
+same_image : (case : Case) (a b : Reference) → reference_of case.reference ≡ Ok a → reference_of case.reference ≡ Ok b → a ≡ b
+same_image case a b h k = cc (sym h ∙ k)
+
+-- ---- pulls in turn
+
+first_empty : (c d : List Exchange) → c ++ d ≡ [] → c ≡ []
+first_empty [] d is = refl
+first_empty (e ∷ c) d is = absurd (cc is)
+
+second_empty : (c d : List Exchange) → c ++ d ≡ [] → d ≡ []
+second_empty [] d is = is
+second_empty (e ∷ c) d is = absurd (cc is)
+
+-- without an exchange the count stays
+turn_none : (row : ℕ → Whole VerifiedImage) (talks : List Talk) (k l : Kept) (m n : ℕ) → InTurn row k m talks l n → joined talks ≡ [] → n ≡ m
+turn_none row [] k l m n turn none = sym turn.1
+turn_none row (talk ∷ talks) k l m n turn none =
+    let silent = first_empty talk.conversation (joined talks) none in
+    turn_none row talks turn.1 l turn.2 n turn.4 (second_empty talk.conversation (joined talks) none)
+    ∙ none_count (row talk.moment) talk.before turn.1 m turn.2 talk.result (subst (λ (c : List Exchange). Runs (row talk.moment) talk.before m c turn.2 turn.1 talk.result) silent turn.3)
+
+-- the first exchange was sent at the count before the pulls
+turn_first : (row : ℕ → Whole VerifiedImage) (talks : List Talk) (k l : Kept) (m n : ℕ) (e : Exchange) (c : List Exchange) → InTurn row k m talks l n → joined talks ≡ e ∷ c → e.faults ≡ m
+turn_first row [] k l m n e c turn is = absurd (cc is)
+turn_first row (talk ∷ talks) k l m n e c turn is = by_conversation talk.conversation refl (turn_first row talks turn.1 l turn.2 n e c turn.4) where
+  run_of : (own : List Exchange) → talk.conversation ≡ own → Runs (row talk.moment) talk.before m own turn.2 turn.1 talk.result
+  run_of own same = subst (λ (d : List Exchange). Runs (row talk.moment) talk.before m d turn.2 turn.1 talk.result) same turn.3
+
+  by_conversation : (own : List Exchange) → talk.conversation ≡ own → (joined talks ≡ e ∷ c → e.faults ≡ turn.2) → e.faults ≡ m
+  by_conversation [] same later = later (ap (λ (d : List Exchange). d ++ joined talks) (sym same) ∙ is) ∙ none_count (row talk.moment) talk.before turn.1 m turn.2 talk.result (run_of [] same)
+  by_conversation (x ∷ xs) same later =
+      let first : x ≡ e = cc (ap (λ (d : List Exchange). d ++ joined talks) (sym same) ∙ is) in
+      ap (λ (y : Exchange). y.faults) (sym first) ∙ first_count (row talk.moment) talk.before turn.1 m turn.2 x xs talk.result (run_of (x ∷ xs) same)
+
+turn_count : (fails : ℕ → Bool) → ((place : ℕ) → fails place ≡ false) → (row : ℕ → Whole VerifiedImage) (talks : List Talk) (k l : Kept) (m n : ℕ) → calm fails 0 (joined talks) n ≡ true → InTurn row k m talks l n → n ≡ m
+turn_count fails never row talks k l m n calm_is turn = by_joined (joined talks) refl where
+  by_joined : (c : List Exchange) → joined talks ≡ c → n ≡ m
+  by_joined [] none = turn_none row talks k l m n turn none
+  by_joined (e ∷ c) is = last_is_first fails never 0 e c n (subst (λ (d : List Exchange). calm fails 0 d n ≡ true) is calm_is) ∙ turn_first row talks k l m n e c turn is
+
+turn_le : (row : ℕ → Whole VerifiedImage) (talks : List Talk) (k l : Kept) (m n : ℕ) → InTurn row k m talks l n → m ≤ n
+turn_le row [] k l m n turn = omega (arith, turn.1)
+turn_le row (talk ∷ talks) k l m n turn = omega (arith, Runs-count (row talk.moment) talk.before turn.1 m turn.2 talk.conversation talk.result turn.3, turn_le row talks turn.1 l turn.2 n turn.4)
+
+-- a conversation that was answered in two parts
+answered_apart : (t : Answering) (place : ℕ) (c d : List Exchange) → AnsweredBy t place (c ++ d) → AnsweredBy t place c × (there : ℕ) × AnsweredBy t there d
+answered_apart t place [] d answered = (tt, place, answered)
+answered_apart t place (e ∷ c) d answered = let rest = answered_apart t (suc place) c d answered.1 in ((answered.0, rest.0), rest.1, rest.2)
+
+-- each pull by a client that is settled is answered, and leaves it settled
+each_answered : (case : Case) (h : HasImage case) (talks : List Talk) (k l : Kept) (place m n : ℕ) → m ≡ 0 → n ≡ 0 → IsSettled (settings_of case) h.image case.auth h.shelf k → InTurn (row_of case h.image) k m talks l n → AnsweredBy (answering h.shelf) place (joined talks) → EachWhole talks → all_answered talks ≡ true
+each_answered case h [] k l place m n start end settled turn answered whole = refl
+each_answered case h (talk ∷ talks) k l place m n start end settled turn answered whole =
+    let row = row_of case h.image in
+    let count = turn.2 in
+    let grew = Runs-count (row talk.moment) talk.before turn.1 m count talk.conversation talk.result turn.3 in
+    let grows = turn_le row talks turn.1 l count n turn.4 in
+    let none : count ≡ 0 = omega (arith, grows) in
+    let apart = answered_apart (answering h.shelf) place talk.conversation (joined talks) answered in
+    let before = subst (IsSettled (settings_of case) h.image case.auth h.shelf) turn.0 settled in
+    let one = answered_is talk.result (run_wide (meaning_of case) (settings_of case) h.image case.auth case.accepted h.shelf h.wide.has talk.moment h.wide.signed talk.before turn.1 place m count talk.conversation talk.result before apart.0 (omega (arith, none)) (omega (arith, start)) turn.3) whole.0 in
+    let after = run_settled (meaning_of case) (settings_of case) h.image case.auth case.accepted h.shelf h.wide.has.asked talk.moment talk.before turn.1 place m count talk.conversation talk.result before apart.0 (omega (arith, none)) (omega (arith, start)) turn.3 in
+    ap (λ b. b && all_answered talks) one ∙ each_answered case h talks turn.1 l apart.1 count n none end after turn.4 apart.2 whole.1
+
+pub answers_all : (case : Case) (talks : List Talk) → HasImage case → Pulled case talks → all_answered talks ≡ true
+answers_all case talks h p =
+    let image_is = same_image case p.image h.image p.reads h.reads in
+    let turn = subst (λ (r : Reference). InTurn (row_of case r) (fresh case.caching) 0 talks p.kept p.faults) image_is p.in_turn in
+    let answered : AnsweredBy (answering h.shelf) 0 (joined talks) = subst (λ g. AnsweredBy (answering_by g) 0 (joined talks)) h.held p.answered in
+    let calm_is : calm (answering h.shelf).fails 0 (joined talks) p.faults ≡ true = subst (λ g. calm (answering_by g).fails 0 (joined talks) p.faults ≡ true) h.held p.calm_is in
+    each_answered case h talks (fresh case.caching) p.kept 0 0 p.faults refl (turn_count (answering h.shelf).fails (never_fails h.shelf) (row_of case h.image) talks (fresh case.caching) p.kept 0 p.faults calm_is turn)
+    (new_settled (settings_of case) h.image case.auth h.shelf 60 case.caching) turn answered p.whole

@@ -1,0 +1,64 @@
+-- What a protocol comes to, over more that is kept and beside itself.
+use Rattle.std.proofs.Common.{◌≡◌, Result, refl, sym, subst}
+use Rattle.oci_transport.specs.declared.message.Request.{Request}
+use Rattle.oci_transport.specs.declared.message.Answer.{Answer}
+use Rattle.oci_protocol.specs.Proto.{Proto, Done, Ask, Recall, Keep}
+use Rattle.oci_protocol.specs.Runs.{head_part}
+use Rattle.oci_protocol.specs.Drive.{reply_of}
+use Rattle.oci_protocol.specs.Lift.{lifted}
+use Rattle.shelf_laws.specs.Comes.{Comes, ComesTo, Yields, Gives, Stays}
+use Rattle.shelf_laws.proofs.TableSteps.{Comes-more}
+
+-- over more that is kept, which stays as it is
+pub Comes-lifted : {K C A : Type 0} (table : Request → Answer) (Q : K → A → Type 0) (p : Proto K A) (k : K) (x : C) → Comes table Q p k → Comes table (λ (l : K × C) a. Q l.0 a × (l.1 ≡ x)) (lifted p) (k, x)
+unfolding Comes lifted
+Comes-lifted table Q (Done a) k x h = (h, refl)
+Comes-lifted table Q (Ask request reading next) k x h = (h.0, Comes-lifted table Q (next (reply_of (reading (head_part (table request))) (table request))) k x h.1)
+Comes-lifted table Q (Recall next) k x h = Comes-lifted table Q (next k) k x h
+Comes-lifted table Q (Keep kept rest) k x h = Comes-lifted table Q rest kept x h
+
+-- it comes to one answer, of which both are so
+pub Comes-both : {K A : Type 0} (table : Request → Answer) (P Q : K → A → Type 0) (p : Proto K A) (k : K) → Comes table P p k → Comes table Q p k → Comes table (λ l a. P l a × Q l a) p k
+unfolding Comes
+Comes-both table P Q (Done a) k g h = (g, h)
+Comes-both table P Q (Ask request reading next) k g h = (g.0, Comes-both table P Q (next (reply_of (reading (head_part (table request))) (table request))) k g.1 h.1)
+Comes-both table P Q (Recall next) k g h = Comes-both table P Q (next k) k g h
+Comes-both table P Q (Keep kept rest) k g h = Comes-both table P Q rest kept g h
+
+-- what hangs on no answer is so where it comes to one
+pub Comes-always : {K A : Type 0} (table : Request → Answer) (P : Type 0) (p : Proto K A) (k : K) → Comes table (λ l a. P) p k → P
+unfolding Comes
+Comes-always table P (Done a) k h = h
+Comes-always table P (Ask request reading next) k h = Comes-always table P (next (reply_of (reading (head_part (table request))) (table request))) k h.1
+Comes-always table P (Recall next) k h = Comes-always table P (next k) k h
+Comes-always table P (Keep kept rest) k h = Comes-always table P rest kept h
+
+-- of what it comes to, that it comes to it
+pub Comes-itself : {K A : Type 0} (table : Request → Answer) (P : K → A → Type 0) (p : Proto K A) (k : K) → Comes table P p k → Comes table (λ l a. P l a × ComesTo table p k a) p k
+unfolding Comes
+Comes-itself table P (Done a) k h = (h, refl)
+Comes-itself {K} {A} table P (Ask request reading next) k h =
+    let reply = reply_of (reading (head_part (table request))) (table request) in
+    (h.0, Comes-more table (λ l a. P l a × ComesTo table (next reply) k a) (λ l a. P l a × ComesTo table (Ask request reading next) k a) (next reply) k (Comes-itself table P (next reply) k h.1) (λ l a is. (is.0, (h.0, is.1))))
+Comes-itself table P (Recall next) k h = Comes-more table (λ l a. P l a × ComesTo table (next k) k a) (λ l a. P l a × ComesTo table (Recall next) k a) (next k) k (Comes-itself table P (next k) k h) (λ l a is. is)
+Comes-itself table P (Keep kept rest) k h = Comes-more table (λ l a. P l a × ComesTo table rest kept a) (λ l a. P l a × ComesTo table (Keep kept rest) k a) rest kept (Comes-itself table P rest kept h) (λ l a is. is)
+
+-- two things that are so of the answer that it comes to, from one place
+pub ComesTo-is : {K A : Type 0} (table : Request → Answer) (P : K → A → Type 0) (p : Proto K A) (k : K) (answer : A) (Q : A → Type 0) → ((l : K) (a : A) → P l a → Q a) → Comes table P p k → ComesTo table p k answer → Q answer
+ComesTo-is {K} {A} table P p k answer Q known h is =
+    Comes-always table (Q answer) p k (Comes-more table (λ l a. P l a × (a ≡ answer)) (λ l a. Q answer) p k (Comes-both table P (λ l a. a ≡ answer) p k h is) (λ l a both. subst Q both.1 (known l a both.0)))
+
+-- ---- calls over more that is kept
+
+module _ {K C : Type 0} {J : K → Type 0} (R : C → Type 0) {table : Request → Answer} where
+  pub Gives-lifted : {A E : Type 0} {P : A → Type 0} {p : Proto K (Result A E)} → Gives J table P p → Gives (λ (k : K × C). J k.0 × R k.1) table P (lifted p)
+  Gives-lifted {A} {E} {P} {p} h = record {
+    gives = λ k is. Comes-more table (λ (l : K × C) r. (J l.0 × Yields P r) × (l.1 ≡ k.1)) (λ (l : K × C) r. (J l.0 × R l.1) × Yields P r) (lifted p) k
+        (Comes-lifted table (λ l r. J l × Yields P r) p k.0 k.1 (h.gives k.0 is.0)) (λ l r found. ((found.0.0, subst R (sym found.1) is.1), found.0.1));
+  }
+
+  pub Stays-lifted : {A : Type 0} {p : Proto K A} → Stays J table p → Stays (λ (k : K × C). J k.0 × R k.1) table (lifted p)
+  Stays-lifted {A} {p} h = record {
+    stays = λ k is. Comes-more table (λ (l : K × C) r. J l.0 × (l.1 ≡ k.1)) (λ (l : K × C) r. J l.0 × R l.1) (lifted p) k
+        (Comes-lifted table (λ l r. J l) p k.0 k.1 (h.stays k.0 is.0)) (λ l r found. (found.0, subst R (sym found.1) is.1));
+  }

@@ -1,0 +1,39 @@
+-- Refusals, with the image that a call was made for.
+use Rattle.std.specs.Prelude.{◌≡◌, Bool, true, false, Option, Some, None, Result, Ok, Err}
+use Rattle.json_values.specs.Counts.{Rose}
+use Rattle.json_values.specs.Refusals as Refusals
+use Rattle.oci_transport.specs.Link.{Link}
+use Rattle.engine_terms.specs.declared.error.OciDistributionError.{OciDistributionError}
+use Rattle.engine_terms.specs.declared.error.OciDistributionError.TheVariants.{TransportFault, SinkFault}
+use Rattle.sig_calls.specs.declared.error.SigstoreError.{SigstoreError}
+use Rattle.sig_calls.specs.declared.error.SigstoreError.TheVariants as sigstore
+use Rattle.sig_calls.specs.Wording.{refusal}
+
+abbrev pub is_memory : SigstoreError → Bool
+is_memory sigstore.WantOfMemory = true
+is_memory _ = false
+
+-- what a step with no request answers, unless memory was wanting
+abbrev pub Says : {A : Type 0} → Result A SigstoreError → Result A SigstoreError → Type 0
+Says answer said = Refusals.Says is_memory answer said
+
+-- what the registry's client answered, where the refusal holds that
+abbrev pub registry_refusal : SigstoreError → Option OciDistributionError
+registry_refusal (sigstore.OciReferenceNotValidError text) = None
+registry_refusal (sigstore.RegistryFetchManifestError image e) = Some e
+registry_refusal (sigstore.RegistryPullError image e) = Some e
+registry_refusal (sigstore.RegistryPullManifestError image e) = Some e
+registry_refusal sigstore.WantOfMemory = None
+
+-- the call was refused, and that is what the client answered
+abbrev pub IsRefusedBy : OciDistributionError → {A : Type 0} → Result A SigstoreError → Type 0
+IsRefusedBy e (Ok a) = ⊥
+IsRefusedBy e (Err refused) = registry_refusal refused ≡ Some e
+
+-- a fault of the transport is answered only where its count of faults rose
+abbrev pub FaultCounted : {A : Type 0} → Link → Link → Result A SigstoreError → Type 0
+FaultCounted old new r = IsRefusedBy TransportFault r → Rose old.faults new.faults
+
+-- no sink takes part, so none can fail
+abbrev pub NoSinkFault : {A : Type 0} → Result A SigstoreError → Type 0
+NoSinkFault r = IsRefusedBy SinkFault r → ⊥

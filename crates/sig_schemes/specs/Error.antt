@@ -1,0 +1,11 @@
+-- Which refusal says that memory was wanting.
+use Rattle.std.specs.Prelude.{Bool, true, false}
+use Rattle.sig_schemes.specs.declared.error.KeyError.{KeyError}
+use Rattle.sig_schemes.specs.declared.error.KeyError.TheVariants.{KeyParseError, KeyGenerationError, SigningError, UnmatchedKeyAndSigningScheme, WantOfMemory}
+
+abbrev pub is_memory : KeyError → Bool
+is_memory KeyParseError = false
+is_memory KeyGenerationError = false
+is_memory SigningError = false
+is_memory (UnmatchedKeyAndSigningScheme key scheme) = false
+is_memory WantOfMemory = true
