@@ -1,3 +1,4 @@
 pub mod Contexts
 pub mod Error
 pub mod Settings
+pub mod Shown

@@ -125,6 +125,24 @@ impl OciDistributionError {
     }
 }
 
+// Copies an enum's value. Its variants are given as those that keep one value, those with named fields, and those that
+// keep nothing.
+macro_rules! copied_variant {
+    ($alloc:expr, $source:expr,
+        { $($one:ident),* $(,)? },
+        { $($named:ident { $($field:ident),* }),* $(,)? },
+        { $($bare:ident),* $(,)? }) => {
+        match $source {
+            $(Self::$one(kept) => Ok(Self::$one(kept.copy($alloc)?)),)*
+            $(Self::$named { $($field),* } => {
+                let row![$($field),*] = copy_all($alloc, row![$($field),*])?;
+                Ok(Self::$named { $($field),* })
+            })*
+            $(Self::$bare => Ok(Self::$bare),)*
+        }
+    };
+}
+
 impl Copied for GenericCause {
     fn copy(&self, _alloc: Global) -> Result<GenericCause, AllocError> {
         Ok(*self)
@@ -149,60 +167,34 @@ impl Copied for SpecViolation {
 
 impl Copied for OciDistributionError {
     fn copy(&self, alloc: Global) -> Result<OciDistributionError, AllocError> {
-        match self {
-            Self::AmbiguousManifest(body) => Ok(Self::AmbiguousManifest(body.copy(alloc)?)),
-            Self::AuthenticationFailure(body) => Ok(Self::AuthenticationFailure(body.copy(alloc)?)),
-            Self::BodyTooLong => Ok(Self::BodyTooLong),
-            Self::ConfigConversionError(content) => Ok(Self::ConfigConversionError(content.copy(
-                alloc,
-            )?)),
-            Self::DigestError(error) => Ok(Self::DigestError(error.copy(alloc)?)),
-            Self::GenericError(cause) => Ok(Self::GenericError(*cause)),
-            Self::ImageIndexParsingNoPlatformResolverError => Ok(
-                Self::ImageIndexParsingNoPlatformResolverError,
-            ),
-            Self::ImageManifestNotFoundError(digest) => Ok(Self::ImageManifestNotFoundError(
-                digest.copy(alloc)?,
-            )),
-            Self::IncompatibleLayerMediaTypeError(kind) => Ok(Self::IncompatibleLayerMediaTypeError(
-                kind.copy(alloc)?,
-            )),
-            Self::ManifestParsingError(body) => Ok(Self::ManifestParsingError(body.copy(alloc)?)),
-            Self::PullNoLayersError => Ok(Self::PullNoLayersError),
-            Self::RegistryError { envelope, url } => {
-                let row![envelope, url] = copy_all(alloc, row![envelope, url])?;
-                Ok(Self::RegistryError { envelope, url })
-            }
-            Self::RegistryTokenDecodeError(body) => Ok(Self::RegistryTokenDecodeError(body.copy(
-                alloc,
-            )?)),
-            Self::ServerError { code, url, message } => {
-                let row![url, message] = copy_all(alloc, row![url, message])?;
-                Ok(Self::ServerError {
-                    code: *code,
-                    url,
-                    message,
-                })
-            }
-            Self::SinkFault => Ok(Self::SinkFault),
-            Self::SpecViolationError(violation) => Ok(Self::SpecViolationError(violation.copy(
-                alloc,
-            )?)),
-            Self::StreamFailed => Ok(Self::StreamFailed),
-            Self::TransportFault => Ok(Self::TransportFault),
-            Self::UnauthorizedError { url } => Ok(Self::UnauthorizedError {
-                url: url.copy(alloc)?,
-            }),
-            Self::UnsupportedMediaTypeError(kind) => Ok(Self::UnsupportedMediaTypeError(kind.copy(
-                alloc,
-            )?)),
-            Self::UnsupportedSchemaVersionError(version) => Ok(Self::UnsupportedSchemaVersionError(
-                *version,
-            )),
-            Self::UrlParseError(text) => Ok(Self::UrlParseError(text.copy(alloc)?)),
-            Self::VersionedParsingError(body) => Ok(Self::VersionedParsingError(body.copy(alloc)?)),
-            Self::WantOfMemory => Ok(Self::WantOfMemory),
-        }
+        copied_variant!(alloc, self, {
+            AmbiguousManifest,
+            AuthenticationFailure,
+            ConfigConversionError,
+            DigestError,
+            GenericError,
+            ImageManifestNotFoundError,
+            IncompatibleLayerMediaTypeError,
+            ManifestParsingError,
+            RegistryTokenDecodeError,
+            SpecViolationError,
+            UnsupportedMediaTypeError,
+            UnsupportedSchemaVersionError,
+            UrlParseError,
+            VersionedParsingError,
+        }, {
+            RegistryError { envelope, url },
+            ServerError { code, url, message },
+            UnauthorizedError { url },
+        }, {
+            BodyTooLong,
+            ImageIndexParsingNoPlatformResolverError,
+            PullNoLayersError,
+            SinkFault,
+            StreamFailed,
+            TransportFault,
+            WantOfMemory,
+        })
     }
 }
 

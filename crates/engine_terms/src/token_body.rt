@@ -1,7 +1,7 @@
 // The bytes that a realm answered in place of a token.
 use json_values::{Blob, Copied};
 use std::alloc::{AllocError, Global};
-use std::fmt;
+use std::fmt::{self, InlineText, Write};
 use std::marker::Model;
 
 /// The body of a realm's answer. It may hold a token, so `Debug` shows how many bytes it has, and none of them.
@@ -43,11 +43,19 @@ impl Copied for TokenBody {
 }
 
 impl fmt::Debug for TokenBody {
-    ghost use Rattle.std.specs.Prelude.{Some, ◌++◌, codes, decimal, length};
+    ghost use Rattle.std.specs.Prelude.{Some};
+    ghost use Rattle.std.specs.Fmt.{DisplaysOnOk, WritesStyledOnOk};
+    ghost use Rattle.engine_terms.specs.Shown.{shown_body};
 
-    ghost debug_output = { λ body. Some (decimal (length body) ++ codes " bytes") };
+    ghost debug_output = { λ body. Some (shown_body body) };
 
-    fn fmt<W: fmt::Write>(&self, f: &mut fmt::Formatter<W>) -> fmt::Result {
-        write!(f, "{} bytes", self.bytes.as_slice().len())
+    fn fmt<W: fmt::Write>(&self, f: &mut fmt::Formatter<W>) -> fmt::Result
+        ensures writes { DisplaysOnOk W.write_str_gives f.old result (Some (shown_body self.now)) f.new }
+        ensures styled { WritesStyledOnOk W.write_str_gives f.old result (shown_body self.now) f.new }
+    {
+        // Made apart from `f`, so that no width, fill or `#` reaches the number; 20 digits are the most.
+        let mut shown = InlineText::<26>::new();
+        write!(shown, "{} bytes", self.bytes.as_slice().len())?;
+        f.write_str(shown.as_str())
     }
 }
