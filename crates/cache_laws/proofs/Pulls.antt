@@ -25,7 +25,8 @@ use Rattle.cosign_layers.specs.Standing.{Meaning}
 use Rattle.cosign_rows.specs.References.{tag_reference, digest_reference}
 use Rattle.cosign_rows.specs.Search.{payload_type, bundle_type, tag_layers, tag_by, tag_source, referrer_by, referrer_row, referrers_row, listed_row, referrers_source, searched}
 use Rattle.cosign_rows.specs.Image.{layers_row, blobs_row, entry_call, entry_row, manifest_row, after_document, image_row}
-use Rattle.cosign_rows.specs.Verified.{part_of, after_standing, after_search, verified}
+use Rattle.cosign_rows.specs.Tails.{after_search, after_standing}
+use Rattle.cosign_rows.specs.Verified.{part_of, verified}
 use Rattle.cache_laws.specs.Growth.{Grows}
 use Rattle.cache_laws.proofs.PartsInTurn.{grows_done, grows_bind, grows_next}
 use Rattle.cache_laws.proofs.Calls.{digest_grows, manifest_grows, image_grows, referrers_grow, document_grows, blob_grows}
@@ -141,7 +142,7 @@ module _ (s : Settings) (now : ℕ) (a : RegistryAuth) where
   after_search_grows meaning image accepted = λ found. grows_next s (Done _) _ (grows_done s _) (λ stood. after_standing_grows image accepted stood)
 
   pub pull_grows : {V : Type 0} {H : V → Type 0} (meaning : Meaning V H) (image : Reference) (accepted : List (List ℕ)) → Grows s (verified meaning (within s now) image a accepted)
-  unfolding verified
+  unfolding verified after_search
   pull_grows meaning image accepted =
       grows_next s (Done _) _ (grows_done s _) (λ _.
       grows_next s (Done _) _ (grows_done s _) (λ _.

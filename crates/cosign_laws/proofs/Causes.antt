@@ -50,7 +50,8 @@ use Rattle.cosign_rows.specs.Points.{Point, point, Ran}
 use Rattle.cosign_rows.specs.References.{tag_reference, digest_reference, or_not_valid, reading_back}
 use Rattle.cosign_rows.specs.Refusal.{is_memory, refused_as}
 use Rattle.cosign_rows.specs.Search.{bundle_type, tag_layers, or_skipped, tag_by, tag_source, referrer_part, referrer_by, referrer_row, referrers_row, listed_row, referrers_source, trusted_layers, searched}
-use Rattle.cosign_rows.specs.Verified.{constrained, is_unconstrained, readable, readable_by, as_whole, part_of, stands_by, standing_by, standing, verified_image, after_search, verified}
+use Rattle.cosign_rows.specs.Tails.{after_search}
+use Rattle.cosign_rows.specs.Verified.{constrained, is_unconstrained, readable, readable_by, as_whole, part_of, stands_by, standing_by, standing, verified_image, verified}
 use Rattle.cosign_rows.specs.declared.found.Part.{Part}
 use Rattle.cosign_rows.specs.declared.found.SkipCause.{SkipCause}
 use Rattle.cosign_rows.specs.declared.found.SkipCause.TheVariants.{Refused}
@@ -426,7 +427,7 @@ module _ {V : Type 0} {H : V → Type 0} (meaning : Meaning V H) (s : Context) (
   unreadable_cause start false e is wrong = let same : refusal.OciReferenceNotValidError (whole_text image) ≡ e = cc wrong in subst (Cause start [] start) same (inl (record { unread = is; text_is = refl; silent = (refl, refl) }))
 
   pub pull_causes : ShowsKept (Between ByPull) (verified meaning s image a accepted)
-  unfolding verified
+  unfolding verified after_search
   pull_causes = ShowsKept-step (Between ByPull) (constrained (is_unconstrained meaning.policy)) _
       (λ u some. ShowsKept-step (Between ByPull) (readable image) _
       (λ v back. ShowsKept-bind (Between AfterSearch) (Between ByPull) (part_of (searched meaning.trust s image a)) _ search_shown (λ k j m n c r h. search_then k j m n c r h))

@@ -55,7 +55,8 @@ use Rattle.cosign_rows.specs.References.{tag_reference, digest_reference, readin
 use Rattle.cosign_rows.specs.Refusal.{is_memory as of_refusal}
 use Rattle.cosign_rows.specs.Search.{payload_type, document_part, tag_layers, or_skipped, tag_by, tag_source, bundle_type, referrer_part, referrer_by, referrer_row, referrers_row, listed_row, referrers_source, trusted_layers, searched}
 use Rattle.cosign_rows.specs.Sound.{Fresh, AnsweredOrFresh, Backed, Sound}
-use Rattle.cosign_rows.specs.Verified.{constrained, is_unconstrained, readable, as_whole, part_of, stands_by, standing_by, standing, manifest_digests, verified_image, after_search, verified}
+use Rattle.cosign_rows.specs.Tails.{after_search}
+use Rattle.cosign_rows.specs.Verified.{constrained, is_unconstrained, readable, as_whole, part_of, stands_by, standing_by, standing, manifest_digests, verified_image, verified}
 use Rattle.cosign_rows.specs.declared.found.Part.{Part}
 use Rattle.cosign_rows.specs.declared.found.SkipCause.{SkipCause}
 use Rattle.cosign_rows.specs.declared.found.SkipCause.TheVariants.{Refused}
@@ -357,7 +358,7 @@ module _ {V : Type 0} {H : V → Type 0} (kept : Kept) (s : Context) (meaning : 
 
   -- what a pull answers has a chain, and comes of its conversation
   pub verified_seen : SeenFrom kept IsSound (verified meaning s image a accepted)
-  unfolding verified
+  unfolding verified after_search
   verified_seen =
       step_from kept IsSound (constrained (is_unconstrained meaning.policy)) _ (λ u is.
       step_from kept IsSound (readable image) _ (λ v back.

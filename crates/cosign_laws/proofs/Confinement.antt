@@ -52,7 +52,8 @@ use Rattle.cosign_rows.specs.declared.refusal.PullRefusal.{PullRefusal}
 use Rattle.cosign_rows.specs.References.{tag_reference, digest_reference, reading_back}
 use Rattle.cosign_rows.specs.Search.{payload_type, bundle_type, tag_layers, tag_by, tag_source, referrer_by, referrer_row, referrers_row, listed_row, referrers_source, searched}
 use Rattle.cosign_rows.specs.Triangulated.{triangulated}
-use Rattle.cosign_rows.specs.Verified.{constrained, is_unconstrained, readable, as_whole, part_of, standing, after_search, verified}
+use Rattle.cosign_rows.specs.Tails.{after_search}
+use Rattle.cosign_rows.specs.Verified.{constrained, is_unconstrained, readable, as_whole, part_of, standing, verified}
 use Rattle.cosign_rows.specs.declared.found.TrustedLayers.{TrustedLayers}
 
 -- ---- calls
@@ -240,7 +241,7 @@ module _ (k : Memory) (s : Context) (image : Reference) (a : RegistryAuth) (dire
         confines_done Beside x s.settings _))
 
     verified_confines : OfImage (verified meaning s image a accepted)
-    unfolding verified
+    unfolding verified after_search
     verified_confines = let x = pulling k s image (Some a) in
         confines_next Beside x s.settings (Done (constrained (is_unconstrained meaning.policy))) _ (confines_done Beside x s.settings _) (λ u.
         confines_next Beside x s.settings (Done (readable image)) _ (confines_done Beside x s.settings _) (λ v.

@@ -25,7 +25,8 @@ use Rattle.cosign_rows.specs.Points.{Point, point, Ran}
 use Rattle.cosign_rows.specs.References.{digest_reference, or_not_valid, reading_back}
 use Rattle.cosign_rows.specs.Refusal.{is_memory, refused_as}
 use Rattle.cosign_rows.specs.Search.{searched}
-use Rattle.cosign_rows.specs.Verified.{constrained, is_unconstrained, readable, readable_by, as_whole, part_of, after_search, verified}
+use Rattle.cosign_rows.specs.Tails.{after_search}
+use Rattle.cosign_rows.specs.Verified.{constrained, is_unconstrained, readable, readable_by, as_whole, part_of, verified}
 use Rattle.cosign_rows.specs.declared.found.TrustedLayers.{TrustedLayers}
 use Rattle.cosign_rows.specs.declared.refusal.PullRefusal.{PullRefusal}
 use Rattle.cosign_rows.specs.declared.refusal.PullRefusal.TheVariants as refusal
@@ -149,7 +150,7 @@ module _ {V : Type 0} {H : V → Type 0} (meaning : Meaning V H) (s : Context) (
   search_then k j m n c (Err e) h = at_once PullBegins k j m n c (Err e) h
 
   pull_begins : is_unconstrained meaning.policy ≡ false → reads_back image ≡ true → ShowsKept (Between PullBegins) (verified meaning s image a accepted)
-  unfolding verified
+  unfolding verified after_search
   pull_begins some back = ShowsKept-step (Between PullBegins) (constrained (is_unconstrained meaning.policy)) _
       (λ u is. ShowsKept-step (Between PullBegins) (readable image) _
       (λ v is. ShowsKept-bind (Between PartBegins) (Between PullBegins) (part_of (searched meaning.trust s image a)) _ search_part_begins (λ k j m n c r h. search_then k j m n c r h))

@@ -73,7 +73,8 @@ use Rattle.cosign_rows.specs.References.{tag_reference, digest_reference, readin
 use Rattle.cosign_rows.specs.Refusal.{is_memory as of_refusal, refused_as}
 use Rattle.cosign_rows.specs.Search.{payload_type, document_part, tag_layers, or_skipped, tag_by, tag_source, bundle_type, referrer_part, referrer_by, referrer_row, referrers_row, listed_row, referrers_source, trusted_layers, searched}
 use Rattle.cosign_rows.specs.Skips.{in_engine, in_refusal, holds_memory_or_sink, HoldsNoMemoryNorSink, is_engine_fault, is_refused_fault, is_fault, CountsFaults, OnSkipped}
-use Rattle.cosign_rows.specs.Verified.{constrained, is_unconstrained, readable, readable_by, as_whole, part_of, stands_by, standing_by, standing, verified_image, after_search, verified}
+use Rattle.cosign_rows.specs.Tails.{after_search}
+use Rattle.cosign_rows.specs.Verified.{constrained, is_unconstrained, readable, readable_by, as_whole, part_of, stands_by, standing_by, standing, verified_image, verified}
 use Rattle.cosign_rows.specs.declared.found.Part.{Part}
 use Rattle.cosign_rows.specs.declared.found.SkipCause.{SkipCause}
 use Rattle.cosign_rows.specs.declared.found.SkipCause.TheVariants.{NotAReference, FoundIndex, Refused}
@@ -532,7 +533,7 @@ module _ {V : Type 0} {H : V → Type 0} (meaning : Meaning V H) (s : Context) (
   empty_quiet P true e is = let same : refusal.EmptyPolicy ≡ e = cc is in subst (OnSkipped P) same tt
 
   pull_counts : Counts OfRefusal (verified meaning s image a accepted)
-  unfolding verified bind
+  unfolding verified after_search bind
   pull_counts = constrained_then (constrained (is_unconstrained meaning.policy)) (λ P e is. empty_quiet P (is_unconstrained meaning.policy) e is)
 
 -- ---- so it is of a call

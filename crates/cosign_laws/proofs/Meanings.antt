@@ -14,7 +14,7 @@ use Rattle.cosign_rows.specs.Image.{image_row}
 use Rattle.cosign_rows.specs.References.{digest_reference}
 use Rattle.cosign_rows.specs.Search.{searched}
 use Rattle.cosign_rows.specs.Verified.{Whole, constrained, is_unconstrained, readable, part_of, stands_by}
-use Rattle.cosign_rows.specs.Verified.{standing_by, verified_image, after_search, verified}
+use Rattle.cosign_rows.specs.Verified.{standing_by, verified_image, verified}
 
 -- a pull by whether there is no constraint, by what stands, and by who is trusted
 by_parts : Context → Reference → RegistryAuth → List (List ℕ) → Bool → (SignatureLayer → Bool) → Trust → Whole VerifiedImage
@@ -29,7 +29,7 @@ by_parts s image a accepted none fits trusted = do
 is_by_parts : {V : Type 0} {H : V → Type 0} (m : Meaning V H) (s : Context) (image : Reference) (a : RegistryAuth)
     (accepted : List (List ℕ))
     → verified m s image a accepted ≡ by_parts s image a accepted (is_unconstrained m.policy) (stands_by m) m.trust
-unfolding verified after_search by_parts
+unfolding verified by_parts
 is_by_parts m s image a accepted = refl
 
 pub verified_same : {V W : Type 0} {H : V → Type 0} {I : W → Type 0} (m : Meaning V H) (n : Meaning W I) (s : Context)

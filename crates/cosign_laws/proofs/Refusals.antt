@@ -70,7 +70,8 @@ use Rattle.cosign_rows.specs.References.{tag_reference, digest_reference, or_not
 use Rattle.cosign_rows.specs.Refusal.{is_memory as of_refusal, refused_as, client_refusal, FaultCounted, NoSinkFault}
 use Rattle.cosign_rows.specs.Search.{payload_type, document_part, tag_layers, or_skipped, tag_by, tag_source, bundle_type, referrer_part, referrer_by, referrer_row, referrers_row, listed_row, referrers_source, trusted_layers, searched}
 use Rattle.cosign_rows.specs.Skips.{in_engine, is_engine_fault}
-use Rattle.cosign_rows.specs.Verified.{Whole, constrained, is_unconstrained, readable, readable_by, as_whole, part_of, stands_by, standing_by, standing, verified_image, after_search, verified}
+use Rattle.cosign_rows.specs.Tails.{after_search}
+use Rattle.cosign_rows.specs.Verified.{Whole, constrained, is_unconstrained, readable, readable_by, as_whole, part_of, stands_by, standing_by, standing, verified_image, verified}
 use Rattle.cosign_rows.specs.declared.found.Part.{Part}
 use Rattle.cosign_rows.specs.declared.found.SkipCause.{SkipCause}
 use Rattle.cosign_rows.specs.declared.found.SkipCause.TheVariants.{Refused}
@@ -471,7 +472,7 @@ module _ {V : Type 0} {H : V → Type 0} (meaning : Meaning V H) (s : Context) (
       whole_done (Ok (verified_image stood pulled)) (λ e is. absurd (cc is))))
 
   pull_counts : Counts WholeCounts (verified meaning s image a accepted)
-  unfolding verified
+  unfolding verified after_search
   pull_counts =
       whole_next (Done (constrained (is_unconstrained meaning.policy))) _ (whole_done (constrained (is_unconstrained meaning.policy)) (λ e is. empty_unheld (is_unconstrained meaning.policy) e is)) (λ u.
       whole_next (Done (readable image)) _ (whole_done (readable image) (λ e is. unread_unheld image (reads_back image) e is)) (λ v.

@@ -79,7 +79,8 @@ use Rattle.cosign_rows.specs.References.{signature_tag, tag_reference, digest_re
 use Rattle.cosign_rows.specs.Refusal.{is_memory, refused_as}
 use Rattle.cosign_rows.specs.Search.{payload_type, document_part, tag_layers, or_skipped, tag_by, tag_source, bundle_type, referrer_part, referrer_by, referrer_row, referrers_row, listed_row, referrers_source, trusted_layers, searched}
 use Rattle.cosign_rows.specs.Settled.{AreRight, IsSettled}
-use Rattle.cosign_rows.specs.Verified.{Whole, constrained, is_unconstrained, readable_by, readable, as_whole, part_of, stands_by, standing_by, standing, verified_image, after_search, verified}
+use Rattle.cosign_rows.specs.Tails.{after_search}
+use Rattle.cosign_rows.specs.Verified.{Whole, constrained, is_unconstrained, readable_by, readable, as_whole, part_of, stands_by, standing_by, standing, verified_image, verified}
 use Rattle.cosign_rows.specs.declared.found.Part.{Part}
 use Rattle.cosign_rows.specs.declared.found.SkipCause.{SkipCause}
 use Rattle.cosign_rows.specs.declared.found.SkipCause.TheVariants.{NotAReference, Refused}
@@ -477,7 +478,7 @@ module _ {V : Type 0} {H : V → Type 0} (meaning : Meaning V H) (s : Settings) 
       Gives-done (Ok (verified_image stood pulled)) tt))
 
   pub verified_reaches : Signed → Reaches I (answer shelf) (OrMemory is_memory (λ (v : VerifiedImage). Unit {0})) (verified meaning ctx image a accepted)
-  unfolding verified
+  unfolding verified after_search
   verified_reaches signed =
       Reaches-after _ (Gives-done (constrained (is_unconstrained meaning.policy)) (yields_ok (λ u. Unit {0}) (constrained (is_unconstrained meaning.policy)) tt (constrained_is signed) tt)) (λ u checked.
       Reaches-after _ (Gives-done (readable image) (yields_ok (λ u. Unit {0}) (readable image) tt readable_is tt)) (λ u read.

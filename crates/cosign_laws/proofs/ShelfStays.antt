@@ -45,7 +45,8 @@ use Rattle.cosign_rows.specs.References.{tag_reference, digest_reference, readin
 use Rattle.cosign_rows.specs.Search.{payload_type, tag_layers, or_skipped, tag_by, tag_source, bundle_type, referrer_part, referrer_by, referrer_row, referrers_row, listed_row, referrers_source, searched}
 use Rattle.cosign_rows.specs.Settled.{AreRight}
 use Rattle.cosign_rows.specs.Shelves.{IsAsked}
-use Rattle.cosign_rows.specs.Verified.{constrained, is_unconstrained, readable, as_whole, part_of, standing, after_search, verified}
+use Rattle.cosign_rows.specs.Tails.{after_search}
+use Rattle.cosign_rows.specs.Verified.{constrained, is_unconstrained, readable, as_whole, part_of, standing, verified}
 use Rattle.cosign_rows.specs.declared.found.SourceKind.TheVariants.{Tag}
 use Rattle.cosign_rows.specs.declared.found.Skipped.TheVariants.{Source, Referrer}
 use Rattle.cosign_rows.specs.declared.found.TrustedLayers.{TrustedLayers}
@@ -227,7 +228,7 @@ module _ {V : Type 0} {H : V → Type 0} (meaning : Meaning V H) (s : Settings) 
   after_stays found = Stays-next _ (Stays-done (standing meaning found)) (λ stood. Stays-next _ (part_stays (image_stays stood.digest)) (λ pulled. Stays-done _))
 
   pub verified_stays : Settles (verified meaning ctx image a accepted)
-  unfolding verified
+  unfolding verified after_search
   verified_stays =
       Stays-next _ (Stays-done (constrained (is_unconstrained meaning.policy))) (λ u.
       Stays-next _ (Stays-done (readable image)) (λ u.

@@ -10,6 +10,7 @@ pub mod Settled
 pub mod Shelves
 pub mod Skips
 pub mod Sound
+pub mod Tails
 pub mod Terms
 pub mod Triangulated
 pub mod Verified

@@ -87,19 +87,6 @@ abbrev pub stood_image : Standing → Result Pulled SigstoreError → Result Ver
 stood_image standing (Ok pulled) = Ok (verified_image standing pulled)
 stood_image standing (Err e) = Err (refused_as e)
 
--- the image of a digest for which a layer stands
-abbrev pub after_standing : Context → Reference → RegistryAuth → List (List ℕ) → Standing → Whole VerifiedImage
-after_standing s image a accepted stood = do
-  pulled ← part_of (image_row s image (digest_reference image stood.digest) a accepted)
-  Done (Ok (verified_image stood pulled))
-
--- a layer that stands, and only then the image
-unfoldable pub after_search : {V : Type 0} {H : V → Type 0} → Meaning V H → Context → Reference → RegistryAuth
-    → List (List ℕ) → TrustedLayers → Whole VerifiedImage
-after_search meaning s image a accepted found = do
-  stood ← Done (standing meaning found)
-  after_standing s image a accepted stood
-
 -- the whole pull
 unfoldable pub verified : {V : Type 0} {H : V → Type 0} → Meaning V H → Context → Reference → RegistryAuth
     → List (List ℕ) → Whole VerifiedImage
@@ -107,4 +94,6 @@ verified meaning s image a accepted = do
   Done (constrained (is_unconstrained meaning.policy))
   Done (readable image)
   found ← part_of (searched meaning.trust s image a)
-  after_search meaning s image a accepted found
+  stood ← Done (standing meaning found)
+  pulled ← part_of (image_row s image (digest_reference image stood.digest) a accepted)
+  Done (Ok (verified_image stood pulled))

@@ -21,7 +21,7 @@ use Rattle.cosign_chain.specs.declared.image.VerifiedImage.{VerifiedImage}
 use Rattle.cosign_rows.specs.Refusal.{is_memory}
 use Rattle.cosign_rows.specs.Settled.{IsSettled}
 use Rattle.cosign_rows.specs.Shelves.{AnswersFrom, OkOrMemory, ValidShelf}
-use Rattle.cosign_rows.specs.Verified.{after_search, verified}
+use Rattle.cosign_rows.specs.Verified.{verified}
 use Rattle.cosign_rows.specs.declared.refusal.PullRefusal.{PullRefusal}
 use Rattle.cosign_rows.specs.declared.refusal.PullRefusal.TheVariants as refusal
 use Rattle.generated_image.specs.Shelf.{generated_shelf, HasTwoDigests}
@@ -46,7 +46,7 @@ table_is n table rows = rw (← rows) refl
 
 -- whatever a box means
 row_same : {V : Type 0} {H : V → Type 0} (own : Owns V H) (n : ℕ) → verified (meaning_with own n) generated_context generated_reference Anonymous generated_types ≡ generated_row n
-unfolding verified after_search stands
+unfolding verified stands
 row_same own n = refl
 
 module _ {V : Type 0} {H : V → Type 0} (own : Owns V H) (n : ℕ) (policy : PullPolicy V H) (table : TableVerifier) (logs : FinMap by_bytes (List ℕ)) (client : Client) (image : Reference) (accepted : List (List ℕ))

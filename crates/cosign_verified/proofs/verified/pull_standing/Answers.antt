@@ -1,5 +1,6 @@
 use Rattle.std.proofs.Common.{refl, ap, ◌∙◌}
-use Rattle.cosign_rows.specs.Verified.{after_search, standing_by}
+use Rattle.cosign_rows.specs.Tails.{after_search}
+use Rattle.cosign_rows.specs.Verified.{standing_by}
 use Rattle.cosign_rows.proofs.Exits.{and_then, refused, wanting, said_whole, says_same}
 use Rattle.cosign_verified.proofs.verified.pull_standing.Goals as goal
 

@@ -1,5 +1,6 @@
 use Rattle.std.proofs.Common.{refl}
 use Rattle.oci_names.specs.Reference.{reads_back}
+use Rattle.cosign_rows.specs.Tails.{after_search}
 use Rattle.cosign_rows.specs.Verified.{is_unconstrained, verified}
 use Rattle.cosign_rows.proofs.Exits.{and_then, refused, wanting, passed, said_whole, says_same, part_answered, part_refused, empty_policy, not_empty, readable_not}
 use Rattle.cosign_verified.proofs.verified.pull_verified.Goals as goal
@@ -36,7 +37,7 @@ pub returns-in_err-found-clause-unread : goal.returns-in_err-found-clause-unread
 returns-in_err-found-clause-unread g c = λ unread. readable_not c.args.image.now (reads_back c.args.image.now) _ c.in_ok-readable.ensures unread
 
 pub returns-in_err-image-clause-run : goal.returns-in_err-image-clause-run
-unfolding verified
+unfolding verified after_search
 returns-in_err-image-clause-run g c = λ s. and_then _ (said_whole _ (says_same _ _ c.in_ok-constrained.ensures)) (and_then _ (said_whole _ c.in_ok-readable.ensures) (and_then _ (part_answered (rw c.in_ok-auth.ensures at (c.in_ok-found.ensures s))) (passed (rw c.in_ok-auth.ensures at (c.in_err-image.ensures s)) c.from_residual-in_err-image.ensures.1)))
 
 pub returns-in_err-image-clause-unconstrained : goal.returns-in_err-image-clause-unconstrained
@@ -46,7 +47,7 @@ pub returns-in_err-image-clause-unread : goal.returns-in_err-image-clause-unread
 returns-in_err-image-clause-unread g c = λ unread. readable_not c.args.image.now (reads_back c.args.image.now) _ c.in_ok-readable.ensures unread
 
 pub returns-clause-run : goal.returns-clause-run
-unfolding verified
+unfolding verified after_search
 returns-clause-run g c = λ s. and_then _ (said_whole _ (says_same _ _ c.in_ok-constrained.ensures)) (and_then _ (said_whole _ c.in_ok-readable.ensures) (and_then _ (part_answered (rw c.in_ok-auth.ensures at (c.in_ok-found.ensures s))) (rw c.in_ok-auth.ensures at (c.in_ok-image.ensures s))))
 
 pub returns-clause-unconstrained : goal.returns-clause-unconstrained
