@@ -3,10 +3,10 @@ ghost use Rattle.std.specs.Prelude.{◌≡◌, [], ◌∷◌, ◌++◌, OnOk, fl
 ghost use Rattle.pull_report.specs.Words.{line};
 ghost use Rattle.pull_report.specs.Lines.{method_name};
 
-use crate::printed::{Printed, print1, word};
+use crate::printed::{Printed, print_row, word};
 use cosign_layers::SignatureLayer;
 use cosign_rows::Skipped;
-use json_values::Blob;
+use json_values::{Blob, row};
 use oci_descriptors::OciDescriptor;
 use oci_transport::{Exchange, Method};
 use std::alloc::{AllocError, Global};
@@ -43,7 +43,7 @@ pub fn print_line<A: Printed>(
 ) -> Result<(), AllocError>
     ensures { OnOk result (out.new ≡ out.old ++ line (label.now ∷ A.print value.now ∷ [])) }
 {
-    print1(alloc, out, label, value)?;
+    print_row(alloc, out, label, row![value])?;
     word(out, "\n")?;
     Ok(())
 }

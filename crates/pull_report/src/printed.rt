@@ -1,6 +1,6 @@
 // Prints: a variant's name, then the values that it keeps, each after one space.
 ghost use Rattle.std.specs.Prelude.{◌≡◌, [], ◌∷◌, ◌++◌, OnOk};
-ghost use Rattle.pull_report.specs.Words.{spaced};
+ghost use Rattle.pull_report.specs.Words.{spaced, behind_spaces};
 
 use json_values::Blob;
 use std::alloc::{AllocError, Global};
@@ -24,57 +24,49 @@ pub fn word(out: &mut Blob, text: &str) -> Result<(), AllocError>
     out.append(text.as_bytes())
 }
 
-/// A value's print after a space.
-fn kept<A: Printed>(alloc: Global, out: &mut Blob, value: &A) -> Result<(), AllocError>
-    ensures { OnOk result (out.new ≡ out.old ++ (32 ∷ A.print value.now)) }
-{
-    word(out, " ")?;
-    value.write_print(alloc, out)?;
-    Ok(())
+/// Values in a row: none, or a reference to what has a print and the rest of the row. `row!` writes one, of any
+/// length. Where memory was wanting, what was added of their prints is left open.
+pub trait PrintedRow {
+    ghost use Rattle.std.specs.Prelude.{ℕ, List};
+
+    /// The print of each.
+    ghost prints: { Self → List (List ℕ) };
+
+    /// Adds each print at the end, after one space.
+    fn write_prints(self, alloc: Global, out: &mut Blob) -> Result<(), AllocError>
+        ensures { OnOk result (out.new ≡ out.old ++ behind_spaces (prints self)) };
 }
 
-/// The print of a variant that keeps 1 value.
-pub fn print1<A: Printed>(
+impl PrintedRow for () {
+    ghost prints = { λ _. [] };
+
+    fn write_prints(self, _alloc: Global, _out: &mut Blob) -> Result<(), AllocError> {
+        Ok(())
+    }
+}
+
+impl<'a, A: Printed, B: PrintedRow + Drop> PrintedRow for (&'a A, B) {
+    ghost prints = { λ row. A.print row.0.now ∷ B.prints row.1 };
+
+    fn write_prints(self, alloc: Global, out: &mut Blob) -> Result<(), AllocError> {
+        let (first, others) = self;
+        word(out, " ")?;
+        first.write_print(alloc, out)?;
+        others.write_prints(alloc, out)?;
+        Ok(())
+    }
+}
+
+/// The print of a variant: its name, then the values that it keeps.
+pub fn print_row<R: PrintedRow + Drop>(
     alloc: Global,
     out: &mut Blob,
     name: &str,
-    a: &A,
+    kept: R,
 ) -> Result<(), AllocError>
-    ensures { OnOk result (out.new ≡ out.old ++ spaced (name.now ∷ A.print a.now ∷ [])) }
+    ensures { OnOk result (out.new ≡ out.old ++ spaced (name.now ∷ R.prints kept)) }
 {
     word(out, name)?;
-    kept(alloc, out, a)?;
-    Ok(())
-}
-
-/// The print of a variant that keeps 2 values.
-pub fn print2<A: Printed, B: Printed>(
-    alloc: Global,
-    out: &mut Blob,
-    name: &str,
-    a: &A,
-    b: &B,
-) -> Result<(), AllocError>
-    ensures { OnOk result (out.new ≡ out.old ++ spaced (name.now ∷ A.print a.now ∷ B.print b.now ∷ [])) }
-{
-    print1(alloc, out, name, a)?;
-    kept(alloc, out, b)?;
-    Ok(())
-}
-
-/// The print of a variant that keeps 3 values.
-pub fn print3<A: Printed, B: Printed, C: Printed>(
-    alloc: Global,
-    out: &mut Blob,
-    name: &str,
-    a: &A,
-    b: &B,
-    c: &C,
-) -> Result<(), AllocError>
-    ensures { OnOk result (out.new
-        ≡ out.old ++ spaced (name.now ∷ A.print a.now ∷ B.print b.now ∷ C.print c.now ∷ [])) }
-{
-    print2(alloc, out, name, a, b)?;
-    kept(alloc, out, c)?;
+    kept.write_prints(alloc, out)?;
     Ok(())
 }

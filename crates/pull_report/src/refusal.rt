@@ -1,7 +1,7 @@
 // The print of a pull's refusal.
-use crate::printed::{Printed, print1, print2, word};
+use crate::printed::{Printed, print_row, word};
 use cosign_rows::PullRefusal;
-use json_values::Blob;
+use json_values::{Blob, row};
 use std::alloc::{AllocError, Global};
 
 impl Printed for PullRefusal {
@@ -13,15 +13,15 @@ impl Printed for PullRefusal {
         match self {
             Self::EmptyPolicy => word(out, "EmptyPolicy"),
             Self::OciReferenceNotValidError { reference } => {
-                print1(alloc, out, "OciReferenceNotValidError", reference)
+                print_row(alloc, out, "OciReferenceNotValidError", row![reference])
             }
             Self::RegistryFetchManifestError { image, error } => {
-                print2(alloc, out, "RegistryFetchManifestError", image, error)
+                print_row(alloc, out, "RegistryFetchManifestError", row![image, error])
             }
             Self::RegistryPullError { image, error } => {
-                print2(alloc, out, "RegistryPullError", image, error)
+                print_row(alloc, out, "RegistryPullError", row![image, error])
             }
-            Self::Unsatisfied { digest, .. } => print1(alloc, out, "Unsatisfied", digest),
+            Self::Unsatisfied { digest, .. } => print_row(alloc, out, "Unsatisfied", row![digest]),
             Self::WantOfMemory => word(out, "WantOfMemory"),
         }
     }

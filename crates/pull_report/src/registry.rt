@@ -1,7 +1,7 @@
 // Prints of the refusals of the registry's client.
-use crate::printed::{Printed, print1, print2, print3, word};
-use engine_terms::{GenericCause, OciDistributionError, SpecViolation};
-use json_values::Blob;
+use crate::printed::{Printed, print_row, word};
+use engine_terms::{GenericCause, OciDistributionError, SpecViolation, TokenBody};
+use json_values::{Blob, row};
 use oci_digests::DigestError;
 use sig_calls::SigstoreError;
 use std::alloc::{AllocError, Global};
@@ -13,11 +13,13 @@ impl Printed for DigestError {
 
     fn write_print(&self, alloc: Global, out: &mut Blob) -> Result<(), AllocError> {
         match self {
-            Self::InvalidHeader(header) => print1(alloc, out, "InvalidHeader", header),
-            Self::UnsupportedAlgorithm(name) => { print1(alloc, out, "UnsupportedAlgorithm", name) }
+            Self::InvalidHeader(header) => print_row(alloc, out, "InvalidHeader", row![header]),
+            Self::UnsupportedAlgorithm(name) => {
+                print_row(alloc, out, "UnsupportedAlgorithm", row![name])
+            }
             Self::MissingAlgorithm => word(out, "MissingAlgorithm"),
             Self::VerificationError { expected, actual } => {
-                print2(alloc, out, "VerificationError", expected, actual)
+                print_row(alloc, out, "VerificationError", row![expected, actual])
             }
             Self::WantOfMemory => word(out, "WantOfMemory"),
         }
@@ -46,9 +48,24 @@ impl Printed for SpecViolation {
 
     fn write_print(&self, alloc: Global, out: &mut Blob) -> Result<(), AllocError> {
         match self {
-            Self::ReferrersTag(tag) => print1(alloc, out, "ReferrersTag", tag),
-            Self::Status { expected, got, url } => print3(alloc, out, "Status", expected, got, url),
+            Self::ReferrersTag(tag) => print_row(alloc, out, "ReferrersTag", row![tag]),
+            Self::Status { expected, got, url } => print_row(
+                alloc,
+                out,
+                "Status",
+                row![expected, got, url],
+            ),
         }
+    }
+}
+
+impl Printed for TokenBody {
+    ghost use Rattle.pull_report.specs.Prints.{bytes_print};
+
+    ghost print = { bytes_print };
+
+    fn write_print(&self, alloc: Global, out: &mut Blob) -> Result<(), AllocError> {
+        self.bytes().write_print(alloc, out)
     }
 }
 
@@ -58,60 +75,39 @@ impl Printed for OciDistributionError {
     ghost print = { distribution_print };
 
     fn write_print(&self, alloc: Global, out: &mut Blob) -> Result<(), AllocError> {
+        let name = self.name();
         match self {
-            Self::AmbiguousManifest(document) => print1(alloc, out, "AmbiguousManifest", document),
-            Self::AuthenticationFailure(body) => print1(
-                alloc,
-                out,
-                "AuthenticationFailure",
-                body.bytes(),
-            ),
-            Self::BodyTooLong => word(out, "BodyTooLong"),
-            Self::ConfigConversionError(content) => {
-                print1(alloc, out, "ConfigConversionError", content)
+            Self::AmbiguousManifest(bytes)
+            | Self::ConfigConversionError(bytes)
+            | Self::ManifestParsingError(bytes)
+            | Self::VersionedParsingError(bytes) => print_row(alloc, out, name, row![bytes]),
+            Self::AuthenticationFailure(body) | Self::RegistryTokenDecodeError(body) => {
+                print_row(alloc, out, name, row![body])
             }
-            Self::DigestError(error) => print1(alloc, out, "DigestError", error),
-            Self::GenericError(cause) => print1(alloc, out, "GenericError", cause),
-            Self::ImageIndexParsingNoPlatformResolverError => {
-                word(out, "ImageIndexParsingNoPlatformResolverError")
-            }
-            Self::ImageManifestNotFoundError(digest) => {
-                print1(alloc, out, "ImageManifestNotFoundError", digest)
-            }
-            Self::IncompatibleLayerMediaTypeError(media_type) => {
-                print1(alloc, out, "IncompatibleLayerMediaTypeError", media_type)
-            }
-            Self::ManifestParsingError(document) => {
-                print1(alloc, out, "ManifestParsingError", document)
-            }
-            Self::PullNoLayersError => word(out, "PullNoLayersError"),
+            Self::DigestError(error) => print_row(alloc, out, name, row![error]),
+            Self::GenericError(cause) => print_row(alloc, out, name, row![cause]),
+            Self::ImageManifestNotFoundError(text)
+            | Self::IncompatibleLayerMediaTypeError(text)
+            | Self::UnauthorizedError { url: text }
+            | Self::UnsupportedMediaTypeError(text)
+            | Self::UrlParseError(text) => print_row(alloc, out, name, row![text]),
             Self::RegistryError { envelope, url } => {
-                print2(alloc, out, "RegistryError", envelope, url)
-            }
-            Self::RegistryTokenDecodeError(body) => {
-                print1(alloc, out, "RegistryTokenDecodeError", body.bytes())
+                print_row(alloc, out, name, row![envelope, url])
             }
             Self::ServerError { code, url, message } => {
-                print3(alloc, out, "ServerError", code, url, message)
+                print_row(alloc, out, name, row![code, url, message])
             }
-            Self::SinkFault => word(out, "SinkFault"),
-            Self::SpecViolationError(violation) => {
-                print1(alloc, out, "SpecViolationError", violation)
-            }
-            Self::StreamFailed => word(out, "StreamFailed"),
-            Self::TransportFault => word(out, "TransportFault"),
-            Self::UnauthorizedError { url } => { print1(alloc, out, "UnauthorizedError", url) }
-            Self::UnsupportedMediaTypeError(media_type) => {
-                print1(alloc, out, "UnsupportedMediaTypeError", media_type)
-            }
+            Self::SpecViolationError(violation) => print_row(alloc, out, name, row![violation]),
             Self::UnsupportedSchemaVersionError(version) => {
-                print1(alloc, out, "UnsupportedSchemaVersionError", version)
+                print_row(alloc, out, name, row![version])
             }
-            Self::UrlParseError(text) => print1(alloc, out, "UrlParseError", text),
-            Self::VersionedParsingError(document) => {
-                print1(alloc, out, "VersionedParsingError", document)
-            }
-            Self::WantOfMemory => word(out, "WantOfMemory"),
+            Self::BodyTooLong
+            | Self::ImageIndexParsingNoPlatformResolverError
+            | Self::PullNoLayersError
+            | Self::SinkFault
+            | Self::StreamFailed
+            | Self::TransportFault
+            | Self::WantOfMemory => word(out, name),
         }
     }
 }
@@ -124,16 +120,16 @@ impl Printed for SigstoreError {
     fn write_print(&self, alloc: Global, out: &mut Blob) -> Result<(), AllocError> {
         match self {
             Self::OciReferenceNotValidError { reference } => {
-                print1(alloc, out, "OciReferenceNotValidError", reference)
+                print_row(alloc, out, "OciReferenceNotValidError", row![reference])
             }
             Self::RegistryFetchManifestError { image, error } => {
-                print2(alloc, out, "RegistryFetchManifestError", image, error)
+                print_row(alloc, out, "RegistryFetchManifestError", row![image, error])
             }
             Self::RegistryPullError { image, error } => {
-                print2(alloc, out, "RegistryPullError", image, error)
+                print_row(alloc, out, "RegistryPullError", row![image, error])
             }
             Self::RegistryPullManifestError { image, error } => {
-                print2(alloc, out, "RegistryPullManifestError", image, error)
+                print_row(alloc, out, "RegistryPullManifestError", row![image, error])
             }
             Self::WantOfMemory => word(out, "WantOfMemory"),
         }

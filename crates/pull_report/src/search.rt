@@ -1,8 +1,8 @@
 // Prints of what a search for signatures passed over.
-use crate::printed::{Printed, print1, print2, print3, word};
+use crate::printed::{Printed, print_row, word};
 use cosign_layers::{LayerPart, LayerRejection};
 use cosign_rows::{SkipCause, Skipped, SourceKind};
-use json_values::Blob;
+use json_values::{Blob, row};
 use std::alloc::{AllocError, Global};
 
 impl Printed for LayerPart {
@@ -28,12 +28,12 @@ impl Printed for LayerRejection {
     fn write_print(&self, alloc: Global, out: &mut Blob) -> Result<(), AllocError> {
         match self {
             Self::DigestMismatch => word(out, "DigestMismatch"),
-            Self::Unreadable(part) => print1(alloc, out, "Unreadable", part),
+            Self::Unreadable(part) => print_row(alloc, out, "Unreadable", row![part]),
             Self::OtherDigest => word(out, "OtherDigest"),
             Self::NoSignature => word(out, "NoSignature"),
-            Self::UnknownLogKey(log) => print1(alloc, out, "UnknownLogKey", log),
+            Self::UnknownLogKey(log) => print_row(alloc, out, "UnknownLogKey", row![log]),
             Self::BadLogSignature => word(out, "BadLogSignature"),
-            Self::OtherLogEntry(body) => print1(alloc, out, "OtherLogEntry", body),
+            Self::OtherLogEntry(body) => print_row(alloc, out, "OtherLogEntry", row![body]),
             Self::NoLogEntry => word(out, "NoLogEntry"),
             Self::NotVouched => word(out, "NotVouched"),
             Self::LayerNotPulled => word(out, "LayerNotPulled"),
@@ -62,9 +62,9 @@ impl Printed for SkipCause {
 
     fn write_print(&self, alloc: Global, out: &mut Blob) -> Result<(), AllocError> {
         match self {
-            Self::NotAReference(text) => print1(alloc, out, "NotAReference", text),
+            Self::NotAReference(text) => print_row(alloc, out, "NotAReference", row![text]),
             Self::FoundIndex => word(out, "FoundIndex"),
-            Self::Refused(error) => print1(alloc, out, "Refused", error),
+            Self::Refused(error) => print_row(alloc, out, "Refused", row![error]),
         }
     }
 }
@@ -76,10 +76,15 @@ impl Printed for Skipped {
 
     fn write_print(&self, alloc: Global, out: &mut Blob) -> Result<(), AllocError> {
         match self {
-            Self::Source(source, cause) => print2(alloc, out, "Source", source, cause),
-            Self::Referrer(referrer, cause) => print2(alloc, out, "Referrer", referrer, cause),
+            Self::Source(source, cause) => print_row(alloc, out, "Source", row![source, cause]),
+            Self::Referrer(referrer, cause) => print_row(
+                alloc,
+                out,
+                "Referrer",
+                row![referrer, cause],
+            ),
             Self::Layer(source, layer, rejection) => {
-                print3(alloc, out, "Layer", source, layer, rejection)
+                print_row(alloc, out, "Layer", row![source, layer, rejection])
             }
         }
     }

@@ -1,13 +1,15 @@
 use Rattle.pull_report.proofs.registry.SigstoreErrorPrinted.write_print.Goals as goal
 
 pub returns-in-RegistryFetchManifestError : goal.returns-in-RegistryFetchManifestError
-returns-in-RegistryFetchManifestError c = rw c.in-RegistryFetchManifestError.is c.print2.ensures
+returns-in-RegistryFetchManifestError c =
+    rw c.in-RegistryFetchManifestError.is c.print_row-in-RegistryFetchManifestError.ensures
 
 pub returns-in-RegistryPullError : goal.returns-in-RegistryPullError
-returns-in-RegistryPullError c = rw c.in-RegistryPullError.is c.print2-in-RegistryPullError.ensures
+returns-in-RegistryPullError c = rw c.in-RegistryPullError.is c.print_row-in-RegistryPullError.ensures
 
 pub returns-in-RegistryPullManifestError : goal.returns-in-RegistryPullManifestError
-returns-in-RegistryPullManifestError c = rw c.in-RegistryPullManifestError.is c.print2-in-RegistryPullManifestError.ensures
+returns-in-RegistryPullManifestError c =
+    rw c.in-RegistryPullManifestError.is c.print_row-in-RegistryPullManifestError.ensures
 
 pub returns-in-WantOfMemory : goal.returns-in-WantOfMemory
 returns-in-WantOfMemory c = rw c.in-WantOfMemory.is c.word.ensures
