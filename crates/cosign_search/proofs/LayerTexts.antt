@@ -1,19 +1,57 @@
 -- Digest texts of layers, and the layer that a digest names.
-use Rattle.std.proofs.Common.{◌≡◌, ◌≤◌, ◌<◌, ◌+◌, ℕ, suc, Bool, true, false, cond, nat_lt, not, length, List, [], ◌∷◌, ◌++◌, ◌||◌, map, drop, get_or, bytes_eq, Option, Some, None, IsTrue, refl, sym, ap, subst, ◌∙◌, append_assoc, append-nil}
+use Rattle.std.proofs.Common.{◌≡◌, ◌≤◌, ◌<◌, ◌+◌, ℕ, zero, suc, Bool, true, false, cond, nat_lt, not, length, List, [], ◌∷◌, ◌++◌, ◌||◌, map, drop, get_or, bytes_eq, Option, Some, None, Result, Ok, IsTrue, refl, sym, ap, subst, ◌∙◌, append_assoc, append-nil, arith}
 use Rattle.std.specs.Prelude.{find, position, All}
 use Rattle.std.specs.List.{position_or_len, slice_get}
+use Rattle.std.proofs.lemmas.Bool.{and_parts}
 use Rattle.std.proofs.lemmas.Slice.Eq.{bytes_eq-Decides}
-use Rattle.oci_digests.specs.Names.{name_of, names, names_by, digest_text}
+use Rattle.oci_digests.specs.Names.{Names, name_of, names, names_by, digest_text}
+use Rattle.oci_digests.specs.Checks.{named_algorithm}
 use Rattle.oci_digests.specs.declared.digester.Algorithm.{Algorithm}
 use Rattle.oci_digests.specs.declared.digester.Algorithm.TheVariants as algorithms
+use Rattle.oci_digests.specs.declared.error.DigestError.{DigestError}
+use Rattle.oci_digests.proofs.Equal.{named}
+use Rattle.oci_digests.proofs.ExactChecks.{algorithm_named}
 use Rattle.oci_descriptors.specs.declared.descriptor.OciDescriptor.{OciDescriptor}
 use Rattle.oci_manifests.specs.declared.blob.ImageLayer.{ImageLayer}
-use Rattle.cosign_search.specs.LayerTexts.{BeginsOtherwise, Serves, Tell, is_among, is_text, layer_digests, text_by}
+use Rattle.sig_calls.specs.Named.{names_each}
+use Rattle.cosign_search.specs.LayerTexts.{Begins, BeginsOtherwise, Serves, Tell, is_among, is_text, layer_digests, text_by}
 use Rattle.cosign_rows.specs.Part.{named_layer}
 use Rattle.cosign_search.specs.declared.part.LayerDigests.{LayerDigests}
 use Rattle.cosign_search.specs.declared.part.Used.{Used}
 use Rattle.cosign_rows.proofs.Descriptors.{at_next}
 use Rattle.cosign_rows.proofs.First.{first_at, none_at}
+
+-- ---- digests of the layers' own
+
+as_many_own : (own : List OciDescriptor) (layers : List ImageLayer) → IsTrue (names_each own layers) → length own ≡ length layers
+as_many_own [] [] h = refl
+as_many_own [] (layer ∷ layers) h = absurd (cc h)
+as_many_own (x ∷ xs) [] h = absurd (cc h)
+as_many_own (x ∷ xs) (layer ∷ layers) h = ap suc (as_many_own xs layers (and_parts (names x.digest layer.content) (names_each xs layers) h).1)
+
+-- a place of a layer is one of its descriptor
+pub own_inside : (own : List OciDescriptor) (layers : List ImageLayer) (i : ℕ) → IsTrue (names_each own layers) → i < length layers → i < length own
+own_inside own layers i h lt = subst (λ n. i < n) (sym (as_many_own own layers h)) lt
+
+-- each names the layer at its place
+named_at : (own : List OciDescriptor) (layers : List ImageLayer) (i : ℕ) (d : OciDescriptor) (l : ImageLayer) → IsTrue (names_each own layers) → i < length layers → Names (get_or own i d).digest (get_or layers i l).content
+named_at [] [] i d l h lt = absurd (omega arith)
+named_at [] (layer ∷ layers) i d l h lt = absurd (cc h)
+named_at (x ∷ xs) [] i d l h lt = absurd (cc h)
+named_at (x ∷ xs) (layer ∷ layers) zero d l h lt = (named x.digest layer.content).0 (and_parts (names x.digest layer.content) (names_each xs layers) h).0
+named_at (x ∷ xs) (layer ∷ layers) (suc i) d l h lt = named_at xs layers i d l (and_parts (names x.digest layer.content) (names_each xs layers) h).1 (omega arith)
+
+pub own_names : (own : List OciDescriptor) (layers : List ImageLayer) (i : ℕ) (d : OciDescriptor) (layer : ImageLayer) → IsTrue (names_each own layers) → i < length layers → layer ≡ get_or layers i layer → Names (get_or own i d).digest layer.content
+own_names own layers i d layer h lt is = subst (λ y. Names (get_or own i d).digest y.content) (sym is) (named_at own layers i d layer h lt)
+
+same_algorithm : (a b : Algorithm) → ◌≡◌ {A = Result Algorithm DigestError} (Ok a) (Ok b) → a ≡ b
+same_algorithm a b e = cc
+
+-- one that begins with an algorithm is the content's text by that one
+pub own_text : (a : Algorithm) (digest content : List ℕ) → Names digest content → Begins (name_of a) digest → digest ≡ digest_text a content
+own_text a digest content it begins =
+    let same = same_algorithm it.0 a (sym (ap named_algorithm it.1 ∙ algorithm_named it.0 _) ∙ ap named_algorithm begins.1 ∙ algorithm_named a begins.0) in
+    it.1 ∙ ap (λ b. digest_text b content) same
 
 -- ---- texts
 

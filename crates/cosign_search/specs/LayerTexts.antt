@@ -1,4 +1,5 @@
--- How the layer that a digest names is found by texts, so that a layer is hashed once by each algorithm that is used.
+-- How the layer that a digest names is found by texts, so that a layer is hashed once by each algorithm that is used
+-- and is not that of its own digest.
 use Rattle.std.specs.Prelude.{◌≡◌, ℕ, Bool, true, false, List, ◌++◌, ◌||◌, bytes_eq, map, Option, Some, None}
 use Rattle.oci_digests.specs.Names.{digest_text, name_of, names}
 use Rattle.oci_digests.specs.declared.digester.Algorithm.{Algorithm}
@@ -6,6 +7,10 @@ use Rattle.oci_digests.specs.declared.digester.Algorithm.TheVariants as algorith
 use Rattle.oci_manifests.specs.declared.blob.ImageLayer.{ImageLayer}
 use Rattle.cosign_search.specs.declared.part.LayerDigests.{LayerDigests}
 use Rattle.cosign_search.specs.declared.part.Used.{Used}
+
+-- the digest begins so
+abbrev pub Begins : List ℕ → List ℕ → Type 0
+Begins name digest = (rest : List ℕ) × (digest ≡ name ++ rest)
 
 -- the digest does not begin so
 abbrev pub BeginsOtherwise : List ℕ → List ℕ → Type 0

@@ -1,13 +1,15 @@
 //! What a source of signatures gives.
-ghost use Rattle.std.specs.Prelude.{◌≡◌, false, All, IfOk, map, option_copied};
+ghost use Rattle.std.specs.Prelude.{◌≡◌, true, false, All, IfOk, IsTrue, map, option_copied};
 ghost use Rattle.std.specs.List.{position};
+ghost use Rattle.oci_digests.specs.Names.{Names, digest_text, name_of};
+ghost use Rattle.sig_calls.specs.Named.{names_each};
 ghost use Rattle.cosign_layers.specs.Checks.{input, layer_read};
 ghost use Rattle.cosign_layers.specs.Trust.{trust_of};
 ghost use Rattle.cosign_layers.specs.declared.layer.LayerKind.TheVariants as kinds;
 ghost use Rattle.cosign_layers.specs.Rejection.{Says as SaysLayer};
 ghost use Rattle.cosign_rows.specs.Part.{appended, descriptors_part, layer_part, named_layer, read_layer, skipping};
 ghost use Rattle.cosign_search.specs.LayerTexts.{is_among, is_text, layer_digests, text_by};
-ghost use Rattle.cosign_search.specs.LayerTexts.{BeginsOtherwise, Serves, Tell};
+ghost use Rattle.cosign_search.specs.LayerTexts.{Begins, BeginsOtherwise, Serves, Tell};
 ghost use Rattle.cosign_rows.specs.declared.found.SourceKind.TheVariants.{Tag};
 
 use cosign_layers::{
@@ -28,8 +30,8 @@ pub(crate) struct Used {
     pub sha512: bool,
 }
 
-/// The digest texts of a pulled layer by each algorithm that is used, so that it is hashed once by each of them,
-/// however many descriptors there are.
+/// The digest texts of a pulled layer by each algorithm that is used. By the algorithm of its own digest it is not
+/// hashed, and by another one once, however many descriptors there are.
 #[derive(Drop)]
 pub(crate) struct LayerDigests {
     pub sha256: Option<Text>,
@@ -49,19 +51,22 @@ pub(crate) fn skipping(alloc: Global, cause: Skipped) -> Result<Part, AllocError
     })
 }
 
-/// What each descriptor under the signature tag gives for the image of this digest, in their order.
+/// What each descriptor under the signature tag gives for the image of this digest, in their order. The layers were
+/// pulled by descriptors of their own.
 #[tactic(auto, using(cosign_rows::proofs::Descriptors::descriptors_next, cosign_rows::proofs::Descriptors::descriptors_end))]
 pub(crate) fn descriptors_part<V: SignatureVerifier, O: Offline>(
     alloc: Global,
     trusted: &Trusted<'_, V, O>,
     digest: &str,
+    own: &[OciDescriptor],
     layers: &[ImageLayer],
     descriptors: &[OciDescriptor],
 ) -> Result<Part, AllocError>
+    requires { IsTrue (names_each own.now layers.now) }
     ensures { IfOk result (λ part. part ≡ descriptors_part (trust_of V.valid O.vouched trusted.now)
         digest.now layers.now descriptors.now) }
 {
-    let digests = all_digests(alloc, layers, descriptors)?;
+    let digests = all_digests(alloc, own, layers, descriptors)?;
     let mut part = Part {
         collected: List::new(alloc),
         skipped: List::new(alloc),
@@ -77,13 +82,15 @@ pub(crate) fn descriptors_part<V: SignatureVerifier, O: Offline>(
 #[tactic(auto, using(crate::proofs::LayerTexts::all_tell))]
 fn all_digests(
     alloc: Global,
+    own: &[OciDescriptor],
     layers: &[ImageLayer],
     descriptors: &[OciDescriptor],
 ) -> Result<List<LayerDigests>, AllocError>
+    requires { IsTrue (names_each own.now layers.now) }
     ensures { IfOk result (λ all. All (λ x. Tell all layers.now x.digest) descriptors.now) }
 {
     let used = used_algorithms(descriptors);
-    let all = used_digests(alloc, used, layers)?;
+    let all = used_digests(alloc, used, own, layers)?;
     Ok(all)
 }
 
@@ -112,7 +119,8 @@ fn is_used(name: &str, descriptors: &[OciDescriptor]) -> bool
 }
 
 fn begins(name: &str, digest: &str) -> bool
-    ensures { result ≡ false → BeginsOtherwise name.now digest.now }
+    ensures so { result ≡ true → Begins name.now digest.now }
+    ensures otherwise { result ≡ false → BeginsOtherwise name.now digest.now }
 {
     digest.starts_with(name)
 }
@@ -121,23 +129,33 @@ fn begins(name: &str, digest: &str) -> bool
 fn used_digests(
     alloc: Global,
     used: Used,
+    own: &[OciDescriptor],
     layers: &[ImageLayer],
 ) -> Result<List<LayerDigests>, AllocError>
+    requires { IsTrue (names_each own.now layers.now) }
     ensures { IfOk result (λ all. all ≡ map (layer_digests used) layers.now) }
 {
     let mut all = List::new(alloc);
-    for layer in layers {
-        all.push(layer_digests(alloc, used, layer)?)?;
+    for (place, layer) in layers.iter().enumerate() {
+        let digest = own[place].digest.as_str();
+        all.push(layer_digests(alloc, used, digest, layer)?)?;
     }
     Ok(all)
 }
 
-fn layer_digests(alloc: Global, used: Used, layer: &ImageLayer) -> Result<LayerDigests, AllocError>
+// The digest texts of the layer that this digest names.
+fn layer_digests(
+    alloc: Global,
+    used: Used,
+    digest: &str,
+    layer: &ImageLayer,
+) -> Result<LayerDigests, AllocError>
+    requires { Names digest.now layer.now.content }
     ensures { IfOk result (λ own. own ≡ layer_digests used layer.now) }
 {
-    let sha256 = text_by(alloc, Algorithm::Sha256, used.sha256, layer)?;
-    let sha384 = text_by(alloc, Algorithm::Sha384, used.sha384, layer)?;
-    let sha512 = text_by(alloc, Algorithm::Sha512, used.sha512, layer)?;
+    let sha256 = text_by(alloc, Algorithm::Sha256, used.sha256, digest, layer)?;
+    let sha384 = text_by(alloc, Algorithm::Sha384, used.sha384, digest, layer)?;
+    let sha512 = text_by(alloc, Algorithm::Sha512, used.sha512, digest, layer)?;
     Ok(LayerDigests {
         sha256,
         sha384,
@@ -149,15 +167,44 @@ fn text_by(
     alloc: Global,
     algorithm: Algorithm,
     is_used: bool,
+    digest: &str,
     layer: &ImageLayer,
 ) -> Result<Option<Text>, AllocError>
+    requires { Names digest.now layer.now.content }
     ensures { IfOk result (λ text. text ≡ text_by algorithm is_used layer.now) }
 {
     if !is_used {
         return Ok(None);
     }
-    let text = digest_text(alloc, algorithm, layer.content.as_slice())?;
+    let text = layer_text(alloc, algorithm, digest, layer)?;
     Ok(Some(text))
+}
+
+// The digest itself, where it is by this algorithm.
+#[tactic(auto, using(crate::proofs::LayerTexts::own_text))]
+fn layer_text(
+    alloc: Global,
+    algorithm: Algorithm,
+    digest: &str,
+    layer: &ImageLayer,
+) -> Result<Text, AllocError>
+    requires { Names digest.now layer.now.content }
+    ensures { IfOk result (λ text. text ≡ digest_text algorithm layer.now.content) }
+{
+    if begins(name_of(algorithm), digest) {
+        return Text::new(alloc, digest);
+    }
+    digest_text(alloc, algorithm, layer.content.as_slice())
+}
+
+fn name_of(algorithm: Algorithm) -> &'static str
+    ensures { result.now ≡ name_of algorithm }
+{
+    match algorithm {
+        Algorithm::Sha256 => "sha256:",
+        Algorithm::Sha384 => "sha384:",
+        Algorithm::Sha512 => "sha512:",
+    }
 }
 
 // The first layer that the digest names, by the layers' digest texts.

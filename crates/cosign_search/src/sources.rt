@@ -1,11 +1,12 @@
 //! The search for the signatures of an image.
-ghost use Rattle.std.specs.Prelude.{◌≡◌, [], ◌∷◌, IfOk};
+ghost use Rattle.std.specs.Prelude.{◌≡◌, [], ◌∷◌, IfOk, IsTrue};
 ghost use Rattle.oci_names.specs.Reference.{reads_back};
 ghost use Rattle.engine_terms.specs.Contexts.{within};
 ghost use Rattle.engine_terms.specs.declared.settings.Settings.{Settings};
 ghost use Rattle.cosign_layers.specs.Trust.{trust_of};
 ghost use Rattle.sig_calls.specs.Error.{is_memory, Says};
 ghost use Rattle.sig_calls.specs.Clients.{Fulfils};
+ghost use Rattle.sig_calls.specs.Named.{is_named, names_each};
 ghost use Rattle.cosign_rows.specs.Search.{document_part, pulled_part, payload_type, or_skipped};
 ghost use Rattle.cosign_rows.specs.Search.{searched, tag_by, tag_layers, tag_source};
 ghost use Rattle.cosign_rows.specs.declared.found.Skipped.TheVariants.{Source};
@@ -19,6 +20,7 @@ use cosign_rows::{
 };
 use engine_rows::ImageData;
 use json_values::{List, Text};
+use oci_descriptors::OciDescriptor;
 use oci_manifests::OciManifest;
 use oci_transport::Transport;
 use sig_calls::{ClientCapabilities, SigstoreError};
@@ -26,6 +28,17 @@ use std::alloc::{AllocError, Global};
 
 /// The media type of the layers that cosign signs.
 const SIMPLE_SIGNING_TYPE: &str = "application/vnd.dev.cosign.simplesigning.v1+json";
+
+// The descriptors that the image's layers were pulled by.
+fn pulled_by(image: &ImageData) -> &[OciDescriptor]
+    requires { IsTrue (is_named image.now) }
+    ensures { IsTrue (names_each result.now image.now.layers) }
+{
+    match &image.manifest {
+        Some(manifest) => manifest.layers.as_slice(),
+        None => unreachable!(),
+    }
+}
 
 // What the document under the tag and the layers of its image give.
 fn document_part<V: SignatureVerifier, O: Offline>(
@@ -35,6 +48,7 @@ fn document_part<V: SignatureVerifier, O: Offline>(
     document: &OciManifest,
     image: &ImageData,
 ) -> Result<Part, AllocError>
+    requires { IsTrue (is_named image.now) }
     ensures { IfOk result (λ part. part ≡ document_part (trust_of V.valid O.vouched trusted.now)
         digest.now document.now image.now) }
 {
@@ -42,7 +56,8 @@ fn document_part<V: SignatureVerifier, O: Offline>(
         OciManifest::Image(manifest) => {
             let descriptors = manifest.layers.as_slice();
             let layers = image.layers.as_slice();
-            let part = descriptors_part(alloc, trusted, digest, layers, descriptors)?;
+            let own = pulled_by(image);
+            let part = descriptors_part(alloc, trusted, digest, own, layers, descriptors)?;
             Ok(part)
         }
         OciManifest::ImageIndex(_) => {
@@ -61,6 +76,7 @@ fn pulled_part<V: SignatureVerifier, O: Offline>(
     document: &OciManifest,
     image: Result<ImageData, SigstoreError>,
 ) -> Result<Part, SigstoreError>
+    requires { IfOk image (λ image. IsTrue (is_named image)) }
     ensures { Says result (pulled_part (trust_of V.valid O.vouched trusted.now) digest.now document.now image) }
 {
     let image = image?;

@@ -5,4 +5,5 @@ pub mod Confinement
 pub mod Direct
 pub mod Error
 pub mod Log
+pub mod Named
 pub mod Wording

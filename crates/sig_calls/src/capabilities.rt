@@ -1,5 +1,5 @@
 // What the search asks of a client.
-ghost use Rattle.std.specs.Prelude.{◌≡◌, Some, None, option_copied};
+ghost use Rattle.std.specs.Prelude.{◌≡◌, Some, None, IfOk, IsTrue, option_copied};
 ghost use Rattle.engine_terms.specs.declared.settings.Settings.{Settings};
 ghost use Rattle.engine_terms.specs.Contexts.{within};
 ghost use Rattle.engine_requests.specs.Requests.{listed};
@@ -11,6 +11,7 @@ ghost use Rattle.sig_calls.specs.Clients.{Client, Fulfils, KeepsAnswers, Refusal
 ghost use Rattle.sig_calls.specs.Confinement.{Stays, StaysWithTag};
 ghost use Rattle.sig_calls.specs.Error.{is_memory, FaultCounted, NoSinkFault};
 ghost use Rattle.sig_calls.specs.Log.{DigestCall, ManifestCall, ImageCall, ReferrersCall, Recalled, Logged};
+ghost use Rattle.sig_calls.specs.Named.{is_named};
 
 use crate::error::SigstoreError;
 use engine_rows::ImageData;
@@ -71,7 +72,8 @@ pub trait ClientCapabilities {
         ensures recalled { Recalled images (ImageCall image.now auth.now accepted_media_types.now) moment
             (state self.old) (state self.new) (T.state transport.old) (T.state transport.new) result }
         ensures logged { (s : Settings) → Logged s images (ImageCall image.now auth.now accepted_media_types.now) moment
-            (state self.old) (state self.new) (T.state transport.old) (T.state transport.new) result };
+            (state self.old) (state self.new) (T.state transport.old) (T.state transport.new) result }
+        ensures named { IfOk result (λ image. IsTrue (is_named image)) };
 
     /// The image's manifest or index with its digest; a refusal is `RegistryPullManifestError`.
     fn pull_manifest<T: Transport>(

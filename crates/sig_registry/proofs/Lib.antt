@@ -3,3 +3,4 @@ pub mod Facts
 pub mod InTurn
 pub mod InWords
 pub mod Logs
+pub mod NamedImages

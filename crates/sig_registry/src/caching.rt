@@ -1,4 +1,7 @@
 // A client that keeps answers.
+ghost use Rattle.std.specs.Prelude.{IsTrue};
+ghost use Rattle.sig_calls.specs.Named.{all_named};
+
 use crate::calls::{
     blob_made, digest_made, document_made, image_made, manifest_made, referrers_made,
 };
@@ -24,6 +27,7 @@ use std::alloc::Global;
 pub struct OciCachingClient {
     client: Client,
     answers: Answers,
+    ghost named: { IsTrue (all_named answers.entries) },
 }
 
 impl OciCachingClient {

@@ -1,5 +1,5 @@
 // The calls of the registry's client, with their refusals in the words of the calls here.
-ghost use Rattle.std.specs.Prelude.{Some, None, option_copied};
+ghost use Rattle.std.specs.Prelude.{Some, None, IfOk, IsTrue, option_copied};
 ghost use Rattle.engine_terms.specs.declared.settings.Settings.{Settings};
 ghost use Rattle.engine_terms.specs.Contexts.{within};
 ghost use Rattle.engine_requests.specs.Requests.{listed};
@@ -9,6 +9,7 @@ ghost use Rattle.sig_calls.specs.Calls.{referrers_made};
 ghost use Rattle.sig_registry.specs.States.{PlainlyMade, engine_state};
 ghost use Rattle.sig_calls.specs.Confinement.{Stays, StaysWithTag};
 ghost use Rattle.sig_calls.specs.Error.{FaultCounted, NoSinkFault};
+ghost use Rattle.sig_calls.specs.Named.{is_named};
 
 use json_values::{Blob, Text};
 use oci_auth::{RegistryAuth, RegistryOperation};
@@ -58,6 +59,7 @@ pub(crate) fn image_made<T: Transport>(
     ensures no_sink { NoSinkFault result }
     ensures confined { Stays (engine_state client.old None) (engine_state client.new None) moment image.now
         (Some auth.now) (T.state transport.old) (T.state transport.new) }
+    ensures named { IfOk result (λ image. IsTrue (is_named image)) }
 {
     let outcome = client.pull(alloc, transport, moment, image, auth, accepted_media_types);
     worded(alloc, Called::Pull, image, outcome)

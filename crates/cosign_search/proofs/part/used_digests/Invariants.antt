@@ -3,5 +3,5 @@ use Rattle.cosign_search.specs.LayerTexts.{layer_digests}
 use Rattle.cosign_search.proofs.part.used_digests.Given as goal
 
 -- the rest goes behind what is there
-abbrev pub invariant-loop-layer : goal.invariant-loop-layer
-invariant-loop-layer l = l.all ++ map (layer_digests l.used) (drop l.layer-index l.layers) ≡ map (layer_digests l.used) l.layers
+abbrev pub invariant-loop-place : goal.invariant-loop-place
+invariant-loop-place l = l.all ++ map (layer_digests l.used) (drop l.place l.layers) ≡ map (layer_digests l.used) l.layers

@@ -4,6 +4,7 @@ use Rattle.engine_terms.specs.Contexts.{within}
 use Rattle.sig_calls.specs.Calls.{image_made}
 use Rattle.sig_calls.specs.declared.wording.Called.TheVariants.{Pull}
 use Rattle.sig_registry.proofs.InWords.{made, worded_fault, worded_no_sink}
+use Rattle.sig_registry.proofs.NamedImages.{pulled_named}
 use Rattle.sig_registry.proofs.calls.image_made.Goals as goal
 
 pub returns : goal.returns
@@ -13,4 +14,5 @@ returns g c = record {
   fault = worded_fault Pull _ _ _ _ c.pull-outcome.ensures.fault c.worded.ensures;
   no_sink = worded_no_sink Pull _ (PullRefused c.args.client.now c.args.moment c.args.image.now c.args.auth.now c.args.accepted_media_types.now) _ _ _ _ (λ d n h. h) c.pull-outcome.ensures.causes c.worded.ensures;
   confined = c.pull-outcome.ensures.confined;
+  named = pulled_named Pull _ (within c.args.client.now.settings c.args.moment) c.args.image.now c.args.auth.now c.args.accepted_media_types.now _ c.pull-outcome.ensures.run c.worded.ensures;
 }

@@ -3,6 +3,9 @@ use Rattle.engine_terms.specs.Contexts.{within}
 use Rattle.sig_calls.specs.Calls.{digests, digest_made, digest_call}
 use Rattle.sig_calls.specs.Log.{DigestCall}
 use Rattle.sig_registry.proofs.Facts.{digests_kept, absent, uncached, recalls, refuses, cuts, keeps, memory_holds_none, same_held, stays_same}
+use Rattle.sig_answers.specs.Answers.{entry}
+use Rattle.sig_answers.specs.declared.answer.Answer.TheVariants.{Digest}
+use Rattle.sig_registry.proofs.NamedImages.{kept_named}
 use Rattle.sig_registry.proofs.caching.OciCachingClientClientCapabilities.fetch_manifest_digest.Goals as goal
 
 pub returns-in_err-found : goal.returns-in_err-found
@@ -102,3 +105,6 @@ returns g c =
       recalled = f.recalled;
       logged = f.logged;
     }
+
+pub invariant_of-self-2 : goal.invariant_of-self-2
+invariant_of-self-2 g c = record { named = kept_named (entry c.in-Some.key c.args.moment (Digest c.in_ok-digest.digest)) c.keep_digest.result c.args.self.now.answers c.keep_digest.new.answers c.keep_digest.ensures.ok c.keep_digest.ensures.err refl c.args.self.now.named }

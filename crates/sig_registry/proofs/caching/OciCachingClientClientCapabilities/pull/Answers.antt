@@ -3,6 +3,9 @@ use Rattle.engine_terms.specs.Contexts.{within}
 use Rattle.sig_calls.specs.Calls.{images, image_made, image_call}
 use Rattle.sig_calls.specs.Log.{ImageCall}
 use Rattle.sig_registry.proofs.Facts.{images_kept, absent, uncached, recalls, refuses, cuts, keeps, memory_holds_none, same_held, stays_same}
+use Rattle.sig_registry.proofs.NamedImages.{kept_named, known_named, refused_named}
+use Rattle.sig_answers.specs.Answers.{entry}
+use Rattle.sig_answers.specs.declared.answer.Answer.TheVariants.{Image}
 use Rattle.sig_registry.proofs.caching.OciCachingClientClientCapabilities.pull.Goals as goal
 
 pub returns-in_err-found : goal.returns-in_err-found
@@ -17,6 +20,7 @@ returns-in_err-found g c =
       refused = f.refused;
       recalled = f.recalled;
       logged = f.logged;
+      named = refused_named _ _ c.from_residual.ensures.1;
     }
 
 pub returns-in_default : goal.returns-in_default
@@ -31,6 +35,7 @@ returns-in_default g c =
       refused = f.refused;
       recalled = f.recalled;
       logged = f.logged;
+      named = c.image_made.ensures.named;
     }
 
 pub returns-in_err-known : goal.returns-in_err-known
@@ -45,6 +50,7 @@ returns-in_err-known g c =
       refused = f.refused;
       recalled = f.recalled;
       logged = f.logged;
+      named = refused_named _ _ c.from_residual-in_err-known.ensures.1;
     }
 
 pub returns-in-Some-known : goal.returns-in-Some-known
@@ -59,6 +65,7 @@ returns-in-Some-known g c =
       refused = f.refused;
       recalled = f.recalled;
       logged = f.logged;
+      named = known_named c.in-Some.key c.args.moment c.args.self.now.answers c.in-Some-known.data (sym c.in_ok-known.ensures ∙ c.in-Some-known.is) c.args.self.now.named;
     }
 
 pub returns-in_err-data : goal.returns-in_err-data
@@ -73,6 +80,7 @@ returns-in_err-data g c =
       refused = f.refused;
       recalled = f.recalled;
       logged = f.logged;
+      named = refused_named _ _ c.from_residual-in_err-data.ensures.1;
     }
 
 pub returns-in_err-keep_image : goal.returns-in_err-keep_image
@@ -87,6 +95,7 @@ returns-in_err-keep_image g c =
       refused = f.refused;
       recalled = f.recalled;
       logged = f.logged;
+      named = refused_named _ _ c.from_residual-in_err-keep_image.ensures.1;
     }
 
 pub returns : goal.returns
@@ -101,4 +110,8 @@ returns g c =
       refused = f.refused;
       recalled = f.recalled;
       logged = f.logged;
+      named = c.in_ok-data.ensures.named;
     }
+
+pub invariant_of-self-2 : goal.invariant_of-self-2
+invariant_of-self-2 g c = record { named = kept_named (entry c.in-Some.key c.args.moment (Image c.in_ok-data.data)) c.keep_image.result c.args.self.now.answers c.keep_image.new.answers c.keep_image.ensures.ok c.keep_image.ensures.err c.in_ok-data.ensures.named c.args.self.now.named }

@@ -3,6 +3,9 @@ use Rattle.engine_terms.specs.Contexts.{within}
 use Rattle.sig_calls.specs.Calls.{manifests, manifest_made, manifest_call}
 use Rattle.sig_calls.specs.Log.{ManifestCall}
 use Rattle.sig_registry.proofs.Facts.{manifests_kept, absent, uncached, recalls, refuses, cuts, keeps, memory_holds_none, same_held, stays_same}
+use Rattle.sig_answers.specs.Answers.{entry}
+use Rattle.sig_answers.specs.declared.answer.Answer.TheVariants.{Manifest}
+use Rattle.sig_registry.proofs.NamedImages.{kept_named}
 use Rattle.sig_registry.proofs.caching.OciCachingClientClientCapabilities.pull_manifest.Goals as goal
 
 pub returns-in_err-found : goal.returns-in_err-found
@@ -102,3 +105,6 @@ returns g c =
       recalled = f.recalled;
       logged = f.logged;
     }
+
+pub invariant_of-self-2 : goal.invariant_of-self-2
+invariant_of-self-2 g c = record { named = kept_named (entry c.in-Some.key c.args.moment (Manifest c.in_ok-manifest.manifest.0 c.in_ok-manifest.manifest.1)) c.keep_manifest.result c.args.self.now.answers c.keep_manifest.new.answers c.keep_manifest.ensures.ok c.keep_manifest.ensures.err refl c.args.self.now.named }

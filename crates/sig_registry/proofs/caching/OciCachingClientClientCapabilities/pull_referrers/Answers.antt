@@ -4,6 +4,9 @@ use Rattle.engine_terms.specs.Contexts.{within}
 use Rattle.sig_calls.specs.Calls.{referrers, referrers_made, referrers_call}
 use Rattle.sig_calls.specs.Log.{ReferrersCall}
 use Rattle.sig_registry.proofs.Facts.{referrers_kept, absent, uncached, recalls, refuses, cuts, keeps, memory_holds_none, same_held, tag_same}
+use Rattle.sig_answers.specs.Answers.{entry}
+use Rattle.sig_answers.specs.declared.answer.Answer.TheVariants.{Referrers}
+use Rattle.sig_registry.proofs.NamedImages.{kept_named}
 use Rattle.sig_registry.proofs.caching.OciCachingClientClientCapabilities.pull_referrers.Goals as goal
 
 pub returns-in_err-found : goal.returns-in_err-found
@@ -103,3 +106,6 @@ returns g c =
       recalled = f.recalled;
       logged = f.logged;
     }
+
+pub invariant_of-self-2 : goal.invariant_of-self-2
+invariant_of-self-2 g c = record { named = kept_named (entry c.in-Some.key c.args.moment (Referrers c.in_ok-index.index)) c.keep_referrers.result c.args.self.now.answers c.keep_referrers.new.answers c.keep_referrers.ensures.ok c.keep_referrers.ensures.err refl c.args.self.now.named }

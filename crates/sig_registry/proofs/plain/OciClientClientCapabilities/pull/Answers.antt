@@ -17,4 +17,5 @@ returns g c =
       refused = f.refused;
       recalled = f.recalled;
       logged = f.logged;
+      named = c.image_made.ensures.named;
     }

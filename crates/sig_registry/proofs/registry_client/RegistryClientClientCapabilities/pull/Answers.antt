@@ -9,6 +9,7 @@ returns-in-Plain g c = record {
   refused = rw c.in-Plain.is c.pull.ensures.refused;
   recalled = rw c.in-Plain.is c.pull.ensures.recalled;
   logged = λ s. rw c.in-Plain.is (c.pull.ensures.logged s);
+  named = c.pull.ensures.named;
 }
 
 pub returns-in-Caching : goal.returns-in-Caching
@@ -20,4 +21,5 @@ returns-in-Caching g c = record {
   refused = rw c.in-Caching.is c.pull-in-Caching.ensures.refused;
   recalled = rw c.in-Caching.is c.pull-in-Caching.ensures.recalled;
   logged = λ s. rw c.in-Caching.is (c.pull-in-Caching.ensures.logged s);
+  named = c.pull-in-Caching.ensures.named;
 }
