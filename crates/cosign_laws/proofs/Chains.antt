@@ -1,5 +1,5 @@
 -- What each whole run of the search and of the pull shows: a chain, that comes of the conversation.
-use Rattle.std.proofs.Common.{◌≡◌, ◌<◌, ◌⊎◌, inl, inr, ℕ, Bool, true, false, cond, List, [], ◌∷◌, ◌++◌, Option, Some, None, Result, Ok, Err, IfOk, length, refl, sym, ap, ◌∙◌, subst, arith, append_assoc, append-nil}
+use Rattle.std.proofs.Common.{◌≡◌, ◌<◌, ◌⊎◌, inl, inr, ℕ, Bool, true, false, cond, List, [], ◌∷◌, ◌++◌, Option, Some, None, Result, Ok, Err, IfOk, length, refl, sym, ap, ◌∙◌, subst, arith, append-nil}
 use Rattle.std.specs.Prelude.{if◌then◌else◌, find, unwrap_or}
 use Rattle.std.specs.FinMap as map_of
 use Rattle.oci_names.specs.declared.reference.Reference.{Reference}
@@ -12,7 +12,6 @@ use Rattle.oci_manifests.specs.declared.blob.ImageLayer.{ImageLayer}
 use Rattle.oci_manifests.specs.declared.index.OciImageIndex.{OciImageIndex}
 use Rattle.oci_descriptors.specs.declared.index_entry.ImageIndexEntry.{ImageIndexEntry}
 use Rattle.oci_transport.specs.declared.message.Exchange.{Exchange}
-use Rattle.oci_transport.specs.declared.message.Method.{Method}
 use Rattle.oci_transport.specs.Link.{Link}
 use Rattle.oci_protocol.specs.Proto.{Done}
 use Rattle.oci_protocol.specs.Shows.{Shows}
@@ -21,9 +20,8 @@ use Rattle.oci_protocol.specs.Runs.{Meets, Told}
 use Rattle.oci_protocol.proofs.Ends.{Ends-any, Ends-bind, Ends-next, Runs-ends}
 use Rattle.oci_protocol.proofs.RunFacts.{Shows-done, Shows-bind}
 use Rattle.engine_terms.specs.Contexts.{Context}
-use Rattle.engine_terms.specs.declared.settings.Settings.{Settings}
 use Rattle.engine_rows.specs.declared.image.ImageData.{ImageData}
-use Rattle.engine_laws.specs.Answered.{FirstAsked, DigestAnswered}
+use Rattle.engine_laws.proofs.DigestAnswers.{answered_before}
 use Rattle.engine_laws.proofs.DocumentAnswers.{body_after}
 use Rattle.sig_calls.specs.declared.error.SigstoreError.{SigstoreError}
 use Rattle.sig_calls.specs.Error.{is_memory}
@@ -73,31 +71,6 @@ use Rattle.cosign_laws.proofs.CachedCalls.{IsKnown, IsMade, cached_run}
 use Rattle.cosign_laws.proofs.Images.{Seen, digest_made_shows, next_seen, step_seen, done_seen, bodies_after, IsFirst, IsEntry, Leads, Links, image_shows}
 
 -- ---- an answered digest stays one as more is asked
-
-first_before : {method : Method} {address : List ℕ} {c : List Exchange} (d : List Exchange) → FirstAsked method address c → FirstAsked method address (c ++ d)
-first_before d first = record {
-  before = first.before;
-  none = first.none;
-  request = first.request;
-  asks = first.asks;
-  exchanges = first.exchanges;
-  answer = first.answer;
-  led = first.led;
-  after = first.after ++ d;
-  split = ap (λ c. c ++ d) first.split ∙ append_assoc (first.before ++ first.exchanges) first.after d;
-}
-
-answered_before : (s : Settings) (image : Reference) (c d : List Exchange) (digest : List ℕ) → DigestAnswered s image c digest → DigestAnswered s image (c ++ d) digest
-unfolding first_before
-answered_before s image c d digest answered = record {
-  url = answered.url;
-  address = answered.address;
-  head = first_before d answered.head;
-  digest = elim answered.digest [
-    | inl by_header ↦ inl by_header
-    | inr other ↦ inr (other.0, record { get = first_before d other.1.get; body = other.1.body })
-  ];
-}
 
 given_before : (kept : Kept) (s : Context) (image : Reference) (a : RegistryAuth) (c d : List Exchange) (digest : List ℕ) → AnsweredOrFresh kept s image a c digest → AnsweredOrFresh kept s image a (c ++ d) digest
 given_before kept s image a c d digest (inl answered) = inl (answered_before s.settings image c d digest answered)

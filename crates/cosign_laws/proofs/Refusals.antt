@@ -46,7 +46,7 @@ use Rattle.engine_rows.specs.Rows.{Row as Engine}
 use Rattle.engine_rows.specs.Pulls.{fetch_manifest_digest, pull_manifest_raw, held_blob}
 use Rattle.engine_rows.specs.declared.image.ImageData.{ImageData}
 use Rattle.engine_rows.specs.Image.{is_accepted, all_accepted, layers_accepted, layer_of}
-use Rattle.engine_laws.specs.Causes.{AnswerCause, BlobUrl, ManifestUrl, OwnDigest}
+use Rattle.engine_laws.specs.Causes.{Act, AnswerCause, BlobUrl, ManifestUrl, OwnDigest}
 use Rattle.engine_laws.proofs.BlobCauses.{blob_causes}
 use Rattle.engine_laws.proofs.DocumentCauses.{Accepted, OwnCause, raw_causes}
 use Rattle.engine_laws.proofs.EarlyCauses.{Loose, LooseBlob}
@@ -86,13 +86,13 @@ use Rattle.cosign_laws.proofs.Faults.{EngineCounts, fault_of, SincereWords, Call
 
 -- ---- calls of the engine
 
-answer_memory : (T Given : List ℕ → Type 0) (s : Settings) (types : List ℕ) (c : List Exchange) (n : ℕ) (e : OciDistributionError) → Loose T (AnswerCause Given) s types c n e → engine_is_memory e ≡ false → in_engine e ≡ false
+answer_memory : (T : Act → Type 0) (Given : List ℕ → Type 0) (s : Settings) (types : List ℕ) (c : List Exchange) (n : ℕ) (e : OciDistributionError) → Loose T (AnswerCause Given) s types c n e → engine_is_memory e ≡ false → in_engine e ≡ false
 answer_memory T Given s types c n engine_refusal.WantOfMemory h other = absurd (cc other)
 answer_memory T Given s types c n engine_refusal.SinkFault h other = absurd h.holds
 answer_memory T Given s types c n (engine_refusal.DigestError digest_refusal.WantOfMemory) h other = absurd h.holds
 answer_memory T Given s types c n _ h other = refl
 
-blob_memory : (T : List ℕ → Type 0) (s : Settings) (digest : List ℕ) (c : List Exchange) (n : ℕ) (e : OciDistributionError) → LooseBlob T IntoMemory s digest c n e → engine_is_memory e ≡ false → in_engine e ≡ false
+blob_memory : (T : Act → Type 0) (s : Settings) (digest : List ℕ) (c : List Exchange) (n : ℕ) (e : OciDistributionError) → LooseBlob T IntoMemory s digest c n e → engine_is_memory e ≡ false → in_engine e ≡ false
 blob_memory T s digest c n engine_refusal.WantOfMemory h other = absurd (cc other)
 blob_memory T s digest c n engine_refusal.SinkFault h other = absurd h
 blob_memory T s digest c n (engine_refusal.DigestError digest_refusal.WantOfMemory) h other = absurd h.holds
@@ -126,7 +126,7 @@ digest_call_counts s image a = kept_counts digests (manifest_key image a) s.mome
 document_call_counts : (s : Context) (image : Reference) (a : RegistryAuth) (types : List ℕ) → Counts CallCounts (document_call s image a types)
 unfolding document_call document_made
 document_call_counts s image a types = Counts-lifted CallCounts (document_made s image a types) (words_count Pull image (pull_manifest_raw s image a types)
-    (engine_counts (λ m c n found. Accepted c found.0) (OwnCause s.settings image types) (pull_manifest_raw s image a types) (raw_causes s image a types)
+    (engine_counts (λ m c n found. Accepted s.settings image c found.0) (OwnCause s.settings image types) (pull_manifest_raw s image a types) (raw_causes s image a types)
     (λ m n c e h other. answer_memory (ManifestUrl s.settings image) (OwnDigest image) s.settings types c n e h other)
     (λ old new k l met. raw_fault s image a types met refl)))
 

@@ -52,3 +52,5 @@ descriptors_next trust d layers xs i x p q all lt is more rest =
 -- and none more
 pub descriptors_end : (trust : Trust) (d : List ℕ) (layers : List ImageLayer) (xs : List OciDescriptor) (p all : Part) → xs ≡ [] → appended p (descriptors_part trust d layers xs) ≡ all → p ≡ all
 descriptors_end trust d layers xs p all none rest = sym (alone p) ∙ ap (λ ys. appended p (descriptors_part trust d layers ys)) (sym none) ∙ rest
+
+pub ruleset descriptors_rules = (descriptors_next, descriptors_end)

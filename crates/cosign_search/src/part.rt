@@ -8,8 +8,8 @@ ghost use Rattle.cosign_layers.specs.Trust.{trust_of};
 ghost use Rattle.cosign_layers.specs.declared.layer.LayerKind.TheVariants as kinds;
 ghost use Rattle.cosign_layers.specs.Rejection.{Says as SaysLayer};
 ghost use Rattle.cosign_rows.specs.Part.{appended, descriptors_part, layer_part, named_layer, read_layer, skipping};
-ghost use Rattle.cosign_search.specs.LayerTexts.{is_among, is_text, layer_digests, text_by};
-ghost use Rattle.cosign_search.specs.LayerTexts.{Begins, BeginsOtherwise, Serves, Tell};
+ghost use Rattle.cosign_search.specs.Part.{is_among, is_text, layer_digests, text_by};
+ghost use Rattle.cosign_search.specs.Part.{Begins, BeginsOtherwise, Serves, Tell};
 ghost use Rattle.cosign_rows.specs.declared.found.SourceKind.TheVariants.{Tag};
 
 use cosign_layers::{
@@ -53,7 +53,7 @@ pub(crate) fn skipping(alloc: Global, cause: Skipped) -> Result<Part, AllocError
 
 /// What each descriptor under the signature tag gives for the image of this digest, in their order. The layers were
 /// pulled by descriptors of their own.
-#[tactic(auto, using(cosign_rows::proofs::Descriptors::descriptors_next, cosign_rows::proofs::Descriptors::descriptors_end))]
+#[tactic(auto, using(cosign_rows::proofs::Descriptors::descriptors_rules))]
 pub(crate) fn descriptors_part<V: SignatureVerifier, O: Offline>(
     alloc: Global,
     trusted: &Trusted<'_, V, O>,

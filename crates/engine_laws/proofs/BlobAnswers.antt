@@ -2,7 +2,6 @@
 use Rattle.std.proofs.Common.{◌≡◌, ℕ, Bool, true, false, List, [], ◌∷◌, ◌++◌, Option, Result, Ok, Err, bytes_eq, refl, sym, ap, subst, ◌∙◌, append_assoc, append-nil}
 use Rattle.std.specs.Prelude.{if◌then◌else◌}
 use Rattle.std.proofs.lemmas.Slice.Eq.{bytes_eq-Decides}
-use Rattle.url.specs.Parts.{serialize}
 use Rattle.oci_transport.specs.Headers.{digest_header, first_of}
 use Rattle.oci_transport.specs.declared.message.Request.{Request}
 use Rattle.oci_transport.specs.declared.message.Answer.{Answer}
@@ -42,7 +41,7 @@ use Rattle.engine_rows.specs.Pulls.{blob_to}
 use Rattle.engine_laws.specs.Answered.{LedTo, Body, LastBody}
 use Rattle.engine_laws.proofs.PreparedRequests.{into_ok, Prepared, prepared_shows}
 use Rattle.engine_laws.proofs.DocumentAnswers.{led_of, body_after, body_led}
-use Rattle.engine_laws.proofs.OfferedPlaces.{EachPlace, Unasked, tried_law}
+use Rattle.engine_laws.proofs.OfferedPlaces.{EachPlace, Unasked, Gives, tried_law}
 
 -- ---- the digest that is expected is the one that was asked
 
@@ -134,13 +133,17 @@ unasked_shows : (s : Settings) (digest : List ℕ) (places : List Place) → Eac
 unasked_shows s digest [] = tt
 unasked_shows s digest (p ∷ ps) = ((λ e is m. tt), unasked_shows s digest ps)
 
+given_shows : (s : Settings) (places : List Place) → EachPlace (Gives (λ request. Unit {0}) s) places
+given_shows s [] = tt
+given_shows s (p ∷ ps) = ((λ request is. tt), given_shows s ps)
+
 tried_shows : (to : Destination) (s : Settings) (digest : List ℕ) (places : List Place) (request : Request) → Shows (WhereOk (λ m c n bytes. Blob digest c bytes)) (tried to s digest places request)
-tried_shows to s digest places request = tried_law (WhereOk (λ m c n bytes. Blob digest c bytes)) (λ request. Unit {0}) to s digest (λ request good. blob_run to digest request s.max_body_bytes) (λ m start n c d r h. later_where digest c m start n d r h) (λ p request is. tt) places (unasked_shows s digest places) request tt
+tried_shows to s digest places request = tried_law (WhereOk (λ m c n bytes. Blob digest c bytes)) (λ request. Unit {0}) to s digest (λ request good. blob_run to digest request s.max_body_bytes) (λ m start n c d r h. later_where digest c m start n d r h) places (given_shows s places) (unasked_shows s digest places) request tt
 
 -- the bytes are those of an answer, and the digest names them
 pub blob_shows : (to : Destination) (s : Context) (image : Reference) (layer : Layer) → Shows (WhereOk (λ m c n bytes. Blob layer.digest c bytes)) (blob_to to s image layer)
 unfolding blob_to
 blob_shows to s image layer = Shows-step (WhereOk (λ m c n bytes. Blob layer.digest c bytes)) (url_read (blob_text s.settings image layer.digest)) (λ url. prepared s image Pull Get url manifest_types >>= λ request. tried to s.settings layer.digest (places_of layer.urls) request)
-    (λ url is. Shows-next (λ m c n request. Prepared s.settings Get url manifest_types Get (serialize url) c request) (λ m c n bytes. Blob layer.digest c bytes) (prepared s image Pull Get url manifest_types) (λ request. tried to s.settings layer.digest (places_of layer.urls) request) (prepared_shows s image Pull Get url manifest_types Get (serialize url))
+    (λ url is. Shows-next (λ m c n request. Prepared s.settings image Pull Get url manifest_types c request) (λ m c n bytes. Blob layer.digest c bytes) (prepared s image Pull Get url manifest_types) (λ request. tried to s.settings layer.digest (places_of layer.urls) request) (prepared_shows s image Pull Get url manifest_types)
     (λ m n c request p. Shows-more (WhereOk (λ m c n bytes. Blob layer.digest c bytes)) (λ start d o r. WhereOk (λ m c n bytes. Blob layer.digest c bytes) m (c ++ d) o r) (tried to s.settings layer.digest (places_of layer.urls) request) (tried_shows to s.settings layer.digest (places_of layer.urls) request) (λ start o d r h. later_where layer.digest c m start o d r h)))
     (λ e is m. tt)

@@ -1,12 +1,13 @@
 -- What the digest that a registry answered shows.
-use Rattle.std.proofs.Common.{◌≡◌, ◌⊎◌, inl, inr, ℕ, Bool, true, false, List, [], ◌++◌, Option, Some, None, Result, Ok, Err, bytes_eq, refl, sym, ap, subst, ◌∙◌, append-nil}
+use Rattle.std.proofs.Common.{◌≡◌, ◌⊎◌, inl, inr, ℕ, Bool, true, false, List, [], ◌++◌, Option, Some, None, Result, Ok, Err, bytes_eq, refl, sym, ap, subst, ◌∙◌, append_assoc, append-nil}
 use Rattle.std.specs.Prelude.{not, ◌&&◌, if◌then◌else◌}
-use Rattle.url.specs.Parts.{Parts, serialize}
+use Rattle.url.specs.Parts.{Parts}
 use Rattle.oci_transport.specs.Link.{answer_of}
 use Rattle.oci_transport.specs.Urls.{request_url}
 use Rattle.oci_transport.specs.declared.message.Request.{Request}
 use Rattle.oci_transport.specs.declared.message.Answer.{Answer}
 use Rattle.oci_transport.specs.declared.message.Exchange.{Exchange}
+use Rattle.oci_transport.specs.declared.message.Method.{Method}
 use Rattle.oci_transport.specs.declared.message.Method.TheVariants.{Head}
 use Rattle.oci_names.specs.declared.reference.Reference.{Reference}
 use Rattle.oci_names.specs.Reference.{digest_of}
@@ -18,6 +19,7 @@ use Rattle.oci_protocol.specs.Runs.{Runs}
 use Rattle.oci_protocol.specs.Shows.{Shows, WhereOk, Heard}
 use Rattle.oci_protocol.proofs.RunFacts.{done_run, Shows-more, Shows-next, Shows-step, Shows-last, Shows-follow}
 use Rattle.oci_auth.specs.declared.memory.Memory.{Memory}
+use Rattle.oci_auth.specs.declared.token_type.RegistryOperation.{RegistryOperation}
 use Rattle.oci_auth.specs.declared.token_type.RegistryOperation.TheVariants.{Pull}
 use Rattle.engine_answers.specs.declared.answers.Got.{Got}
 use Rattle.engine_terms.specs.Contexts.{Context}
@@ -31,9 +33,9 @@ use Rattle.engine_rows.specs.declared.named.NamedAnswer.{NamedAnswer}
 use Rattle.engine_rows.specs.declared.named.NamedAnswer.TheVariants as named
 use Rattle.engine_rows.specs.Rows.{store, reading_named, named_reading, unread_named, read_named, named_reply, named_after, prepared}
 use Rattle.engine_rows.specs.Pulls.{document, digest_by, fetch_manifest_digest}
-use Rattle.engine_laws.specs.Answered.{NoneAsks, LedTo, FirstAsked, ByHeader, ByDocument, DigestAnswered as Digest}
-use Rattle.engine_laws.proofs.PreparedRequests.{asks_of, quiet_store, Prepared, prepared_shows}
-use Rattle.engine_laws.proofs.DocumentAnswers.{led_of, first_asked, first_later, accepted_is, digest_ok, names_of, Found, document_shows, url_is}
+use Rattle.engine_laws.specs.Answered.{LedTo, FirstAsked, ByHeader, ByDocument, DigestAnswered as Digest}
+use Rattle.engine_laws.proofs.PreparedRequests.{asks_of, Silent, silent_store, Prepared, prepared_shows}
+use Rattle.engine_laws.proofs.DocumentAnswers.{led_of, first_asked, accepted_is, digest_ok, names_of, Found, document_shows, url_is}
 
 -- ---- the answer whose header names a digest, or none
 
@@ -87,33 +89,33 @@ ok_same : (a b : List ℕ) → ◌≡◌ {A = Result (List ℕ) OciDistributionE
 ok_same a b is = cc is
 
 -- what comes after an answer
-abbrev After : Reference → List ℕ → NamedAnswer → List Exchange → List ℕ → Type 0
-After image address (named.ByHeader digest got) d x = (d ≡ []) × (got.answer.status ≡ 200) × (x ≡ digest)
-After image address named.Unnamed d x = ByDocument image address x d
+abbrev After : Settings → Reference → Parts → NamedAnswer → List Exchange → List ℕ → Type 0
+After s image url (named.ByHeader digest got) d x = (d ≡ []) × (got.answer.status ≡ 200) × (x ≡ digest)
+After s image url named.Unnamed d x = ByDocument s image url x d
 
-by_document : {image : Reference} {address : List ℕ} {c : List Exchange} {found : List ℕ × List ℕ} → Found image address c found → ByDocument image address found.1 c
-by_document {image} {found = found} f =
+by_document : {s : Settings} {image : Reference} {url : Parts} {c : List Exchange} {found : List ℕ × List ℕ} → Found s image url manifest_types c found → ByDocument s image url found.1 c
+by_document {image = image} {found = found} f =
     let v = f.validly in
     record { get = f.get; body = record { status = v.status; header = v.header; header_is = v.header_is; digest = v.validates.answer; names = names_of f.get.answer.body v.header (digest_of image) found.1 v.validates } }
 
-after_shows : (s : Context) (image : Reference) (url : Parts) (x : NamedAnswer) → Shows (WhereOk (λ m c n d. After image (serialize url) x c d)) (digest_by s image url x)
-after_shows s image url (named.ByHeader digest got) = Shows-step (WhereOk (λ m c n d. After image (serialize url) (named.ByHeader digest got) c d)) (accepted 200 got.url got.answer) (λ answer. Done (fits_reference digest (digest_of image)))
-    (λ answer is. Shows-last (λ m c n d. After image (serialize url) (named.ByHeader digest got) c d) (λ m c n e. Unit {0}) (fits_reference digest (digest_of image)) (λ d fits m. (refl, (accepted_is got.url got.answer answer is).0, fits_is digest (digest_of image) d fits)) (λ e is m. tt))
+after_shows : (s : Context) (image : Reference) (url : Parts) (x : NamedAnswer) → Shows (WhereOk (λ m c n d. After s.settings image url x c d)) (digest_by s image url x)
+after_shows s image url (named.ByHeader digest got) = Shows-step (WhereOk (λ m c n d. After s.settings image url (named.ByHeader digest got) c d)) (accepted 200 got.url got.answer) (λ answer. Done (fits_reference digest (digest_of image)))
+    (λ answer is. Shows-last (λ m c n d. After s.settings image url (named.ByHeader digest got) c d) (λ m c n e. Unit {0}) (fits_reference digest (digest_of image)) (λ d fits m. (refl, (accepted_is got.url got.answer answer is).0, fits_is digest (digest_of image) d fits)) (λ e is m. tt))
     (λ e is m. tt)
-after_shows s image url named.Unnamed = Shows-next (λ m c n found. Found image (serialize url) c found) (λ m c n d. After image (serialize url) named.Unnamed c d) (document s image url manifest_types) (λ found. Done (Ok found.1)) (document_shows s image url manifest_types)
-    (λ m n c found f. Shows-last (λ s d o x. After image (serialize url) named.Unnamed (c ++ d) x) (λ s d o e. Unit {0}) (Ok found.1) (λ x is o. subst (λ (e : List Exchange). ByDocument image (serialize url) x e) (sym (append-nil c)) (subst (λ (x : List ℕ). ByDocument image (serialize url) x c) (ok_same found.1 x is) (by_document f))) (λ e is o. tt))
+after_shows s image url named.Unnamed = Shows-next (λ m c n found. Found s.settings image url manifest_types c found) (λ m c n d. After s.settings image url named.Unnamed c d) (document s image url manifest_types) (λ found. Done (Ok found.1)) (document_shows s image url manifest_types)
+    (λ m n c found f. Shows-last (λ start d o x. After s.settings image url named.Unnamed (c ++ d) x) (λ start d o e. Unit {0}) (Ok found.1) (λ x is o. subst (λ (e : List Exchange). ByDocument s.settings image url x e) (sym (append-nil c)) (subst (λ (x : List ℕ). ByDocument s.settings image url x c) (ok_same found.1 x is) (by_document f))) (λ e is o. tt))
 
 -- the request led to an answer of this digest
-record DigestRead (image : Reference) (address : List ℕ) (request : Request) (c : List Exchange) (d : List ℕ) : Type 0 where
+record DigestRead (s : Settings) (image : Reference) (url : Parts) (request : Request) (c : List Exchange) (d : List ℕ) : Type 0 where
   asked : List Exchange
   after : List Exchange
   split : c ≡ asked ++ after
   answer : Answer
   led : LedTo request asked answer
-  digest : ByHeader d answer ⊎ ((header_digest answer.headers ≡ Ok None) × ByDocument image address d after)
+  digest : ByHeader d answer ⊎ ((header_digest answer.headers ≡ Ok None) × ByDocument s image url d after)
 
-read_digest : (image : Reference) (address : List ℕ) (request : Request) (x : NamedAnswer) (c d : List Exchange) (digest : List ℕ) → Names request c x → After image address x d digest → DigestRead image address request (c ++ d) digest
-read_digest image address request (named.ByHeader given got) c d digest names after = record {
+read_digest : (s : Settings) (image : Reference) (url : Parts) (request : Request) (x : NamedAnswer) (c d : List Exchange) (digest : List ℕ) → Names request c x → After s image url x d digest → DigestRead s image url request (c ++ d) digest
+read_digest s image url request (named.ByHeader given got) c d digest names after = record {
   asked = c;
   after = d;
   split = refl;
@@ -121,48 +123,48 @@ read_digest image address request (named.ByHeader given got) c d digest names af
   led = names.0;
   digest = inl (record { status = after.1; header = names.1 ∙ ap (λ (t : List ℕ). Ok (Some t)) (sym after.2) });
 }
-read_digest image address request named.Unnamed c d digest names after = record { asked = c; after = d; split = refl; answer = names.0; led = names.1; digest = inr (names.2, after) }
+read_digest s image url request named.Unnamed c d digest names after = record { asked = c; after = d; split = refl; answer = names.0; led = names.1; digest = inr (names.2, after) }
 
-digest_where : (image : Reference) (address : List ℕ) (request : Request) (x : NamedAnswer) (c : List Exchange) → Names request c x → (m start n : ℕ) (d : List Exchange) (r : Result (List ℕ) OciDistributionError) → WhereOk (λ m c n t. After image address x c t) start d n r → WhereOk (λ m c n t. DigestRead image address request c t) m (c ++ d) n r
-digest_where image address request x c names m start n d (Ok t) after = read_digest image address request x c d t names after
-digest_where image address request x c names m start n d (Err e) after = tt
+digest_where : (s : Settings) (image : Reference) (url : Parts) (request : Request) (x : NamedAnswer) (c : List Exchange) → Names request c x → (m start n : ℕ) (d : List Exchange) (r : Result (List ℕ) OciDistributionError) → WhereOk (λ m c n t. After s image url x c t) start d n r → WhereOk (λ m c n t. DigestRead s image url request c t) m (c ++ d) n r
+digest_where s image url request x c names m start n d (Ok t) after = read_digest s image url request x c d t names after
+digest_where s image url request x c names m start n d (Err e) after = tt
 
-read_shows : (s : Context) (image : Reference) (url : Parts) (request : Request) → Shows (WhereOk (λ m c n t. DigestRead image (serialize url) request c t)) (named_after 10 request s.settings.max_body_bytes >>= λ x. digest_by s image url x)
-read_shows s image url request = Shows-next (λ m c n x. Names request c x) (λ m c n t. DigestRead image (serialize url) request c t) (named_after 10 request s.settings.max_body_bytes) (λ x. digest_by s image url x) (named_shows request s.settings.max_body_bytes)
-    (λ m n c x names. Shows-more (WhereOk (λ m c n t. After image (serialize url) x c t)) (λ start d o r. WhereOk (λ m c n t. DigestRead image (serialize url) request c t) m (c ++ d) o r) (digest_by s image url x) (after_shows s image url x) (λ start o d r h. digest_where image (serialize url) request x c names m start o d r h))
+read_shows : (s : Context) (image : Reference) (url : Parts) (request : Request) → Shows (WhereOk (λ m c n t. DigestRead s.settings image url request c t)) (named_after 10 request s.settings.max_body_bytes >>= λ x. digest_by s image url x)
+read_shows s image url request = Shows-next (λ m c n x. Names request c x) (λ m c n t. DigestRead s.settings image url request c t) (named_after 10 request s.settings.max_body_bytes) (λ x. digest_by s image url x) (named_shows request s.settings.max_body_bytes)
+    (λ m n c x names. Shows-more (WhereOk (λ m c n t. After s.settings image url x c t)) (λ start d o r. WhereOk (λ m c n t. DigestRead s.settings image url request c t) m (c ++ d) o r) (digest_by s image url x) (after_shows s image url x) (λ start o d r h. digest_where s.settings image url request x c names m start o d r h))
 
 -- the first HEAD for the address led to one
-record HeadRead (image : Reference) (address : List ℕ) (c : List Exchange) (d : List ℕ) : Type 0 where
-  head : FirstAsked Head address c
-  digest : ByHeader d head.answer ⊎ ((header_digest head.answer.headers ≡ Ok None) × ByDocument image address d head.after)
+record HeadRead (s : Settings) (image : Reference) (url : Parts) (c : List Exchange) (d : List ℕ) : Type 0 where
+  head : FirstAsked s image Pull Head url (Some manifest_types) c
+  digest : ByHeader d head.answer ⊎ ((header_digest head.answer.headers ≡ Ok None) × ByDocument s image url d head.after)
 
-head_read : (s : Settings) (image : Reference) (url : Parts) (c d : List Exchange) (request : Request) (digest : List ℕ) → Prepared s Head url manifest_types Head (serialize url) c request → DigestRead image (serialize url) request d digest → HeadRead image (serialize url) (c ++ d) digest
+head_read : (s : Settings) (image : Reference) (url : Parts) (c d : List Exchange) (request : Request) (digest : List ℕ) → Prepared s image Pull Head url manifest_types c request → DigestRead s image url request d digest → HeadRead s image url (c ++ d) digest
 head_read s image url c d request digest p r = record {
-  head = first_asked Head (serialize url) c r.asked r.after d request r.answer p.none (asks_of s Head url manifest_types p.token request p.made) r.led r.split;
+  head = first_asked c r.asked r.after d request r.answer p.step (asks_of s Head url (Some manifest_types) p.token request p.made) r.led r.split;
   digest = r.digest;
 }
 
-head_where : (s : Settings) (image : Reference) (url : Parts) (c : List Exchange) (request : Request) → Prepared s Head url manifest_types Head (serialize url) c request → (m start n : ℕ) (d : List Exchange) (r : Result (List ℕ) OciDistributionError) → WhereOk (λ m c n t. DigestRead image (serialize url) request c t) start d n r → WhereOk (λ m c n t. HeadRead image (serialize url) c t) m (c ++ d) n r
+head_where : (s : Settings) (image : Reference) (url : Parts) (c : List Exchange) (request : Request) → Prepared s image Pull Head url manifest_types c request → (m start n : ℕ) (d : List Exchange) (r : Result (List ℕ) OciDistributionError) → WhereOk (λ m c n t. DigestRead s image url request c t) start d n r → WhereOk (λ m c n t. HeadRead s image url c t) m (c ++ d) n r
 head_where s image url c request p m start n d (Ok t) r = head_read s image url c d request t p r
 head_where s image url c request p m start n d (Err e) r = tt
 
-head_shows : (s : Context) (image : Reference) (url : Parts) → Shows (WhereOk (λ m c n t. HeadRead image (serialize url) c t)) (prepared s image Pull Head url manifest_types >>= λ request. named_after 10 request s.settings.max_body_bytes >>= λ x. digest_by s image url x)
-head_shows s image url = Shows-next (λ m c n request. Prepared s.settings Head url manifest_types Head (serialize url) c request) (λ m c n t. HeadRead image (serialize url) c t) (prepared s image Pull Head url manifest_types) (λ request. named_after 10 request s.settings.max_body_bytes >>= λ x. digest_by s image url x) (prepared_shows s image Pull Head url manifest_types Head (serialize url))
-    (λ m n c request p. Shows-more (WhereOk (λ m c n t. DigestRead image (serialize url) request c t)) (λ start d o r. WhereOk (λ m c n t. HeadRead image (serialize url) c t) m (c ++ d) o r) (named_after 10 request s.settings.max_body_bytes >>= λ x. digest_by s image url x) (read_shows s image url request) (λ start o d r h. head_where s.settings image url c request p m start o d r h))
+head_shows : (s : Context) (image : Reference) (url : Parts) → Shows (WhereOk (λ m c n t. HeadRead s.settings image url c t)) (prepared s image Pull Head url manifest_types >>= λ request. named_after 10 request s.settings.max_body_bytes >>= λ x. digest_by s image url x)
+head_shows s image url = Shows-next (λ m c n request. Prepared s.settings image Pull Head url manifest_types c request) (λ m c n t. HeadRead s.settings image url c t) (prepared s image Pull Head url manifest_types) (λ request. named_after 10 request s.settings.max_body_bytes >>= λ x. digest_by s image url x) (prepared_shows s image Pull Head url manifest_types)
+    (λ m n c request p. Shows-more (WhereOk (λ m c n t. DigestRead s.settings image url request c t)) (λ start d o r. WhereOk (λ m c n t. HeadRead s.settings image url c t) m (c ++ d) o r) (named_after 10 request s.settings.max_body_bytes >>= λ x. digest_by s image url x) (read_shows s image url request) (λ start o d r h. head_where s.settings image url c request p m start o d r h))
 
 -- ---- the row
 
 abbrev Stored : ℕ → List Exchange → ℕ → Unit {0} → Type 0
-Stored m c n u = (address : List ℕ) → NoneAsks Head address c
+Stored m c n u = c ≡ []
 
 stored_shows : (image : Reference) (a : RegistryAuth) → Shows (WhereOk Stored) (store image a)
-stored_shows image a = record { shows = λ k l m n c r run. by_result m n c r (λ address. (quiet_store Head address image a).shows k l m n c r run) } where
-  by_result : (m n : ℕ) (c : List Exchange) (r : Result (Unit {0}) OciDistributionError) → ((address : List ℕ) → NoneAsks Head address c) → WhereOk Stored m c n r
+stored_shows image a = Shows-more Silent (WhereOk Stored) (store image a) (silent_store image a) by_result where
+  by_result : (m n : ℕ) (c : List Exchange) (r : Result (Unit {0}) OciDistributionError) → c ≡ [] → WhereOk Stored m c n r
   by_result m n c (Ok u) h = h
   by_result m n c (Err e) h = tt
 
-answered_where : (s : Settings) (image : Reference) (url : Parts) (c : List Exchange) → url_read (manifest_text s image) ≡ Ok url → ((address : List ℕ) → NoneAsks Head address c) → (m start n : ℕ) (d : List Exchange) (r : Result (List ℕ) OciDistributionError) → WhereOk (λ m c n t. HeadRead image (serialize url) c t) start d n r → WhereOk (λ m c n t. Digest s image c t) m (c ++ d) n r
-answered_where s image url c is none m start n d (Ok t) h = record { url = url; address = url_is (manifest_text s image) (request_url (manifest_text s image)) url is; head = first_later c (none (serialize url)) h.head; digest = h.digest }
+answered_where : (s : Settings) (image : Reference) (url : Parts) (c : List Exchange) → url_read (manifest_text s image) ≡ Ok url → c ≡ [] → (m start n : ℕ) (d : List Exchange) (r : Result (List ℕ) OciDistributionError) → WhereOk (λ m c n t. HeadRead s image url c t) start d n r → WhereOk (λ m c n t. Digest s image c t) m (c ++ d) n r
+answered_where s image url c is none m start n d (Ok t) h = subst (λ (x : List Exchange). Digest s image (x ++ d) t) (sym none) (record { url = url; address = url_is (manifest_text s image) (request_url (manifest_text s image)) url is; head = h.head; digest = h.digest })
 answered_where s image url c is none m start n d (Err e) h = tt
 
 -- the digest is the one that the registry answered
@@ -170,5 +172,32 @@ pub digest_shows : (s : Context) (image : Reference) (a : RegistryAuth) → Show
 unfolding fetch_manifest_digest
 digest_shows s image a = Shows-next Stored (λ m c n t. Digest s.settings image c t) (store image a) (λ u. Done (url_read (manifest_text s.settings image)) >>= λ url. prepared s image Pull Head url manifest_types >>= λ request. named_after 10 request s.settings.max_body_bytes >>= λ x. digest_by s image url x) (stored_shows image a)
     (λ m n c u none. Shows-step (λ start d o r. WhereOk (λ m c n t. Digest s.settings image c t) m (c ++ d) o r) (url_read (manifest_text s.settings image)) (λ url. prepared s image Pull Head url manifest_types >>= λ request. named_after 10 request s.settings.max_body_bytes >>= λ x. digest_by s image url x)
-    (λ url is. Shows-more (WhereOk (λ m c n t. HeadRead image (serialize url) c t)) (λ start d o r. WhereOk (λ m c n t. Digest s.settings image c t) m (c ++ d) o r) (prepared s image Pull Head url manifest_types >>= λ request. named_after 10 request s.settings.max_body_bytes >>= λ x. digest_by s image url x) (head_shows s image url) (λ start o d r h. answered_where s.settings image url c is none m start o d r h))
+    (λ url is. Shows-more (WhereOk (λ m c n t. HeadRead s.settings image url c t)) (λ start d o r. WhereOk (λ m c n t. Digest s.settings image c t) m (c ++ d) o r) (prepared s image Pull Head url manifest_types >>= λ request. named_after 10 request s.settings.max_body_bytes >>= λ x. digest_by s image url x) (head_shows s image url) (λ start o d r h. answered_where s.settings image url c is none m start o d r h))
     (λ e is o. tt))
+
+-- ---- an answered digest stays one as more is asked
+
+first_before : {s : Settings} {image : Reference} {op : RegistryOperation} {method : Method} {url : Parts} {types : Option (List ℕ)} {c : List Exchange} (d : List Exchange) → FirstAsked s image op method url types c → FirstAsked s image op method url types (c ++ d)
+first_before d first = record {
+  before = first.before;
+  step = first.step;
+  request = first.request;
+  asks = first.asks;
+  exchanges = first.exchanges;
+  answer = first.answer;
+  led = first.led;
+  after = first.after ++ d;
+  split = ap (λ c. c ++ d) first.split ∙ append_assoc (first.before ++ first.exchanges) first.after d;
+}
+
+pub answered_before : (s : Settings) (image : Reference) (c d : List Exchange) (digest : List ℕ) → Digest s image c digest → Digest s image (c ++ d) digest
+unfolding first_before
+answered_before s image c d digest answered = record {
+  url = answered.url;
+  address = answered.address;
+  head = first_before d answered.head;
+  digest = elim answered.digest [
+    | inl by_header ↦ inl by_header
+    | inr other ↦ inr (other.0, record { get = first_before d other.1.get; body = other.1.body })
+  ];
+}

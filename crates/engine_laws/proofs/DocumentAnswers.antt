@@ -2,7 +2,7 @@
 use Rattle.std.proofs.Common.{◌≡◌, ℕ, Bool, true, false, List, [], ◌∷◌, ◌++◌, Option, Some, None, Result, Ok, Err, refl, sym, ap, subst, ◌∙◌, append_assoc, append-nil, arith}
 use Rattle.std.specs.Prelude.{nat_eq, if◌then◌else◌}
 use Rattle.std.proofs.lemmas.Bool.Decides.{nat_tests}
-use Rattle.url.specs.Parts.{Parts, serialize}
+use Rattle.url.specs.Parts.{Parts}
 use Rattle.oci_transport.specs.declared.message.Request.{Request}
 use Rattle.oci_transport.specs.declared.message.Answer.{Answer}
 use Rattle.oci_transport.specs.declared.message.AnswerHead.{AnswerHead}
@@ -19,6 +19,7 @@ use Rattle.oci_digests.specs.declared.error.DigestError.{DigestError}
 use Rattle.oci_digests.proofs.ExactChecks.{validates}
 use Rattle.oci_auth.specs.declared.auth.RegistryAuth.{RegistryAuth}
 use Rattle.oci_auth.specs.declared.memory.Memory.{Memory}
+use Rattle.oci_auth.specs.declared.token_type.RegistryOperation.{RegistryOperation}
 use Rattle.oci_auth.specs.declared.token_type.RegistryOperation.TheVariants.{Pull}
 use Rattle.oci_protocol.specs.Proto.{Reading, Reply, Headed, Answered, Failed, TooLong, SinkFailed, read_within, Done, ◌>>=◌}
 use Rattle.oci_protocol.specs.Runs.{head_part, Runs}
@@ -35,8 +36,8 @@ use Rattle.engine_requests.specs.Addresses.{manifest_text, url_or, url_read}
 use Rattle.engine_answers.specs.Answers.{accepted, refused_answer, or_digest_error, header_digest, body_digest, answer_digest, document_in}
 use Rattle.engine_rows.specs.Rows.{store, whole, whole_reply, prepared}
 use Rattle.engine_rows.specs.Pulls.{manifest_document, document, pull_manifest_raw}
-use Rattle.engine_laws.specs.Answered.{Asks, NoneAsks, LedTo, FirstAsked, Body, Document}
-use Rattle.engine_laws.proofs.PreparedRequests.{asks_of, into_ok, none_more, quiet_store, Prepared, prepared_shows}
+use Rattle.engine_laws.specs.Answered.{OfTokenStep, Asks, LedTo, FirstAsked, Body, Document}
+use Rattle.engine_laws.proofs.PreparedRequests.{asks_of, into_ok, Silent, silent_store, Prepared, prepared_shows}
 
 -- ---- conversations
 
@@ -56,11 +57,11 @@ led_of {request} {m = m} h answer is final =
       final = subst (λ r. IsFinal h.left r (head_part answer)) same final;
     }
 
--- after exchanges that do not ask so
-abbrev pub first_asked : (method : Method) (address : List ℕ) (c exchanges after d : List Exchange) (request : Request) (answer : Answer) → NoneAsks method address c → Asks method address request → LedTo request exchanges answer → d ≡ exchanges ++ after → FirstAsked method address (c ++ d)
-first_asked method address c exchanges after d request answer none asks led split = record {
+-- behind a token step
+abbrev pub first_asked : {s : Settings} {image : Reference} {op : RegistryOperation} {method : Method} {url : Parts} {types : Option (List ℕ)} (c exchanges after d : List Exchange) (request : Request) (answer : Answer) → OfTokenStep s image op c → Asks s method url types request → LedTo request exchanges answer → d ≡ exchanges ++ after → FirstAsked s image op method url types (c ++ d)
+first_asked c exchanges after d request answer step asks led split = record {
   before = c;
-  none = none;
+  step = step;
   request = request;
   asks = asks;
   exchanges = exchanges;
@@ -68,19 +69,6 @@ first_asked method address c exchanges after d request answer none asks led spli
   led = led;
   after = after;
   split = ap (λ x. c ++ x) split ∙ sym (append_assoc c exchanges after);
-}
-
-abbrev pub first_later : {method : Method} {address : List ℕ} (c : List Exchange) {d : List Exchange} → NoneAsks method address c → FirstAsked method address d → FirstAsked method address (c ++ d)
-first_later {method} {address} c none first = record {
-  before = c ++ first.before;
-  none = none_more method address c first.before none first.none;
-  request = first.request;
-  asks = first.asks;
-  exchanges = first.exchanges;
-  answer = first.answer;
-  led = first.led;
-  after = first.after;
-  split = ap (λ x. c ++ x) first.split ∙ simp append_assoc;
 }
 
 -- an answer's body stays one in a longer conversation
@@ -93,7 +81,7 @@ body_after c b = record { before = c ++ b.before; exchange = b.exchange; after =
 pub body_led : {request : Request} {c : List Exchange} {answer : Answer} → LedTo request c answer → Body c answer.body
 body_led {answer = answer} led = record { before = led.redirects; exchange = led.last; after = []; split = led.split; answer = answer; answered = led.answered; body = refl }
 
-pub body_first : {method : Method} {address : List ℕ} {c : List Exchange} (first : FirstAsked method address c) → Body c first.answer.body
+pub body_first : {s : Settings} {image : Reference} {op : RegistryOperation} {method : Method} {url : Parts} {types : Option (List ℕ)} {c : List Exchange} (first : FirstAsked s image op method url types c) → Body c first.answer.body
 body_first first = subst (λ c. Body c first.answer.body) (sym first.split) (body_before first.after (body_after first.before (body_led first.led)))
 
 -- ---- answers that are accepted
@@ -174,27 +162,27 @@ read_shows image request limit = Shows-next (λ m c n got. LedTo request c got.a
     (λ m n c got led. Shows-last (λ s d o found. Read image request (c ++ d) found) (λ s d o e. Unit {0}) (document_in image got) (λ found is o. rw append-nil (record { answer = got.answer; led = led; validly = validly_of image got found is })) (λ e is o. tt))
 
 -- the first GET for the address led to the document
-pub record Found (image : Reference) (address : List ℕ) (c : List Exchange) (found : List ℕ × List ℕ) : Type 0 where
-  pub get : FirstAsked Get address c
+pub record Found (s : Settings) (image : Reference) (url : Parts) (types : List ℕ) (c : List Exchange) (found : List ℕ × List ℕ) : Type 0 where
+  pub get : FirstAsked s image Pull Get url (Some types) c
   pub validly : Validly image get.answer found
 
-found_more : (s : Settings) (image : Reference) (url : Parts) (types : List ℕ) (c d : List Exchange) (request : Request) (found : List ℕ × List ℕ) → Prepared s Get url types Get (serialize url) c request → Read image request d found → Found image (serialize url) (c ++ d) found
+found_more : (s : Settings) (image : Reference) (url : Parts) (types : List ℕ) (c d : List Exchange) (request : Request) (found : List ℕ × List ℕ) → Prepared s image Pull Get url types c request → Read image request d found → Found s image url types (c ++ d) found
 found_more s image url types c d request found p r = record {
-  get = first_asked Get (serialize url) c d [] d request r.answer p.none (asks_of s Get url types p.token request p.made) r.led (sym (append-nil d));
+  get = first_asked c d [] d request r.answer p.step (asks_of s Get url (Some types) p.token request p.made) r.led (sym (append-nil d));
   validly = r.validly;
 }
 
-found_where : (s : Settings) (image : Reference) (url : Parts) (types : List ℕ) (c : List Exchange) (request : Request) → Prepared s Get url types Get (serialize url) c request → (m start n : ℕ) (d : List Exchange) (r : Result (List ℕ × List ℕ) OciDistributionError) → WhereOk (λ m c n found. Read image request c found) start d n r → WhereOk (λ m c n found. Found image (serialize url) c found) m (c ++ d) n r
+found_where : (s : Settings) (image : Reference) (url : Parts) (types : List ℕ) (c : List Exchange) (request : Request) → Prepared s image Pull Get url types c request → (m start n : ℕ) (d : List Exchange) (r : Result (List ℕ × List ℕ) OciDistributionError) → WhereOk (λ m c n found. Read image request c found) start d n r → WhereOk (λ m c n found. Found s image url types c found) m (c ++ d) n r
 found_where s image url types c request p m start n d (Ok found) r = found_more s image url types c d request found p r
 found_where s image url types c request p m start n d (Err e) r = tt
 
-pub document_shows : (s : Context) (image : Reference) (url : Parts) (types : List ℕ) → Shows (WhereOk (λ m c n found. Found image (serialize url) c found)) (document s image url types)
+pub document_shows : (s : Context) (image : Reference) (url : Parts) (types : List ℕ) → Shows (WhereOk (λ m c n found. Found s.settings image url types c found)) (document s image url types)
 unfolding document
-document_shows s image url types = Shows-next (λ m c n request. Prepared s.settings Get url types Get (serialize url) c request) (λ m c n found. Found image (serialize url) c found) (prepared s image Pull Get url types) (λ request. whole 10 request s.settings.max_body_bytes >>= λ got. Done (document_in image got)) (prepared_shows s image Pull Get url types Get (serialize url))
-    (λ m n c request p. Shows-more (WhereOk (λ m c n found. Read image request c found)) (λ start d o r. WhereOk (λ m c n found. Found image (serialize url) c found) m (c ++ d) o r) (whole 10 request s.settings.max_body_bytes >>= λ got. Done (document_in image got)) (read_shows image request s.settings.max_body_bytes) (λ start o d r h. found_where s.settings image url types c request p m start o d r h))
+document_shows s image url types = Shows-next (λ m c n request. Prepared s.settings image Pull Get url types c request) (λ m c n found. Found s.settings image url types c found) (prepared s image Pull Get url types) (λ request. whole 10 request s.settings.max_body_bytes >>= λ got. Done (document_in image got)) (prepared_shows s image Pull Get url types)
+    (λ m n c request p. Shows-more (WhereOk (λ m c n found. Read image request c found)) (λ start d o r. WhereOk (λ m c n found. Found s.settings image url types c found) m (c ++ d) o r) (whole 10 request s.settings.max_body_bytes >>= λ got. Done (document_in image got)) (read_shows image request s.settings.max_body_bytes) (λ start o d r h. found_where s.settings image url types c request p m start o d r h))
 
-document_of : {image : Reference} {address : List ℕ} {c : List Exchange} {found : List ℕ × List ℕ} → Found image address c found → Document image c found.0 found.1
-document_of {image} {address} {c} {found} f =
+document_of : {s : Settings} {image : Reference} {url : Parts} {types : List ℕ} {c : List Exchange} {found : List ℕ × List ℕ} → Found s image url types c found → Document image c found.0 found.1
+document_of {image = image} {c = c} {found = found} f =
     let v = f.validly in
     record {
       body = subst (Body c) (sym v.body) (body_first f.get);
@@ -210,17 +198,17 @@ url_is text None url is = absurd (cc is)
 document_later : {image : Reference} (c : List Exchange) {d : List Exchange} {bytes digest : List ℕ} → Document image d bytes digest → Document image (c ++ d) bytes digest
 document_later c h = record { body = body_after c h.body; names = h.names; named = h.named }
 
-later_where : (image : Reference) (address : List ℕ) (c : List Exchange) (m start n : ℕ) (d : List Exchange) (r : Result (List ℕ × List ℕ) OciDistributionError) → WhereOk (λ m c n found. Found image address c found) start d n r → WhereOk (λ m c n found. Document image c found.0 found.1) m (c ++ d) n r
-later_where image address c m start n d (Ok found) f = document_later c (document_of f)
-later_where image address c m start n d (Err e) f = tt
+later_where : (s : Settings) (image : Reference) (url : Parts) (types : List ℕ) (c : List Exchange) (m start n : ℕ) (d : List Exchange) (r : Result (List ℕ × List ℕ) OciDistributionError) → WhereOk (λ m c n found. Found s image url types c found) start d n r → WhereOk (λ m c n found. Document image c found.0 found.1) m (c ++ d) n r
+later_where s image url types c m start n d (Ok found) f = document_later c (document_of f)
+later_where s image url types c m start n d (Err e) f = tt
 
 -- the bytes are those of an answer, and the digest names them
 pub raw_shows : (s : Context) (image : Reference) (a : RegistryAuth) (types : List ℕ) → Shows (WhereOk (λ m c n found. Document image c found.0 found.1)) (pull_manifest_raw s image a types)
 unfolding pull_manifest_raw manifest_document
 raw_shows s image a types = Shows-next (λ m c n u. Unit {0}) (λ m c n found. Document image c found.0 found.1) (store image a) (λ u. Done (url_read (manifest_text s.settings image)) >>= λ url. document s image url types)
-    (Shows-more (λ m c n u. NoneAsks Get [] c) (WhereOk (λ m c n u. Unit {0})) (store image a) (quiet_store Get [] image a) (λ m n c r h. any_where m n c r))
+    (Shows-more Silent (WhereOk (λ m c n u. Unit {0})) (store image a) (silent_store image a) (λ m n c r h. any_where m n c r))
     (λ m n c u h. Shows-step (λ start d o r. WhereOk (λ m c n found. Document image c found.0 found.1) m (c ++ d) o r) (url_read (manifest_text s.settings image)) (λ url. document s image url types)
-    (λ url is. Shows-more (WhereOk (λ m c n found. Found image (serialize url) c found)) (λ start d o r. WhereOk (λ m c n found. Document image c found.0 found.1) m (c ++ d) o r) (document s image url types) (document_shows s image url types) (λ start o d r f. later_where image (serialize url) c m start o d r f))
+    (λ url is. Shows-more (WhereOk (λ m c n found. Found s.settings image url types c found)) (λ start d o r. WhereOk (λ m c n found. Document image c found.0 found.1) m (c ++ d) o r) (document s image url types) (document_shows s image url types) (λ start o d r f. later_where s.settings image url types c m start o d r f))
     (λ e is o. tt)) where
       any_where : {A E : Type 0} (m n : ℕ) (c : List Exchange) (r : Result A E) → WhereOk (λ m c n (u : A). Unit {0}) m c n r
       any_where m n c (Ok u) = tt

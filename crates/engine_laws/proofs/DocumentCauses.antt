@@ -1,13 +1,15 @@
 -- Why the calls that answer documents and digests were refused.
-use Rattle.std.proofs.Common.{◌≡◌, ◌≢◌, ◌⊎◌, inl, inr, ℕ, Bool, true, false, List, [], ◌∷◌, ◌++◌, Option, Some, None, Result, Ok, Err, codes, refl, sym, ap, subst, ◌∙◌, append_assoc, append-nil, arith}
+use Rattle.std.proofs.Common.{◌≡◌, ◌≢◌, ◌⊎◌, inl, inr, ℕ, Bool, true, false, List, [], ◌∷◌, ◌++◌, Option, Some, None, Result, Ok, Err, refl, sym, ap, subst, ◌∙◌, append_assoc, append-nil, arith}
 use Rattle.std.specs.Prelude.{nat_eq, if◌then◌else◌}
 use Rattle.std.proofs.lemmas.Bool.Decides.{nat_tests}
-use Rattle.url.specs.Parts.{Parts, serialize}
+use Rattle.url.specs.Parts.{Parts}
 use Rattle.oci_transport.specs.Headers.{digest_header, first_of}
+use Rattle.oci_transport.specs.Urls.{request_url}
 use Rattle.oci_transport.specs.declared.message.Request.{Request}
 use Rattle.oci_transport.specs.declared.message.Answer.{Answer}
 use Rattle.oci_transport.specs.declared.message.AnswerHead.{AnswerHead}
 use Rattle.oci_transport.specs.declared.message.Exchange.{Exchange}
+use Rattle.oci_transport.specs.declared.message.Method.{Method}
 use Rattle.oci_transport.specs.declared.message.Method.TheVariants.{Get}
 use Rattle.oci_names.specs.declared.reference.Reference.{Reference}
 use Rattle.oci_names.specs.Reference.{digest_of}
@@ -16,6 +18,7 @@ use Rattle.oci_digests.specs.declared.error.DigestError.{DigestError}
 use Rattle.oci_errors.specs.declared.envelope.OciEnvelope.{OciEnvelope}
 use Rattle.oci_auth.specs.declared.auth.RegistryAuth.{RegistryAuth}
 use Rattle.oci_auth.specs.declared.memory.Memory.{Memory}
+use Rattle.oci_auth.specs.declared.token_type.RegistryOperation.{RegistryOperation}
 use Rattle.oci_auth.specs.declared.token_type.RegistryOperation.TheVariants.{Pull}
 use Rattle.oci_protocol.specs.Proto.{Reading, Unread as NotRead, Piped, limit_of, Reply, Headed, Answered, Failed, TooLong, SinkFailed, read_within, Done, ◌>>=◌}
 use Rattle.oci_protocol.specs.Runs.{head_part, Runs}
@@ -34,24 +37,23 @@ use Rattle.engine_requests.specs.Addresses.{manifest_text, url_read}
 use Rattle.engine_answers.specs.Answers.{is_success, is_client_error, envelope_in, by_envelope, refused_answer, accepted, header_digest, body_digest, answer_digest, document_in}
 use Rattle.engine_rows.specs.Rows.{Row, store, whole, whole_reply, prepared}
 use Rattle.engine_rows.specs.Pulls.{document, manifest_document, pull_manifest_raw}
-use Rattle.engine_laws.specs.Causes.{ManifestUrl, LastAsked, LastAnswer, LastFailed, LastTooLong, IsClientError, DigestCause, AnswerCause, ByLast, OwnDigest}
+use Rattle.engine_laws.specs.Causes.{Act, Reads, Sends, AsksAt, ManifestUrl, LastAsked, LastAnswer, LastFailed, LastTooLong, IsClientError, DigestCause, AnswerCause, ByLast, OwnDigest}
 use Rattle.engine_laws.proofs.EarlyCauses.{Loose}
-use Rattle.engine_laws.proofs.PreparedRequests.{accepts_of, Prepared}
-use Rattle.engine_laws.proofs.DocumentAnswers.{accepted_is}
+use Rattle.engine_laws.proofs.PreparedRequests.{asks_of, Prepared}
+use Rattle.engine_laws.proofs.DocumentAnswers.{accepted_is, url_is}
 use Rattle.engine_laws.proofs.DigestErrors.{header_cause, digest_err, validated_cause}
 use Rattle.engine_laws.proofs.EarlyCauses.{EarlyCause, Early, read_early, prepared_causes, store_causes}
 
 -- ---- the last exchange
 
 -- in the conversation of a request that is followed
-abbrev pub asked_last : {request : Request} {reading : AnswerHead → Reading} {m : ℕ} {c : List Exchange} {after : ℕ} {last : Request} {reply : Reply} (h : Heard 10 request reading m c after last reply) (types : List ℕ) → first_of (codes "accept") request.headers ≡ Some types → LastAsked c h.exchange
-asked_last {request} {m = m} h types accepts = record {
+abbrev pub asked_last : (T : Act → Type 0) {request : Request} {reading : AnswerHead → Reading} {m : ℕ} {c : List Exchange} {after : ℕ} {last : Request} {reply : Reply} (h : Heard 10 request reading m c after last reply) → T (Sends request) → LastAsked T c h.exchange
+asked_last T {request} {m = m} h own = record {
   front = [];
   redirects = h.redirects;
   split = h.split;
   request = request;
-  types = types;
-  accepts = accepts;
+  own = own;
   before = m;
   left = h.left;
   count = h.before;
@@ -59,43 +61,42 @@ asked_last {request} {m = m} h types accepts = record {
 }
 
 -- and after other exchanges
-abbrev pub asked_later : (c : List Exchange) {d : List Exchange} {last : Exchange} → LastAsked d last → LastAsked (c ++ d) last
-asked_later c a = record {
+abbrev pub asked_later : (T U : Act → Type 0) (c : List Exchange) {d : List Exchange} {last : Exchange} → ((act : Act) → T act → U act) → LastAsked T d last → LastAsked U (c ++ d) last
+asked_later T U c acts a = record {
   front = c ++ a.front;
   redirects = a.redirects;
   split = ap (λ x. c ++ x) a.split ∙ sym (append_assoc c a.front (a.redirects ++ _ ∷ []));
   request = a.request;
-  types = a.types;
-  accepts = a.accepts;
+  own = acts (Sends a.request) a.own;
   before = a.before;
   left = a.left;
   count = a.count;
   trail = a.trail;
 }
 
-pub answer_later : (c : List Exchange) {d : List Exchange} {address : List ℕ} {answer : Answer} → LastAnswer d address answer → LastAnswer (c ++ d) address answer
-answer_later c a = record { last = a.last; asked = asked_later c a.asked; sent = a.sent; answered = a.answered; final = a.final }
+pub answer_later : (T U : Act → Type 0) (c : List Exchange) {d : List Exchange} {address : List ℕ} {answer : Answer} → ((act : Act) → T act → U act) → LastAnswer T d address answer → LastAnswer U (c ++ d) address answer
+answer_later T U c acts a = record { last = a.last; asked = asked_later T U c acts a.asked; sent = a.sent; answered = a.answered; final = a.final }
 
-pub last_later : {P : List ℕ → Answer → Type 0} (Q : List ℕ → Answer → Type 0) (c : List Exchange) {d : List Exchange} → ((address : List ℕ) (answer : Answer) → P address answer → Q address answer) → ByLast P d → ByLast Q (c ++ d)
-last_later Q c more b = record { address = b.address; answer = b.answer; last = answer_later c b.last; holds = more b.address b.answer b.holds }
+pub last_later : (T U : Act → Type 0) {P : List ℕ → Answer → Type 0} (Q : List ℕ → Answer → Type 0) (c : List Exchange) {d : List Exchange} → ((act : Act) → T act → U act) → ((address : List ℕ) (answer : Answer) → P address answer → Q address answer) → ByLast T P d → ByLast U Q (c ++ d)
+last_later T U Q c acts more b = record { address = b.address; answer = b.answer; last = answer_later T U c acts b.last; holds = more b.address b.answer b.holds }
 
 -- a cause stays one after other exchanges
-pub cause_later : (T U : List ℕ → Type 0) (P Q : List ℕ → Answer → OciDistributionError → Type 0) (s : Settings) (types : List ℕ) (now : ℕ) (c d : List Exchange) (e : OciDistributionError) → ((text : List ℕ) → T text → U text) → ((address : List ℕ) (answer : Answer) → P address answer e → Q address answer e) → Loose T P s types d now e → Loose U Q s types (c ++ d) now e
-cause_later T U P Q s types now c d (refusal.UrlParseError text) texts more h = (h.0, texts text h.1)
-cause_later T U P Q s types now c d (refusal.GenericError HeaderText) texts more h = h
-cause_later T U P Q s types now c d refusal.BodyTooLong texts more h = record { last = h.last; asked = asked_later c h.asked; answer = h.answer; answered = h.answered; long = h.long }
-cause_later T U P Q s types now c d refusal.TransportFault texts more h = record { last = h.last; asked = asked_later c h.asked; rose = h.rose }
-cause_later T U P Q s types now c d refusal.WantOfMemory texts more h = tt
-cause_later T U P Q s types now c d e texts more h = last_later (λ address answer. Q address answer e) c more h
+pub cause_later : (T U : Act → Type 0) (P Q : List ℕ → Answer → OciDistributionError → Type 0) (s : Settings) (types : List ℕ) (now : ℕ) (c d : List Exchange) (e : OciDistributionError) → ((act : Act) → T act → U act) → ((address : List ℕ) (answer : Answer) → P address answer e → Q address answer e) → Loose T P s types d now e → Loose U Q s types (c ++ d) now e
+cause_later T U P Q s types now c d (refusal.UrlParseError text) acts more h = (h.0, acts (Reads text) h.1)
+cause_later T U P Q s types now c d (refusal.GenericError HeaderText) acts more h = h
+cause_later T U P Q s types now c d refusal.BodyTooLong acts more h = record { last = h.last; asked = asked_later T U c acts h.asked; answer = h.answer; answered = h.answered; long = h.long }
+cause_later T U P Q s types now c d refusal.TransportFault acts more h = record { last = h.last; asked = asked_later T U c acts h.asked; rose = h.rose }
+cause_later T U P Q s types now c d refusal.WantOfMemory acts more h = tt
+cause_later T U P Q s types now c d e acts more h = last_later T U (λ address answer. Q address answer e) c acts more h
 
-pub early_cause : (T : List ℕ → Type 0) (Of : List ℕ → Answer → OciDistributionError → Type 0) (s : Settings) (types : List ℕ) (now : ℕ) (c : List Exchange) (e : OciDistributionError) → EarlyCause T e → Loose T Of s types c now e
+pub early_cause : (T : Act → Type 0) (Of : List ℕ → Answer → OciDistributionError → Type 0) (s : Settings) (types : List ℕ) (now : ℕ) (c : List Exchange) (e : OciDistributionError) → EarlyCause T e → Loose T Of s types c now e
 early_cause T Of s types now c (refusal.UrlParseError text) h = h
 early_cause T Of s types now c (refusal.GenericError HeaderText) h = h
 early_cause T Of s types now c refusal.WantOfMemory h = tt
 early_cause T Of s types now c e h = absurd h
 
 -- what the last answer shows
-pub answer_cause : (T : List ℕ → Type 0) (Given : List ℕ → Type 0) (s : Settings) (types : List ℕ) (now : ℕ) (c : List Exchange) (address : List ℕ) (answer : Answer) (e : OciDistributionError) → LastAnswer c address answer → AnswerCause Given address answer e → Loose T (AnswerCause Given) s types c now e
+pub answer_cause : (T : Act → Type 0) (Given : List ℕ → Type 0) (s : Settings) (types : List ℕ) (now : ℕ) (c : List Exchange) (address : List ℕ) (answer : Answer) (e : OciDistributionError) → LastAnswer T c address answer → AnswerCause Given address answer e → Loose T (AnswerCause Given) s types c now e
 answer_cause T Given s types now c address answer (refusal.UrlParseError text) last h = absurd h
 answer_cause T Given s types now c address answer (refusal.GenericError HeaderText) last h = absurd h
 answer_cause T Given s types now c address answer refusal.BodyTooLong last h = absurd h
@@ -194,44 +195,44 @@ unfolding read_within
 piped_never limit n head is = cc is
 
 -- the answer that a request led to
-pub heard_answer : {request : Request} {reading : AnswerHead → Reading} {m : ℕ} {c : List Exchange} {after : ℕ} {last : Request} {reply : Reply} (h : Heard 10 request reading m c after last reply) (types : List ℕ) → first_of (codes "accept") request.headers ≡ Some types → (answer : Answer) → h.exchange.answer ≡ Some answer → IsFinal h.left last (head_part answer) → LastAnswer c last.url answer
-heard_answer h types accepts answer is final = record {
+pub heard_answer : (T : Act → Type 0) {request : Request} {reading : AnswerHead → Reading} {m : ℕ} {c : List Exchange} {after : ℕ} {last : Request} {reply : Reply} (h : Heard 10 request reading m c after last reply) → T (Sends request) → (answer : Answer) → h.exchange.answer ≡ Some answer → IsFinal h.left last (head_part answer) → LastAnswer T c last.url answer
+heard_answer T h own answer is final = record {
   last = h.exchange;
-  asked = asked_last h types accepts;
+  asked = asked_last T h own;
   sent = ap (λ (r : Request). r.url) h.replies.request_is;
   answered = is;
   final = subst (λ r. IsFinal h.left r (head_part answer)) (sym h.replies.request_is) final;
 }
 
-pub heard_failed : {request : Request} {reading : AnswerHead → Reading} {m : ℕ} {c : List Exchange} {after : ℕ} {last : Request} (h : Heard 10 request reading m c after last Failed) (types : List ℕ) → first_of (codes "accept") request.headers ≡ Some types → LastFailed c after
-heard_failed h types accepts = record { last = h.exchange; asked = asked_last h types accepts; rose = h.replies.reply_is }
+pub heard_failed : (T : Act → Type 0) {request : Request} {reading : AnswerHead → Reading} {m : ℕ} {c : List Exchange} {after : ℕ} {last : Request} (h : Heard 10 request reading m c after last Failed) → T (Sends request) → LastFailed T c after
+heard_failed T h own = record { last = h.exchange; asked = asked_last T h own; rose = h.replies.reply_is }
 
-pub heard_long : {request : Request} {reading : AnswerHead → Reading} {m : ℕ} {c : List Exchange} {after : ℕ} {last : Request} (h : Heard 10 request reading m c after last TooLong) (types : List ℕ) (limit : ℕ) → first_of (codes "accept") request.headers ≡ Some types → ((n : ℕ) (head : AnswerHead) → limit_of (reading head) ≡ Some n → limit ≡ n) → LastTooLong c limit
-heard_long {reading = reading} h types limit accepts within =
+pub heard_long : (T : Act → Type 0) {request : Request} {reading : AnswerHead → Reading} {m : ℕ} {c : List Exchange} {after : ℕ} {last : Request} (h : Heard 10 request reading m c after last TooLong) (limit : ℕ) → T (Sends request) → ((n : ℕ) (head : AnswerHead) → limit_of (reading head) ≡ Some n → limit ≡ n) → LastTooLong T c limit
+heard_long T {reading = reading} h limit own within =
     let b = h.replies.reply_is in
-    record { last = h.exchange; asked = asked_last h types accepts; answer = b.0; answered = b.2; long = rw (within b.1 (head_part b.0) b.3) b.4 }
+    record { last = h.exchange; asked = asked_last T h own; answer = b.0; answered = b.2; long = rw (within b.1 (head_part b.0) b.3) b.4 }
 
 -- the whole last answer
-abbrev Whole : ℕ → List Exchange → ℕ → Got → Type 0
-Whole m c n got = LastAnswer c got.url got.answer
+abbrev Whole : (Act → Type 0) → ℕ → List Exchange → ℕ → Got → Type 0
+Whole T m c n got = LastAnswer T c got.url got.answer
 
-whole_run : (T : List ℕ → Type 0) (Of : List ℕ → Answer → OciDistributionError → Type 0) (s : Settings) (types : List ℕ) (request : Request) → first_of (codes "accept") request.headers ≡ Some types → (k l : Memory) (m after o : ℕ) (c d : List Exchange) (last : Request) (reply : Reply) (r : Result Got OciDistributionError) → Heard 10 request (read_within s.max_body_bytes) m c after last reply → Runs (whole_reply last reply) k after d o l r → ByAnswer Whole (λ m c n e. Loose T Of s types c n e) m (c ++ d) o r
-whole_run T Of s types request accepts k l m after o c d last (Headed head) r h run = absurd (read_never s.max_body_bytes head h.replies.reply_is.2)
-whole_run T Of s types request accepts k l m after o c d last (Answered answer) r h run = done_run (λ start d o r. ByAnswer Whole (λ m c n e. Loose T Of s types c n e) m (c ++ d) o r) (Ok (record { url = last.url; answer = answer })) k l after o d r (rw append-nil (heard_answer h types accepts answer h.replies.reply_is.1 h.settles)) run
-whole_run T Of s types request accepts k l m after o c d last Failed r h run = done_run (λ start d o r. ByAnswer Whole (λ m c n e. Loose T Of s types c n e) m (c ++ d) o r) (Err refusal.TransportFault) k l after o d r (rw append-nil (heard_failed h types accepts)) run
-whole_run T Of s types request accepts k l m after o c d last TooLong r h run = done_run (λ start d o r. ByAnswer Whole (λ m c n e. Loose T Of s types c n e) m (c ++ d) o r) (Err refusal.BodyTooLong) k l after o d r (rw append-nil (heard_long h types s.max_body_bytes accepts (read_limit s.max_body_bytes))) run
-whole_run T Of s types request accepts k l m after o c d last SinkFailed r h run = let b = h.replies.reply_is in absurd (piped_never s.max_body_bytes b.1 (head_part b.0) b.3)
+whole_run : (T : Act → Type 0) (Of : List ℕ → Answer → OciDistributionError → Type 0) (s : Settings) (types : List ℕ) (request : Request) → T (Sends request) → (k l : Memory) (m after o : ℕ) (c d : List Exchange) (last : Request) (reply : Reply) (r : Result Got OciDistributionError) → Heard 10 request (read_within s.max_body_bytes) m c after last reply → Runs (whole_reply last reply) k after d o l r → ByAnswer (Whole T) (λ m c n e. Loose T Of s types c n e) m (c ++ d) o r
+whole_run T Of s types request own k l m after o c d last (Headed head) r h run = absurd (read_never s.max_body_bytes head h.replies.reply_is.2)
+whole_run T Of s types request own k l m after o c d last (Answered answer) r h run = done_run (λ start d o r. ByAnswer (Whole T) (λ m c n e. Loose T Of s types c n e) m (c ++ d) o r) (Ok (record { url = last.url; answer = answer })) k l after o d r (rw append-nil (heard_answer T h own answer h.replies.reply_is.1 h.settles)) run
+whole_run T Of s types request own k l m after o c d last Failed r h run = done_run (λ start d o r. ByAnswer (Whole T) (λ m c n e. Loose T Of s types c n e) m (c ++ d) o r) (Err refusal.TransportFault) k l after o d r (rw append-nil (heard_failed T h own)) run
+whole_run T Of s types request own k l m after o c d last TooLong r h run = done_run (λ start d o r. ByAnswer (Whole T) (λ m c n e. Loose T Of s types c n e) m (c ++ d) o r) (Err refusal.BodyTooLong) k l after o d r (rw append-nil (heard_long T h s.max_body_bytes own (read_limit s.max_body_bytes))) run
+whole_run T Of s types request own k l m after o c d last SinkFailed r h run = let b = h.replies.reply_is in absurd (piped_never s.max_body_bytes b.1 (head_part b.0) b.3)
 
-pub whole_causes : (T : List ℕ → Type 0) (Of : List ℕ → Answer → OciDistributionError → Type 0) (s : Settings) (types : List ℕ) (request : Request) → first_of (codes "accept") request.headers ≡ Some types → Shows (ByAnswer Whole (λ m c n e. Loose T Of s types c n e)) (whole 10 request s.max_body_bytes)
+pub whole_causes : (T : Act → Type 0) (Of : List ℕ → Answer → OciDistributionError → Type 0) (s : Settings) (types : List ℕ) (request : Request) → T (Sends request) → Shows (ByAnswer (Whole T) (λ m c n e. Loose T Of s types c n e)) (whole 10 request s.max_body_bytes)
 unfolding whole
-whole_causes T Of s types request accepts = Shows-follow (ByAnswer Whole (λ m c n e. Loose T Of s types c n e)) 10 request (read_within s.max_body_bytes) whole_reply (whole_run T Of s types request accepts)
+whole_causes T Of s types request own = Shows-follow (ByAnswer (Whole T) (λ m c n e. Loose T Of s types c n e)) 10 request (read_within s.max_body_bytes) whole_reply (whole_run T Of s types request own)
 
 -- the last answer was accepted, and the bytes are its body
-abbrev pub Accepted : List Exchange → List ℕ → Type 0
-Accepted c bytes = ByLast (λ address answer. (answer.status ≡ 200) × (bytes ≡ answer.body)) c
+abbrev pub Accepted : Settings → Reference → List Exchange → List ℕ → Type 0
+Accepted s image c bytes = ByLast (ManifestUrl s image) (λ address answer. (answer.status ≡ 200) × (bytes ≡ answer.body)) c
 
-found_accepted : (image : Reference) (got : Got) (found : List ℕ × List ℕ) (c : List Exchange) → LastAnswer c got.url got.answer → document_in image got ≡ Ok found → Accepted c found.0
-found_accepted image got found c last is =
+found_accepted : (s : Settings) (image : Reference) (got : Got) (found : List ℕ × List ℕ) (c : List Exchange) → LastAnswer (ManifestUrl s image) c got.url got.answer → document_in image got ≡ Ok found → Accepted s image c found.0
+found_accepted s image got found c last is =
     let first = into_good (accepted 200 got.url got.answer) (λ answer. answer_digest image answer into λ digest. Ok (answer.body, digest)) found is in
     let good = accepted_is got.url got.answer first.0 first.1 in
     let second = into_good (answer_digest image first.0) (λ digest. Ok (first.0.body, digest)) found first.2 in
@@ -248,45 +249,52 @@ found_accepted image got found c last is =
 abbrev pub OwnCause : Settings → Reference → List ℕ → ℕ → List Exchange → ℕ → OciDistributionError → Type 0
 OwnCause s image types m c n e = Loose (ManifestUrl s image) (AnswerCause (OwnDigest image)) s types c n e
 
-got_causes : (s : Settings) (image : Reference) (types : List ℕ) (request : Request) → first_of (codes "accept") request.headers ≡ Some types → Shows (ByAnswer (λ m c n found. Accepted c found.0) (OwnCause s image types)) (whole 10 request s.max_body_bytes >>= λ got. Done (document_in image got))
-got_causes s image types request accepts = Shows-each Whole (λ m c n found. Accepted c found.0) (OwnCause s image types) (whole 10 request s.max_body_bytes) (λ got. Done (document_in image got)) (whole_causes (ManifestUrl s image) (AnswerCause (OwnDigest image)) s types request accepts)
-    (λ m n c got last. Shows-last (λ start d o found. Accepted (c ++ d) found.0) (λ start d o e. OwnCause s image types m (c ++ d) o e) (document_in image got)
-    (λ found is o. rw append-nil (found_accepted image got found c last is))
+got_causes : (s : Settings) (image : Reference) (types : List ℕ) (request : Request) → ManifestUrl s image (Sends request) → Shows (ByAnswer (λ m c n found. Accepted s image c found.0) (OwnCause s image types)) (whole 10 request s.max_body_bytes >>= λ got. Done (document_in image got))
+got_causes s image types request own = Shows-each (Whole (ManifestUrl s image)) (λ m c n found. Accepted s image c found.0) (OwnCause s image types) (whole 10 request s.max_body_bytes) (λ got. Done (document_in image got)) (whole_causes (ManifestUrl s image) (AnswerCause (OwnDigest image)) s types request own)
+    (λ m n c got last. Shows-last (λ start d o found. Accepted s image (c ++ d) found.0) (λ start d o e. OwnCause s image types m (c ++ d) o e) (document_in image got)
+    (λ found is o. rw append-nil (found_accepted s image got found c last is))
     (λ e is o. subst (λ x. OwnCause s image types m x o e) (sym (append-nil c)) (answer_cause (ManifestUrl s image) (OwnDigest image) s types o c got.url got.answer e last (document_cause image got e is))))
 
 -- after other exchanges
-pub accepted_later : (c : List Exchange) {d : List Exchange} {bytes : List ℕ} → Accepted d bytes → Accepted (c ++ d) bytes
-accepted_later c {bytes = bytes} h = last_later (λ address answer. (answer.status ≡ 200) × (bytes ≡ answer.body)) c (λ address answer h. h) h
+pub accepted_later : (s : Settings) (image : Reference) (c : List Exchange) {d : List Exchange} {bytes : List ℕ} → Accepted s image d bytes → Accepted s image (c ++ d) bytes
+accepted_later s image c {bytes = bytes} h = last_later (ManifestUrl s image) (ManifestUrl s image) (λ address answer. (answer.status ≡ 200) × (bytes ≡ answer.body)) c (λ act h. h) (λ address answer h. h) h
 
-pub found_later : (s : Settings) (image : Reference) (types : List ℕ) (c : List Exchange) (m start o : ℕ) (d : List Exchange) (r : Result (List ℕ × List ℕ) OciDistributionError) → ByAnswer (λ m c n found. Accepted c found.0) (OwnCause s image types) start d o r → ByAnswer (λ m c n found. Accepted c found.0) (OwnCause s image types) m (c ++ d) o r
-found_later s image types c m start o d (Ok found) h = accepted_later c h
+pub found_later : (s : Settings) (image : Reference) (types : List ℕ) (c : List Exchange) (m start o : ℕ) (d : List Exchange) (r : Result (List ℕ × List ℕ) OciDistributionError) → ByAnswer (λ m c n found. Accepted s image c found.0) (OwnCause s image types) start d o r → ByAnswer (λ m c n found. Accepted s image c found.0) (OwnCause s image types) m (c ++ d) o r
+found_later s image types c m start o d (Ok found) h = accepted_later s image c h
 found_later s image types c m start o d (Err e) h = cause_later (ManifestUrl s image) (ManifestUrl s image) (AnswerCause (OwnDigest image)) (AnswerCause (OwnDigest image)) s types o c d e (λ text h. h) (λ address answer h. h) h
 
 -- a step before the request was refused
-early_where : (T : List ℕ → Type 0) {A : Type 0} (Of : List ℕ → Answer → OciDistributionError → Type 0) (s : Settings) (types : List ℕ) (P : ℕ → List Exchange → ℕ → A → Type 0) (m n : ℕ) (c : List Exchange) (r : Result A OciDistributionError) → ByAnswer P (λ m c n e. EarlyCause T e) m c n r → ByAnswer P (λ m c n e. Loose T Of s types c n e) m c n r
+early_where : (T : Act → Type 0) {A : Type 0} (Of : List ℕ → Answer → OciDistributionError → Type 0) (s : Settings) (types : List ℕ) (P : ℕ → List Exchange → ℕ → A → Type 0) (m n : ℕ) (c : List Exchange) (r : Result A OciDistributionError) → ByAnswer P (λ m c n e. EarlyCause T e) m c n r → ByAnswer P (λ m c n e. Loose T Of s types c n e) m c n r
 early_where T Of s types P m n c (Ok a) h = h
 early_where T Of s types P m n c (Err e) h = early_cause T Of s types n c e h
 
-pub early_shown : (T : List ℕ → Type 0) {A : Type 0} (Of : List ℕ → Answer → OciDistributionError → Type 0) (s : Settings) (types : List ℕ) (P : ℕ → List Exchange → ℕ → A → Type 0) (p : Row A) → Shows (ByAnswer P (λ m c n e. EarlyCause T e)) p → Shows (ByAnswer P (λ m c n e. Loose T Of s types c n e)) p
+pub early_shown : (T : Act → Type 0) {A : Type 0} (Of : List ℕ → Answer → OciDistributionError → Type 0) (s : Settings) (types : List ℕ) (P : ℕ → List Exchange → ℕ → A → Type 0) (p : Row A) → Shows (ByAnswer P (λ m c n e. EarlyCause T e)) p → Shows (ByAnswer P (λ m c n e. Loose T Of s types c n e)) p
 early_shown T Of s types P p h = Shows-more (ByAnswer P (λ m c n e. EarlyCause T e)) (ByAnswer P (λ m c n e. Loose T Of s types c n e)) p h (early_where T Of s types P)
 
 -- a URL was refused
-pub url_cause : (T : List ℕ → Type 0) (Of : List ℕ → Answer → OciDistributionError → Type 0) (s : Settings) (types text : List ℕ) (now : ℕ) (c : List Exchange) (e : OciDistributionError) → T text → url_read text ≡ Err e → Loose T Of s types c now e
+pub url_cause : (T : Act → Type 0) (Of : List ℕ → Answer → OciDistributionError → Type 0) (s : Settings) (types text : List ℕ) (now : ℕ) (c : List Exchange) (e : OciDistributionError) → T (Reads text) → url_read text ≡ Err e → Loose T Of s types c now e
 url_cause T Of s types text now c e here is = early_cause T Of s types now c e (by_read (url_read text) is (read_early T s types text here)) where
   by_read : (r : Result Parts OciDistributionError) → r ≡ Err e → Early T r → EarlyCause T e
   by_read (Ok url) is h = absurd (cc is)
   by_read (Err x) is h = let same : x ≡ e = cc is in subst (EarlyCause T) same h
 
-pub document_causes : (s : Context) (image : Reference) (url : Parts) (types : List ℕ) → Shows (ByAnswer (λ m c n found. Accepted c found.0) (OwnCause s.settings image types)) (document s image url types)
-unfolding document
-document_causes s image url types = Shows-each (λ m c n request. Prepared s.settings Get url types Get (serialize url) c request) (λ m c n found. Accepted c found.0) (OwnCause s.settings image types) (prepared s image Pull Get url types) (λ request. whole 10 request s.settings.max_body_bytes >>= λ got. Done (document_in image got))
-    (early_shown (ManifestUrl s.settings image) (AnswerCause (OwnDigest image)) s.settings types (λ m c n request. Prepared s.settings Get url types Get (serialize url) c request) (prepared s image Pull Get url types) (prepared_causes (ManifestUrl s.settings image) s image Pull Get url types Get (serialize url) (inl refl)))
-    (λ m n c request p. Shows-more (ByAnswer (λ m c n found. Accepted c found.0) (OwnCause s.settings image types)) (λ start d o r. ByAnswer (λ m c n found. Accepted c found.0) (OwnCause s.settings image types) m (c ++ d) o r) (whole 10 request s.settings.max_body_bytes >>= λ got. Done (document_in image got)) (got_causes s.settings image types request (accepts_of s.settings Get url types p.token request p.made)) (λ start o d r h. found_later s.settings image types c m start o d r h))
+-- the prepared request is the call's own
+pub asks_at : (s : Settings) (image : Reference) (op : RegistryOperation) (method : Method) (url : Parts) (types : List ℕ) (c : List Exchange) (request : Request) → Prepared s image op method url types c request → AsksAt s url request
+asks_at s image op method url types c request p = (method, types, asks_of s method url (Some types) p.token request p.made)
 
-pub raw_causes : (s : Context) (image : Reference) (a : RegistryAuth) (types : List ℕ) → Shows (ByAnswer (λ m c n found. Accepted c found.0) (OwnCause s.settings image types)) (pull_manifest_raw s image a types)
+pub manifest_own : (s : Settings) (image : Reference) (method : Method) (url : Parts) (types : List ℕ) (c : List Exchange) (request : Request) → url_read (manifest_text s image) ≡ Ok url → Prepared s image Pull method url types c request → ManifestUrl s image (Sends request)
+manifest_own s image method url types c request is p = (url, url_is (manifest_text s image) (request_url (manifest_text s image)) url is, asks_at s image Pull method url types c request p)
+
+pub document_causes : (s : Context) (image : Reference) (url : Parts) (types : List ℕ) → url_read (manifest_text s.settings image) ≡ Ok url → Shows (ByAnswer (λ m c n found. Accepted s.settings image c found.0) (OwnCause s.settings image types)) (document s image url types)
+unfolding document
+document_causes s image url types is = Shows-each (λ m c n request. Prepared s.settings image Pull Get url types c request) (λ m c n found. Accepted s.settings image c found.0) (OwnCause s.settings image types) (prepared s image Pull Get url types) (λ request. whole 10 request s.settings.max_body_bytes >>= λ got. Done (document_in image got))
+    (early_shown (ManifestUrl s.settings image) (AnswerCause (OwnDigest image)) s.settings types (λ m c n request. Prepared s.settings image Pull Get url types c request) (prepared s image Pull Get url types) (prepared_causes (ManifestUrl s.settings image) s image Pull Get url types (inl refl)))
+    (λ m n c request p. Shows-more (ByAnswer (λ m c n found. Accepted s.settings image c found.0) (OwnCause s.settings image types)) (λ start d o r. ByAnswer (λ m c n found. Accepted s.settings image c found.0) (OwnCause s.settings image types) m (c ++ d) o r) (whole 10 request s.settings.max_body_bytes >>= λ got. Done (document_in image got)) (got_causes s.settings image types request (manifest_own s.settings image Get url types c request is p)) (λ start o d r h. found_later s.settings image types c m start o d r h))
+
+pub raw_causes : (s : Context) (image : Reference) (a : RegistryAuth) (types : List ℕ) → Shows (ByAnswer (λ m c n found. Accepted s.settings image c found.0) (OwnCause s.settings image types)) (pull_manifest_raw s image a types)
 unfolding pull_manifest_raw manifest_document
-raw_causes s image a types = Shows-each (λ m c n u. Unit {0}) (λ m c n found. Accepted c found.0) (OwnCause s.settings image types) (store image a) (λ u. Done (url_read (manifest_text s.settings image)) >>= λ url. document s image url types)
+raw_causes s image a types = Shows-each (λ m c n u. Unit {0}) (λ m c n found. Accepted s.settings image c found.0) (OwnCause s.settings image types) (store image a) (λ u. Done (url_read (manifest_text s.settings image)) >>= λ url. document s image url types)
     (early_shown (ManifestUrl s.settings image) (AnswerCause (OwnDigest image)) s.settings types (λ m c n u. Unit {0}) (store image a) (store_causes (ManifestUrl s.settings image) s.settings types image a))
-    (λ m n c u h. Shows-step (λ start d o r. ByAnswer (λ m c n found. Accepted c found.0) (OwnCause s.settings image types) m (c ++ d) o r) (url_read (manifest_text s.settings image)) (λ url. document s image url types)
-    (λ url is. Shows-more (ByAnswer (λ m c n found. Accepted c found.0) (OwnCause s.settings image types)) (λ start d o r. ByAnswer (λ m c n found. Accepted c found.0) (OwnCause s.settings image types) m (c ++ d) o r) (document s image url types) (document_causes s image url types) (λ start o d r h. found_later s.settings image types c m start o d r h))
+    (λ m n c u h. Shows-step (λ start d o r. ByAnswer (λ m c n found. Accepted s.settings image c found.0) (OwnCause s.settings image types) m (c ++ d) o r) (url_read (manifest_text s.settings image)) (λ url. document s image url types)
+    (λ url is. Shows-more (ByAnswer (λ m c n found. Accepted s.settings image c found.0) (OwnCause s.settings image types)) (λ start d o r. ByAnswer (λ m c n found. Accepted s.settings image c found.0) (OwnCause s.settings image types) m (c ++ d) o r) (document s image url types) (document_causes s image url types is) (λ start o d r h. found_later s.settings image types c m start o d r h))
     (λ e is o. url_cause (ManifestUrl s.settings image) (AnswerCause (OwnDigest image)) s.settings types (manifest_text s.settings image) o (c ++ []) e (inr refl) is))

@@ -34,7 +34,7 @@ use Rattle.engine_rows.specs.Offers.{tried}
 use Rattle.engine_rows.specs.Pulls.{document, digest_by, manifest_document, pull_manifest_raw, fetch_manifest_digest, pull_manifest, blob_to}
 use Rattle.engine_rows.specs.Image.{pull}
 use Rattle.engine_rows.specs.Manifests.{pull_image_manifest_and_list_digest, pull_image_manifest, pull_manifest_and_config_and_list_digest, pull_manifest_and_config}
-use Rattle.engine_laws.specs.Causes.{IsEarly, IsEarlyRefusal, HasBadHeader, IsRefusedAs}
+use Rattle.engine_laws.specs.Causes.{Act, IsEarly, IsEarlyRefusal, HasBadHeader, IsRefusedAs}
 use Rattle.engine_laws.proofs.EarlyCauses.{Early, EarlyCause, authorized_early}
 
 -- ---- a URL that is none
@@ -134,8 +134,8 @@ unfolding request_of
 request_bad s method url types token bad = unmade (headers_of s (Some types) token) (headers_bad s types token bad) (λ headers. Ok (bare_request method url headers))
 
 -- whatever text it is
-abbrev AnyText : List ℕ → Type 0
-AnyText text = Unit {0}
+abbrev AnyText : Act → Type 0
+AnyText act = Unit {0}
 
 early_is : (s : Settings) (types : List ℕ) (e : OciDistributionError) → EarlyCause AnyText e → IsEarlyRefusal e
 early_is s types (refusal.UrlParseError text) h = h.0

@@ -1,5 +1,5 @@
 -- The counts of faults that the exchanges of a run were sent at.
-use Rattle.std.proofs.Common.{◌≡◌, ◌≤◌, ℕ, Bool, true, false, List, [], ◌∷◌, ◌++◌, Result, Ok, Err, IfErr, refl, subst, arith}
+use Rattle.std.proofs.Common.{◌≡◌, ◌≤◌, ℕ, Bool, true, false, List, [], ◌∷◌, ◌++◌, Result, Ok, Err, IfErr, refl, sym, ap, subst, ◌∙◌, append_assoc, arith}
 use Rattle.std.specs.Prelude.{MatchBool}
 use Rattle.json_values.specs.Counts.{Rose}
 use Rattle.oci_transport.specs.Link.{Link}
@@ -10,7 +10,7 @@ use Rattle.oci_protocol.specs.Runs.{Runs, Performs, Breaks, Outcome, Meets, Told
 use Rattle.oci_protocol.specs.Safe.{Safe}
 use Rattle.oci_protocol.specs.Shows.{Shows, ByAnswer}
 use Rattle.oci_protocol.proofs.SafeEnds.{Runs-ends-safe}
-use Rattle.engine_laws.specs.Causes.{LastFailed}
+use Rattle.engine_laws.specs.Causes.{Act, LastFailed}
 use Rattle.engine_laws.specs.TokenCauses.{LastIs}
 
 -- each exchange was sent at this count or a higher one
@@ -35,16 +35,14 @@ sent_last : (m : ℕ) (c : List Exchange) (last : Exchange) → SentFrom m (c ++
 sent_last m [] last h = h.0
 sent_last m (e ∷ c) last h = sent_last m c last h.1
 
-sent_after : (m : ℕ) (c d : List Exchange) → SentFrom m (c ++ d) → SentFrom m d
-sent_after m [] d h = h
-sent_after m (e ∷ c) d h = sent_after m c d h.1
+-- its last exchange failed
+pub failed_last : {Own : Act → Type 0} {c : List Exchange} {n : ℕ} → LastFailed Own c n → LastIs (λ e. Rose e.faults n) c
+failed_last f = record { before = f.asked.front ++ f.asked.redirects; last = f.last; split = f.asked.split ∙ sym (append_assoc f.asked.front f.asked.redirects (f.last ∷ [])); holds = f.rose }
 
--- the count rose in the call, where its last exchange failed
-failed_rose : (m n : ℕ) (c : List Exchange) → SentFrom m c → LastFailed c n → Rose m n
-failed_rose m n c sent f =
-    let first : m ≤ f.last.faults = sent_last m f.asked.redirects f.last (sent_after m f.asked.front (f.asked.redirects ++ f.last ∷ []) (subst (SentFrom m) f.asked.split sent)) in
-    omega (arith, first, f.rose)
+pub last_after : {P : Exchange → Type 0} (c : List Exchange) {d : List Exchange} → LastIs P d → LastIs P (c ++ d)
+last_after c h = record { before = c ++ h.before; last = h.last; split = ap (λ x. c ++ x) h.split ∙ sym (append_assoc c h.before (h.last ∷ [])); holds = h.holds }
 
+-- the count rose in the call, where it did
 last_rose : (m n : ℕ) (c : List Exchange) → SentFrom m c → LastIs (λ e. Rose e.faults n) c → Rose m n
 last_rose m n c sent f =
     let first : m ≤ f.last.faults = sent_last m f.before f.last (subst (SentFrom m) f.split sent) in
@@ -57,9 +55,6 @@ fault_by {K} {A} {E} {of_memory} P R p e {old} {new} {k} {l} other rises h met =
   performed run = rises old.faults new.faults run.conversation (runs_sent p k l old.faults new.faults run.conversation (Err e) run.runs) (h.shows k l old.faults new.faults run.conversation (Err e) run.runs)
 
 -- where its last exchange failed
-pub fault_rose : {K A E : Type 0} {of_memory : E → Bool} (P : ℕ → List Exchange → ℕ → A → Type 0) (R : ℕ → List Exchange → ℕ → E → Type 0) (p : Proto K (Result A E)) (e : E) {old new : Link} {k l : K} → of_memory e ≡ false → ((m n : ℕ) (c : List Exchange) → R m c n e → LastFailed c n) → Shows (ByAnswer P R) p → Meets of_memory p old new k l (Err e) → Rose old.faults new.faults
-fault_rose P R p e other fails h met = fault_by P R p e other (λ m n c sent r. failed_rose m n c sent (fails m n c r)) h met
-
 pub fault_last : {K A E : Type 0} {of_memory : E → Bool} (P : ℕ → List Exchange → ℕ → A → Type 0) (R : ℕ → List Exchange → ℕ → E → Type 0) (p : Proto K (Result A E)) (e : E) {old new : Link} {k l : K} → of_memory e ≡ false → ((m n : ℕ) (c : List Exchange) → R m c n e → LastIs (λ x. Rose x.faults n) c) → Shows (ByAnswer P R) p → Meets of_memory p old new k l (Err e) → Rose old.faults new.faults
 fault_last P R p e other fails h met = fault_by P R p e other (λ m n c sent r. last_rose m n c sent (fails m n c r)) h met
 

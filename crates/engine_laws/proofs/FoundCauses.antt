@@ -23,7 +23,7 @@ use Rattle.engine_answers.specs.Index.{entry_named, entry_found, entry_manifest,
 use Rattle.engine_requests.specs.Requests.{manifest_types}
 use Rattle.engine_rows.specs.Manifests.{pull_entry, manifest_by, pull_image_manifest_and_list_digest, pull_image_manifest}
 use Rattle.engine_rows.specs.Pulls.{pull_manifest}
-use Rattle.engine_laws.specs.Causes.{ManifestUrl, DocumentCause, OwnDigest, IndexRead, LastIsIndex, EntryDigest, FoundDigest, FoundUrl, FoundCause, ManifestRead}
+use Rattle.engine_laws.specs.Causes.{Act, ManifestUrl, DocumentCause, OwnDigest, IndexRead, LastIsIndex, IsMissing, NotFound, IndexCause, EntryDigest, FoundDigest, FoundUrl, FoundCause, ManifestRead}
 use Rattle.engine_laws.proofs.EarlyCauses.{AnyValue, Loose}
 use Rattle.engine_laws.proofs.DocumentAnswers.{body_before}
 use Rattle.engine_laws.proofs.DocumentCauses.{cause_later, last_later}
@@ -32,8 +32,8 @@ use Rattle.engine_laws.proofs.ManifestCauses.{document_more, ReadLast, ManifestC
 -- ---- what was read
 
 -- the manifest that was read
-pub read_manifest : (c : List Exchange) (manifest : OciImageManifest) → ReadLast c (Image manifest) → ManifestRead c manifest
-read_manifest c manifest h = record {
+pub read_manifest : (s : Settings) (image : Reference) (c : List Exchange) (manifest : OciImageManifest) → ReadLast s image c (Image manifest) → ManifestRead c manifest
+read_manifest s image c manifest h = record {
   bytes = h.answer.body;
   body = record { before = h.last.asked.front ++ h.last.asked.redirects; exchange = h.last.last; after = []; split = h.last.asked.split ∙ sym (append_assoc h.last.asked.front h.last.asked.redirects (h.last.last ∷ [])); answer = h.answer; answered = h.last.answered; body = refl };
   reads = h.holds;
@@ -42,8 +42,8 @@ read_manifest c manifest h = record {
 pub read_before : {c : List Exchange} {manifest : OciImageManifest} (d : List Exchange) → ManifestRead c manifest → ManifestRead (c ++ d) manifest
 read_before d h = record { bytes = h.bytes; body = body_before d h.body; reads = h.reads }
 
-read_index : (c : List Exchange) (index : OciImageIndex) → ReadLast c (ImageIndex index) → IndexRead c index
-read_index c index h = record {
+read_index : (s : Settings) (image : Reference) (c : List Exchange) (index : OciImageIndex) → ReadLast s image c (ImageIndex index) → IndexRead c index
+read_index s image c index h = record {
   bytes = h.answer.body;
   body = record { before = h.last.asked.front ++ h.last.asked.redirects; exchange = h.last.last; after = []; split = h.last.asked.split ∙ sym (append_assoc h.last.asked.front h.last.asked.redirects (h.last.last ∷ [])); answer = h.answer; answered = h.last.answered; body = refl };
   reads = h.holds;
@@ -52,12 +52,30 @@ read_index c index h = record {
 index_before : {c : List Exchange} {index : OciImageIndex} (d : List Exchange) → IndexRead c index → IndexRead (c ++ d) index
 index_before d h = record { bytes = h.bytes; body = body_before d h.body; reads = h.reads }
 
-manifest_after : {c : List Exchange} {manifest : OciImageManifest} (b : List Exchange) → ReadLast c (Image manifest) → ManifestRead (b ++ c) manifest
-manifest_after {c} {manifest} b h = read_manifest (b ++ c) manifest (last_later (λ address answer. document_read answer.body ≡ Ok (Image manifest)) b (λ address answer is. is) h)
+manifest_after : (s : Settings) (image : Reference) {c : List Exchange} {manifest : OciImageManifest} (b : List Exchange) → ReadLast s image c (Image manifest) → ManifestRead (b ++ c) manifest
+manifest_after s image {c} {manifest} b h = read_manifest s image (b ++ c) manifest (last_later (ManifestUrl s image) (ManifestUrl s image) (λ address answer. document_read answer.body ≡ Ok (Image manifest)) b (λ act h. h) (λ address answer is. is) h)
 
 -- the last answer is an index, also after other exchanges
-last_index : (b : List Exchange) {c : List Exchange} (index : OciImageIndex) → ReadLast c (ImageIndex index) → LastIsIndex (b ++ c)
-last_index b index h = last_later (λ address answer. (index : OciImageIndex) × (document_read answer.body ≡ Ok (ImageIndex index))) b (λ address answer is. (index, is)) h
+last_index : (s : Settings) (image : Reference) (Own : Act → Type 0) (b : List Exchange) {c : List Exchange} (index : OciImageIndex) → ((act : Act) → ManifestUrl s image act → Own act) → ReadLast s image c (ImageIndex index) → LastIsIndex Own (b ++ c)
+last_index s image Own b index acts h = last_later (ManifestUrl s image) Own (λ address answer. (index : OciImageIndex) × (document_read answer.body ≡ Ok (ImageIndex index))) b acts (λ address answer is. (index, is)) h
+
+-- what is said of a call's own requests stays said where more are its own
+index_more : (T U : Act → Type 0) (c : List Exchange) → ((act : Act) → T act → U act) → LastIsIndex T c → LastIsIndex U c
+index_more T U c acts h = last_later T U (λ address answer. (index : OciImageIndex) × (document_read answer.body ≡ Ok (ImageIndex index))) [] acts (λ address answer is. is) h
+
+missing_more : (T U : Act → Type 0) (promise : ResolverPromise) (index : OciImageIndex) (c : List Exchange) (text : List ℕ) → ((act : Act) → T act → U act) → IsMissing T promise index c text → IsMissing U promise index c text
+missing_more T U promise index c text acts (inl h) = inl h
+missing_more T U promise index c text acts (inr (is, inl h)) = inr (is, inl h)
+missing_more T U promise index c text acts (inr (is, inr h)) = inr (is, inr (h.0, index_more T U c acts h.1))
+
+not_found_more : (T U : Act → Type 0) (s : Settings) (c : List Exchange) (text : List ℕ) → ((act : Act) → T act → U act) → NotFound T s c text → NotFound U s c text
+not_found_more T U s c text acts h = record { index = h.index; read = h.read; promise = h.promise; has = h.has; missing = missing_more T U h.promise h.index c text acts h.missing }
+
+pub no_resolver_more : (T U : Act → Type 0) (Given Other : List ℕ → Type 0) (s : Settings) (c : List Exchange) (now : ℕ) → ((act : Act) → T act → U act) → IndexCause T Given AnyValue s c now refusal.ImageIndexParsingNoPlatformResolverError → IndexCause U Other AnyValue s c now refusal.ImageIndexParsingNoPlatformResolverError
+no_resolver_more T U Given Other s c now acts h = (h.0, index_more T U c acts h.1)
+
+pub no_entry_more : (T U : Act → Type 0) (Given Other : List ℕ → Type 0) (s : Settings) (c : List Exchange) (now : ℕ) (text : List ℕ) → ((act : Act) → T act → U act) → IndexCause T Given AnyValue s c now (refusal.ImageManifestNotFoundError text) → IndexCause U Other AnyValue s c now (refusal.ImageManifestNotFoundError text)
+no_entry_more T U Given Other s c now text acts h = not_found_more T U s c text acts h
 
 -- ---- the entry that is meant
 
@@ -100,11 +118,11 @@ named_err s image c now index promise None e has read answers is =
     subst (FoundLoose s image c now) same (record { index = index; read = read; promise = promise; has = has; missing = inl (answers, refl) })
 named_err s image c now index promise (Some d) e has read answers is = listed_err s image c now index promise d e (lists d index.manifests) has read answers refl is
 
-found_err : (s : Settings) (image : Reference) (c : List Exchange) (now : ℕ) (index : OciImageIndex) (o : Option ResolverPromise) (e : OciDistributionError) → s.platform_resolver ≡ o → ReadLast c (ImageIndex index) → entry_found o index.manifests ≡ Err e → FoundLoose s image c now e
+found_err : (s : Settings) (image : Reference) (c : List Exchange) (now : ℕ) (index : OciImageIndex) (o : Option ResolverPromise) (e : OciDistributionError) → s.platform_resolver ≡ o → ReadLast s image c (ImageIndex index) → entry_found o index.manifests ≡ Err e → FoundLoose s image c now e
 found_err s image c now index None e has last is =
     let same : refusal.ImageIndexParsingNoPlatformResolverError ≡ e = cc is in
-    subst (FoundLoose s image c now) same (has, last_index [] index last)
-found_err s image c now index (Some promise) e has last is = named_err s image c now index promise (resolved promise index.manifests) e has (read_index c index last) refl is
+    subst (FoundLoose s image c now) same (has, last_index s image (FoundUrl s image c) [] index (λ act h. inl h) last)
+found_err s image c now index (Some promise) e has last is = named_err s image c now index promise (resolved promise index.manifests) e has (read_index s image c index last) refl is
 
 -- ---- the two documents
 
@@ -114,11 +132,6 @@ first_found s image c now refusal.ImageIndexParsingNoPlatformResolverError h = a
 first_found s image c now (refusal.ImageManifestNotFoundError text) h = absurd h.holds
 first_found s image c now e h = cause_later (ManifestUrl s image) (FoundUrl s image c) (DocumentCause (OwnDigest image)) (DocumentCause (FoundDigest image c)) s manifest_types now [] c e (λ text is. inl is) (λ address answer g. document_more (OwnDigest image) (FoundDigest image c) address answer e (λ text is. inl is) g) h
 
--- the address of an entry's document
-entry_address : (s : Settings) (image : Reference) (c : List Exchange) (digest text : List ℕ) → EntryDigest c digest → ManifestUrl s (entry_reference image digest) text → FoundUrl s image c text
-entry_address s image c digest text has (inl is) = inl (inl is)
-entry_address s image c digest text has (inr is) = inr (digest, has, is)
-
 entry_digest : (image : Reference) (c : List Exchange) (digest text : List ℕ) → EntryDigest c digest → OwnDigest (entry_reference image digest) text → FoundDigest image c text
 entry_digest image c digest text has is = let same : digest ≡ text = cc is in inr (subst (EntryDigest c) same has)
 
@@ -127,15 +140,15 @@ second_found : (s : Settings) (image : Reference) (c d : List Exchange) (digest 
 second_found s image c d digest now refusal.ImageIndexParsingNoPlatformResolverError has h = absurd h.holds
 second_found s image c d digest now (refusal.ImageManifestNotFoundError text) has h = absurd h.holds
 second_found s image c d digest now e has h = cause_later (ManifestUrl s (entry_reference image digest)) (FoundUrl s image (c ++ d)) (DocumentCause (OwnDigest (entry_reference image digest))) (DocumentCause (FoundDigest image (c ++ d))) s manifest_types now c d e
-    (λ text is. entry_address s image (c ++ d) digest text has is)
+    (λ act is. inr (digest, has, is))
     (λ address answer g. document_more (OwnDigest (entry_reference image digest)) (FoundDigest image (c ++ d)) address answer e (λ text is. entry_digest image (c ++ d) digest text has is) g) h
 
 -- the entry's document is an index again
-again_found : (s : Settings) (image : Reference) (c d : List Exchange) (index : OciImageIndex) (digest : List ℕ) (now : ℕ) (document : OciManifest) (e : OciDistributionError) → Chosen s index digest → IndexRead c index → ReadLast d document → entry_manifest digest document ≡ Err e → FoundLoose s image (c ++ d) now e
+again_found : (s : Settings) (image : Reference) (c d : List Exchange) (index : OciImageIndex) (digest : List ℕ) (now : ℕ) (document : OciManifest) (e : OciDistributionError) → Chosen s index digest → IndexRead c index → ReadLast s (entry_reference image digest) d document → entry_manifest digest document ≡ Err e → FoundLoose s image (c ++ d) now e
 again_found s image c d index digest now (Image manifest) e choice read last is = absurd (cc is)
 again_found s image c d index digest now (ImageIndex other) e choice read last is =
     let same : refusal.ImageManifestNotFoundError digest ≡ e = cc is in
-    subst (FoundLoose s image (c ++ d) now) same (record { index = index; read = index_before d read; promise = choice.promise; has = choice.has; missing = inr (choice.answers, inr (choice.listed, last_index c other last)) })
+    subst (FoundLoose s image (c ++ d) now) same (record { index = index; read = index_before d read; promise = choice.promise; has = choice.has; missing = inr (choice.answers, inr (choice.listed, last_index s (entry_reference image digest) (FoundUrl s image (c ++ d)) c other (λ act h. inr (digest, record { index = index; read = index_before d read; listed = choice.listed }, h)) last)) })
 
 entry_is : (digest : List ℕ) (document : OciManifest) (manifest : OciImageManifest) → entry_manifest digest document ≡ Ok manifest → document ≡ Image manifest
 entry_is digest (Image found) manifest is = ap Image (cc is)
@@ -150,38 +163,38 @@ HasRead m c n manifest = ManifestRead c manifest
 abbrev pub FoundRefused : Settings → Reference → ℕ → List Exchange → ℕ → OciDistributionError → Type 0
 FoundRefused s image m c n e = FoundLoose s image c n e
 
-second_where : (s : Settings) (image : Reference) (index : OciImageIndex) (digest : List ℕ) (m start o : ℕ) (c d : List Exchange) (r : Result (OciManifest × List ℕ) OciDistributionError) → Chosen s index digest → IndexRead c index → ByAnswer (λ m c n found. ReadLast c found.0) (ManifestCause s (entry_reference image digest)) start d o r → ByAnswer (λ start d o found. ReadLast d found.0) (λ start d o e. FoundRefused s image m (c ++ d) o e) start d o r
+second_where : (s : Settings) (image : Reference) (index : OciImageIndex) (digest : List ℕ) (m start o : ℕ) (c d : List Exchange) (r : Result (OciManifest × List ℕ) OciDistributionError) → Chosen s index digest → IndexRead c index → ByAnswer (λ m c n found. ReadLast s (entry_reference image digest) c found.0) (ManifestCause s (entry_reference image digest)) start d o r → ByAnswer (λ start d o found. ReadLast s (entry_reference image digest) d found.0) (λ start d o e. FoundRefused s image m (c ++ d) o e) start d o r
 second_where s image index digest m start o c d (Ok found) choice read h = h
 second_where s image index digest m start o c d (Err e) choice read h = second_found s image c d digest o e (record { index = index; read = index_before d read; listed = choice.listed }) h
 
 entry_shows : (s : Context) (image : Reference) (a : RegistryAuth) (index : OciImageIndex) (digest : List ℕ) (m : ℕ) (c : List Exchange) → Chosen s.settings index digest → IndexRead c index → Shows (λ start d o r. ByAnswer HasRead (FoundRefused s.settings image) m (c ++ d) o r) (pull_entry s image a digest)
 unfolding pull_entry
-entry_shows s image a index digest m c choice read = Shows-each (λ start d o found. ReadLast d found.0) (λ start d o manifest. ManifestRead (c ++ d) manifest) (λ start d o e. FoundRefused s.settings image m (c ++ d) o e) (pull_manifest s (entry_reference image digest) a) (λ found. Done (entry_manifest digest found.0))
-    (Shows-more (ByAnswer (λ m c n found. ReadLast c found.0) (ManifestCause s.settings (entry_reference image digest))) (ByAnswer (λ start d o found. ReadLast d found.0) (λ start d o e. FoundRefused s.settings image m (c ++ d) o e)) (pull_manifest s (entry_reference image digest) a) (manifest_causes s (entry_reference image digest) a) (λ start o d r h. second_where s.settings image index digest m start o c d r choice read h))
+entry_shows s image a index digest m c choice read = Shows-each (λ start d o found. ReadLast s.settings (entry_reference image digest) d found.0) (λ start d o manifest. ManifestRead (c ++ d) manifest) (λ start d o e. FoundRefused s.settings image m (c ++ d) o e) (pull_manifest s (entry_reference image digest) a) (λ found. Done (entry_manifest digest found.0))
+    (Shows-more (ByAnswer (λ m c n found. ReadLast s.settings (entry_reference image digest) c found.0) (ManifestCause s.settings (entry_reference image digest))) (ByAnswer (λ start d o found. ReadLast s.settings (entry_reference image digest) d found.0) (λ start d o e. FoundRefused s.settings image m (c ++ d) o e)) (pull_manifest s (entry_reference image digest) a) (manifest_causes s (entry_reference image digest) a) (λ start o d r h. second_where s.settings image index digest m start o c d r choice read h))
     (λ start n d found last. Shows-last (λ st f o manifest. ManifestRead (c ++ (d ++ f)) manifest) (λ st f o e. FoundRefused s.settings image m (c ++ (d ++ f)) o e) (entry_manifest digest found.0)
-    (λ manifest is o. subst (λ x. ManifestRead (c ++ x) manifest) (sym (append-nil d)) (manifest_after c (subst (ReadLast d) (entry_is digest found.0 manifest is) last)))
+    (λ manifest is o. subst (λ x. ManifestRead (c ++ x) manifest) (sym (append-nil d)) (manifest_after s.settings (entry_reference image digest) c (subst (ReadLast s.settings (entry_reference image digest) d) (entry_is digest found.0 manifest is) last)))
     (λ e is o. subst (λ x. FoundRefused s.settings image m (c ++ x) o e) (sym (append-nil d)) (again_found s.settings image c d index digest o found.0 e choice read last is)))
 
 abbrev Found : ℕ → List Exchange → ℕ → OciImageManifest × List ℕ × Option (List ℕ) → Type 0
 Found m c n found = ManifestRead c found.0
 
-by_shows : (s : Context) (image : Reference) (a : RegistryAuth) (document : OciManifest) (digest : List ℕ) (m : ℕ) (c : List Exchange) → ReadLast c document → Shows (λ start d o r. ByAnswer Found (FoundRefused s.settings image) m (c ++ d) o r) (manifest_by s image a document digest)
-by_shows s image a (Image manifest) digest m c last = Shows-done (λ start d o r. ByAnswer Found (FoundRefused s.settings image) m (c ++ d) o r) (Ok (manifest, digest, None)) (λ o. subst (λ x. ManifestRead x manifest) (sym (append-nil c)) (read_manifest c manifest last))
+by_shows : (s : Context) (image : Reference) (a : RegistryAuth) (document : OciManifest) (digest : List ℕ) (m : ℕ) (c : List Exchange) → ReadLast s.settings image c document → Shows (λ start d o r. ByAnswer Found (FoundRefused s.settings image) m (c ++ d) o r) (manifest_by s image a document digest)
+by_shows s image a (Image manifest) digest m c last = Shows-done (λ start d o r. ByAnswer Found (FoundRefused s.settings image) m (c ++ d) o r) (Ok (manifest, digest, None)) (λ o. subst (λ x. ManifestRead x manifest) (sym (append-nil c)) (read_manifest s.settings image c manifest last))
 by_shows s image a (ImageIndex index) digest m c last = Shows-step (λ start d o r. ByAnswer Found (FoundRefused s.settings image) m (c ++ d) o r) (entry_found s.settings.platform_resolver index.manifests) (λ entry. pull_entry s image a entry >>= λ manifest. Done (Ok (manifest, entry, Some digest)))
     (λ entry is. Shows-each (λ start d o manifest. ManifestRead (c ++ d) manifest) (λ start d o found. ManifestRead (c ++ d) found.0) (λ start d o e. FoundRefused s.settings image m (c ++ d) o e) (pull_entry s image a entry) (λ manifest. Done (Ok (manifest, entry, Some digest)))
-    (entry_shows s image a index entry m c (chosen s.settings index entry is) (read_index c index last))
+    (entry_shows s image a index entry m c (chosen s.settings index entry is) (read_index s.settings image c index last))
     (λ start n d manifest h. Shows-done (λ st f o r. ByAnswer (λ start d o found. ManifestRead (c ++ d) found.0) (λ start d o e. FoundRefused s.settings image m (c ++ d) o e) start (d ++ f) o r) (Ok (manifest, entry, Some digest)) (λ o. subst (λ x. ManifestRead (c ++ x) manifest) (sym (append-nil d)) h)))
     (λ e is o. subst (λ x. FoundRefused s.settings image m x o e) (sym (append-nil c)) (found_err s.settings image c o index s.settings.platform_resolver e refl last is))
 
-first_where : (s : Settings) (image : Reference) (m n : ℕ) (c : List Exchange) (r : Result (OciManifest × List ℕ) OciDistributionError) → ByAnswer (λ m c n found. ReadLast c found.0) (ManifestCause s image) m c n r → ByAnswer (λ m c n found. ReadLast c found.0) (FoundRefused s image) m c n r
+first_where : (s : Settings) (image : Reference) (m n : ℕ) (c : List Exchange) (r : Result (OciManifest × List ℕ) OciDistributionError) → ByAnswer (λ m c n found. ReadLast s image c found.0) (ManifestCause s image) m c n r → ByAnswer (λ m c n found. ReadLast s image c found.0) (FoundRefused s image) m c n r
 first_where s image m n c (Ok found) h = h
 first_where s image m n c (Err e) h = first_found s image c n e h
 
 -- the manifest was read, and each refusal has its cause
 pub found_causes : (s : Context) (image : Reference) (a : RegistryAuth) → Shows (ByAnswer (λ m c n found. ManifestRead c found.0) (FoundRefused s.settings image)) (pull_image_manifest_and_list_digest s image a)
 unfolding pull_image_manifest_and_list_digest
-found_causes s image a = Shows-each (λ m c n found. ReadLast c found.0) Found (FoundRefused s.settings image) (pull_manifest s image a) (λ found. manifest_by s image a found.0 found.1)
-    (Shows-more (ByAnswer (λ m c n found. ReadLast c found.0) (ManifestCause s.settings image)) (ByAnswer (λ m c n found. ReadLast c found.0) (FoundRefused s.settings image)) (pull_manifest s image a) (manifest_causes s image a) (λ m n c r h. first_where s.settings image m n c r h))
+found_causes s image a = Shows-each (λ m c n found. ReadLast s.settings image c found.0) Found (FoundRefused s.settings image) (pull_manifest s image a) (λ found. manifest_by s image a found.0 found.1)
+    (Shows-more (ByAnswer (λ m c n found. ReadLast s.settings image c found.0) (ManifestCause s.settings image)) (ByAnswer (λ m c n found. ReadLast s.settings image c found.0) (FoundRefused s.settings image)) (pull_manifest s image a) (manifest_causes s image a) (λ m n c r h. first_where s.settings image m n c r h))
     (λ m n c found last. by_shows s image a found.0 found.1 m c last)
 
 pub found_any : (s : Context) (image : Reference) (a : RegistryAuth) → Shows (ByAnswer (λ m c n found. Unit {0}) (FoundRefused s.settings image)) (pull_image_manifest_and_list_digest s image a)

@@ -33,7 +33,7 @@ use Rattle.engine_laws.proofs.DocumentCauses.{cause_later}
 use Rattle.engine_laws.proofs.BlobAnswers.{Blob, blob_shows}
 use Rattle.engine_laws.proofs.BlobCauses.{blob_later, blob_causes}
 use Rattle.engine_laws.proofs.ManifestCauses.{answer_document, document_more}
-use Rattle.engine_laws.proofs.FoundCauses.{read_before, FoundLoose, FoundRefused, found_causes}
+use Rattle.engine_laws.proofs.FoundCauses.{read_before, no_resolver_more, no_entry_more, FoundLoose, FoundRefused, found_causes}
 
 -- ---- layers, one after another
 
@@ -122,8 +122,8 @@ blob_config s image c d x now e has h = blob_led s image c d x now e has h
 
 -- the manifest was
 led_on : (s : Settings) (image : Reference) (c : List Exchange) (now : ℕ) (e : OciDistributionError) → FoundLoose s image c now e → BlobLed s image c now e
-led_on s image c now refusal.ImageIndexParsingNoPlatformResolverError h = h
-led_on s image c now (refusal.ImageManifestNotFoundError text) h = h
+led_on s image c now refusal.ImageIndexParsingNoPlatformResolverError h = no_resolver_more (FoundUrl s image c) (ImageUrl s image c) (FoundDigest image c) (ImageDigest image c) s c now (λ act is. inl is) h
+led_on s image c now (refusal.ImageManifestNotFoundError text) h = no_entry_more (FoundUrl s image c) (ImageUrl s image c) (FoundDigest image c) (ImageDigest image c) s c now text (λ act is. inl is) h
 led_on s image c now e h = cause_later (FoundUrl s image c) (ImageUrl s image c) (DocumentCause (FoundDigest image c)) (DocumentCause (ImageDigest image c)) s manifest_types now [] c e (λ text is. inl is) (λ address answer g. document_more (FoundDigest image c) (ImageDigest image c) address answer e (λ text is. inl is) g) h
 
 found_image : (s : Settings) (image : Reference) (accepted : List (List ℕ)) (c : List Exchange) (now : ℕ) (e : OciDistributionError) → FoundLoose s image c now e → RowCause s image accepted c now e

@@ -25,7 +25,7 @@ use Rattle.engine_terms.specs.Error.{◌>>◌ as ◌before◌}
 use Rattle.engine_requests.specs.Requests.{manifest_types}
 use Rattle.engine_answers.specs.Documents.{plain_of, type_checked, version_checked, versioned_in, or_unread, reads_twice, tables_read, document_read}
 use Rattle.engine_rows.specs.Pulls.{pull_manifest_raw, pull_manifest}
-use Rattle.engine_laws.specs.Causes.{ManifestUrl, Claimed, DigestCause, AnswerCause, IsNoDocument, DocumentCause, ByLast, OwnDigest}
+use Rattle.engine_laws.specs.Causes.{Act, ManifestUrl, Claimed, DigestCause, AnswerCause, IsNoDocument, DocumentCause, ByLast, OwnDigest}
 use Rattle.engine_laws.proofs.EarlyCauses.{Loose}
 use Rattle.engine_laws.proofs.DocumentCauses.{cause_later, last_later, Accepted, OwnCause, raw_causes}
 
@@ -84,7 +84,7 @@ unread_cause Given address answer (refusal.UnsupportedMediaTypeError media_type)
 unread_cause Given address answer e kind h = absurd kind
 
 -- so of the last answer
-last_unread : (T : List ℕ → Type 0) (Given : List ℕ → Type 0) (s : Settings) (types : List ℕ) (now : ℕ) (c : List Exchange) (e : OciDistributionError) → IsOfDocument e → ByLast (λ address answer. DocumentCause Given address answer e) c → Loose T (DocumentCause Given) s types c now e
+last_unread : (T : Act → Type 0) (Given : List ℕ → Type 0) (s : Settings) (types : List ℕ) (now : ℕ) (c : List Exchange) (e : OciDistributionError) → IsOfDocument e → ByLast T (λ address answer. DocumentCause Given address answer e) c → Loose T (DocumentCause Given) s types c now e
 last_unread T Given s types now c (refusal.VersionedParsingError body) kind h = h
 last_unread T Given s types now c (refusal.ManifestParsingError body) kind h = h
 last_unread T Given s types now c (refusal.AmbiguousManifest body) kind h = h
@@ -95,10 +95,10 @@ last_unread T Given s types now c e kind h = absurd kind
 of_read : (body : List ℕ) (e : OciDistributionError) → document_read body ≡ Err e → IsOfDocument e
 of_read body e is = let P : Result OciManifest OciDistributionError → Type 0 = OfDocument in subst P is (read_of_document body)
 
-pub document_refused : (T : List ℕ → Type 0) (Given : List ℕ → Type 0) (s : Settings) (types : List ℕ) (now : ℕ) (c : List Exchange) (bytes : List ℕ) (e : OciDistributionError) → Accepted c bytes → document_read bytes ≡ Err e → Loose T (DocumentCause Given) s types c now e
-document_refused T Given s types now c bytes e last is =
+pub document_refused : (Given : List ℕ → Type 0) (s : Settings) (image : Reference) (types : List ℕ) (now : ℕ) (c : List Exchange) (bytes : List ℕ) (e : OciDistributionError) → Accepted s image c bytes → document_read bytes ≡ Err e → Loose (ManifestUrl s image) (DocumentCause Given) s types c now e
+document_refused Given s image types now c bytes e last is =
     let kind = of_read bytes e is in
-    last_unread T Given s types now c e kind (last_later (λ address answer. DocumentCause Given address answer e) [] (λ address answer h. unread_cause Given address answer e kind (h.0, ap document_read (sym h.1) ∙ is)) last)
+    last_unread (ManifestUrl s image) Given s types now c e kind (last_later (ManifestUrl s image) (ManifestUrl s image) (λ address answer. DocumentCause Given address answer e) [] (λ act h. h) (λ address answer h. unread_cause Given address answer e kind (h.0, ap document_read (sym h.1) ∙ is)) last)
 
 -- ---- more digests may be claimed
 
@@ -129,20 +129,20 @@ document_more P Q address answer e more h = h
 -- ---- a manifest
 
 -- the last answer's body is this document
-abbrev pub ReadLast : List Exchange → OciManifest → Type 0
-ReadLast c document = ByLast (λ address answer. document_read answer.body ≡ Ok document) c
+abbrev pub ReadLast : Settings → Reference → List Exchange → OciManifest → Type 0
+ReadLast s image c document = ByLast (ManifestUrl s image) (λ address answer. document_read answer.body ≡ Ok document) c
 
 abbrev pub ManifestCause : Settings → Reference → ℕ → List Exchange → ℕ → OciDistributionError → Type 0
 ManifestCause s image m c n e = Loose (ManifestUrl s image) (DocumentCause (OwnDigest image)) s manifest_types c n e
 
-pub raw_where : (s : Settings) (image : Reference) (m n : ℕ) (c : List Exchange) (r : Result (List ℕ × List ℕ) OciDistributionError) → ByAnswer (λ m c n found. Accepted c found.0) (OwnCause s image manifest_types) m c n r → ByAnswer (λ m c n found. Accepted c found.0) (ManifestCause s image) m c n r
+pub raw_where : (s : Settings) (image : Reference) (m n : ℕ) (c : List Exchange) (r : Result (List ℕ × List ℕ) OciDistributionError) → ByAnswer (λ m c n found. Accepted s image c found.0) (OwnCause s image manifest_types) m c n r → ByAnswer (λ m c n found. Accepted s image c found.0) (ManifestCause s image) m c n r
 raw_where s image m n c (Ok found) h = h
 raw_where s image m n c (Err e) h = cause_later (ManifestUrl s image) (ManifestUrl s image) (AnswerCause (OwnDigest image)) (DocumentCause (OwnDigest image)) s manifest_types n [] c e (λ text h. h) (λ address answer h. answer_document (OwnDigest image) (OwnDigest image) address answer e (λ text h. h) h) h
 
-pub manifest_causes : (s : Context) (image : Reference) (a : RegistryAuth) → Shows (ByAnswer (λ m c n found. ReadLast c found.0) (ManifestCause s.settings image)) (pull_manifest s image a)
+pub manifest_causes : (s : Context) (image : Reference) (a : RegistryAuth) → Shows (ByAnswer (λ m c n found. ReadLast s.settings image c found.0) (ManifestCause s.settings image)) (pull_manifest s image a)
 unfolding pull_manifest
-manifest_causes s image a = Shows-each (λ m c n found. Accepted c found.0) (λ m c n found. ReadLast c found.0) (ManifestCause s.settings image) (pull_manifest_raw s image a manifest_types) (λ found. Done (document_read found.0) >>= λ document. Done (Ok (document, found.1)))
-    (Shows-more (ByAnswer (λ m c n found. Accepted c found.0) (OwnCause s.settings image manifest_types)) (ByAnswer (λ m c n found. Accepted c found.0) (ManifestCause s.settings image)) (pull_manifest_raw s image a manifest_types) (raw_causes s image a manifest_types) (raw_where s.settings image))
-    (λ m n c found h. Shows-step (λ start d o r. ByAnswer (λ m c n found. ReadLast c found.0) (ManifestCause s.settings image) m (c ++ d) o r) (document_read found.0) (λ document. Done (Ok (document, found.1)))
-    (λ document is. Shows-done (λ start d o r. ByAnswer (λ m c n found. ReadLast c found.0) (ManifestCause s.settings image) m (c ++ d) o r) (Ok (document, found.1)) (λ o. subst (λ x. ReadLast x document) (sym (append-nil c)) (last_later (λ address answer. document_read answer.body ≡ Ok document) [] (λ address answer g. ap document_read (sym g.1) ∙ is) h)))
-    (λ e is o. subst (λ x. ManifestCause s.settings image m x o e) (sym (append-nil c)) (document_refused (ManifestUrl s.settings image) (OwnDigest image) s.settings manifest_types o c found.0 e h is)))
+manifest_causes s image a = Shows-each (λ m c n found. Accepted s.settings image c found.0) (λ m c n found. ReadLast s.settings image c found.0) (ManifestCause s.settings image) (pull_manifest_raw s image a manifest_types) (λ found. Done (document_read found.0) >>= λ document. Done (Ok (document, found.1)))
+    (Shows-more (ByAnswer (λ m c n found. Accepted s.settings image c found.0) (OwnCause s.settings image manifest_types)) (ByAnswer (λ m c n found. Accepted s.settings image c found.0) (ManifestCause s.settings image)) (pull_manifest_raw s image a manifest_types) (raw_causes s image a manifest_types) (raw_where s.settings image))
+    (λ m n c found h. Shows-step (λ start d o r. ByAnswer (λ m c n found. ReadLast s.settings image c found.0) (ManifestCause s.settings image) m (c ++ d) o r) (document_read found.0) (λ document. Done (Ok (document, found.1)))
+    (λ document is. Shows-done (λ start d o r. ByAnswer (λ m c n found. ReadLast s.settings image c found.0) (ManifestCause s.settings image) m (c ++ d) o r) (Ok (document, found.1)) (λ o. subst (λ x. ReadLast s.settings image x document) (sym (append-nil c)) (last_later (ManifestUrl s.settings image) (ManifestUrl s.settings image) (λ address answer. document_read answer.body ≡ Ok document) [] (λ act h. h) (λ address answer g. ap document_read (sym g.1) ∙ is) h)))
+    (λ e is o. subst (λ x. ManifestCause s.settings image m x o e) (sym (append-nil c)) (document_refused (OwnDigest image) s.settings image manifest_types o c found.0 e h is)))

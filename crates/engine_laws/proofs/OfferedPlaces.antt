@@ -121,10 +121,14 @@ EachPlace P (p ∷ ps) = P p × EachPlace P ps
 abbrev pub Unasked : (ℕ → List Exchange → ℕ → Result (List ℕ) OciDistributionError → Type 0) → Settings → Place → Type 0
 Unasked Q s p = (e : OciDistributionError) → asked_at s p ≡ Err e → (m : ℕ) → Q m [] m (Err e)
 
+-- the request at a place is good
+abbrev pub Gives : (Request → Type 0) → Settings → Place → Type 0
+Gives Good s p = (request : Request) → asked_at s p ≡ Ok request → Good request
+
 -- of the request and of each place
-pub tried_law : (Q : ℕ → List Exchange → ℕ → Result (List ℕ) OciDistributionError → Type 0) (Good : Request → Type 0) (to : Destination) (s : Settings) (digest : List ℕ) → ((request : Request) → Good request → Replied Q to s.max_body_bytes digest request) → Later Q → ((p : Place) (request : Request) → asked_at s p ≡ Ok request → Good request)
-    → (places : List Place) → EachPlace (Unasked Q s) places → (request : Request) → Good request → Shows Q (tried to s digest places request)
+pub tried_law : (Q : ℕ → List Exchange → ℕ → Result (List ℕ) OciDistributionError → Type 0) (Good : Request → Type 0) (to : Destination) (s : Settings) (digest : List ℕ) → ((request : Request) → Good request → Replied Q to s.max_body_bytes digest request) → Later Q
+    → (places : List Place) → EachPlace (Gives Good s) places → EachPlace (Unasked Q s) places → (request : Request) → Good request → Shows Q (tried to s digest places request)
 unfolding tried
-tried_law Q Good to s digest each later made [] unasked request good = attempt_law Q to s.max_body_bytes digest request (each request good)
-tried_law Q Good to s digest each later made (p ∷ ps) unasked request good = offer_law Q to s.max_body_bytes digest (Done (asked_at s p) >>= (λ next. tried to s digest ps next)) request (each request good) later
-    (Shows-step Q (asked_at s p) (λ next. tried to s digest ps next) (λ next is. tried_law Q Good to s digest each later made ps unasked.1 next (made p next is)) (λ e is. unasked.0 e is))
+tried_law Q Good to s digest each later [] made unasked request good = attempt_law Q to s.max_body_bytes digest request (each request good)
+tried_law Q Good to s digest each later (p ∷ ps) made unasked request good = offer_law Q to s.max_body_bytes digest (Done (asked_at s p) >>= (λ next. tried to s digest ps next)) request (each request good) later
+    (Shows-step Q (asked_at s p) (λ next. tried to s digest ps next) (λ next is. tried_law Q Good to s digest each later ps made.1 unasked.1 next (made.0 next is)) (λ e is. unasked.0 e is))

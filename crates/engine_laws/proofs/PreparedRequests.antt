@@ -1,14 +1,16 @@
--- What the requests of a client ask, and that its token step asks no document.
+-- What the requests of a client ask, and what its token step asks before them.
 use Rattle.std.proofs.Common.{◌≡◌, ℕ, zero, Bool, true, false, List, [], ◌∷◌, ◌++◌, Option, Some, None, Result, Ok, Err, codes, unwrap_or, refl, sym, ap, subst, ◌∙◌, append-nil}
-use Rattle.std.specs.Prelude.{slice_get, nat_lt, ◌&&◌, if◌then◌else◌}
+use Rattle.std.specs.Prelude.{nat_lt, ◌&&◌, if◌then◌else◌}
 use Rattle.std.specs.FinMap as map
 use Rattle.std.specs.FinMap.{get-insert, get-empty}
 use Rattle.std.specs.Cmp.Lexicographic.{nat_list_cmp_total}
 use Rattle.url.specs.Parts.{Parts, serialize}
 use Rattle.json_values.specs.Places.{by_bytes}
-use Rattle.oci_transport.specs.Headers.{Fields, values_of, first_of, added, held, is_header_value}
+use Rattle.oci_transport.specs.Headers.{Fields, values_of, added, held, is_header_value}
 use Rattle.oci_transport.specs.Urls.{request_url}
 use Rattle.oci_transport.specs.declared.message.Request.{Request}
+use Rattle.oci_transport.specs.Link.{answer_of}
+use Rattle.oci_transport.specs.declared.message.Answer.{Answer}
 use Rattle.oci_transport.specs.declared.message.AnswerHead.{AnswerHead}
 use Rattle.oci_transport.specs.declared.message.Exchange.{Exchange}
 use Rattle.oci_transport.specs.declared.message.Method.{Method}
@@ -19,7 +21,6 @@ use Rattle.oci_auth.specs.declared.auth.RegistryAuth.{RegistryAuth}
 use Rattle.oci_auth.specs.declared.memory.Memory.{Memory}
 use Rattle.oci_auth.specs.Memory.{stored}
 use Rattle.oci_auth.specs.Cache.{key_of, token_at}
-use Rattle.oci_auth.specs.Auth.{own_token, authorization_of}
 use Rattle.oci_auth.specs.Kept.{Key}
 use Rattle.oci_auth.specs.declared.auth.RegistryAuth.TheVariants as credentials
 use Rattle.oci_auth.specs.declared.token_type.RegistryOperation.{RegistryOperation}
@@ -27,27 +28,24 @@ use Rattle.oci_auth.specs.declared.token_type.RegistryTokenType.{RegistryTokenTy
 use Rattle.http_challenges.specs.declared.bearer.BearerChallenge.{BearerChallenge}
 use Rattle.oci_protocol.specs.Proto.{Reading, read_within, Reply, Headed, Answered, Failed, TooLong, SinkFailed, read_none, Proto, Done, bind, unless_refused, ◌>>=◌}
 use Rattle.oci_protocol.specs.Follow.{Trail}
-use Rattle.oci_protocol.specs.Shows.{Shows, WhereOk, Heard}
-use Rattle.oci_protocol.proofs.RunFacts.{Shows-done, Shows-more, Shows-bind, Shows-next, Shows-step, Shows-last, Shows-recall, Shows-keep, Shows-follow}
+use Rattle.oci_protocol.specs.Runs.{Runs, head_part}
+use Rattle.oci_protocol.specs.Shows.{Shows, ByAnswer, WhereOk, Heard}
+use Rattle.oci_protocol.proofs.RunFacts.{done_run, Shows-done, Shows-more, Shows-bind, Shows-next, Shows-step, Shows-last, Shows-recall, Shows-keep, Shows-follow}
 use Rattle.engine_terms.specs.Contexts.{Context}
 use Rattle.engine_terms.specs.declared.settings.Settings.{Settings}
 use Rattle.engine_terms.specs.declared.error.GenericCause.TheVariants.{HeaderText}
 use Rattle.engine_terms.specs.declared.error.OciDistributionError.TheVariants as refusal
 use Rattle.engine_terms.specs.Error.{◌>>=◌ as ◌into◌}
-use Rattle.engine_requests.specs.Addresses.{url_read, base_text, registry_text}
+use Rattle.engine_requests.specs.Addresses.{url_or, url_read, base_text, registry_text}
 use Rattle.engine_requests.specs.Requests.{with_header, with_accept, with_token, headers_of, request_of, bare_request}
-use Rattle.engine_requests.specs.Tokens.{wanted, realm_url, realm_request, token_read}
+use Rattle.engine_requests.specs.Tokens.{wanted, realm_request, token_read}
 use Rattle.engine_requests.specs.declared.tokens.Wanted.{Wanted}
 use Rattle.engine_requests.specs.declared.tokens.Wanted.TheVariants as wants
 use Rattle.engine_terms.specs.declared.error.OciDistributionError.{OciDistributionError}
 use Rattle.engine_rows.specs.Rows.{whole_reply, whole, head_reply, head_after, recalled, store, realm_asked, fetched, registry_asked, token_step, with_kept, passed_over, taken, token_asked, kept_or_asked, token_by, token_for, goes_to, token_where, authorized, prepared}
-use Rattle.engine_laws.specs.Answered.{Asks, NoneAsks}
+use Rattle.engine_laws.specs.Answered.{AsksRegistry, AsksRealm, OfTokenStep, Asks}
 
--- ---- what a request lists
-
-accept_first : (m : Fields) (types : List ℕ) → values_of (codes "accept") m ≡ [] → first_of (codes "accept") (added m (codes "accept") types) ≡ Some types
-accept_first m types none =
-    ap (λ o. slice_get (unwrap_or o []) 0) (get-insert nat_list_cmp_total m (codes "accept") (values_of (codes "accept") m ++ types ∷ []) (codes "accept")) ∙ ap (λ (xs : List (List ℕ)). slice_get (xs ++ types ∷ []) 0) none
+-- ---- how a request is made
 
 pub accept_none : (name : List ℕ) → values_of (codes "accept") (added map.empty (codes "user-agent") name) ≡ []
 accept_none name =
@@ -63,14 +61,6 @@ with_ok headers name value made = by_test (is_header_value value && nat_lt (held
 pub into_ok : {A B E : Type 0} (r : Result A E) (f : A → Result B E) (b : B) → (r into f) ≡ Ok b → (a : A) × (r ≡ Ok a) × (f a ≡ Ok b)
 into_ok (Ok a) f b is = (a, refl, is)
 into_ok (Err e) f b is = cc
-
--- a token changes nothing of the types
-token_keeps : (m : Fields) (value : List ℕ) → first_of (codes "accept") (added m (codes "authorization") value) ≡ first_of (codes "accept") m
-token_keeps m value = ap (λ (o : Option (List (List ℕ))). slice_get (unwrap_or o []) 0) (get-insert nat_list_cmp_total m (codes "authorization") (values_of (codes "authorization") m ++ value ∷ []) (codes "accept"))
-
-with_token_keeps : (m : Fields) (token : Option RegistryTokenType) (made : Fields) → with_token token m ≡ Ok made → first_of (codes "accept") made ≡ first_of (codes "accept") m
-with_token_keeps m None made is = let same : m ≡ made = cc is in ap (first_of (codes "accept")) (sym same)
-with_token_keeps m (Some token) made is = ap (first_of (codes "accept")) (with_ok m (codes "authorization") (authorization_of token) made is) ∙ token_keeps m (authorization_of token)
 
 -- a request that was made
 pub record Made (s : Settings) (method : Method) (url : Parts) (types : Option (List ℕ)) (token : Option RegistryTokenType) (request : Request) : Type 0 where
@@ -94,155 +84,195 @@ made_of s method url types token request is =
       shown = two.2;
     }
 
--- a request lists the types that it is made of
-pub accepts_of : (s : Settings) (method : Method) (url : Parts) (types : List ℕ) (token : Option RegistryTokenType) (request : Request) → request_of s method url (Some types) token ≡ Ok request → first_of (codes "accept") request.headers ≡ Some types
-accepts_of s method url types token request is =
-    let made = made_of s method url (Some types) token request is in
-    let listing = with_ok (added map.empty (codes "user-agent") s.user_agent) (codes "accept") types made.listing made.listed in
-    ap (λ (r : Request). first_of (codes "accept") r.headers) made.is ∙ with_token_keeps made.listing token made.headers made.shown ∙ ap (first_of (codes "accept")) listing ∙ accept_first (added map.empty (codes "user-agent") s.user_agent) types (accept_none s.user_agent)
-
--- and asks for its URL
-pub asks_of : (s : Settings) (method : Method) (url : Parts) (types : List ℕ) (token : Option RegistryTokenType) (request : Request) → request_of s method url (Some types) token ≡ Ok request → Asks method (serialize url) request
+-- it asks so
+pub asks_of : (s : Settings) (method : Method) (url : Parts) (types : Option (List ℕ)) (token : Option RegistryTokenType) (request : Request) → request_of s method url types token ≡ Ok request → Asks s method url types request
 asks_of s method url types token request is =
-    let made = made_of s method url (Some types) token request is in
+    let made = made_of s method url types token request is in
     record {
       method_is = ap (λ (r : Request). r.method) made.is;
       address_is = ap (λ (r : Request). r.url) made.is;
-      own = λ exchange. cc (sym (accepts_of s method url types token request is) ∙ exchange.lists_none);
+      token = token;
+      made = is;
     }
 
--- one that lists none does not ask
-pub asks_none : (s : Settings) (method : Method) (url : Parts) (token : Option RegistryTokenType) (address : List ℕ) (request : Request) → request_of s Get url None token ≡ Ok request → Asks method address request → ⊥
-asks_none s method url token address request is asks =
-    let made = made_of s Get url None token request is in
-    let listing : made.listing ≡ added map.empty (codes "user-agent") s.user_agent = cc (made.listed) in
-    let none : first_of (codes "accept") request.headers ≡ None = ap (λ (r : Request). first_of (codes "accept") r.headers) made.is ∙ with_token_keeps made.listing token made.headers made.shown ∙ ap (first_of (codes "accept")) listing ∙ ap (λ xs. slice_get xs 0) (accept_none s.user_agent) in
-    asks.own (record { method_is = ap (λ (r : Request). r.method) made.is; lists_none = none })
+-- ---- steps that ask nothing
+
+abbrev pub Silent : {A : Type 0} → ℕ → List Exchange → ℕ → A → Type 0
+Silent m c n a = c ≡ []
+
+silent_done : {A : Type 0} (a : A) → Shows {K = Memory} Silent (Done a)
+silent_done a = Shows-done Silent a (λ m. refl)
+
+silent_recalled : Shows Silent recalled
+silent_recalled = Shows-recall Silent _ (λ k. silent_done (Ok k))
+
+silent_taken : (moment : ℕ) (key : Key) (r : Result (Option RegistryTokenType) OciDistributionError) → Shows Silent (taken moment key r)
+silent_taken moment key (Ok None) = silent_done (Ok None)
+silent_taken moment key (Ok (Some token)) = Shows-recall Silent _ (λ k. Shows-keep Silent (with_kept k key token moment) (Done (Ok (Some token))) (silent_done (Ok (Some token))))
+silent_taken moment key (Err e) = silent_done (passed_over e)
+
+-- before what is so of the exchanges, and after it
+silent_first : (P : List Exchange → Type 0) {A B E : Type 0} (p : Proto Memory (Result A E)) (f : A → Proto Memory (Result B E)) → P [] → Shows Silent p → ((a : A) → Shows (λ m c n b. P c) (f a)) → Shows (λ m c n b. P c) (p >>= f)
+silent_first P {A} {B} {E} p f none first each = Shows-bind Silent (λ m c n b. P c) p (unless_refused f) first (λ m n c r h. Shows-more (λ s d o b. P d) (λ s d o b. P (c ++ d)) (unless_refused f r) (by_result r) (λ s o d b g. subst (λ (x : List Exchange). P (x ++ d)) (sym h) g)) where
+  by_result : (r : Result A E) → Shows (λ m c n b. P c) (unless_refused f r)
+  by_result (Ok a) = each a
+  by_result (Err e) = Shows-done (λ m c n b. P c) (Err e) (λ m. none)
+
+silent_last : (P : List Exchange → Type 0) {A B : Type 0} (p : Proto Memory A) (f : A → Proto Memory B) → Shows (λ m c n a. P c) p → ((a : A) → Shows Silent (f a)) → Shows (λ m c n b. P c) (bind p f)
+silent_last P p f first each = Shows-bind (λ m c n a. P c) (λ m c n b. P c) p f first (λ m n c a h. Shows-more Silent (λ s d o b. P (c ++ d)) (f a) (each a) (λ s o d b g. subst (λ (x : List Exchange). P (c ++ x)) (sym g) (subst P (sym (append-nil c)) h)))
+
+silent_unless : {A B E : Type 0} (f : A → Proto Memory (Result B E)) → ((a : A) → Shows Silent (f a)) → (r : Result A E) → Shows Silent (unless_refused f r)
+silent_unless f each (Ok a) = each a
+silent_unless f each (Err e) = silent_done (Err e)
+
+pub silent_store : (image : Reference) (a : RegistryAuth) → Shows Silent (store image a)
+unfolding store
+silent_store image a = silent_first (λ c. c ≡ []) recalled _ refl silent_recalled (λ k. Shows-keep Silent (stored k (resolved_registry image) a) (Done (Ok tt)) (silent_done (Ok tt)))
+
+-- ---- one request that is not followed
+
+record One (request : Request) (c : List Exchange) : Type 0 where
+  exchange : Exchange
+  split : c ≡ exchange ∷ []
+  request_is : exchange.request ≡ request
+
+one_heard : (request last : Request) {reading : AnswerHead → Reading} (m after : ℕ) (c : List Exchange) (reply : Reply) (h : Heard zero request reading m c after last reply) → (c ≡ h.exchange ∷ []) × (h.exchange.request ≡ request)
+unfolding Trail
+one_heard request last m after c reply h = by_trail h.redirects h.split h.trail where
+  by_trail : (redirects : List Exchange) → c ≡ redirects ++ h.exchange ∷ [] → Trail zero request m redirects h.left last h.before → (c ≡ h.exchange ∷ []) × (h.exchange.request ≡ request)
+  by_trail [] split trail = (split, h.replies.request_is ∙ sym trail.1)
+  by_trail (e ∷ redirects) split trail = absurd trail
+
+one_of : (request last : Request) {reading : AnswerHead → Reading} (m after : ℕ) (c : List Exchange) (reply : Reply) (h : Heard zero request reading m c after last reply) → One request (c ++ [])
+one_of request last m after c reply h = let one = one_heard request last m after c reply h in record { exchange = h.exchange; split = append-nil c ∙ one.0; request_is = one.1 }
+
+-- it was answered with this head
+record OneHead (request : Request) (c : List Exchange) (head : AnswerHead) : Type 0 where
+  exchange : Exchange
+  split : c ≡ exchange ∷ []
+  request_is : exchange.request ≡ request
+  answer : Answer
+  answered : exchange.answer ≡ Some answer
+  head_is : head_part answer ≡ head
+
+abbrev HeadShown : Request → ℕ → List Exchange → ℕ → Result AnswerHead OciDistributionError → Type 0
+HeadShown request = ByAnswer (λ m c n head. OneHead request c head) (λ m c n e. One request c)
+
+head_run : (request : Request) (k l : Memory) (m after o : ℕ) (c d : List Exchange) (last : Request) (reply : Reply) (r : Result AnswerHead OciDistributionError) → Heard 0 request read_none m c after last reply → Runs (head_reply last reply) k after d o l r → HeadShown request m (c ++ d) o r
+head_run request k l m after o c d last (Headed head) r h run =
+    let b = h.replies.reply_is in
+    let one = one_heard request last m after c (Headed head) h in
+    done_run (λ start d o r. HeadShown request m (c ++ d) o r) (Ok head) k l after o d r (record { exchange = h.exchange; split = append-nil c ∙ one.0; request_is = one.1; answer = answer_of head b.0; answered = b.1; head_is = refl }) run
+head_run request k l m after o c d last (Answered answer) r h run = done_run (λ start d o r. HeadShown request m (c ++ d) o r) (Err refusal.TransportFault) k l after o d r (one_of request last m after c (Answered answer) h) run
+head_run request k l m after o c d last Failed r h run = done_run (λ start d o r. HeadShown request m (c ++ d) o r) (Err refusal.TransportFault) k l after o d r (one_of request last m after c Failed h) run
+head_run request k l m after o c d last TooLong r h run = done_run (λ start d o r. HeadShown request m (c ++ d) o r) (Err refusal.TransportFault) k l after o d r (one_of request last m after c TooLong h) run
+head_run request k l m after o c d last SinkFailed r h run = done_run (λ start d o r. HeadShown request m (c ++ d) o r) (Err refusal.TransportFault) k l after o d r (one_of request last m after c SinkFailed h) run
+
+head_shown : (request : Request) → Shows (HeadShown request) (head_after 0 request)
+unfolding head_after
+head_shown request = Shows-follow (HeadShown request) 0 request read_none head_reply (head_run request)
+
+-- the reply's result asks nothing more
+whole_silent : (last : Request) (reply : Reply) → Shows Silent (whole_reply last reply)
+whole_silent last (Headed head) = silent_done _
+whole_silent last (Answered answer) = silent_done _
+whole_silent last Failed = silent_done _
+whole_silent last TooLong = silent_done _
+whole_silent last SinkFailed = silent_done _
+
+whole_shown : (request : Request) (limit : ℕ) → Shows (λ m c n r. One request c) (whole 0 request limit)
+unfolding whole
+whole_shown request limit = Shows-follow (λ m c n r. One request c) 0 request (read_within limit) whole_reply (λ k l m after o c d last reply r h run. subst (λ (x : List Exchange). One request (c ++ x)) (sym ((whole_silent last reply).shows k l after o d r run)) (one_of request last m after c reply h))
 
 -- ---- what the token step asks
 
-pub none_more : (method : Method) (address : List ℕ) (c d : List Exchange) → NoneAsks method address c → NoneAsks method address d → NoneAsks method address (c ++ d)
-none_more method address [] d first second = second
-none_more method address (e ∷ c) d first second = (first.0, none_more method address c d first.1 second)
+url_some : (text : List ℕ) (o : Option Parts) (url : Parts) → url_or text o ≡ Ok url → o ≡ Some url
+url_some text (Some found) url is = cc is
+url_some text None url is = absurd (cc is)
 
--- no exchange asks so
-abbrev Quiet : Method → List ℕ → {A : Type 0} → ℕ → List Exchange → ℕ → A → Type 0
-Quiet method address m c n a = NoneAsks method address c
+-- behind the registry's answer: nothing, or the realm that is wanted
+abbrev Behind : Settings → Reference → RegistryOperation → Wanted → List Exchange → Type 0
+Behind s image op w [] = Unit {0}
+Behind s image op w (f ∷ []) = (challenge : BearerChallenge) × (w ≡ wants.Token challenge) × AsksRealm s image op challenge f.request
+Behind s image op w _ = ⊥
 
-quiet_done : (method : Method) (address : List ℕ) {A : Type 0} (a : A) → Shows {K = Memory} (Quiet method address) (Done a)
-quiet_done method address a = Shows-done (Quiet method address) a (λ m. tt)
+realm_behind : (s : Settings) (image : Reference) (op : RegistryOperation) (challenge : BearerChallenge) (request : Request) (c : List Exchange) → AsksRealm s image op challenge request → One request c → Behind s image op (wants.Token challenge) c
+realm_behind s image op challenge request c asks one = subst (Behind s image op (wants.Token challenge)) (sym one.split) (challenge, refl, subst (AsksRealm s image op challenge) (sym one.request_is) asks)
 
-quiet_bind : (method : Method) (address : List ℕ) {A B : Type 0} (p : Proto Memory A) (f : A → Proto Memory B) → Shows (Quiet method address) p → ((a : A) → Shows (Quiet method address) (f a)) → Shows (Quiet method address) (bind p f)
-quiet_bind method address p f first each = Shows-bind (Quiet method address) (Quiet method address) p f first (λ m n c a h. Shows-more (Quiet method address) (λ s d o b. NoneAsks method address (c ++ d)) (f a) (each a) (λ s o d b g. none_more method address c d h g))
+realm_shown : (s : Settings) (image : Reference) (a : RegistryAuth) (op : RegistryOperation) (challenge : BearerChallenge) → Shows (λ m c n r. Behind s image op (wants.Token challenge) c) (realm_asked s image a op challenge)
+unfolding realm_asked
+realm_shown s image a op challenge = Shows-step (λ m c n r. B c) (url_read challenge.realm) _ (λ url read. Shows-step (λ m c n r. B c) (realm_request s image a op challenge.service url) _ (λ request made. silent_last B (whole 0 request s.max_body_bytes) (unless_refused (λ got. Done (token_read got.answer)))
+    (Shows-more (λ m c n r. One request c) (λ m c n r. B c) (whole 0 request s.max_body_bytes) (whole_shown request s.max_body_bytes) (λ m n c r one. realm_behind s image op challenge request c (record { url = url; address = url_some challenge.realm (request_url challenge.realm) url read; auth = a; made = made }) one))
+    (silent_unless (λ got. Done (token_read got.answer)) (λ got. silent_done (token_read got.answer)))) (λ e is m. tt)) (λ e is m. tt) where
+      B : List Exchange → Type 0
+      B = Behind s image op (wants.Token challenge)
 
-quiet_unless : (method : Method) (address : List ℕ) {A B E : Type 0} (f : A → Proto Memory (Result B E)) → ((a : A) → Shows (Quiet method address) (f a)) → (r : Result A E) → Shows (Quiet method address) (unless_refused f r)
-quiet_unless method address f each (Ok a) = each a
-quiet_unless method address f each (Err e) = quiet_done method address (Err e)
+fetched_shown : (s : Settings) (image : Reference) (a : RegistryAuth) (op : RegistryOperation) (w : Wanted) → Shows (λ m c n r. Behind s image op w c) (fetched s image a op w)
+fetched_shown s image a op wants.Nothing = Shows-done (λ m c n r. Behind s image op wants.Nothing c) _ (λ m. tt)
+fetched_shown s image a op wants.Credentials = Shows-done (λ m c n r. Behind s image op wants.Credentials c) _ (λ m. tt)
+fetched_shown s image a op (wants.Token challenge) = realm_shown s image a op challenge
 
-quiet_next : (method : Method) (address : List ℕ) {A B E : Type 0} (p : Proto Memory (Result A E)) (f : A → Proto Memory (Result B E)) → Shows (Quiet method address) p → ((a : A) → Shows (Quiet method address) (f a)) → Shows (Quiet method address) (p >>= f)
-quiet_next method address p f first each = quiet_bind method address p (unless_refused f) first (quiet_unless method address f each)
+behind_step : (s : Settings) (image : Reference) (op : RegistryOperation) (e : Exchange) (answer : Answer) (d : List Exchange) → AsksRegistry s image e.request → e.answer ≡ Some answer → Behind s image op (wanted (head_part answer)) d → OfTokenStep s image op (e ∷ d)
+behind_step s image op e answer [] asks answered h = asks
+behind_step s image op e answer (f ∷ []) asks answered h = (asks, (answer, answered, h.0, h.1, h.2))
+behind_step s image op e answer (f ∷ (g ∷ d)) asks answered h = absurd h
 
-quiet_step : (method : Method) (address : List ℕ) {A B E : Type 0} (r : Result A E) (f : A → Proto Memory (Result B E)) → ((a : A) → r ≡ Ok a → Shows (Quiet method address) (f a)) → Shows (Quiet method address) (Done r >>= f)
-quiet_step method address r f each = Shows-step (Quiet method address) r f each (λ e is m. tt)
+after_head : (s : Settings) (image : Reference) (a : RegistryAuth) (op : RegistryOperation) (request : Request) (m n : ℕ) (c : List Exchange) (r : Result AnswerHead OciDistributionError) → AsksRegistry s image request → HeadShown request m c n r → Shows (λ start d o t. OfTokenStep s image op (c ++ d)) (unless_refused (λ head. fetched s image a op (wanted head)) r)
+after_head s image a op request m n c (Ok head) asks h = Shows-more (λ start d o t. Behind s image op (wanted head) d) (λ start d o t. OfTokenStep s image op (c ++ d)) (fetched s image a op (wanted head)) (fetched_shown s image a op (wanted head))
+    (λ start o d t g. subst (λ (x : List Exchange). OfTokenStep s image op (x ++ d)) (sym h.split) (behind_step s image op h.exchange h.answer d (subst (AsksRegistry s image) (sym h.request_is) asks) h.answered (subst (λ (x : AnswerHead). Behind s image op (wanted x) d) (sym h.head_is) g)))
+after_head s image a op request m n c (Err e) asks h = Shows-done (λ start d o t. OfTokenStep s image op (c ++ d)) (Err e) (λ start. subst (λ (x : List Exchange). OfTokenStep s image op (x ++ [])) (sym h.split) (subst (AsksRegistry s image) (sym h.request_is) asks))
 
--- a request that is not followed
-once_heard : (method : Method) (address : List ℕ) (request last : Request) {reading : AnswerHead → Reading} (m after : ℕ) (c : List Exchange) (reply : Reply) → (Asks method address request → ⊥) → Heard zero request reading m c after last reply → NoneAsks method address c
-unfolding Trail
-once_heard method address request last m after c reply not h = by_trail h.redirects h.split h.trail where
-  by_trail : (redirects : List Exchange) → c ≡ redirects ++ h.exchange ∷ [] → Trail zero request m redirects h.left last h.before → NoneAsks method address c
-  by_trail [] split trail = subst (NoneAsks method address) (sym split) ((λ asks. not (subst (Asks method address) (h.replies.request_is ∙ sym trail.1) asks), tt))
-  by_trail (e ∷ redirects) split trail = absurd trail
+abbrev Stepped : Settings → Reference → RegistryOperation → {A : Type 0} → ℕ → List Exchange → ℕ → A → Type 0
+Stepped s image op m c n a = OfTokenStep s image op c
 
-head_done : (method : Method) (address : List ℕ) (last : Request) (reply : Reply) → Shows (Quiet method address) (head_reply last reply)
-head_done method address last (Headed head) = quiet_done method address (Ok head)
-head_done method address last (Answered answer) = quiet_done method address (Err refusal.TransportFault)
-head_done method address last Failed = quiet_done method address (Err refusal.TransportFault)
-head_done method address last TooLong = quiet_done method address (Err refusal.TransportFault)
-head_done method address last SinkFailed = quiet_done method address (Err refusal.TransportFault)
-
-quiet_head : (method : Method) (address : List ℕ) (request : Request) → (Asks method address request → ⊥) → Shows (Quiet method address) (head_after 0 request)
-unfolding head_after
-quiet_head method address request not = Shows-follow (Quiet method address) 0 request read_none head_reply (λ k l m after o c d last reply a h r. none_more method address c d (once_heard method address request last m after c reply not h) ((head_done method address last reply).shows k l after o d a r))
-
-whole_done : (method : Method) (address : List ℕ) (last : Request) (reply : Reply) → Shows (Quiet method address) (whole_reply last reply)
-whole_done method address last (Headed head) = quiet_done method address _
-whole_done method address last (Answered answer) = quiet_done method address _
-whole_done method address last Failed = quiet_done method address _
-whole_done method address last TooLong = quiet_done method address _
-whole_done method address last SinkFailed = quiet_done method address _
-
-quiet_whole : (method : Method) (address : List ℕ) (request : Request) (limit : ℕ) → (Asks method address request → ⊥) → Shows (Quiet method address) (whole 0 request limit)
-unfolding whole
-quiet_whole method address request limit not = Shows-follow (Quiet method address) 0 request (read_within limit) whole_reply (λ k l m after o c d last reply a h r. none_more method address c d (once_heard method address request last m after c reply not h) ((whole_done method address last reply).shows k l after o d a r))
-
-quiet_realm : (method : Method) (address : List ℕ) (s : Settings) (image : Reference) (a : RegistryAuth) (op : RegistryOperation) (challenge : BearerChallenge) → Shows (Quiet method address) (realm_asked s image a op challenge)
-unfolding realm_asked realm_request
-quiet_realm method address s image a op challenge = quiet_step method address (url_read challenge.realm) _ (λ url is. quiet_step method address (request_of s Get (realm_url image op challenge.service url) None (own_token a)) _ (λ request made. quiet_next method address (whole 0 request s.max_body_bytes) _ (quiet_whole method address request s.max_body_bytes (asks_none s method (realm_url image op challenge.service url) (own_token a) address request made)) (λ got. quiet_done method address (token_read got.answer))))
-
-quiet_fetched : (method : Method) (address : List ℕ) (s : Settings) (image : Reference) (a : RegistryAuth) (op : RegistryOperation) (w : Wanted) → Shows (Quiet method address) (fetched s image a op w)
-quiet_fetched method address s image a op wants.Nothing = quiet_done method address (Ok None)
-quiet_fetched method address s image a op wants.Credentials = quiet_done method address (Ok (own_token a))
-quiet_fetched method address s image a op (wants.Token challenge) = quiet_realm method address s image a op challenge
-
-quiet_registry : (method : Method) (address : List ℕ) (s : Settings) (image : Reference) (a : RegistryAuth) (op : RegistryOperation) → Shows (Quiet method address) (registry_asked s image a op)
+stepped_registry : (s : Settings) (image : Reference) (a : RegistryAuth) (op : RegistryOperation) → Shows (Stepped s image op) (registry_asked s image a op)
 unfolding registry_asked
-quiet_registry method address s image a op = quiet_step method address (url_read (base_text s image)) _ (λ url is. quiet_step method address (request_of s Get url None None) _ (λ request made. quiet_next method address (head_after 0 request) _ (quiet_head method address request (asks_none s method url None address request made)) (λ head. quiet_fetched method address s image a op (wanted head))))
+stepped_registry s image a op = Shows-step (Stepped s image op) (url_read (base_text s image)) _ (λ url read. Shows-step (Stepped s image op) (request_of s Get url None None) _ (λ request made. Shows-bind (HeadShown request) (Stepped s image op) (head_after 0 request) (unless_refused (λ head. fetched s image a op (wanted head))) (head_shown request)
+    (λ m n c r h. after_head s image a op request m n c r (record { url = url; address = url_some (base_text s image) (request_url (base_text s image)) url read; made = made }) h)) (λ e is m. tt)) (λ e is m. tt)
 
-pub quiet_step_token : (method : Method) (address : List ℕ) (s : Settings) (image : Reference) (a : RegistryAuth) (op : RegistryOperation) → Shows (Quiet method address) (token_step s image a op)
-quiet_step_token method address s image (credentials.Bearer token) op = quiet_done method address _
-quiet_step_token method address s image (credentials.Basic user password) op = quiet_registry method address s image (credentials.Basic user password) op
-quiet_step_token method address s image credentials.Anonymous op = quiet_registry method address s image credentials.Anonymous op
+stepped_token : (s : Settings) (image : Reference) (a : RegistryAuth) (op : RegistryOperation) → Shows (Stepped s image op) (token_step s image a op)
+stepped_token s image (credentials.Bearer token) op = Shows-done (Stepped s image op) _ (λ m. tt)
+stepped_token s image (credentials.Basic user password) op = stepped_registry s image (credentials.Basic user password) op
+stepped_token s image credentials.Anonymous op = stepped_registry s image credentials.Anonymous op
 
-quiet_taken : (method : Method) (address : List ℕ) (moment : ℕ) (key : Key) (r : Result (Option RegistryTokenType) OciDistributionError) → Shows (Quiet method address) (taken moment key r)
-quiet_taken method address moment key (Ok None) = quiet_done method address (Ok None)
-quiet_taken method address moment key (Ok (Some token)) = Shows-recall (Quiet method address) _ (λ k. Shows-keep (Quiet method address) (with_kept k key token moment) (Done (Ok (Some token))) (quiet_done method address (Ok (Some token))))
-quiet_taken method address moment key (Err e) = quiet_done method address (passed_over e)
-
-quiet_asked : (method : Method) (address : List ℕ) (s : Context) (image : Reference) (op : RegistryOperation) (a : RegistryAuth) → Shows (Quiet method address) (token_asked s image op a)
+stepped_asked : (s : Context) (image : Reference) (op : RegistryOperation) (a : RegistryAuth) → Shows (Stepped s.settings image op) (token_asked s image op a)
 unfolding token_asked
-quiet_asked method address s image op a = quiet_bind method address (token_step s.settings image a op) (taken s.moment (key_of image op)) (quiet_step_token method address s.settings image a op) (λ r. quiet_taken method address s.moment (key_of image op) r)
+stepped_asked s image op a = silent_last (OfTokenStep s.settings image op) (token_step s.settings image a op) (taken s.moment (key_of image op)) (stepped_token s.settings image a op) (λ r. silent_taken s.moment (key_of image op) r)
 
-quiet_kept : (method : Method) (address : List ℕ) (s : Context) (image : Reference) (op : RegistryOperation) (a : RegistryAuth) (kept : Option RegistryTokenType) → Shows (Quiet method address) (kept_or_asked s image op a kept)
-quiet_kept method address s image op a (Some token) = quiet_done method address (Ok (Some token))
-quiet_kept method address s image op a None = quiet_asked method address s image op a
+stepped_kept : (s : Context) (image : Reference) (op : RegistryOperation) (a : RegistryAuth) (kept : Option RegistryTokenType) → Shows (Stepped s.settings image op) (kept_or_asked s image op a kept)
+stepped_kept s image op a (Some token) = Shows-done (Stepped s.settings image op) (Ok (Some token)) (λ m. tt)
+stepped_kept s image op a None = stepped_asked s image op a
 
-quiet_by : (method : Method) (address : List ℕ) (s : Context) (image : Reference) (op : RegistryOperation) (a : Option RegistryAuth) (kept : Option RegistryTokenType) → Shows (Quiet method address) (token_by s image op a kept)
-quiet_by method address s image op None kept = quiet_done method address (Ok None)
-quiet_by method address s image op (Some a) kept = quiet_kept method address s image op a kept
+stepped_by : (s : Context) (image : Reference) (op : RegistryOperation) (a : Option RegistryAuth) (kept : Option RegistryTokenType) → Shows (Stepped s.settings image op) (token_by s image op a kept)
+stepped_by s image op None kept = Shows-done (Stepped s.settings image op) (Ok None) (λ m. tt)
+stepped_by s image op (Some a) kept = stepped_kept s image op a kept
 
-quiet_recalled : (method : Method) (address : List ℕ) → Shows (Quiet method address) recalled
-quiet_recalled method address = Shows-recall (Quiet method address) _ (λ k. quiet_done method address (Ok k))
-
-quiet_for : (method : Method) (address : List ℕ) (s : Context) (image : Reference) (op : RegistryOperation) → Shows (Quiet method address) (token_for s image op)
+stepped_for : (s : Context) (image : Reference) (op : RegistryOperation) → Shows (Stepped s.settings image op) (token_for s image op)
 unfolding token_for
-quiet_for method address s image op = quiet_next method address recalled _ (quiet_recalled method address) (λ k. quiet_by method address s image op (map.get k.credentials (resolved_registry image)) (token_at k.tokens (key_of image op) s.moment))
+stepped_for s image op = silent_first (OfTokenStep s.settings image op) recalled _ tt silent_recalled (λ k. stepped_by s image op (map.get k.credentials (resolved_registry image)) (token_at k.tokens (key_of image op) s.moment))
 
-quiet_where : (method : Method) (address : List ℕ) (s : Context) (image : Reference) (op : RegistryOperation) (b : Bool) → Shows (Quiet method address) (token_where s image op b)
-quiet_where method address s image op true = quiet_for method address s image op
-quiet_where method address s image op false = quiet_done method address (Ok None)
+stepped_where : (s : Context) (image : Reference) (op : RegistryOperation) (b : Bool) → Shows (Stepped s.settings image op) (token_where s image op b)
+stepped_where s image op true = stepped_for s image op
+stepped_where s image op false = Shows-done (Stepped s.settings image op) (Ok None) (λ m. tt)
 
-quiet_authorized : (method : Method) (address : List ℕ) (s : Context) (image : Reference) (op : RegistryOperation) (url : Parts) → Shows (Quiet method address) (authorized s image op url)
+stepped_authorized : (s : Context) (image : Reference) (op : RegistryOperation) (url : Parts) → Shows (Stepped s.settings image op) (authorized s image op url)
 unfolding authorized
-quiet_authorized method address s image op url = quiet_step method address (url_read (registry_text s.settings image)) _ (λ registry is. quiet_where method address s image op (goes_to (request_url (serialize url)) registry))
-
-pub quiet_store : (method : Method) (address : List ℕ) (image : Reference) (a : RegistryAuth) → Shows (Quiet method address) (store image a)
-unfolding store
-quiet_store method address image a = quiet_next method address recalled _ (quiet_recalled method address) (λ k. Shows-keep (Quiet method address) (stored k (resolved_registry image) a) (Done (Ok tt)) (quiet_done method address (Ok tt)))
+stepped_authorized s image op url = Shows-step (Stepped s.settings image op) (url_read (registry_text s.settings image)) _ (λ registry is. stepped_where s image op (goes_to (request_url (serialize url)) registry)) (λ e is m. tt)
 
 -- where nothing is said of refusals
-pub quiet_ok : (method : Method) (address : List ℕ) {A E : Type 0} (m n : ℕ) (c : List Exchange) (r : Result A E) → NoneAsks method address c → WhereOk (λ m c n a. NoneAsks method address c) m c n r
-quiet_ok method address m n c (Ok a) h = h
-quiet_ok method address m n c (Err e) h = tt
+stepped_ok : (s : Settings) (image : Reference) (op : RegistryOperation) {A E : Type 0} (m n : ℕ) (c : List Exchange) (r : Result A E) → OfTokenStep s image op c → WhereOk (λ m c n a. OfTokenStep s image op c) m c n r
+stepped_ok s image op m n c (Ok a) h = h
+stepped_ok s image op m n c (Err e) h = tt
 
--- a request is prepared with no exchange that asks so
-pub record Prepared (s : Settings) (asked : Method) (url : Parts) (types : List ℕ) (method : Method) (address : List ℕ) (c : List Exchange) (request : Request) : Type 0 where
-  pub none : NoneAsks method address c
+-- a request is prepared behind a token step
+pub record Prepared (s : Settings) (image : Reference) (op : RegistryOperation) (method : Method) (url : Parts) (types : List ℕ) (c : List Exchange) (request : Request) : Type 0 where
+  pub step : OfTokenStep s image op c
   pub token : Option RegistryTokenType
-  pub made : request_of s asked url (Some types) token ≡ Ok request
+  pub made : request_of s method url (Some types) token ≡ Ok request
 
-pub prepared_shows : (s : Context) (image : Reference) (op : RegistryOperation) (asked : Method) (url : Parts) (types : List ℕ) (method : Method) (address : List ℕ) → Shows (WhereOk (λ m c n request. Prepared s.settings asked url types method address c request)) (prepared s image op asked url types)
+pub prepared_shows : (s : Context) (image : Reference) (op : RegistryOperation) (method : Method) (url : Parts) (types : List ℕ) → Shows (WhereOk (λ m c n request. Prepared s.settings image op method url types c request)) (prepared s image op method url types)
 unfolding prepared
-prepared_shows s image op asked url types method address =
-    Shows-next (λ m c n token. NoneAsks method address c) (λ m c n request. Prepared s.settings asked url types method address c request) (authorized s image op url) (λ token. Done (request_of s.settings asked url (Some types) token))
-    (Shows-more (Quiet method address) (WhereOk (λ m c n token. NoneAsks method address c)) (authorized s image op url) (quiet_authorized method address s image op url) (quiet_ok method address))
-    (λ m n c token h. Shows-last (λ start d o request. Prepared s.settings asked url types method address (c ++ d) request) (λ start d o e. Unit {0}) (request_of s.settings asked url (Some types) token) (λ request is o. record { none = rw append-nil h; token = token; made = is }) (λ e is o. tt))
+prepared_shows s image op method url types =
+    Shows-next (λ m c n token. OfTokenStep s.settings image op c) (λ m c n request. Prepared s.settings image op method url types c request) (authorized s image op url) (λ token. Done (request_of s.settings method url (Some types) token))
+    (Shows-more (Stepped s.settings image op) (WhereOk (λ m c n token. OfTokenStep s.settings image op c)) (authorized s image op url) (stepped_authorized s image op url) (stepped_ok s.settings image op))
+    (λ m n c token h. Shows-last (λ start d o request. Prepared s.settings image op method url types (c ++ d) request) (λ start d o e. Unit {0}) (request_of s.settings method url (Some types) token) (λ request is o. record { step = subst (OfTokenStep s.settings image op) (sym (append-nil c)) h; token = token; made = is }) (λ e is o. tt))

@@ -35,15 +35,16 @@ use Rattle.engine_answers.specs.Referrers.{index_in, index_read, referrers_in, r
 use Rattle.engine_requests.specs.ReferrerLists.{digest_given}
 use Rattle.engine_rows.specs.Pulls.{manifest_asked}
 use Rattle.engine_rows.specs.Referrers.{referrers_asked, referrers_tagged, referrers_by, pull_referrers}
-use Rattle.engine_laws.specs.Causes.{Cause, AnswerCause, DocumentCause, LastAnswer, LastFailed, BadHeader, OwnDigest, ManifestUrl}
+use Rattle.engine_laws.specs.Causes.{Act, Cause, AnswerCause, DocumentCause, LastAnswer, BadHeader, OwnDigest, ManifestUrl}
+use Rattle.engine_laws.specs.TokenCauses.{LastIs}
 use Rattle.engine_laws.specs.Held.{Entry, pulling}
 use Rattle.engine_laws.specs.Referrers.{AfterMissing, ListUrl, IsNoIndex, ListAnswer, TagAnswer, ListCause, TagCause, ReferrersCause}
 use Rattle.engine_laws.proofs.CallCauses.{tight}
 use Rattle.engine_laws.proofs.DocumentAnswers.{accepted_is}
-use Rattle.engine_laws.proofs.DocumentCauses.{asked_later, into_err, not_accepted, status_is, status_other}
+use Rattle.engine_laws.proofs.DocumentCauses.{into_err, not_accepted, status_is, status_other}
 use Rattle.engine_laws.proofs.EarlyCauses.{Loose}
 use Rattle.engine_laws.proofs.ExactRefusals.{Only, after_refusal}
-use Rattle.engine_laws.proofs.FaultCounts.{fault_rose}
+use Rattle.engine_laws.proofs.FaultCounts.{failed_last, last_after, fault_last}
 use Rattle.engine_laws.proofs.KeptTokens.{Keeps, keeps_first}
 use Rattle.engine_laws.proofs.ManifestCauses.{ReadLast}
 use Rattle.engine_laws.proofs.ReferrersAnswers.{asked_causes, manifest_shown}
@@ -106,7 +107,7 @@ index_refused body e (inl is) = let P : Result OciManifest OciDistributionError 
 index_refused body e (inr (ImageIndex index, read, is)) = absurd (cc is)
 index_refused body e (inr (Image manifest, read, is)) = let same : refusal.ManifestParsingError body ≡ e = cc is in subst IsOfIndex same tt
 
-by_status : (s : Settings) (image : Reference) (digest : List ℕ) (Bad : List Exchange → Type 0) (c : List Exchange) (n : ℕ) (address : List ℕ) (answer : Answer) (e : OciDistributionError) → LastAnswer c address answer → IsOfStatus e → answer.status ≢ 404 → AnswerCause (λ text. ⊥) address answer e → Cause (ListUrl s image digest) ListAnswer Bad s c n e
+by_status : (s : Settings) (image : Reference) (digest : List ℕ) (Bad : List Exchange → Type 0) (c : List Exchange) (n : ℕ) (address : List ℕ) (answer : Answer) (e : OciDistributionError) → LastAnswer (ListUrl s image digest) c address answer → IsOfStatus e → answer.status ≢ 404 → AnswerCause (λ text. ⊥) address answer e → Cause (ListUrl s image digest) ListAnswer Bad s c n e
 by_status s image digest Bad c n address answer (refusal.UnauthorizedError url) last of other h = record { address = address; answer = answer; last = last; holds = (other, h) }
 by_status s image digest Bad c n address answer (refusal.RegistryError envelope url) last of other h = record { address = address; answer = answer; last = last; holds = (other, h) }
 by_status s image digest Bad c n address answer (refusal.ServerError status url body) last of other h = record { address = address; answer = answer; last = last; holds = (other, h) }
@@ -114,13 +115,13 @@ by_status s image digest Bad c n address answer (refusal.SpecViolationError (Sta
 by_status s image digest Bad c n address answer (refusal.SpecViolationError (ReferrersTag tag)) last of other h = absurd h
 by_status s image digest Bad c n address answer e last of other h = absurd of
 
-by_body : (s : Settings) (image : Reference) (digest : List ℕ) (Bad : List Exchange → Type 0) (c : List Exchange) (n : ℕ) (address : List ℕ) (answer : Answer) (e : OciDistributionError) → LastAnswer c address answer → IsOfIndex e → IsNoIndex answer e → Cause (ListUrl s image digest) ListAnswer Bad s c n e
+by_body : (s : Settings) (image : Reference) (digest : List ℕ) (Bad : List Exchange → Type 0) (c : List Exchange) (n : ℕ) (address : List ℕ) (answer : Answer) (e : OciDistributionError) → LastAnswer (ListUrl s image digest) c address answer → IsOfIndex e → IsNoIndex answer e → Cause (ListUrl s image digest) ListAnswer Bad s c n e
 by_body s image digest Bad c n address answer (refusal.ManifestParsingError body) last of h = record { address = address; answer = answer; last = last; holds = h }
 by_body s image digest Bad c n address answer (refusal.AmbiguousManifest body) last of h = record { address = address; answer = answer; last = last; holds = h }
 by_body s image digest Bad c n address answer e last of h = absurd of
 
 -- the list's answer was refused
-list_refused : (s : Settings) (image : Reference) (digest : List ℕ) (Bad : List Exchange → Type 0) (c : List Exchange) (n : ℕ) (got : Got) (e : OciDistributionError) → LastAnswer c got.url got.answer → got.answer.status ≢ 404
+list_refused : (s : Settings) (image : Reference) (digest : List ℕ) (Bad : List Exchange → Type 0) (c : List Exchange) (n : ℕ) (got : Got) (e : OciDistributionError) → LastAnswer (ListUrl s image digest) c got.url got.answer → got.answer.status ≢ 404
     → (accepted 200 got.url got.answer ≡ Err e) ⊎ ((answer : Answer) × (accepted 200 got.url got.answer ≡ Ok answer) × (index_read answer.body ≡ Err e)) → Cause (ListUrl s image digest) ListAnswer Bad s c n e
 list_refused s image digest Bad c n got e last other (inl is) =
     let P : Result Answer OciDistributionError → Type 0 = OfStatus in
@@ -132,7 +133,7 @@ list_refused s image digest Bad c n got e last other (inr (answer, good, is)) =
 
 -- ---- the tag
 
-tag_tight : (T : List ℕ → Type 0) (image : Reference) (digest : List ℕ) (y : Entry) (s : Settings) (n : ℕ) (c : List Exchange) (e : OciDistributionError) → is_absent e ≡ false → Loose T (DocumentCause (OwnDigest (fallback_reference image digest))) s manifest_types c n e → HeaderCause y s manifest_types c e → Cause T (TagAnswer image digest) (BadHeader y s manifest_types) s c n e
+tag_tight : (T : Act → Type 0) (image : Reference) (digest : List ℕ) (y : Entry) (s : Settings) (n : ℕ) (c : List Exchange) (e : OciDistributionError) → is_absent e ≡ false → Loose T (DocumentCause (OwnDigest (fallback_reference image digest))) s manifest_types c n e → HeaderCause y s manifest_types c e → Cause T (TagAnswer image digest) (BadHeader y s manifest_types) s c n e
 tag_tight T image digest y s n c (refusal.UrlParseError text) other h bad = h
 tag_tight T image digest y s n c (refusal.GenericError HeaderText) other h bad = bad
 tag_tight T image digest y s n c refusal.BodyTooLong other h bad = h
@@ -151,7 +152,7 @@ runs_done x k m (e ∷ c) n l a r = absurd r
 whole_cause : (P : List Exchange → ℕ → Type 0) (c first second : List Exchange) (m n : ℕ) → c ≡ first ++ second → second ≡ [] → m ≡ n → P first m → P c n
 whole_cause P c first second m n joined none same h = subst (λ z. P c z) same (subst (λ z. P z m) (sym (joined ∙ ap (λ z. first ++ z) none ∙ append-nil first)) h)
 
-tag_holds : (x : Entry) (s : Settings) (digest : List ℕ) (kind : Option (List ℕ)) (between : Memory) (n : ℕ) (c : List Exchange) (document : OciManifest) (e : OciDistributionError) → ReadLast c document → tag_index digest kind document ≡ Err e → TagCause x s n e digest between c
+tag_holds : (x : Entry) (s : Settings) (digest : List ℕ) (kind : Option (List ℕ)) (between : Memory) (n : ℕ) (c : List Exchange) (document : OciManifest) (e : OciDistributionError) → ReadLast s (fallback_reference x.image digest) c document → tag_index digest kind document ≡ Err e → TagCause x s n e digest between c
 tag_holds x s digest kind between n c (ImageIndex index) e last is = absurd (cc is)
 tag_holds x s digest kind between n c (Image manifest) e last is =
     let same : refusal.SpecViolationError (ReferrersTag (referrers_tag digest)) ≡ e = cc is in
@@ -273,12 +274,12 @@ referrers_reason s image kind {old} {new} {k} {l} {r} met = by_result r met.outc
   by_result (Ok index) run = tt
   by_result (Err e) run = by_memory (is_memory e) e refl run
 
-failed : (x : Entry) (s : Settings) (c : List Exchange) (n : ℕ) → ReferrersCause x s c n refusal.TransportFault → LastFailed c n
-failed x s c n (inl h) = h.cause
-failed x s c n (inr h) = subst (λ z. LastFailed z n) (sym h.split) (record { last = h.after.last; asked = asked_later h.front h.after.asked; rose = h.after.rose })
+failed : (x : Entry) (s : Settings) (c : List Exchange) (n : ℕ) → ReferrersCause x s c n refusal.TransportFault → LastIs (λ e. Rose e.faults n) c
+failed x s c n (inl h) = failed_last h.cause
+failed x s c n (inr h) = subst (LastIs (λ e. Rose e.faults n)) (sym h.split) (last_after h.front (failed_last h.after))
 
 pub referrers_fault : (s : Context) (image : Reference) (kind : Option (List ℕ)) {old new : Link} {k l : Memory} {r : Result OciImageIndex OciDistributionError} → Meets is_memory (pull_referrers s image kind) old new k l r → r ≡ Err refusal.TransportFault → Rose old.faults new.faults
-referrers_fault s image kind {r = r} met is = fault_rose (λ m c n index. Unit {0}) (RowCause s image) (pull_referrers s image kind) refusal.TransportFault refl (λ m n c h. failed (pulling h.0 s image None) s.settings c n h.1) (referrers_causes s image kind) (rw is at met)
+referrers_fault s image kind {r = r} met is = fault_last (λ m c n index. Unit {0}) (RowCause s image) (pull_referrers s image kind) refusal.TransportFault refl (λ m n c h. failed (pulling h.0 s image None) s.settings c n h.1) (referrers_causes s image kind) (rw is at met)
 
 -- a reference without a digest is refused as that
 pub no_digest : (s : Context) (image : Reference) (kind : Option (List ℕ)) → digest_of image ≡ None → Ends (Only (refusal.GenericError NoDigest)) (pull_referrers s image kind)

@@ -29,7 +29,7 @@ use Rattle.engine_rows.specs.Pulls.{manifest_document, manifest_asked}
 use Rattle.engine_rows.specs.Referrers.{referrers_asked, referrers_tagged, referrers_by, pull_referrers}
 use Rattle.engine_laws.specs.Confined.{Confined, AllConfined, Within}
 use Rattle.engine_laws.specs.Held.{Entry, pulling}
-use Rattle.engine_laws.specs.Referrers.{for_tag, WithinReferrers}
+use Rattle.engine_laws.specs.Referrers.{for_tag, ListUrl, WithinReferrers}
 use Rattle.engine_laws.proofs.CallConfinement.{Any, given_safe}
 use Rattle.engine_laws.proofs.DocumentCauses.{answer_later, status_is}
 use Rattle.engine_laws.proofs.HeaderCauses.{Sound, whole_sound, document_sound}
@@ -105,7 +105,7 @@ after_list k s image digest kind handed j l m seen c digest_is confined keeps h 
         front = seen ++ h.first;
         rest = h.second;
         split = ap (λ z. seen ++ z) h.joined ∙ sym (append_assoc seen h.first h.second);
-        missing = record { address = got.url; answer = got.answer; last = answer_later seen last; holds = status_is got.answer.status 404 missing };
+        missing = record { address = got.url; answer = got.answer; last = answer_later (ListUrl s.settings image digest) (ListUrl s.settings image digest) seen (λ act h. h) last; holds = status_is got.answer.status 404 missing };
         between = h.between;
         first = front (Ok got) runs;
         after = within_behind (for_tag x digest h.between) s.settings (Ended (for_tag x digest h.between) s.settings manifest_types) (referrers_tagged s image digest kind) h.between l h.count [] h.second tt (keeps_first (for_tag x digest h.between))

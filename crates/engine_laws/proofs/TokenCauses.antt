@@ -1,5 +1,5 @@
 -- Why the call for a token was refused.
-use Rattle.std.proofs.Common.{◌≡◌, ◌≢◌, ◌<◌, ◌⊎◌, inl, inr, ℕ, Bool, true, false, List, [], ◌∷◌, ◌++◌, Option, Some, None, Result, Ok, Err, IfErr, codes, length, refl, sym, ap, subst, ◌∙◌, append_assoc, append-nil}
+use Rattle.std.proofs.Common.{◌≡◌, ◌≢◌, ◌<◌, ◌⊎◌, inl, inr, ℕ, Bool, true, false, List, [], ◌++◌, Option, Some, None, Result, Ok, Err, IfErr, codes, length, refl, sym, ap, subst, ◌∙◌, append-nil}
 use Rattle.std.specs.Prelude.{nat_eq, if◌then◌else◌}
 use Rattle.std.specs.FinMap as map
 use Rattle.url.specs.Parts.{Parts}
@@ -45,25 +45,22 @@ use Rattle.engine_rows.specs.Rows.{Row, recalled, keep, store, with_kept, shown_
 use Rattle.engine_laws.specs.TokenCauses.{LastIs, WithAnswer, LastRealm, TokenUrl, TokenCause}
 use Rattle.engine_laws.proofs.PreparedRequests.{with_ok}
 use Rattle.engine_laws.proofs.DocumentCauses.{status_is, status_other}
-use Rattle.engine_laws.proofs.FaultCounts.{refusal_told, fault_last}
+use Rattle.engine_laws.proofs.FaultCounts.{last_after, refusal_told, fault_last}
 use Rattle.engine_laws.proofs.ShownTokens.{none_held, one_held, refused_value, into_err, unread_never}
 
 -- ---- causes of later exchanges
 
-last_later : (P : Exchange → Type 0) (c : List Exchange) {d : List Exchange} → LastIs P d → LastIs P (c ++ d)
-last_later P c h = record { before = c ++ h.before; last = h.last; split = ap (λ x. c ++ x) h.split ∙ sym (append_assoc c h.before (h.last ∷ [])); holds = h.holds }
-
 address_later : (s : Settings) (image : Reference) (c d : List Exchange) (text : List ℕ) → TokenUrl s image d text → TokenUrl s image (c ++ d) text
 address_later s image c d text (inl is) = inl is
-address_later s image c d text (inr is) = inr (last_later _ c is)
+address_later s image c d text (inr is) = inr (last_after c is)
 
 cause_later : (s : Settings) (image : Reference) (a : RegistryAuth) (now : ℕ) (c d : List Exchange) (e : OciDistributionError) → TokenCause s image a d now e → TokenCause s image a (c ++ d) now e
 cause_later s image a now c d (refusal.UrlParseError text) h = (h.0, address_later s image c d text h.1)
 cause_later s image a now c d (refusal.GenericError HeaderText) h = h
-cause_later s image a now c d refusal.BodyTooLong h = last_later _ c h
-cause_later s image a now c d refusal.TransportFault h = last_later _ c h
-cause_later s image a now c d (refusal.AuthenticationFailure body) h = last_later _ c h
-cause_later s image a now c d (refusal.RegistryTokenDecodeError body) h = last_later _ c h
+cause_later s image a now c d refusal.BodyTooLong h = last_after c h
+cause_later s image a now c d refusal.TransportFault h = last_after c h
+cause_later s image a now c d (refusal.AuthenticationFailure body) h = last_after c h
+cause_later s image a now c d (refusal.RegistryTokenDecodeError body) h = last_after c h
 cause_later s image a now c d refusal.WantOfMemory h = tt
 cause_later s image a now c d e h = absurd h
 

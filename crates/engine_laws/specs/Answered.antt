@@ -1,9 +1,8 @@
 -- What a conversation shows of the answers that a client gives.
-use Rattle.std.specs.Prelude.{◌≡◌, ◌⊎◌, ℕ, List, [], ◌∷◌, ◌++◌, Option, Some, None, Ok, codes, unwrap_or}
+use Rattle.std.specs.Prelude.{◌≡◌, ◌⊎◌, ℕ, List, [], ◌∷◌, ◌++◌, Option, Some, None, Ok, unwrap_or}
 use Rattle.url.specs.Parts.{Parts, serialize}
 use Rattle.json_values.specs.Tray.{Tray, Adds}
 use Rattle.oci_transport.specs.Link.{Link}
-use Rattle.oci_transport.specs.Headers.{first_of}
 use Rattle.oci_transport.specs.Urls.{request_url}
 use Rattle.oci_transport.specs.declared.message.Request.{Request}
 use Rattle.oci_transport.specs.declared.message.Answer.{Answer}
@@ -14,27 +13,54 @@ use Rattle.oci_names.specs.declared.reference.Reference.{Reference}
 use Rattle.oci_names.specs.Reference.{digest_of}
 use Rattle.oci_digests.specs.Names.{Names, digest_text}
 use Rattle.oci_digests.specs.declared.digester.Algorithm.TheVariants.{Sha256}
+use Rattle.http_challenges.specs.declared.bearer.BearerChallenge.{BearerChallenge}
+use Rattle.oci_auth.specs.declared.auth.RegistryAuth.{RegistryAuth}
+use Rattle.oci_auth.specs.declared.token_type.RegistryOperation.{RegistryOperation}
+use Rattle.oci_auth.specs.declared.token_type.RegistryOperation.TheVariants.{Pull}
+use Rattle.oci_auth.specs.declared.token_type.RegistryTokenType.{RegistryTokenType}
 use Rattle.oci_protocol.specs.Runs.{head_part, Told}
 use Rattle.oci_protocol.specs.Follow.{Trail, IsFinal}
 use Rattle.engine_terms.specs.declared.settings.Settings.{Settings}
-use Rattle.engine_requests.specs.Addresses.{manifest_text}
+use Rattle.engine_requests.specs.Addresses.{base_text, manifest_text}
+use Rattle.engine_requests.specs.Requests.{manifest_types, request_of}
+use Rattle.engine_requests.specs.Tokens.{wanted, realm_request}
+use Rattle.engine_requests.specs.declared.tokens.Wanted.TheVariants.{Token}
 use Rattle.engine_answers.specs.Answers.{header_digest}
 
--- a request by which a token is asked for: the registry's `/v2/` or a realm, by GET, which lists no types
-pub record OfTokenExchange (request : Request) : Type 0 where
-  pub method_is : request.method ≡ Get
-  pub lists_none : first_of (codes "accept") request.headers ≡ None
+-- the request for the registry's `/v2/`, which shows no token
+pub record AsksRegistry (s : Settings) (image : Reference) (request : Request) : Type 0 where
+  pub url : Parts
+  pub address : request_url (base_text s image) ≡ Some url
+  pub made : request_of s Get url None None ≡ Ok request
 
--- The request is of this method and for this address, and asks for no token. A HEAD never does.
-pub record Asks (method : Method) (address : List ℕ) (request : Request) : Type 0 where
-  pub method_is : request.method ≡ method
-  pub address_is : request.url ≡ address
-  pub own : OfTokenExchange request → ⊥
+-- the request for the realm of a challenge, which is shown credentials or none
+pub record AsksRealm (s : Settings) (image : Reference) (op : RegistryOperation) (challenge : BearerChallenge)
+    (request : Request) : Type 0 where
+  pub url : Parts
+  pub address : request_url challenge.realm ≡ Some url
+  pub auth : RegistryAuth
+  pub made : realm_request s image auth op challenge.service url ≡ Ok request
 
--- no exchange asks so
-abbrev pub NoneAsks : Method → List ℕ → List Exchange → Type 0
-NoneAsks method address [] = Unit {0}
-NoneAsks method address (e ∷ c) = (Asks method address e.request → ⊥) × NoneAsks method address c
+-- the request is for the realm that the answer to this exchange names
+abbrev pub AsksRealmOf : Settings → Reference → RegistryOperation → Exchange → Request → Type 0
+AsksRealmOf s image op e request = (answer : Answer) × (e.answer ≡ Some answer) × (challenge : BearerChallenge)
+    × (wanted (head_part answer) ≡ Token challenge) × AsksRealm s image op challenge request
+
+-- The exchanges of a token step for the image: none, or one with the registry, or that and one with the realm that its
+-- answer names. Neither is followed.
+abbrev pub OfTokenStep : Settings → Reference → RegistryOperation → List Exchange → Type 0
+OfTokenStep s image op [] = Unit {0}
+OfTokenStep s image op (e ∷ []) = AsksRegistry s image e.request
+OfTokenStep s image op (e ∷ (f ∷ [])) = AsksRegistry s image e.request × AsksRealmOf s image op e f.request
+OfTokenStep s image op _ = ⊥
+
+-- The request is of this method and for this URL, with these types where it lists any, and a token where it shows one.
+pub record Asks (s : Settings) (method : Method) (url : Parts) (types : Option (List ℕ)) (request : Request) : Type 0
+  where
+    pub method_is : request.method ≡ method
+    pub address_is : request.url ≡ serialize url
+    pub token : Option RegistryTokenType
+    pub made : request_of s method url types token ≡ Ok request
 
 -- The exchanges are the redirects that the request led to, and the one that was answered so, with
 -- no redirect that is followed.
@@ -49,12 +75,14 @@ pub record LedTo (request : Request) (c : List Exchange) (answer : Answer) : Typ
   pub answered : last.answer ≡ Some answer
   pub final : IsFinal left last.request (head_part answer)
 
--- the first request that asks so, the exchanges that it led to, and those that came later
-pub record FirstAsked (method : Method) (address : List ℕ) (c : List Exchange) : Type 0 where
+-- The first request of a call that is not of its token step: that step, the request behind it, which asks so, the
+-- exchanges that it led to, and those that came later.
+pub record FirstAsked (s : Settings) (image : Reference) (op : RegistryOperation) (method : Method) (url : Parts)
+    (types : Option (List ℕ)) (c : List Exchange) : Type 0 where
   pub before : List Exchange
-  pub none : NoneAsks method address before
+  pub step : OfTokenStep s image op before
   pub request : Request
-  pub asks : Asks method address request
+  pub asks : Asks s method url types request
   pub exchanges : List Exchange
   pub answer : Answer
   pub led : LedTo request exchanges answer
@@ -76,17 +104,17 @@ pub record ByBody (image : Reference) (d : List ℕ) (answer : Answer) : Type 0 
   pub names : Names d answer.body
 
 -- a document was asked for later, and the digest names it
-pub record ByDocument (image : Reference) (address d : List ℕ) (c : List Exchange) : Type 0 where
-  pub get : FirstAsked Get address c
+pub record ByDocument (s : Settings) (image : Reference) (url : Parts) (d : List ℕ) (c : List Exchange) : Type 0 where
+  pub get : FirstAsked s image Pull Get url (Some manifest_types) c
   pub body : ByBody image d get.answer
 
 -- the registry answered that the image has this digest
 pub record DigestAnswered (s : Settings) (image : Reference) (c : List Exchange) (d : List ℕ) : Type 0 where
   pub url : Parts
   pub address : request_url (manifest_text s image) ≡ Some url
-  pub head : FirstAsked Head (serialize url) c
+  pub head : FirstAsked s image Pull Head url (Some manifest_types) c
   pub digest : ByHeader d head.answer ⊎ ((header_digest head.answer.headers ≡ Ok None)
-      × ByDocument image (serialize url) d head.after)
+      × ByDocument s image url d head.after)
 
 -- the bytes are the body of an answer
 pub record Body (c : List Exchange) (bytes : List ℕ) : Type 0 where

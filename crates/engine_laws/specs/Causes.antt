@@ -1,14 +1,16 @@
 -- Why a call was refused. A refusal that speaks of an answer speaks of the last one of the call.
 use Rattle.std.specs.Prelude.{◌≡◌, ◌≢◌, ◌<◌, ◌⊎◌, ℕ, true, false, List, [], ◌∷◌, ◌++◌, Some, None, Result, Ok}
-use Rattle.std.specs.Prelude.{Err, codes, length}
+use Rattle.std.specs.Prelude.{Err, length}
 use Rattle.std.specs.List.{Contains}
 use Rattle.std.specs.Str.{is_utf8}
 use Rattle.json_values.specs.Counts.{Rose}
+use Rattle.url.specs.Parts.{Parts}
 use Rattle.oci_transport.specs.Headers.{digest_header, first_of, is_header_value}
 use Rattle.oci_transport.specs.Urls.{request_url}
 use Rattle.oci_transport.specs.declared.message.Request.{Request}
 use Rattle.oci_transport.specs.declared.message.Answer.{Answer}
 use Rattle.oci_transport.specs.declared.message.Exchange.{Exchange}
+use Rattle.oci_transport.specs.declared.message.Method.{Method}
 use Rattle.oci_names.specs.declared.reference.Reference.{Reference}
 use Rattle.oci_auth.specs.Auth.{authorization_of}
 use Rattle.oci_auth.specs.declared.token_type.RegistryTokenType.{RegistryTokenType}
@@ -37,47 +39,61 @@ use Rattle.engine_answers.specs.Answers.{is_success, is_client_error, envelope_i
 use Rattle.engine_terms.specs.Error.{is_memory}
 use Rattle.engine_answers.specs.Documents.{document_read}
 use Rattle.engine_requests.specs.Sources.{Layer, described, place_of}
-use Rattle.engine_requests.specs.declared.sources.Place.TheVariants.{Unfit}
+use Rattle.engine_requests.specs.declared.sources.Place.TheVariants.{Web, Unfit}
 use Rattle.engine_rows.specs.Blobs.{Destination, IntoSink, IntoMemory}
 use Rattle.engine_answers.specs.Index.{entry_reference}
 use Rattle.engine_rows.specs.Image.{is_accepted}
-use Rattle.engine_laws.specs.Answered.{Body, LastBody}
+use Rattle.engine_laws.specs.Answered.{Asks, Body, LastBody}
 use Rattle.engine_laws.specs.Held.{Entry, IsHeld}
+
+-- ---- what a call reads and sends
+
+-- what a call does with a text, which it reads as a URL, or with a request of its own, which it sends: its token step
+-- sends none of these
+pub data Act : Type 0 where
+  Reads : (text : List ℕ) → Act
+  Sends : (request : Request) → Act
+
+-- the request is for this URL, and lists types
+abbrev pub AsksAt : Settings → Parts → Request → Type 0
+AsksAt s url request = (method : Method) × (types : List ℕ) × Asks s method url (Some types) request
+
+-- for the URL that this text names
+abbrev pub AsksText : Settings → List ℕ → Request → Type 0
+AsksText s text request = (url : Parts) × (request_url text ≡ Some url) × AsksAt s url request
 
 -- ---- the last exchange of a call
 
--- The last request of the call that lists accepted types led to this exchange, and the exchange is
--- the last one of all. No request of the token step lists types.
-pub record LastAsked (c : List Exchange) (last : Exchange) : Type 0 where
+-- A request of the call's own led to this exchange, and the exchange is the last one of all.
+pub record LastAsked (Own : Act → Type 0) (c : List Exchange) (last : Exchange) : Type 0 where
   pub front : List Exchange
   pub redirects : List Exchange
   pub split : c ≡ front ++ (redirects ++ last ∷ [])
   pub request : Request
-  pub types : List ℕ
-  pub accepts : first_of (codes "accept") request.headers ≡ Some types
+  pub own : Own (Sends request)
   pub before : ℕ
   pub left : ℕ
   pub count : ℕ
   pub trail : Trail 10 request before redirects left last.request count
 
 -- it was answered so, from this address, and the answer is no redirect that is followed
-pub record LastAnswer (c : List Exchange) (address : List ℕ) (answer : Answer) : Type 0 where
+pub record LastAnswer (Own : Act → Type 0) (c : List Exchange) (address : List ℕ) (answer : Answer) : Type 0 where
   pub last : Exchange
-  pub asked : LastAsked c last
+  pub asked : LastAsked Own c last
   pub sent : last.request.url ≡ address
   pub answered : last.answer ≡ Some answer
   pub final : IsFinal asked.left last.request (head_part answer)
 
 -- it failed: the count of faults, which is this now, rose since it was sent
-pub record LastFailed (c : List Exchange) (now : ℕ) : Type 0 where
+pub record LastFailed (Own : Act → Type 0) (c : List Exchange) (now : ℕ) : Type 0 where
   pub last : Exchange
-  pub asked : LastAsked c last
+  pub asked : LastAsked Own c last
   pub rose : Rose last.faults now
 
 -- it was answered with more bytes than this
-pub record LastTooLong (c : List Exchange) (limit : ℕ) : Type 0 where
+pub record LastTooLong (Own : Act → Type 0) (c : List Exchange) (limit : ℕ) : Type 0 where
   pub last : Exchange
-  pub asked : LastAsked c last
+  pub asked : LastAsked Own c last
   pub answer : Answer
   pub answered : last.answer ≡ Some answer
   pub long : limit < length answer.body
@@ -153,10 +169,10 @@ DocumentCause Given address answer (refusal.UnsupportedMediaTypeError kind) = Is
 DocumentCause Given address answer e = AnswerCause Given address answer e
 
 -- this is so of the last answer and its address
-pub record ByLast (P : List ℕ → Answer → Type 0) (c : List Exchange) : Type 0 where
+pub record ByLast (Own : Act → Type 0) (P : List ℕ → Answer → Type 0) (c : List Exchange) : Type 0 where
   pub address : List ℕ
   pub answer : Answer
-  pub last : LastAnswer c address answer
+  pub last : LastAnswer Own c address answer
   pub holds : P address answer
 
 -- a value of the request cannot stand in a header
@@ -171,29 +187,38 @@ HasBadToken x c = (token : RegistryTokenType) × IsHeld x c token × (is_header_
 abbrev pub BadHeader : Entry → Settings → List ℕ → List Exchange → Type 0
 BadHeader x s types c = HasBadHeader s types ⊎ HasBadToken x c
 
--- Why a call was refused. A text that is no URL is one of these; of an answer the refusal speaks so,
--- and of a value that cannot stand in a header so. Memory may be wanting anywhere.
-abbrev pub Cause : (List ℕ → Type 0) → (List ℕ → Answer → OciDistributionError → Type 0)
+-- Why a call was refused. A text that is no URL is one of these, and so is the request that an answer came of; of an
+-- answer the refusal speaks so, and of a value that cannot stand in a header so. Memory may be wanting anywhere.
+abbrev pub Cause : (Act → Type 0) → (List ℕ → Answer → OciDistributionError → Type 0)
     → (List Exchange → Type 0) → Settings → List Exchange → ℕ → OciDistributionError → Type 0
-Cause Text Of Bad s c now (refusal.UrlParseError text) = (request_url text ≡ None) × Text text
-Cause Text Of Bad s c now (refusal.GenericError HeaderText) = Bad c
-Cause Text Of Bad s c now refusal.BodyTooLong = LastTooLong c s.max_body_bytes
-Cause Text Of Bad s c now refusal.TransportFault = LastFailed c now
-Cause Text Of Bad s c now refusal.WantOfMemory = Unit {0}
-Cause Text Of Bad s c now e = ByLast (λ address answer. Of address answer e) c
+Cause Own Of Bad s c now (refusal.UrlParseError text) = (request_url text ≡ None) × Own (Reads text)
+Cause Own Of Bad s c now (refusal.GenericError HeaderText) = Bad c
+Cause Own Of Bad s c now refusal.BodyTooLong = LastTooLong Own c s.max_body_bytes
+Cause Own Of Bad s c now refusal.TransportFault = LastFailed Own c now
+Cause Own Of Bad s c now refusal.WantOfMemory = Unit {0}
+Cause Own Of Bad s c now e = ByLast Own (λ address answer. Of address answer e) c
 
--- the address of the registry, or of the image's manifest
-abbrev pub ManifestUrl : Settings → Reference → List ℕ → Type 0
-ManifestUrl s image text = (text ≡ registry_text s image) ⊎ (text ≡ manifest_text s image)
+-- the address of the registry or of the image's manifest is read, and the manifest is asked for
+abbrev pub ManifestUrl : Settings → Reference → Act → Type 0
+ManifestUrl s image (Reads text) = (text ≡ registry_text s image) ⊎ (text ≡ manifest_text s image)
+ManifestUrl s image (Sends request) = AsksText s (manifest_text s image) request
 
 -- a URL that is listed and not asked: it does not read, or it has a user name or a password
 abbrev pub UnfitUrl : List (List ℕ) → List ℕ → Type 0
 UnfitUrl urls text = Contains urls text × (place_of text ≡ Some (Unfit text))
 
--- the address of the registry, or of the blob, or such a URL of its descriptor
-abbrev pub BlobUrl : Settings → Reference → Layer → List ℕ → Type 0
-BlobUrl s image layer text = (text ≡ registry_text s image) ⊎ ((text ≡ blob_text s image layer.digest)
+-- a URL that is listed and asked
+abbrev pub AsksListed : Settings → List (List ℕ) → Request → Type 0
+AsksListed s urls request = (text : List ℕ) × Contains urls text × (url : Parts) × (place_of text ≡ Some (Web url))
+    × AsksAt s url request
+
+-- The address of the registry or of the blob is read, or a URL of its descriptor that is not asked; the blob is asked
+-- for at its address or at another such URL.
+abbrev pub BlobUrl : Settings → Reference → Layer → Act → Type 0
+BlobUrl s image layer (Reads text) = (text ≡ registry_text s image) ⊎ ((text ≡ blob_text s image layer.digest)
     ⊎ UnfitUrl layer.urls text)
+BlobUrl s image layer (Sends request) = AsksText s (blob_text s image layer.digest) request
+    ⊎ AsksListed s layer.urls request
 
 -- the digest that a reference has
 abbrev pub OwnDigest : Reference → List ℕ → Type 0
@@ -209,10 +234,10 @@ SinkMayFail IntoSink = Unit {0}
 SinkMayFail IntoMemory = ⊥
 
 -- of a blob
-abbrev pub BlobCause : (List ℕ → Type 0) → Destination → (List Exchange → Type 0) → Settings → List ℕ
+abbrev pub BlobCause : (Act → Type 0) → Destination → (List Exchange → Type 0) → Settings → List ℕ
     → List Exchange → ℕ → OciDistributionError → Type 0
-BlobCause Text to Bad s digest c now refusal.SinkFault = SinkMayFail to
-BlobCause Text to Bad s digest c now e = Cause Text (AnswerCause (AskedDigest digest)) Bad s c now e
+BlobCause Own to Bad s digest c now refusal.SinkFault = SinkMayFail to
+BlobCause Own to Bad s digest c now e = Cause Own (AnswerCause (AskedDigest digest)) Bad s c now e
 
 -- ---- images of indexes
 
@@ -223,8 +248,8 @@ pub record IndexRead (c : List Exchange) (index : OciImageIndex) : Type 0 where
   pub reads : document_read bytes ≡ Ok (ImageIndex index)
 
 -- the last answer's body is an index
-abbrev pub LastIsIndex : List Exchange → Type 0
-LastIsIndex c = ByLast
+abbrev pub LastIsIndex : (Act → Type 0) → List Exchange → Type 0
+LastIsIndex Own c = ByLast Own
     (λ address answer. (index : OciImageIndex) × (document_read answer.body ≡ Ok (ImageIndex index))) c
 
 -- the digest of an entry in an index that was read
@@ -235,35 +260,35 @@ pub record EntryDigest (c : List Exchange) (text : List ℕ) : Type 0 where
 
 -- The promise leaves no answer, or it leaves this one, which no entry has or which is that of an
 -- index again.
-abbrev pub IsMissing : ResolverPromise → OciImageIndex → List Exchange → List ℕ → Type 0
-IsMissing promise index c text = ((resolved promise index.manifests ≡ None) × (text ≡ []))
+abbrev pub IsMissing : (Act → Type 0) → ResolverPromise → OciImageIndex → List Exchange → List ℕ → Type 0
+IsMissing Own promise index c text = ((resolved promise index.manifests ≡ None) × (text ≡ []))
     ⊎ ((resolved promise index.manifests ≡ Some text)
-    × ((lists text index.manifests ≡ false) ⊎ ((lists text index.manifests ≡ true) × LastIsIndex c)))
+    × ((lists text index.manifests ≡ false) ⊎ ((lists text index.manifests ≡ true) × LastIsIndex Own c)))
 
 -- an index was read in which the image was not found
-pub record NotFound (s : Settings) (c : List Exchange) (text : List ℕ) : Type 0 where
+pub record NotFound (Own : Act → Type 0) (s : Settings) (c : List Exchange) (text : List ℕ) : Type 0 where
   pub index : OciImageIndex
   pub read : IndexRead c index
   pub promise : ResolverPromise
   pub has : s.platform_resolver ≡ Some promise
-  pub missing : IsMissing promise index c text
+  pub missing : IsMissing Own promise index c text
 
 -- the digest of the image's reference, or of an index's entry
 abbrev pub FoundDigest : Reference → List Exchange → List ℕ → Type 0
 FoundDigest image c text = OwnDigest image text ⊎ EntryDigest c text
 
--- the address of the registry, of the image's document, or of an entry's
-abbrev pub FoundUrl : Settings → Reference → List Exchange → List ℕ → Type 0
-FoundUrl s image c text = ManifestUrl s image text
-    ⊎ ((digest : List ℕ) × EntryDigest c digest × (text ≡ manifest_text s (entry_reference image digest)))
+-- what is read and asked for the image's document, or for an entry's
+abbrev pub FoundUrl : Settings → Reference → List Exchange → Act → Type 0
+FoundUrl s image c act = ManifestUrl s image act
+    ⊎ ((digest : List ℕ) × EntryDigest c digest × ManifestUrl s (entry_reference image digest) act)
 
 -- of a call that an index may lead on, with the addresses and digests that it has
-abbrev pub IndexCause : (List ℕ → Type 0) → (List ℕ → Type 0) → (List Exchange → Type 0) → Settings
+abbrev pub IndexCause : (Act → Type 0) → (List ℕ → Type 0) → (List Exchange → Type 0) → Settings
     → List Exchange → ℕ → OciDistributionError → Type 0
-IndexCause Text Given Bad s c now refusal.ImageIndexParsingNoPlatformResolverError =
-    (s.platform_resolver ≡ None) × LastIsIndex c
-IndexCause Text Given Bad s c now (refusal.ImageManifestNotFoundError text) = NotFound s c text
-IndexCause Text Given Bad s c now e = Cause Text (DocumentCause Given) Bad s c now e
+IndexCause Own Given Bad s c now refusal.ImageIndexParsingNoPlatformResolverError =
+    (s.platform_resolver ≡ None) × LastIsIndex Own c
+IndexCause Own Given Bad s c now (refusal.ImageManifestNotFoundError text) = NotFound Own s c text
+IndexCause Own Given Bad s c now e = Cause Own (DocumentCause Given) Bad s c now e
 
 -- of the manifest of an image
 abbrev pub FoundCause : (List Exchange → Type 0) → Settings → Reference → List Exchange → ℕ
@@ -292,11 +317,11 @@ ReadDigest c text = (x : OciDescriptor) × ReadDescriptor c x × (text ≡ x.dig
 abbrev pub ImageDigest : Reference → List Exchange → List ℕ → Type 0
 ImageDigest image c text = FoundDigest image c text ⊎ ReadDigest c text
 
--- the address of the registry, of the image's document, of an entry's, or of a blob of a descriptor in a
--- manifest that was read, or a URL of that descriptor which is not asked
-abbrev pub ImageUrl : Settings → Reference → List Exchange → List ℕ → Type 0
-ImageUrl s image c text = FoundUrl s image c text
-    ⊎ ((x : OciDescriptor) × ReadDescriptor c x × BlobUrl s image (described x) text)
+-- what is read and asked for the image's document, for an entry's, or for a blob of a descriptor in a manifest that
+-- was read
+abbrev pub ImageUrl : Settings → Reference → List Exchange → Act → Type 0
+ImageUrl s image c act = FoundUrl s image c act
+    ⊎ ((x : OciDescriptor) × ReadDescriptor c x × BlobUrl s image (described x) act)
 
 -- of an image's manifest and its configuration, which is held: it is the body of the last answer, and no text
 abbrev pub ConfigCause : (List Exchange → Type 0) → Settings → Reference → List Exchange → ℕ

@@ -1,5 +1,7 @@
 -- What a call for referrers shows, which asks a tag where the registry knows no list of them.
-use Rattle.std.specs.Prelude.{◌≡◌, ◌≢◌, ◌⊎◌, ℕ, false, List, ◌++◌, Some, None, Ok, Err}
+use Rattle.std.specs.Prelude.{◌≡◌, ◌≢◌, ◌⊎◌, ℕ, false, List, ◌++◌, Option, Some, None, Ok, Err}
+use Rattle.url.specs.Parts.{Parts}
+use Rattle.oci_transport.specs.Urls.{request_url}
 use Rattle.oci_transport.specs.declared.message.Answer.{Answer}
 use Rattle.oci_transport.specs.declared.message.Exchange.{Exchange}
 use Rattle.oci_names.specs.declared.reference.Reference.{Reference}
@@ -15,11 +17,12 @@ use Rattle.engine_terms.specs.declared.error.OciDistributionError.TheVariants as
 use Rattle.engine_requests.specs.Addresses.{registry_text}
 use Rattle.engine_answers.specs.Documents.{document_read}
 use Rattle.engine_answers.specs.Referrers.{referrers_tag, fallback_reference, index_read, is_absent}
-use Rattle.engine_requests.specs.ReferrerLists.{referrers_text}
+use Rattle.engine_requests.specs.ReferrerLists.{referrers_text, with_artifact_type}
 use Rattle.engine_requests.specs.Requests.{manifest_types}
 use Rattle.engine_laws.specs.Held.{Entry}
 use Rattle.engine_laws.specs.Confined.{Within}
-use Rattle.engine_laws.specs.Causes.{Cause, AnswerCause, DocumentCause, ByLast, BadHeader, OwnDigest, ManifestUrl}
+use Rattle.engine_laws.specs.Causes.{Act, Reads, Sends, AsksAt, Cause, AnswerCause, DocumentCause, ByLast, BadHeader}
+use Rattle.engine_laws.specs.Causes.{OwnDigest, ManifestUrl}
 
 -- the call for the tag, by what is kept when it begins; nothing is handed in
 abbrev pub for_tag : Entry → List ℕ → Memory → Entry
@@ -31,6 +34,13 @@ for_tag x digest between = record {
   handed = None;
 }
 
+-- the address of the registry or of the list is read, and the list is asked for, which may be restricted to a type of
+-- artifacts
+abbrev pub ListUrl : Settings → Reference → List ℕ → Act → Type 0
+ListUrl s image digest (Reads text) = (text ≡ registry_text s image) ⊎ (text ≡ referrers_text s image digest)
+ListUrl s image digest (Sends request) = (url : Parts) × (request_url (referrers_text s image digest) ≡ Some url)
+    × (kind : Option (List ℕ)) × AsksAt s (with_artifact_type kind url) request
+
 -- The list was answered with status 404. Up to there the exchanges keep to the image; of those after it this is so,
 -- by the digest and what was kept between.
 pub record AfterMissing (x : Entry) (s : Settings) (P : List ℕ → Memory → List Exchange → Type 0)
@@ -40,7 +50,7 @@ pub record AfterMissing (x : Entry) (s : Settings) (P : List ℕ → Memory → 
   pub front : List Exchange
   pub rest : List Exchange
   pub split : c ≡ front ++ rest
-  pub missing : ByLast (λ address answer. answer.status ≡ 404) front
+  pub missing : ByLast (ListUrl s x.image digest) (λ address answer. answer.status ≡ 404) front
   pub between : Memory
   pub first : Within x s between front
   pub after : P digest between rest
@@ -52,10 +62,6 @@ WithinReferrers x s l c = Within x s l c
     ⊎ AfterMissing x s (λ digest between rest. Within (for_tag x digest between) s l rest) c
 
 -- ---- causes
-
--- the address of the registry, or of the list
-abbrev pub ListUrl : Settings → Reference → List ℕ → List ℕ → Type 0
-ListUrl s image digest text = (text ≡ registry_text s image) ⊎ (text ≡ referrers_text s image digest)
 
 -- the answer's body does not read as an index, as the refusal says
 abbrev pub IsNoIndex : Answer → OciDistributionError → Type 0

@@ -3,9 +3,8 @@ use Rattle.std.proofs.Common.{◌≡◌, ◌≢◌, inl, inr, ℕ, ◌+◌, ◌-
 use Rattle.std.specs.Prelude.{◌&&◌, ◌||◌, decimal, nat_lt, if◌then◌else◌}
 use Rattle.std.specs.List.{Contains}
 use Rattle.std.proofs.lemmas.Bool.{ltb-false}
-use Rattle.url.specs.Parts.{Parts, serialize}
 use Rattle.json_values.specs.Counts.{Rose}
-use Rattle.oci_transport.specs.Headers.{Fields, first_of, added, held, is_header_value}
+use Rattle.oci_transport.specs.Headers.{Fields, added, held, is_header_value}
 use Rattle.oci_transport.specs.Link.{Link, answer_of}
 use Rattle.oci_transport.specs.Urls.{request_url}
 use Rattle.oci_transport.specs.declared.message.Answer.{Answer}
@@ -36,15 +35,16 @@ use Rattle.engine_terms.specs.declared.settings.Settings.{Settings}
 use Rattle.engine_requests.specs.declared.sources.Place.{Place}
 use Rattle.engine_requests.specs.declared.sources.Place.TheVariants.{Web, Unfit}
 use Rattle.engine_rows.specs.Rows.{Row, prepared}
-use Rattle.engine_laws.specs.Causes.{UnfitUrl, BlobUrl, BadHeader, LastAnswer, AnswerCause, AskedDigest, Claimed}
+use Rattle.engine_laws.specs.Causes.{Act, Reads, Sends, AsksText, UnfitUrl, BadHeader, LastAnswer, AnswerCause, AskedDigest, Claimed}
 use Rattle.engine_laws.specs.Held.{Entry, pulling}
-use Rattle.engine_laws.proofs.BlobCauses.{OfUrls, places_are, each_more, unfit_as, unfit_is, made_accepts, not_expected}
-use Rattle.engine_laws.proofs.DocumentCauses.{answer_cause, cause_later, early_cause, early_shown, header_refused, heard_answer, heard_failed, heard_long, status_cause, url_cause}
+use Rattle.engine_laws.proofs.BlobCauses.{OfUrls, places_are, each_more, unfit_as, unfit_is, listed_own, not_expected}
+use Rattle.engine_laws.proofs.DocumentAnswers.{url_is}
+use Rattle.engine_laws.proofs.DocumentCauses.{asks_at, answer_cause, cause_later, early_cause, early_shown, header_refused, heard_answer, heard_failed, heard_long, status_cause, url_cause}
 use Rattle.engine_laws.proofs.EarlyCauses.{AnyValue, Loose, Early, request_early, prepared_causes}
-use Rattle.engine_laws.proofs.FaultCounts.{fault_rose, refusal_both}
+use Rattle.engine_laws.proofs.FaultCounts.{failed_last, fault_last, refusal_both}
 use Rattle.engine_laws.proofs.KeptTokens.{Keeps, keeps_first}
 use Rattle.engine_laws.proofs.OfferedPlaces.{EachPlace}
-use Rattle.engine_laws.proofs.PreparedRequests.{Prepared, accepts_of, into_ok, with_ok}
+use Rattle.engine_laws.proofs.PreparedRequests.{Prepared, into_ok}
 use Rattle.engine_laws.proofs.ShownTokens.{Carries, Ended, HeaderCause}
 use Rattle.engine_streams.specs.Head.{expected, given, opening, is_streamed}
 use Rattle.engine_streams.specs.Range.{onward_text, text_to, text_by, range_text, onward, with_range}
@@ -52,14 +52,14 @@ use Rattle.engine_streams.specs.Blobs.{or_next, tried, opened}
 use Rattle.engine_streams.specs.Asking.{reading_unless, judged_reading, judged_reply, judged, streams, some_opening, opening_unless_error, streams_or_passes, offered, ranged_at}
 use Rattle.engine_streams.specs.declared.head.Opening.{Opening}
 use Rattle.engine_streams.specs.declared.range.ByteRange.{ByteRange}
-use Rattle.oci_engine.proofs.StreamRanges.{IsSmall, range_accepts}
+use Rattle.oci_engine.proofs.StreamRanges.{IsSmall}
 use Rattle.oci_engine.proofs.StreamSafety.{opened_sound}
-use Rattle.oci_engine.specs.StreamRefusals.{Overflows, StreamCause}
+use Rattle.oci_engine.specs.StreamRefusals.{Overflows, StreamCause, StreamUrl}
 
 abbrev Any : {A : Type 0} → ℕ → List Exchange → ℕ → A → Type 0
 Any m c n a = Unit {0}
 
-abbrev Shown : (List ℕ → Type 0) → Settings → List ℕ → ℕ → List Exchange → ℕ → OciDistributionError → Type 0
+abbrev Shown : (Act → Type 0) → Settings → List ℕ → ℕ → List Exchange → ℕ → OciDistributionError → Type 0
 Shown T s digest m c n e = Loose T (AnswerCause (AskedDigest digest)) s manifest_types c n e
 
 -- ---- one request
@@ -80,10 +80,10 @@ never_piped limit n false is = cc is
 abbrev MadeCause : {A : Type 0} → List ℕ → (AnswerHead → Result A OciDistributionError) → Type 0
 MadeCause digest made = (head : AnswerHead) (body address : List ℕ) (e : OciDistributionError) → made head ≡ Err e → AnswerCause (AskedDigest digest) address (answer_of head body) e
 
-judged_causes : {A : Type 0} (T : List ℕ → Type 0) (s : Settings) (digest : List ℕ) (takes : AnswerHead → Bool) (made : AnswerHead → Result A OciDistributionError) (request : Request) → first_of (codes "accept") request.headers ≡ Some manifest_types → ((head : AnswerHead) → takes head ≡ false → head.status ≢ 200) → MadeCause digest made → Shows (ByAnswer (Any {A = A}) (Shown T s digest)) (judged s.max_body_bytes takes made request)
+judged_causes : {A : Type 0} (T : Act → Type 0) (s : Settings) (digest : List ℕ) (takes : AnswerHead → Bool) (made : AnswerHead → Result A OciDistributionError) (request : Request) → T (Sends request) → ((head : AnswerHead) → takes head ≡ false → head.status ≢ 200) → MadeCause digest made → Shows (ByAnswer (Any {A = A}) (Shown T s digest)) (judged s.max_body_bytes takes made request)
 unfolding judged judged_reading
-judged_causes {A} T s digest takes made request accepts other cause = Shows-follow (ByAnswer (Any {A = A}) (Shown T s digest)) 10 request (judged_reading s.max_body_bytes takes) (judged_reply made) by_reply where
-  by_made : (m after : ℕ) (c : List Exchange) (address : List ℕ) (head : AnswerHead) (body : List ℕ) (r : Result A OciDistributionError) → made head ≡ r → LastAnswer c address (answer_of head body) → ByAnswer (Any {A = A}) (Shown T s digest) m c after r
+judged_causes {A} T s digest takes made request own other cause = Shows-follow (ByAnswer (Any {A = A}) (Shown T s digest)) 10 request (judged_reading s.max_body_bytes takes) (judged_reply made) by_reply where
+  by_made : (m after : ℕ) (c : List Exchange) (address : List ℕ) (head : AnswerHead) (body : List ℕ) (r : Result A OciDistributionError) → made head ≡ r → LastAnswer T c address (answer_of head body) → ByAnswer (Any {A = A}) (Shown T s digest) m c after r
   by_made m after c address head body (Ok a) is last = tt
   by_made m after c address head body (Err e) is last = answer_cause T (AskedDigest digest) s manifest_types after c address (answer_of head body) e last (cause head body address e is)
 
@@ -91,13 +91,13 @@ judged_causes {A} T s digest takes made request accepts other cause = Shows-foll
   by_reply k l m after o c d last (Headed head) r h run =
       let b = h.replies.reply_is in
       done_run (λ start d o r. ByAnswer (Any {A = A}) (Shown T s digest) m (c ++ d) o r) (made head) k l after o d r
-      (subst (λ x. ByAnswer (Any {A = A}) (Shown T s digest) m x after (made head)) (sym (append-nil c)) (by_made m after c last.url head b.0 (made head) refl (heard_answer h manifest_types accepts (answer_of head b.0) b.1 h.settles))) run
+      (subst (λ x. ByAnswer (Any {A = A}) (Shown T s digest) m x after (made head)) (sym (append-nil c)) (by_made m after c last.url head b.0 (made head) refl (heard_answer T h own (answer_of head b.0) b.1 h.settles))) run
   by_reply k l m after o c d last (Answered answer) r h run =
       let b = h.replies.reply_is in
       done_run (λ start d o r. ByAnswer (Any {A = A}) (Shown T s digest) m (c ++ d) o r) (Err (refused_answer 200 last.url answer)) k l after o d r
-      (subst (λ x. ByAnswer (Any {A = A}) (Shown T s digest) m x after (Err (refused_answer 200 last.url answer))) (sym (append-nil c)) (answer_cause T (AskedDigest digest) s manifest_types after c last.url answer (refused_answer 200 last.url answer) (heard_answer h manifest_types accepts answer b.1 h.settles) (status_cause (AskedDigest digest) last.url answer (other (head_part answer) (reads_not s.max_body_bytes b.0 (takes (head_part answer)) b.2))))) run
-  by_reply k l m after o c d last Failed r h run = done_run (λ start d o r. ByAnswer (Any {A = A}) (Shown T s digest) m (c ++ d) o r) (Err refusal.TransportFault) k l after o d r (rw append-nil (heard_failed h manifest_types accepts)) run
-  by_reply k l m after o c d last TooLong r h run = done_run (λ start d o r. ByAnswer (Any {A = A}) (Shown T s digest) m (c ++ d) o r) (Err refusal.BodyTooLong) k l after o d r (rw append-nil (heard_long h manifest_types s.max_body_bytes accepts (λ n head is. limit_is s.max_body_bytes n (takes head) is))) run
+      (subst (λ x. ByAnswer (Any {A = A}) (Shown T s digest) m x after (Err (refused_answer 200 last.url answer))) (sym (append-nil c)) (answer_cause T (AskedDigest digest) s manifest_types after c last.url answer (refused_answer 200 last.url answer) (heard_answer T h own answer b.1 h.settles) (status_cause (AskedDigest digest) last.url answer (other (head_part answer) (reads_not s.max_body_bytes b.0 (takes (head_part answer)) b.2))))) run
+  by_reply k l m after o c d last Failed r h run = done_run (λ start d o r. ByAnswer (Any {A = A}) (Shown T s digest) m (c ++ d) o r) (Err refusal.TransportFault) k l after o d r (rw append-nil (heard_failed T h own)) run
+  by_reply k l m after o c d last TooLong r h run = done_run (λ start d o r. ByAnswer (Any {A = A}) (Shown T s digest) m (c ++ d) o r) (Err refusal.BodyTooLong) k l after o d r (rw append-nil (heard_long T h s.max_body_bytes own (λ n head is. limit_is s.max_body_bytes n (takes head) is))) run
   by_reply k l m after o c d last SinkFailed r h run = let b = h.replies.reply_is in absurd (never_piped s.max_body_bytes b.1 (takes (head_part b.0)) b.3)
 
 -- ---- what a head says
@@ -154,34 +154,27 @@ not_passed range head is = not_streamed range head.status (neither (is_error hea
 -- ---- the range of a request
 
 -- a header is refused as one that cannot stand there
-header_early : (T : List ℕ → Type 0) (headers : Fields) (name value : List ℕ) → Early T (with_header headers name value)
+header_early : (T : Act → Type 0) (headers : Fields) (name value : List ℕ) → Early T (with_header headers name value)
 header_early T headers name value = by_test (is_header_value value && nat_lt (held headers) 1000) where
   by_test : (b : Bool) → Early T (if b then Ok (added headers name value) else Err (refusal.GenericError HeaderText))
   by_test true = tt
   by_test false = tt
 
-into_early : {A B : Type 0} (T : List ℕ → Type 0) (r : Result A OciDistributionError) (f : A → Result B OciDistributionError) → Early T r → ((a : A) → Early T (f a)) → Early T (r into f)
+into_early : {A B : Type 0} (T : Act → Type 0) (r : Result A OciDistributionError) (f : A → Result B OciDistributionError) → Early T r → ((a : A) → Early T (f a)) → Early T (r into f)
 into_early T (Ok a) f h each = each a
 into_early T (Err e) f h each = h
 
-ranged_early : (T : List ℕ → Type 0) (text : Option (List ℕ)) (request : Request) → Early T (with_range text request)
+ranged_early : (T : Act → Type 0) (text : Option (List ℕ)) (request : Request) → Early T (with_range text request)
 ranged_early T None request = tt
 ranged_early T (Some text) request = into_early T (with_header request.headers (codes "range") text) _ (header_early T request.headers (codes "range") text) (λ headers. tt)
 
-ranged_accepts : (text : Option (List ℕ)) (request ranged : Request) → first_of (codes "accept") request.headers ≡ Some manifest_types → with_range text request ≡ Ok ranged → first_of (codes "accept") ranged.headers ≡ Some manifest_types
-ranged_accepts None request ranged accepts is = let same : request ≡ ranged = cc is in subst (λ (r : Request). first_of (codes "accept") r.headers ≡ Some manifest_types) same accepts
-ranged_accepts (Some text) request ranged accepts is =
-    let made = into_ok (with_header request.headers (codes "range") text) (λ headers. Ok (record request { headers = headers })) ranged is in
-    let same : record request { headers = made.0 } ≡ ranged = cc (made.2) in
-    ap (λ (r : Request). first_of (codes "accept") r.headers) (sym same) ∙ ap (first_of (codes "accept")) (with_ok request.headers (codes "range") text made.0 made.1) ∙ range_accepts request.headers text ∙ accepts
-
 -- ---- the places
 
-early_is : {A : Type 0} (T : List ℕ → Type 0) (s : Settings) (digest : List ℕ) (m : ℕ) (r : Result A OciDistributionError) (e : OciDistributionError) → Early T r → r ≡ Err e → Shown T s digest m [] m e
+early_is : {A : Type 0} (T : Act → Type 0) (s : Settings) (digest : List ℕ) (m : ℕ) (r : Result A OciDistributionError) (e : OciDistributionError) → Early T r → r ≡ Err e → Shown T s digest m [] m e
 early_is T s digest m (Ok a) e early is = absurd (cc is)
 early_is T s digest m (Err x) e early is = let same : x ≡ e = cc is in subst (λ (x : OciDistributionError). Shown T s digest m [] m x) same (early_cause T (AnswerCause (AskedDigest digest)) s manifest_types m [] x early)
 
-place_early : (T : List ℕ → Type 0) (s : Settings) (urls : List (List ℕ)) → ((text : List ℕ) → UnfitUrl urls text → T text) → (p : Place) → OfUrls urls p → Early T (asked_at s p)
+place_early : (T : Act → Type 0) (s : Settings) (urls : List (List ℕ)) → ((text : List ℕ) → UnfitUrl urls text → T (Reads text)) → (p : Place) → OfUrls urls p → Early T (asked_at s p)
 unfolding asked_at
 place_early T s urls listed (Web url) has = request_early T s Get url manifest_types None
 place_early T s urls listed (Unfit text) has =
@@ -189,40 +182,40 @@ place_early T s urls listed (Unfit text) has =
     let here : UnfitUrl urls text = (subst (Contains urls) unfit.0 has.1, subst (λ (t : List ℕ). place_of t ≡ Some (Unfit text)) unfit.0 has.2) in
     (subst (λ (t : List ℕ). request_url t ≡ None) unfit.0 unfit.1, listed text here)
 
-ranged_place_early : (T : List ℕ → Type 0) (s : Settings) (range : Option ByteRange) (urls : List (List ℕ)) → ((text : List ℕ) → UnfitUrl urls text → T text) → (p : Place) → OfUrls urls p → Early T (ranged_at s range p)
+ranged_place_early : (T : Act → Type 0) (s : Settings) (range : Option ByteRange) (urls : List (List ℕ)) → ((text : List ℕ) → UnfitUrl urls text → T (Reads text)) → (p : Place) → OfUrls urls p → Early T (ranged_at s range p)
 ranged_place_early T s range urls listed p has = into_early T (asked_at s p) (with_range (onward range)) (place_early T s urls listed p has) (λ request. ranged_early T (onward range) request)
 
-ranged_place_accepts : (s : Settings) (range : Option ByteRange) (p : Place) (next : Request) → ranged_at s range p ≡ Ok next → first_of (codes "accept") next.headers ≡ Some manifest_types
-ranged_place_accepts s range p next is =
+ranged_place_own : (range : Option ByteRange) (s : Settings) (image : Reference) (layer : Layer) (p : Place) → OfUrls layer.urls p → (next : Request) → ranged_at s range p ≡ Ok next → StreamUrl range s image layer (Sends next)
+ranged_place_own range s image layer p has next is =
     let made = into_ok (asked_at s p) (with_range (onward range)) next is in
-    ranged_accepts (onward range) made.0 next (made_accepts s p made.0 made.1) made.2
+    inr (made.0, listed_own s layer.urls p made.0 has made.1, made.2)
 
-later : {A : Type 0} (T : List ℕ → Type 0) (s : Settings) (digest : List ℕ) (m start o : ℕ) (c d : List Exchange) (r : Result A OciDistributionError) → ByAnswer (Any {A = A}) (Shown T s digest) start d o r → ByAnswer (Any {A = A}) (Shown T s digest) m (c ++ d) o r
+later : {A : Type 0} (T : Act → Type 0) (s : Settings) (digest : List ℕ) (m start o : ℕ) (c d : List Exchange) (r : Result A OciDistributionError) → ByAnswer (Any {A = A}) (Shown T s digest) start d o r → ByAnswer (Any {A = A}) (Shown T s digest) m (c ++ d) o r
 later T s digest m start o c d (Ok a) h = tt
 later T s digest m start o c d (Err e) h = cause_later T T (AnswerCause (AskedDigest digest)) (AnswerCause (AskedDigest digest)) s manifest_types o c d e (λ text h. h) (λ address answer h. h) h
 
 -- an answer that was found, or what comes next
-found_causes : (T : List ℕ → Type 0) (s : Settings) (digest : List ℕ) (next : Row Opening) → Shows (ByAnswer Any (Shown T s digest)) next → (m : ℕ) (c : List Exchange) (found : Option Opening) → Shows (λ start d o r. ByAnswer Any (Shown T s digest) m (c ++ d) o r) (or_next next found)
+found_causes : (T : Act → Type 0) (s : Settings) (digest : List ℕ) (next : Row Opening) → Shows (ByAnswer Any (Shown T s digest)) next → (m : ℕ) (c : List Exchange) (found : Option Opening) → Shows (λ start d o r. ByAnswer Any (Shown T s digest) m (c ++ d) o r) (or_next next found)
 found_causes T s digest next h m c (Some o) = Shows-done (λ start d o r. ByAnswer Any (Shown T s digest) m (c ++ d) o r) (Ok o) (λ m. tt)
 found_causes T s digest next h m c None = Shows-more (ByAnswer Any (Shown T s digest)) (λ start d o r. ByAnswer Any (Shown T s digest) m (c ++ d) o r) next h (λ start o d r h. later T s digest m start o c d r h)
 
-tried_causes : (T : List ℕ → Type 0) (s : Settings) (range : Option ByteRange) (digest : List ℕ) (places : List Place) → EachPlace (λ p. Early T (ranged_at s range p)) places → (request : Request) → first_of (codes "accept") request.headers ≡ Some manifest_types → Shows (ByAnswer Any (Shown T s digest)) (tried s range digest places request)
+tried_causes : (T : Act → Type 0) (s : Settings) (range : Option ByteRange) (digest : List ℕ) (places : List Place) → EachPlace (λ p. Early T (ranged_at s range p)) places → EachPlace (λ p. (next : Request) → ranged_at s range p ≡ Ok next → T (Sends next)) places → (request : Request) → T (Sends request) → Shows (ByAnswer Any (Shown T s digest)) (tried s range digest places request)
 unfolding tried
-tried_causes T s range digest [] early request accepts = judged_causes T s digest (streams range) (opening range digest) request accepts (not_taken range) (opening_cause range digest)
-tried_causes T s range digest (p ∷ ps) early request accepts = Shows-each Any Any (Shown T s digest) (offered s.max_body_bytes range digest request) _ (judged_causes T s digest (streams_or_passes range) (opening_unless_error range digest) request accepts (not_passed range) (unless_cause range digest))
+tried_causes T s range digest [] early others request own = judged_causes T s digest (streams range) (opening range digest) request own (not_taken range) (opening_cause range digest)
+tried_causes T s range digest (p ∷ ps) early others request own = Shows-each Any Any (Shown T s digest) (offered s.max_body_bytes range digest request) _ (judged_causes T s digest (streams_or_passes range) (opening_unless_error range digest) request own (not_passed range) (unless_cause range digest))
     (λ m n c found h. found_causes T s digest (Done (ranged_at s range p) >>= tried s range digest ps)
-    (Shows-step (ByAnswer Any (Shown T s digest)) (ranged_at s range p) (tried s range digest ps) (λ next is. tried_causes T s range digest ps early.1 next (ranged_place_accepts s range p next is)) (λ e is m. early_is T s digest m (ranged_at s range p) e early.0 is)) m c found)
+    (Shows-step (ByAnswer Any (Shown T s digest)) (ranged_at s range p) (tried s range digest ps) (λ next is. tried_causes T s range digest ps early.1 others.1 next (others.0 next is)) (λ e is m. early_is T s digest m (ranged_at s range p) e early.0 is)) m c found)
 
 -- ---- the whole row
 
-abbrev pub Streamed : Option ByteRange → (List ℕ → Type 0) → Settings → List ℕ → ℕ → List Exchange → ℕ → OciDistributionError → Type 0
+abbrev pub Streamed : Option ByteRange → (Act → Type 0) → Settings → List ℕ → ℕ → List Exchange → ℕ → OciDistributionError → Type 0
 Streamed range T s digest m c n e = StreamCause range T AnyValue s digest c n e
 
-loosened : (range : Option ByteRange) (T : List ℕ → Type 0) (s : Settings) (digest : List ℕ) (m n : ℕ) (c : List Exchange) (e : OciDistributionError) → Shown T s digest m c n e → Streamed range T s digest m c n e
+loosened : (range : Option ByteRange) (T : Act → Type 0) (s : Settings) (digest : List ℕ) (m n : ℕ) (c : List Exchange) (e : OciDistributionError) → Shown T s digest m c n e → Streamed range T s digest m c n e
 loosened range T s digest m n c (refusal.GenericError RangeOverflow) h = absurd h.holds
 loosened range T s digest m n c _ h = h
 
-by_loosened : (range : Option ByteRange) (T : List ℕ → Type 0) (s : Settings) (digest : List ℕ) (m n : ℕ) (c : List Exchange) (r : Result Opening OciDistributionError) → ByAnswer Any (Shown T s digest) m c n r → ByAnswer Any (Streamed range T s digest) m c n r
+by_loosened : (range : Option ByteRange) (T : Act → Type 0) (s : Settings) (digest : List ℕ) (m n : ℕ) (c : List Exchange) (r : Result Opening OciDistributionError) → ByAnswer Any (Shown T s digest) m c n r → ByAnswer Any (Streamed range T s digest) m c n r
 by_loosened range T s digest m n c (Ok o) h = tt
 by_loosened range T s digest m n c (Err e) h = loosened range T s digest m n c e h
 
@@ -240,46 +233,49 @@ range_overflows : (range : Option ByteRange) (e : OciDistributionError) → rang
 range_overflows None e is = absurd (cc is)
 range_overflows (Some range) e is = by_err ((e ≡ refusal.GenericError RangeOverflow) × Overflows (Some range)) (text_by range.offset range.length) (λ text. Ok (Some text)) e is (by_overflows range range.length e refl) (λ text good bad. absurd (cc bad))
 
-overflow_cause : (range : Option ByteRange) (T : List ℕ → Type 0) (s : Settings) (digest : List ℕ) (m : ℕ) (e : OciDistributionError) → (e ≡ refusal.GenericError RangeOverflow) × Overflows range → Streamed range T s digest m [] m e
+overflow_cause : (range : Option ByteRange) (T : Act → Type 0) (s : Settings) (digest : List ℕ) (m : ℕ) (e : OciDistributionError) → (e ≡ refusal.GenericError RangeOverflow) × Overflows range → Streamed range T s digest m [] m e
 overflow_cause range T s digest m e h = subst (λ (x : OciDistributionError). Streamed range T s digest m [] m x) (sym h.0) (h.1, refl)
 
-pub opened_causes : (s : Context) (image : Reference) (layer : Layer) (range : Option ByteRange) → Shows (ByAnswer Any (Streamed range (BlobUrl s.settings image layer) s.settings layer.digest)) (opened s image layer range)
+pub opened_causes : (s : Context) (image : Reference) (layer : Layer) (range : Option ByteRange) → Shows (ByAnswer Any (Streamed range (StreamUrl range s.settings image layer) s.settings layer.digest)) (opened s image layer range)
 unfolding opened
 opened_causes s image layer range = Shows-step (ByAnswer Any (Streamed range T s.settings layer.digest)) (range_text range) _
-    (λ text is. Shows-more (ByAnswer Any (Shown T s.settings layer.digest)) (ByAnswer Any (Streamed range T s.settings layer.digest)) _ (after text) (λ m n c r h. by_loosened range T s.settings layer.digest m n c r h))
+    (λ text is. Shows-more (ByAnswer Any (Shown T s.settings layer.digest)) (ByAnswer Any (Streamed range T s.settings layer.digest)) _ (after text is) (λ m n c r h. by_loosened range T s.settings layer.digest m n c r h))
     (λ e is m. overflow_cause range T s.settings layer.digest m e (range_overflows range e is)) where
-      T : List ℕ → Type 0
-      T = BlobUrl s.settings image layer
+      T : Act → Type 0
+      T = StreamUrl range s.settings image layer
 
       early : EachPlace (λ p. Early T (ranged_at s.settings range p)) (places_of layer.urls)
       early = each_more (OfUrls layer.urls) (λ p. Early T (ranged_at s.settings range p)) (ranged_place_early T s.settings range layer.urls (λ text h. inr (inr h))) (places_of layer.urls) (places_are layer.urls)
 
-      asks : (text : Option (List ℕ)) (url : Parts) (m : ℕ) (c : List Exchange) (request : Request) → first_of (codes "accept") request.headers ≡ Some manifest_types → Shows (λ start d o r. ByAnswer Any (Shown T s.settings layer.digest) m (c ++ d) o r) (Done (with_range text request) >>= tried s.settings range layer.digest (places_of layer.urls))
-      asks text url m c request accepts = Shows-more (ByAnswer Any (Shown T s.settings layer.digest)) (λ start d o r. ByAnswer Any (Shown T s.settings layer.digest) m (c ++ d) o r) (Done (with_range text request) >>= tried s.settings range layer.digest (places_of layer.urls))
-          (Shows-step (ByAnswer Any (Shown T s.settings layer.digest)) (with_range text request) (tried s.settings range layer.digest (places_of layer.urls)) (λ ranged is. tried_causes T s.settings range layer.digest (places_of layer.urls) early ranged (ranged_accepts text request ranged accepts is)) (λ e is m. early_is T s.settings layer.digest m (with_range text request) e (ranged_early T text request) is)) (λ start o d r h. later T s.settings layer.digest m start o c d r h)
+      others : EachPlace (λ p. (next : Request) → ranged_at s.settings range p ≡ Ok next → T (Sends next)) (places_of layer.urls)
+      others = each_more (OfUrls layer.urls) (λ p. (next : Request) → ranged_at s.settings range p ≡ Ok next → T (Sends next)) (ranged_place_own range s.settings image layer) (places_of layer.urls) (places_are layer.urls)
 
-      after : (text : Option (List ℕ)) → Shows (ByAnswer Any (Shown T s.settings layer.digest)) (Done (url_read (blob_text s.settings image layer.digest)) >>= (λ url. prepared s image Pull Get url manifest_types >>= (λ request. Done (with_range text request) >>= tried s.settings range layer.digest (places_of layer.urls))))
-      after text = Shows-step (ByAnswer Any (Shown T s.settings layer.digest)) (url_read (blob_text s.settings image layer.digest)) _
-          (λ url is. Shows-each (λ m c n request. Prepared s.settings Get url manifest_types Get (serialize url) c request) Any (Shown T s.settings layer.digest) (prepared s image Pull Get url manifest_types) (λ request. Done (with_range text request) >>= tried s.settings range layer.digest (places_of layer.urls))
-          (early_shown T (AnswerCause (AskedDigest layer.digest)) s.settings manifest_types (λ m c n request. Prepared s.settings Get url manifest_types Get (serialize url) c request) (prepared s image Pull Get url manifest_types) (prepared_causes T s image Pull Get url manifest_types Get (serialize url) (inl refl)))
-          (λ m n c request p. asks text url m c request (accepts_of s.settings Get url manifest_types p.token request p.made)))
+      asks : (text : Option (List ℕ)) (m : ℕ) (c : List Exchange) (request : Request) → range_text range ≡ Ok text → AsksText s.settings (blob_text s.settings image layer.digest) request → Shows (λ start d o r. ByAnswer Any (Shown T s.settings layer.digest) m (c ++ d) o r) (Done (with_range text request) >>= tried s.settings range layer.digest (places_of layer.urls))
+      asks text m c request ranges whole = Shows-more (ByAnswer Any (Shown T s.settings layer.digest)) (λ start d o r. ByAnswer Any (Shown T s.settings layer.digest) m (c ++ d) o r) (Done (with_range text request) >>= tried s.settings range layer.digest (places_of layer.urls))
+          (Shows-step (ByAnswer Any (Shown T s.settings layer.digest)) (with_range text request) (tried s.settings range layer.digest (places_of layer.urls)) (λ ranged is. tried_causes T s.settings range layer.digest (places_of layer.urls) early others ranged (inl (request, whole, text, ranges, is))) (λ e is m. early_is T s.settings layer.digest m (with_range text request) e (ranged_early T text request) is)) (λ start o d r h. later T s.settings layer.digest m start o c d r h)
+
+      after : (text : Option (List ℕ)) → range_text range ≡ Ok text → Shows (ByAnswer Any (Shown T s.settings layer.digest)) (Done (url_read (blob_text s.settings image layer.digest)) >>= (λ url. prepared s image Pull Get url manifest_types >>= (λ request. Done (with_range text request) >>= tried s.settings range layer.digest (places_of layer.urls))))
+      after text ranges = Shows-step (ByAnswer Any (Shown T s.settings layer.digest)) (url_read (blob_text s.settings image layer.digest)) _
+          (λ url is. Shows-each (λ m c n request. Prepared s.settings image Pull Get url manifest_types c request) Any (Shown T s.settings layer.digest) (prepared s image Pull Get url manifest_types) (λ request. Done (with_range text request) >>= tried s.settings range layer.digest (places_of layer.urls))
+          (early_shown T (AnswerCause (AskedDigest layer.digest)) s.settings manifest_types (λ m c n request. Prepared s.settings image Pull Get url manifest_types c request) (prepared s image Pull Get url manifest_types) (prepared_causes T s image Pull Get url manifest_types (inl refl)))
+          (λ m n c request p. asks text m c request ranges (url, url_is (blob_text s.settings image layer.digest) (request_url (blob_text s.settings image layer.digest)) url is, asks_at s.settings image Pull Get url manifest_types c request p)))
           (λ e is m. url_cause T (AnswerCause (AskedDigest layer.digest)) s.settings manifest_types (blob_text s.settings image layer.digest) m [] e (inr (inl refl)) is)
 
 -- ---- a call
 
-pub stream_free : (range : Option ByteRange) (T : List ℕ → Type 0) (Bad : List Exchange → Type 0) (s : Settings) (digest : List ℕ) (now : ℕ) (c : List Exchange) (e : OciDistributionError) → is_memory e ≡ true → StreamCause range T Bad s digest c now e
+pub stream_free : (range : Option ByteRange) (T : Act → Type 0) (Bad : List Exchange → Type 0) (s : Settings) (digest : List ℕ) (now : ℕ) (c : List Exchange) (e : OciDistributionError) → is_memory e ≡ true → StreamCause range T Bad s digest c now e
 stream_free range T Bad s digest now c refusal.WantOfMemory is = tt
 stream_free range T Bad s digest now c _ is = absurd (cc is)
 
-pub tight_stream : (range : Option ByteRange) (T : List ℕ → Type 0) (x : Entry) (s : Settings) (digest : List ℕ) (now : ℕ) (c : List Exchange) (e : OciDistributionError) → StreamCause range T AnyValue s digest c now e → HeaderCause x s manifest_types c e → StreamCause range T (BadHeader x s manifest_types) s digest c now e
+pub tight_stream : (range : Option ByteRange) (T : Act → Type 0) (x : Entry) (s : Settings) (digest : List ℕ) (now : ℕ) (c : List Exchange) (e : OciDistributionError) → StreamCause range T AnyValue s digest c now e → HeaderCause x s manifest_types c e → StreamCause range T (BadHeader x s manifest_types) s digest c now e
 tight_stream range T x s digest now c (refusal.GenericError HeaderText) h bad = bad
 tight_stream range T x s digest now c _ h bad = h
 
-pub opened_reason : (s : Context) (image : Reference) (layer : Layer) (range : Option ByteRange) {old new : Link} {k l : Memory} {r : Result Opening OciDistributionError} → IsSmall range → Meets is_memory (opened s image layer range) old new k l r → IfErr r (λ e. Told (λ c. StreamCause range (BlobUrl s.settings image layer) (BadHeader (pulling k s image None) s.settings manifest_types) s.settings layer.digest c new.faults e) old new)
+pub opened_reason : (s : Context) (image : Reference) (layer : Layer) (range : Option ByteRange) {old new : Link} {k l : Memory} {r : Result Opening OciDistributionError} → IsSmall range → Meets is_memory (opened s image layer range) old new k l r → IfErr r (λ e. Told (λ c. StreamCause range (StreamUrl range s.settings image layer) (BadHeader (pulling k s image None) s.settings manifest_types) s.settings layer.digest c new.faults e) old new)
 opened_reason s image layer range {k = k} small met =
     let x = pulling k s image None in
-    refusal_both (Carries x s.settings) Any (Streamed range (BlobUrl s.settings image layer) s.settings layer.digest) (Keeps x) (Ended x s.settings manifest_types) (λ c n e. StreamCause range (BlobUrl s.settings image layer) (BadHeader x s.settings manifest_types) s.settings layer.digest c n e) (opened s image layer range)
-    (λ n c e is. stream_free range (BlobUrl s.settings image layer) (BadHeader x s.settings manifest_types) s.settings layer.digest n c e is) (λ m n c e h bad. tight_stream range (BlobUrl s.settings image layer) x s.settings layer.digest n c e h bad) (opened_causes s image layer range) (opened_sound s image layer range k None k [] small (keeps_first x)) met
+    refusal_both (Carries x s.settings) Any (Streamed range (StreamUrl range s.settings image layer) s.settings layer.digest) (Keeps x) (Ended x s.settings manifest_types) (λ c n e. StreamCause range (StreamUrl range s.settings image layer) (BadHeader x s.settings manifest_types) s.settings layer.digest c n e) (opened s image layer range)
+    (λ n c e is. stream_free range (StreamUrl range s.settings image layer) (BadHeader x s.settings manifest_types) s.settings layer.digest n c e is) (λ m n c e h bad. tight_stream range (StreamUrl range s.settings image layer) x s.settings layer.digest n c e h bad) (opened_causes s image layer range) (opened_sound s image layer range k None k [] small (keeps_first x)) met
 
 pub opened_fault : (s : Context) (image : Reference) (layer : Layer) (range : Option ByteRange) {old new : Link} {k l : Memory} → Meets is_memory (opened s image layer range) old new k l (Err refusal.TransportFault) → Rose old.faults new.faults
-opened_fault s image layer range met = fault_rose Any (Streamed range (BlobUrl s.settings image layer) s.settings layer.digest) (opened s image layer range) refusal.TransportFault refl (λ m n c h. h) (opened_causes s image layer range) met
+opened_fault s image layer range met = fault_last Any (Streamed range (StreamUrl range s.settings image layer) s.settings layer.digest) (opened s image layer range) refusal.TransportFault refl (λ m n c h. failed_last h) (opened_causes s image layer range) met

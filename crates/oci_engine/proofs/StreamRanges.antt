@@ -1,6 +1,6 @@
 -- The header `range` of a request can stand there, and it changes neither the types nor the token.
 use Rattle.std.proofs.Common.{◌≡◌, ◌<◌, ◌+◌, ◌-◌, ◌^◌, ℕ, Bool, true, false, List, [], ◌∷◌, ◌++◌, Option, Some, None, Result, Ok, Err, codes, length, unwrap_or, refl, sym, ap, subst, ◌∙◌, arith}
-use Rattle.std.specs.Prelude.{decimal, nat_lt, slice_get, sum_by, if◌then◌else◌}
+use Rattle.std.specs.Prelude.{decimal, nat_lt, sum_by, if◌then◌else◌}
 use Rattle.std.specs.List.{list_all}
 use Rattle.std.proofs.lemmas.Bool.{ltb-true}
 use Rattle.std.proofs.lemmas.Bool.Decides.{nat_tests}
@@ -11,7 +11,7 @@ use Rattle.std.specs.FinMap.{entries-insert, get-insert, get-empty, put}
 use Rattle.std.specs.Cmp.Lexicographic.{nat_list_cmp_total}
 use Rattle.url.specs.Parts.{Parts}
 use Rattle.json_values.specs.Places.{by_bytes}
-use Rattle.oci_transport.specs.Headers.{Fields, values_of, first_of, added, held, is_header_value, is_value_byte}
+use Rattle.oci_transport.specs.Headers.{Fields, values_of, added, held, is_header_value, is_value_byte}
 use Rattle.oci_transport.specs.declared.message.Request.{Request}
 use Rattle.oci_transport.specs.declared.message.Method.{Method}
 use Rattle.oci_auth.specs.Auth.{authorization_of}
@@ -126,9 +126,6 @@ has_room s method url types token request is =
     ap (λ (r : Request). nat_lt (held r.headers) 1000) made.is ∙ by_token s.user_agent types token made.headers (subst (λ (m : Fields). with_token token m ≡ Ok made.headers) listing made.shown)
 
 -- ---- it changes nothing else
-
-pub range_accepts : (m : Fields) (value : List ℕ) → first_of (codes "accept") (added m (codes "range") value) ≡ first_of (codes "accept") m
-range_accepts m value = ap (λ (o : Option (List (List ℕ))). slice_get (unwrap_or o []) 0) (get-insert nat_list_cmp_total m (codes "range") (values_of (codes "range") m ++ value ∷ []) (codes "accept"))
 
 pub range_shows : (m : Fields) (value : List ℕ) → values_of (codes "authorization") (added m (codes "range") value) ≡ values_of (codes "authorization") m
 range_shows m value = ap (λ (o : Option (List (List ℕ))). unwrap_or o []) (get-insert nat_list_cmp_total m (codes "range") (values_of (codes "range") m ++ value ∷ []) (codes "authorization"))

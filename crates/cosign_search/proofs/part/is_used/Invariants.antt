@@ -1,5 +1,5 @@
 use Rattle.std.proofs.Common.{ℕ, ◌<◌, get_or}
-use Rattle.cosign_search.specs.LayerTexts.{BeginsOtherwise}
+use Rattle.cosign_search.specs.Part.{BeginsOtherwise}
 use Rattle.cosign_search.proofs.part.is_used.Given as goal
 
 -- none so far

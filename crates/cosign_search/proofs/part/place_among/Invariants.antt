@@ -1,5 +1,5 @@
 use Rattle.std.proofs.Common.{◌≡◌, ℕ, ◌<◌, false, get_or}
-use Rattle.cosign_search.specs.LayerTexts.{is_among}
+use Rattle.cosign_search.specs.Part.{is_among}
 use Rattle.cosign_search.proofs.part.place_among.Given as goal
 
 -- none so far

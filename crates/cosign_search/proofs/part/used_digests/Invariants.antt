@@ -1,5 +1,5 @@
 use Rattle.std.proofs.Common.{◌≡◌, ◌++◌, drop, map}
-use Rattle.cosign_search.specs.LayerTexts.{layer_digests}
+use Rattle.cosign_search.specs.Part.{layer_digests}
 use Rattle.cosign_search.proofs.part.used_digests.Given as goal
 
 -- the rest goes behind what is there
