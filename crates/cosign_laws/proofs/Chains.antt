@@ -23,6 +23,7 @@ use Rattle.engine_terms.specs.Contexts.{Context}
 use Rattle.engine_rows.specs.declared.image.ImageData.{ImageData}
 use Rattle.engine_laws.proofs.DigestAnswers.{answered_before}
 use Rattle.engine_laws.proofs.DocumentAnswers.{body_after}
+use Rattle.engine_laws.specs.Answered.{DigestAnswered}
 use Rattle.sig_calls.specs.declared.error.SigstoreError.{SigstoreError}
 use Rattle.sig_calls.specs.Error.{is_memory}
 use Rattle.sig_calls.specs.Clients.{Kept, Row}

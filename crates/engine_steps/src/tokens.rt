@@ -1,5 +1,5 @@
 // The token step, and where it is made.
-ghost use Rattle.std.specs.Prelude.{◌≡◌, ⊥, IfOk};
+ghost use Rattle.std.specs.Prelude.{◌≡◌, IfOk};
 ghost use Rattle.url.specs.Parts.{serialize};
 ghost use Rattle.oci_auth.specs.declared.memory.Memory.{Memory};
 ghost use Rattle.oci_transport.specs.Urls.{request_url};

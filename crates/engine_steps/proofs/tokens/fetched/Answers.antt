@@ -1,3 +1,4 @@
+use Rattle.std.proofs.Common.{refl}
 use Rattle.engine_steps.proofs.HelperTrees.{not_ok}
 use Rattle.engine_steps.proofs.RealmTokens.{unless_bearer, whatever_token}
 use Rattle.engine_rows.proofs.Exits.{wanting, done, passed_on}

@@ -22,4 +22,4 @@ returns-in_err-token g c = record { run = λ k. and_then _ (said _ c.in_ok-url.e
 
 pub returns : goal.returns
 unfolding realm_asked
-returns g c = record { run = λ k. and_then _ (said _ c.in_ok-url.ensures) (and_then _ (said _ c.in_ok-request.ensures) (and_then _ (c.in_ok-got.ensures k) (said _ c.in_ok-token.ensures))); bearer = realm_bearer _ _ c.in_ok-token.ensures }
+returns g c = record { run = λ k. and_then _ (said _ c.in_ok-url.ensures) (and_then _ (said _ c.in_ok-request.ensures) (and_then _ (c.in_ok-got.ensures k) (said _ c.in_ok-token.ensures))); bearer = realm_bearer _ _ _ c.in_ok-token.ensures }

@@ -1,7 +1,5 @@
-use Rattle.std.specs.Prelude.{subst, sym}
 use Rattle.engine_steps.proofs.HelperTrees.{not_ok}
-use Rattle.engine_steps.proofs.RealmTokens.{unless_bearer}
-use Rattle.engine_steps.specs.Untaken.{Untaken}
+use Rattle.engine_steps.proofs.RealmTokens.{left_untaken}
 use Rattle.engine_rows.proofs.Exits.{refused, wanting, and_then, said, passed_on}
 use Rattle.engine_rows.specs.Rows.{registry_asked}
 use Rattle.engine_steps.proofs.tokens.registry_asked.Goals as goal
@@ -28,4 +26,4 @@ returns-in_err-token g c = record { run = λ k. and_then _ (said _ c.in_ok-url.e
 
 pub returns : goal.returns
 unfolding registry_asked
-returns g c = record { run = λ k. and_then _ (said _ c.in_ok-url.ensures) (and_then _ (said _ c.in_ok-request.ensures) (and_then _ (c.in_ok-head.ensures.run k) (rw c.in_ok-wanted.ensures at (c.in_ok-token.ensures.run k)))); untaken = unless_bearer _ (λ same. (_, subst (λ link. Untaken _ _ link) (sym same) c.in_ok-head.ensures.untaken)) c.in_ok-token.ensures.quiet }
+returns g c = record { run = λ k. and_then _ (said _ c.in_ok-url.ensures) (and_then _ (said _ c.in_ok-request.ensures) (and_then _ (c.in_ok-head.ensures.run k) (rw c.in_ok-wanted.ensures at (c.in_ok-token.ensures.run k)))); untaken = left_untaken _ _ _ c.in_ok-head.ensures.untaken c.in_ok-token.ensures.quiet }
