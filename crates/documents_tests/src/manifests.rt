@@ -11,15 +11,29 @@ use test_answers::{holds, is_written, json};
 
 // An image of the configuration `{}` and of the one layer `hello world`.
 const IMAGE: &str =
-    r#"{"schemaVersion":2,"mediaType":"application/vnd.oci.image.manifest.v1+json","config":{"mediaType":"application/vnd.oci.image.config.v1+json","digest":"sha256:44136fa355b3678a1146ad16f7e8649e94fb4fc21fe77e8310c060f61caaff8a","size":2},"layers":[{"mediaType":"application/vnd.oci.image.layer.v1.tar","digest":"sha256:b94d27b9934d3e08a52e52d7da7dabfac484efe37a5380ee9088f7ace2efcde9","size":11}]}"#;
+    "{\"schemaVersion\":2,\"mediaType\":\"application/vnd.oci.image.manifest.v1+json\",\
+        \"config\":{\"mediaType\":\"application/vnd.oci.image.config.v1+json\",\
+        \"digest\":\"sha256:44136fa355b3678a1146ad16f7e8649e94fb4fc21fe77e8310c060f61caaff8a\",\"size\":2},\
+        \"layers\":[{\"mediaType\":\"application/vnd.oci.image.layer.v1.tar\",\
+        \"digest\":\"sha256:b94d27b9934d3e08a52e52d7da7dabfac484efe37a5380ee9088f7ace2efcde9\",\"size\":11}]}";
 
 // Its text: no white space, and the names in order.
 const IMAGE_TEXT: &str =
-    r#"{"config":{"digest":"sha256:44136fa355b3678a1146ad16f7e8649e94fb4fc21fe77e8310c060f61caaff8a","mediaType":"application/vnd.oci.image.config.v1+json","size":2},"layers":[{"digest":"sha256:b94d27b9934d3e08a52e52d7da7dabfac484efe37a5380ee9088f7ace2efcde9","mediaType":"application/vnd.oci.image.layer.v1.tar","size":11}],"mediaType":"application/vnd.oci.image.manifest.v1+json","schemaVersion":2}"#;
+    "{\"config\":{\"digest\":\"sha256:44136fa355b3678a1146ad16f7e8649e94fb4fc21fe77e8310c060f61caaff8a\",\
+        \"mediaType\":\"application/vnd.oci.image.config.v1+json\",\"size\":2},\
+        \"layers\":[{\"digest\":\"sha256:b94d27b9934d3e08a52e52d7da7dabfac484efe37a5380ee9088f7ace2efcde9\",\
+        \"mediaType\":\"application/vnd.oci.image.layer.v1.tar\",\"size\":11}],\
+        \"mediaType\":\"application/vnd.oci.image.manifest.v1+json\",\"schemaVersion\":2}";
 
 // The example of the OCI image specification, image-index.md, its names in order.
 const INDEX: &str =
-    r#"{"annotations":{"com.example.key1":"value1","com.example.key2":"value2"},"manifests":[{"digest":"sha256:e692418e4cbaf90ca69d05a66403747baa33ee08806650b51fab815ad7fc331f","mediaType":"application/vnd.oci.image.manifest.v1+json","platform":{"architecture":"ppc64le","os":"linux"},"size":7143},{"digest":"sha256:5b0bcabd1ed22e9fb1310cf6c2dec7cdef19f0ad69efa1f392e94a4333501270","mediaType":"application/vnd.oci.image.manifest.v1+json","platform":{"architecture":"amd64","os":"linux"},"size":7682}],"mediaType":"application/vnd.oci.image.index.v1+json","schemaVersion":2}"#;
+    "{\"annotations\":{\"com.example.key1\":\"value1\",\"com.example.key2\":\"value2\"},\
+        \"manifests\":[{\"digest\":\"sha256:e692418e4cbaf90ca69d05a66403747baa33ee08806650b51fab815ad7fc331f\",\
+        \"mediaType\":\"application/vnd.oci.image.manifest.v1+json\",\"platform\":{\"architecture\":\"ppc64le\",\
+        \"os\":\"linux\"},\"size\":7143},{\"digest\":\"sha256:5b0bcabd1ed22e9fb1310cf6c2dec7cdef19f0ad69efa1f392\
+        e94a4333501270\",\"mediaType\":\"application/vnd.oci.image.manifest.v1+json\",\
+        \"platform\":{\"architecture\":\"amd64\",\"os\":\"linux\"},\"size\":7682}],\
+        \"mediaType\":\"application/vnd.oci.image.index.v1+json\",\"schemaVersion\":2}";
 
 fn is_again(alloc: Global, text: &str, want: &str) -> bool {
     match OciManifest::read(alloc, &json(alloc, text)) {
@@ -273,7 +287,8 @@ fn has_text(alloc: Global, text: &str, want: &str) -> Result<bool, AllocError> {
 #[test]
 fn the_text_of_a_manifest_is_in_nfc_with_its_names_in_order(rt: HostRuntime) {
     let text =
-        "{\"schemaVersion\":2,\"manifests\":[],\"annotations\":{\"e\u{301}\":\"1\",\"f\":\"\u{212b}\",\"\u{e9}\":\"2\"}}";
+        "{\"schemaVersion\":2,\"manifests\":[],\"annotations\":{\"e\u{301}\":\"1\",\"f\":\"\u{212b}\",\
+            \"\u{e9}\":\"2\"}}";
     let want =
         "{\"annotations\":{\"f\":\"\u{c5}\",\"\u{e9}\":\"2\"},\"manifests\":[],\"schemaVersion\":2}";
     assert!(rt; holds(has_text(rt.alloc(), text, want)));

@@ -12,7 +12,10 @@ use test_answers::{MANIFEST, MANIFEST_DIGEST};
 
 // Two entries, of which one has a type of artifacts.
 const INDEX: &str =
-    r#"{"schemaVersion":2,"manifests":[{"mediaType":"application/vnd.oci.image.manifest.v1+json","digest":"sha256:b94d27b9934d3e08a52e52d7da7dabfac484efe37a5380ee9088f7ace2efcde9","size":1,"artifactType":"text/a"},{"mediaType":"application/vnd.oci.image.manifest.v1+json","digest":"sha256:44136fa355b3678a1146ad16f7e8649e94fb4fc21fe77e8310c060f61caaff8a","size":1}]}"#;
+    "{\"schemaVersion\":2,\"manifests\":[{\"mediaType\":\"application/vnd.oci.image.manifest.v1+json\",\
+        \"digest\":\"sha256:b94d27b9934d3e08a52e52d7da7dabfac484efe37a5380ee9088f7ace2efcde9\",\"size\":1,\
+        \"artifactType\":\"text/a\"},{\"mediaType\":\"application/vnd.oci.image.manifest.v1+json\",\
+        \"digest\":\"sha256:44136fa355b3678a1146ad16f7e8649e94fb4fc21fe77e8310c060f61caaff8a\",\"size\":1}]}";
 
 fn pieces(alloc: Global, body: &str) -> Result<List<Blob>, AllocError>
     ensures { IfOk result (λ pieces. NoneEmpty pieces) }

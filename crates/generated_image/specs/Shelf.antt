@@ -7,7 +7,8 @@ use Rattle.sha2.specs.Sha256.{sha256}
 use Rattle.json_values.specs.Places.{by_bytes}
 use Rattle.oci_link.specs.declared.shelf.Shelf.{Shelf}
 use Rattle.oci_link.specs.declared.shelf.ShelfDocument.{ShelfDocument}
-use Rattle.generated_image.specs.Texts.{sha256_text, layer_contents, config_content, image_text, payload_text, signatures_text}
+use Rattle.generated_image.specs.Texts.{sha256_text, layer_contents, config_content, image_text, payload_text}
+use Rattle.generated_image.specs.Texts.{signatures_text}
 
 abbrev pub Blobs : Type 0
 Blobs = FinMap by_bytes (List ℕ)

@@ -1,5 +1,6 @@
 -- What a challenge of the scheme Bearer asks for (RFC 6750, section 3).
-use Rattle.std.specs.Prelude.{◌≡◌, ℕ, ◌==◌, Bool, ◌&&◌, ◌||◌, nat_le, List, [], ◌∷◌, Option, Some, None, Result, Ok, Err, codes, bytes_eq, if◌then◌else◌}
+use Rattle.std.specs.Prelude.{◌≡◌, ℕ, ◌==◌, Bool, ◌&&◌, ◌||◌, nat_le, List, [], ◌∷◌, Option, Some, None, Result, Ok}
+use Rattle.std.specs.Prelude.{Err, codes, bytes_eq, if◌then◌else◌}
 use Rattle.std.specs.Option.{option_or}
 use Rattle.std.specs.Result.{result_or}
 use Rattle.std.specs.List.{list_all}
@@ -7,7 +8,8 @@ use Rattle.std.specs.Str.{str_to_ascii_lowercase}
 use Rattle.http_challenges.specs.declared.challenge.Challenge.{Challenge}
 use Rattle.http_challenges.specs.declared.bearer.BearerChallenge.{BearerChallenge}
 use Rattle.http_challenges.specs.declared.bearer.ChallengeError.{ChallengeError}
-use Rattle.http_challenges.specs.declared.bearer.ChallengeError.TheVariants.{NotText, NoBearer, OtherScheme, NoRealm, WantOfMemory}
+use Rattle.http_challenges.specs.declared.bearer.ChallengeError.TheVariants.{NotText, NoBearer, OtherScheme, NoRealm}
+use Rattle.http_challenges.specs.declared.bearer.ChallengeError.TheVariants.{WantOfMemory}
 use Rattle.http_challenges.specs.Element.{challenges_of}
 
 -- the same text but for the case of ASCII letters

@@ -6,7 +6,8 @@ use Rattle.http_challenges.specs.declared.challenge.Challenge.{Challenge}
 use Rattle.http_challenges.specs.declared.element.Element.{Element}
 use Rattle.http_challenges.specs.declared.element.Element.TheVariants.{Empty, Parameter, Begins, BreaksOff, Unreadable}
 use Rattle.http_challenges.specs.declared.split.Place.TheVariants.{Outside}
-use Rattle.http_challenges.specs.Grammar.{is_empty, past_blanks, token_in, past_token, after_byte, assigned, parameter_in}
+use Rattle.http_challenges.specs.Grammar.{is_empty, past_blanks, token_in, past_token, after_byte, assigned}
+use Rattle.http_challenges.specs.Grammar.{parameter_in}
 use Rattle.http_challenges.specs.Split.{split_from}
 
 -- a challenge with this parameter, or one that breaks off

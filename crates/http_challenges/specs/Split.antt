@@ -1,5 +1,6 @@
 -- What stands between the commas outside of quoted strings (RFC 9110, 5.6.1).
-use Rattle.std.specs.Prelude.{◌≡◌, ℕ, ◌+◌, ◌<◌, ◌==◌, Bool, false, List, [], ◌∷◌, length, take, drop, slice_index, Option, Some, None, if◌then◌else◌}
+use Rattle.std.specs.Prelude.{◌≡◌, ℕ, ◌+◌, ◌<◌, ◌==◌, Bool, false, List, [], ◌∷◌, length, take, drop, slice_index}
+use Rattle.std.specs.Prelude.{Option, Some, None, if◌then◌else◌}
 use Rattle.std.specs.List.{onto_first}
 use Rattle.http_challenges.specs.declared.split.Place.{Place}
 use Rattle.http_challenges.specs.declared.split.Place.TheVariants.{Outside, Quoted, Escaped}

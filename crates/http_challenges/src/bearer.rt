@@ -1,6 +1,7 @@
 // What a challenge of the scheme Bearer asks for.
 ghost use Rattle.std.specs.Prelude.{◌≡◌, true, List, Some, None, Ok, Err, IfOk, IfErr, option_copied};
-ghost use Rattle.http_challenges.specs.Bearer.{is_named, last_value, bearer_of, first_bearer, is_text, text_of, in_header};
+ghost use Rattle.http_challenges.specs.Bearer.{is_named, last_value, bearer_of, first_bearer, is_text, text_of};
+ghost use Rattle.http_challenges.specs.Bearer.{in_header};
 ghost use Rattle.http_challenges.specs.Bearer.{IsRefusal};
 ghost use Rattle.http_challenges.specs.Words.{AreChallenges};
 ghost use Rattle.http_challenges.specs.declared.challenge.Challenge.{Challenge as OneChallenge};

@@ -16,21 +16,27 @@ const PAYLOAD_TYPE: &str = "cosign container image signature";
 const BUNDLE_TYPE: &str = "application/vnd.dev.sigstore.bundle.v0.3+json";
 
 // The log entry of the payload about the source and of its signature `sig1`, which the log signed.
-const LOGGED: &str =
-    r#"{"SignedEntryTimestamp":"c2V0MQ==","Payload":{"body":"eyJhcGlWZXJzaW9uIjoiMC4wLjEiLCJraW5kIjoiaGFzaGVkcmVrb3JkIiwic3BlYyI6eyJkYXRhIjp7Imhhc2giOnsiYWxnb3JpdGhtIjoic2hhMjU2IiwidmFsdWUiOiI3ZjkwNWYzYzQ4NTg1NDg5Yzc5MDU2Y2FiMGViNTZjZDE4ZDg3M2E4OTE1ZTBkYzY0MDgyZGQ0MDUwY2JiODFhIn19LCJzaWduYXR1cmUiOnsiY29udGVudCI6ImMybG5NUT09In19fQ==","integratedTime":1,"logID":"ab","logIndex":2}}"#;
+const LOGGED: &str = "{\"SignedEntryTimestamp\":\"c2V0MQ==\",\
+        \"Payload\":{\"body\":\"eyJhcGlWZXJzaW9uIjoiMC4wLjEiLCJraW5kIjoiaGFzaGVkcmVrb3JkIiwic3BlYyI6eyJkYXRhIjp7\
+        Imhhc2giOnsiYWxnb3JpdGhtIjoic2hhMjU2IiwidmFsdWUiOiI3ZjkwNWYzYzQ4NTg1NDg5Yzc5MDU2Y2FiMGViNTZjZDE4ZDg3M2E4\
+        OTE1ZTBkYzY0MDgyZGQ0MDUwY2JiODFhIn19LCJzaWduYXR1cmUiOnsiY29udGVudCI6ImMybG5NUT09In19fQ==\",\
+        \"integratedTime\":1,\"logID\":\"ab\",\"logIndex\":2}}";
 
 // Statements about the source, about another image, and about the source's digits by another algorithm.
 const OF_SOURCE: &str =
-    "eyJzdWJqZWN0IjpbeyJkaWdlc3QiOnsic2hhMjU2IjoiYjk0ZDI3Yjk5MzRkM2UwOGE1MmU1MmQ3ZGE3ZGFiZmFjNDg0ZWZlMzdhNTM4MGVlOTA4OGY3YWNlMmVmY2RlOSJ9fV19";
+    "eyJzdWJqZWN0IjpbeyJkaWdlc3QiOnsic2hhMjU2IjoiYjk0ZDI3Yjk5MzRkM2UwOGE1MmU1MmQ3ZGE3ZGFiZmFjNDg0ZWZlMzdhNTM4MGV\
+        lOTA4OGY3YWNlMmVmY2RlOSJ9fV19";
 
 const OF_OTHER: &str =
-    "eyJzdWJqZWN0IjpbeyJkaWdlc3QiOnsic2hhMjU2IjoiYTFmY2U0MzYzODU0ZmY4ODhjZmY0YjhlNzg3NWQ2MDBjMjY4MjM5MDQxMmE4Y2Y3OWIzN2QwYjExMTQ4YjBmYSJ9fV19";
+    "eyJzdWJqZWN0IjpbeyJkaWdlc3QiOnsic2hhMjU2IjoiYTFmY2U0MzYzODU0ZmY4ODhjZmY0YjhlNzg3NWQ2MDBjMjY4MjM5MDQxMmE4Y2Y\
+        3OWIzN2QwYjExMTQ4YjBmYSJ9fV19";
 
 const BY_SHA512: &str =
-    "eyJzdWJqZWN0IjpbeyJkaWdlc3QiOnsic2hhNTEyIjoiYjk0ZDI3Yjk5MzRkM2UwOGE1MmU1MmQ3ZGE3ZGFiZmFjNDg0ZWZlMzdhNTM4MGVlOTA4OGY3YWNlMmVmY2RlOSJ9fV19";
+    "eyJzdWJqZWN0IjpbeyJkaWdlc3QiOnsic2hhNTEyIjoiYjk0ZDI3Yjk5MzRkM2UwOGE1MmU1MmQ3ZGE3ZGFiZmFjNDg0ZWZlMzdhNTM4MGV\
+        lOTA4OGY3YWNlMmVmY2RlOSJ9fV19";
 
-// The image and the type that a payload names, what its digest is of (of itself, where that is empty), its signature, log
-// entry and certificate, and the first check that it fails. The next check would fail too, where one can.
+// The image and the type that a payload names, what its digest is of (of itself, where that is empty), its signature,
+// log entry and certificate, and the first check that it fails. The next check would fail too, where one can.
 const PAYLOADS: [[&str; 7]; 11] = [
     [SOURCE, "other", "y", "", "", "", "DigestMismatch"],
     [OTHER, "other", "", "", "", "", "Unreadable(Content)"],
@@ -93,8 +99,8 @@ const PAYLOADS: [[&str; 7]; 11] = [
     ],
 ];
 
-// The type of a bundle, its statement, signatures and material, what its digest is of, and the first check that it fails.
-// Behind each check once come two signatures, and material, a certificate and a subject that are none.
+// The type of a bundle, its statement, signatures and material, what its digest is of, and the first check that
+// it fails. Behind each check once come two signatures, and material, a certificate and a subject that are none.
 const BUNDLES: [[&str; 6]; 15] = [
     ["other", OF_OTHER, "[]", "{}", "y", "DigestMismatch"],
     ["other", OF_OTHER, "[{}]", "{}", "", "Unreadable(Content)"],
@@ -103,7 +109,9 @@ const BUNDLES: [[&str; 6]; 15] = [
         BUNDLE_TYPE,
         OF_SOURCE,
         "[{}]",
-        r#"{"tlogEntries":[{"inclusionPromise":{"signedEntryTimestamp":"c2V0MQ=="},"logId":{"keyId":"qw=="},"integratedTime":"x","logIndex":"2","canonicalizedBody":"e30="}]}"#,
+        "{\"tlogEntries\":[{\"inclusionPromise\":{\"signedEntryTimestamp\":\"c2V0MQ==\"},\
+            \"logId\":{\"keyId\":\"qw==\"},\"integratedTime\":\"x\",\"logIndex\":\"2\",\
+            \"canonicalizedBody\":\"e30=\"}]}",
         "",
         "NoSignature",
     ],
@@ -111,7 +119,9 @@ const BUNDLES: [[&str; 6]; 15] = [
         BUNDLE_TYPE,
         OF_SOURCE,
         r#"[{"sig":"?"}]"#,
-        r#"{"tlogEntries":[{"inclusionPromise":{"signedEntryTimestamp":"c2V0MQ=="},"logId":{"keyId":"qw=="},"integratedTime":"x","logIndex":"2","canonicalizedBody":"e30="}]}"#,
+        "{\"tlogEntries\":[{\"inclusionPromise\":{\"signedEntryTimestamp\":\"c2V0MQ==\"},\
+            \"logId\":{\"keyId\":\"qw==\"},\"integratedTime\":\"x\",\"logIndex\":\"2\",\
+            \"canonicalizedBody\":\"e30=\"}]}",
         "",
         "Unreadable(Signature)",
     ],
@@ -119,7 +129,9 @@ const BUNDLES: [[&str; 6]; 15] = [
         BUNDLE_TYPE,
         OF_SOURCE,
         r#"[{"sig":"c2lnMQ=="}]"#,
-        r#"{"tlogEntries":[{"inclusionPromise":{"signedEntryTimestamp":"c2V0MQ=="},"logId":{"keyId":"zQ=="},"integratedTime":"x","logIndex":"2","canonicalizedBody":"e30="}],"certificate":{}}"#,
+        "{\"tlogEntries\":[{\"inclusionPromise\":{\"signedEntryTimestamp\":\"c2V0MQ==\"},\
+            \"logId\":{\"keyId\":\"zQ==\"},\"integratedTime\":\"x\",\"logIndex\":\"2\",\
+            \"canonicalizedBody\":\"e30=\"}],\"certificate\":{}}",
         "",
         "Unreadable(LogEntry)",
     ],
@@ -127,7 +139,9 @@ const BUNDLES: [[&str; 6]; 15] = [
         BUNDLE_TYPE,
         OF_SOURCE,
         r#"[{"sig":"c2lnMQ=="}]"#,
-        r#"{"tlogEntries":[{"inclusionPromise":{"signedEntryTimestamp":"c2V0MQ=="},"logId":{"keyId":"zQ=="},"integratedTime":"1","logIndex":"2","canonicalizedBody":"bm8="}],"certificate":{}}"#,
+        "{\"tlogEntries\":[{\"inclusionPromise\":{\"signedEntryTimestamp\":\"c2V0MQ==\"},\
+            \"logId\":{\"keyId\":\"zQ==\"},\"integratedTime\":\"1\",\"logIndex\":\"2\",\
+            \"canonicalizedBody\":\"bm8=\"}],\"certificate\":{}}",
         "",
         "UnknownLogKey",
     ],
@@ -135,7 +149,9 @@ const BUNDLES: [[&str; 6]; 15] = [
         BUNDLE_TYPE,
         OF_SOURCE,
         r#"[{"sig":"c2lnMQ=="}]"#,
-        r#"{"tlogEntries":[{"inclusionPromise":{"signedEntryTimestamp":"c2V0MQ=="},"logId":{"keyId":"qw=="},"integratedTime":"1","logIndex":"2","canonicalizedBody":"bm8="}],"certificate":{}}"#,
+        "{\"tlogEntries\":[{\"inclusionPromise\":{\"signedEntryTimestamp\":\"c2V0MQ==\"},\
+            \"logId\":{\"keyId\":\"qw==\"},\"integratedTime\":\"1\",\"logIndex\":\"2\",\
+            \"canonicalizedBody\":\"bm8=\"}],\"certificate\":{}}",
         "",
         "BadLogSignature",
     ],
@@ -159,7 +175,9 @@ const BUNDLES: [[&str; 6]; 15] = [
         BUNDLE_TYPE,
         OF_SOURCE,
         r#"[{"sig":"c2lnMQ=="}]"#,
-        r#"{"tlogEntries":[{"inclusionPromise":{"signedEntryTimestamp":"c2V0MQ=="},"logId":{"keyId":"qw=="},"integratedTime":"1","logIndex":"2","canonicalizedBody":"e30="}],"certificate":{"rawBytes":"Yw=="}}"#,
+        "{\"tlogEntries\":[{\"inclusionPromise\":{\"signedEntryTimestamp\":\"c2V0MQ==\"},\
+            \"logId\":{\"keyId\":\"qw==\"},\"integratedTime\":\"1\",\"logIndex\":\"2\",\
+            \"canonicalizedBody\":\"e30=\"}],\"certificate\":{\"rawBytes\":\"Yw==\"}}",
         "",
         "NotVouched",
     ],

@@ -11,8 +11,9 @@ use std::alloc::{AllocError, Global};
 const P_DIGEST: &str = "sha256:148de9c5a7a44d19e56cd9ae1a554bf67847afb0c58f6e12fa29ac7ddfca9940";
 
 // A bundle whose payload is no statement (the example of DSSE v1).
-const BUNDLE: &str =
-    r#"{"mediaType":"application/vnd.dev.sigstore.bundle.v0.3+json","dsseEnvelope":{"payload":"aGVsbG8gd29ybGQ=","payloadType":"http://example.com/HelloWorld","signatures":[{"sig":"c2lnMQ=="}]},"verificationMaterial":{}}"#;
+const BUNDLE: &str = "{\"mediaType\":\"application/vnd.dev.sigstore.bundle.v0.3+json\",\
+        \"dsseEnvelope\":{\"payload\":\"aGVsbG8gd29ybGQ=\",\"payloadType\":\"http://example.com/HelloWorld\",\
+        \"signatures\":[{\"sig\":\"c2lnMQ==\"}]},\"verificationMaterial\":{}}";
 
 // What its signature signs.
 const ENCODING: &str = "DSSEv1 29 http://example.com/HelloWorld 11 hello world";

@@ -7,8 +7,27 @@ use cosign_layers::{
 use json_values::{Annotations, Blob, List, Text};
 use std::alloc::{AllocError, Global};
 
-const WRITTEN: &str =
-    r#"{"mediaType":"application/vnd.dev.sigstore.bundle.v0.3+json","verificationMaterial":{"certificate":{"rawBytes":"Yw=="},"tlogEntries":[{"logIndex":"137000000","logId":{"keyId":"wNI9atQGlz+VWfO6LRygH4QUfY/8W4RFwiT5i5WRgB0="},"kindVersion":{"kind":"dsse","version":"0.0.1"},"integratedTime":"1728000000","inclusionPromise":{"signedEntryTimestamp":"c2V0MQ=="},"inclusionProof":{"logIndex":"15000000","rootHash":"cnJycnJycnJycnJycnJycnJycnJycnJycnJycnJycnI=","treeSize":"15000001","hashes":["aGhoaGhoaGhoaGhoaGhoaGhoaGhoaGhoaGhoaGhoaGg="],"checkpoint":{"envelope":"rekor.sigstore.dev - 1\n15000001\nr\n"}},"canonicalizedBody":"eyJhcGlWZXJzaW9uIjoiMC4wLjEiLCJraW5kIjoiZHNzZSIsInNwZWMiOnsiZW52ZWxvcGVIYXNoIjp7ImFsZ29yaXRobSI6InNoYTI1NiIsInZhbHVlIjoiM2Y3OWJiN2I0MzViMDUzMjE2NTFkYWVmZDM3NGNkYzY4MWRjMDZmYWE2NWUzNzRlMzgzMzdiODhjYTA0NmRlYSJ9LCJwYXlsb2FkSGFzaCI6eyJhbGdvcml0aG0iOiJzaGEyNTYiLCJ2YWx1ZSI6Ijk4MjA2MTEyMDk0OWE4MmJkOTA3NGNiNGZjYzM5Y2I3YTcwMzdjYWVkN2M2NDUyZjhiYWU4YWIxOTNhOGUxYjYifSwic2lnbmF0dXJlcyI6W3sic2lnbmF0dXJlIjoiYzJsbk1RPT0iLCJ2ZXJpZmllciI6ImRnPT0ifV19fQ=="}],"timestampVerificationData":{"rfc3161Timestamps":[]}},"dsseEnvelope":{"payload":"eyJfdHlwZSI6Imh0dHBzOi8vaW4tdG90by5pby9TdGF0ZW1lbnQvdjEiLCJzdWJqZWN0IjpbeyJuYW1lIjoici5leGFtcGxlL2FwcCIsImRpZ2VzdCI6eyJzaGEyNTYiOiJiOTRkMjdiOTkzNGQzZTA4YTUyZTUyZDdkYTdkYWJmYWM0ODRlZmUzN2E1MzgwZWU5MDg4ZjdhY2UyZWZjZGU5In19XSwicHJlZGljYXRlVHlwZSI6Imh0dHBzOi8vc2lnc3RvcmUuZGV2L2Nvc2lnbi9zaWduL3YxIiwicHJlZGljYXRlIjp7fX0=","payloadType":"application/vnd.in-toto+json","signatures":[{"sig":"c2lnMQ=="}]}}"#;
+const WRITTEN: &str = "{\"mediaType\":\"application/vnd.dev.sigstore.bundle.v0.3+json\",\
+        \"verificationMaterial\":{\"certificate\":{\"rawBytes\":\"Yw==\"},\
+        \"tlogEntries\":[{\"logIndex\":\"137000000\",\
+        \"logId\":{\"keyId\":\"wNI9atQGlz+VWfO6LRygH4QUfY/8W4RFwiT5i5WRgB0=\"},\
+        \"kindVersion\":{\"kind\":\"dsse\",\"version\":\"0.0.1\"},\"integratedTime\":\"1728000000\",\
+        \"inclusionPromise\":{\"signedEntryTimestamp\":\"c2V0MQ==\"},\
+        \"inclusionProof\":{\"logIndex\":\"15000000\",\
+        \"rootHash\":\"cnJycnJycnJycnJycnJycnJycnJycnJycnJycnJycnI=\",\"treeSize\":\"15000001\",\
+        \"hashes\":[\"aGhoaGhoaGhoaGhoaGhoaGhoaGhoaGhoaGhoaGhoaGg=\"],\
+        \"checkpoint\":{\"envelope\":\"rekor.sigstore.dev - 1\\n15000001\\nr\\n\"}},\
+        \"canonicalizedBody\":\"eyJhcGlWZXJzaW9uIjoiMC4wLjEiLCJraW5kIjoiZHNzZSIsInNwZWMiOnsiZW52ZWxvcGVIYXNoIjp7\
+        ImFsZ29yaXRobSI6InNoYTI1NiIsInZhbHVlIjoiM2Y3OWJiN2I0MzViMDUzMjE2NTFkYWVmZDM3NGNkYzY4MWRjMDZmYWE2NWUzNzRl\
+        MzgzMzdiODhjYTA0NmRlYSJ9LCJwYXlsb2FkSGFzaCI6eyJhbGdvcml0aG0iOiJzaGEyNTYiLCJ2YWx1ZSI6Ijk4MjA2MTEyMDk0OWE4\
+        MmJkOTA3NGNiNGZjYzM5Y2I3YTcwMzdjYWVkN2M2NDUyZjhiYWU4YWIxOTNhOGUxYjYifSwic2lnbmF0dXJlcyI6W3sic2lnbmF0dXJl\
+        IjoiYzJsbk1RPT0iLCJ2ZXJpZmllciI6ImRnPT0ifV19fQ==\"}],\
+        \"timestampVerificationData\":{\"rfc3161Timestamps\":[]}},\
+        \"dsseEnvelope\":{\"payload\":\"eyJfdHlwZSI6Imh0dHBzOi8vaW4tdG90by5pby9TdGF0ZW1lbnQvdjEiLCJzdWJqZWN0Ijpb\
+        eyJuYW1lIjoici5leGFtcGxlL2FwcCIsImRpZ2VzdCI6eyJzaGEyNTYiOiJiOTRkMjdiOTkzNGQzZTA4YTUyZTUyZDdkYTdkYWJmYWM0\
+        ODRlZmUzN2E1MzgwZWU5MDg4ZjdhY2UyZWZjZGU5In19XSwicHJlZGljYXRlVHlwZSI6Imh0dHBzOi8vc2lnc3RvcmUuZGV2L2Nvc2ln\
+        bi9zaWduL3YxIiwicHJlZGljYXRlIjp7fX0=\",\"payloadType\":\"application/vnd.in-toto+json\",\
+        \"signatures\":[{\"sig\":\"c2lnMQ==\"}]}}";
 
 const DIGEST: &str = "sha256:23f732aace9404b076fec5400c7d24bb6d8e5565cb6187d6edc831ae3a3c72d3";
 

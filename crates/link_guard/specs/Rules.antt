@@ -1,5 +1,6 @@
 -- Which requests a guard lets pass.
-use Rattle.std.specs.Prelude.{ℕ, Bool, true, false, not, ◌&&◌, ◌||◌, List, Option, Some, None, Result, Ok, Err, codes, bytes_eq, nat_eq, is_some, if◌then◌else◌}
+use Rattle.std.specs.Prelude.{ℕ, Bool, true, false, not, ◌&&◌, ◌||◌, List, Option, Some, None, Result, Ok, Err, codes}
+use Rattle.std.specs.Prelude.{bytes_eq, nat_eq, is_some, if◌then◌else◌}
 use Rattle.std.specs.List.{list_any, starts_with}
 use Rattle.url.specs.Parts.{Parts}
 use Rattle.http_challenges.specs.Bearer.{in_header}

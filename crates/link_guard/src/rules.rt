@@ -1,6 +1,7 @@
 // Which requests a guard lets pass.
 ghost use Rattle.std.specs.Prelude.{◌≡◌, IfOk, IsTrue, Some, option_copied};
-ghost use Rattle.link_guard.specs.Rules.{by_get, goes_plain, has_host, has_scheme, is_at, is_base, is_host, is_path, is_realm, may_show};
+ghost use Rattle.link_guard.specs.Rules.{by_get, goes_plain, has_host, has_scheme, is_at, is_base, is_host, is_path};
+ghost use Rattle.link_guard.specs.Rules.{is_realm, may_show};
 ghost use Rattle.oci_transport.specs.Urls.{request_url};
 ghost use Rattle.std.specs.List.{list_any};
 ghost use Rattle.link_guard.specs.Rules.{passes, realm_by, realm_named, shows, url_passes};

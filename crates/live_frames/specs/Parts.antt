@@ -7,7 +7,8 @@ use Rattle.pull_edge.specs.Source.{Spring, Takes}
 use Rattle.live_frames.specs.Frame.{is_line, most_bytes, head_of, size_of}
 use Rattle.live_frames.specs.Reading.{size_at, lined, Stops}
 use Rattle.live_frames.specs.declared.reading.FrameError.{FrameError}
-use Rattle.live_frames.specs.declared.reading.FrameError.TheVariants.{SourceFault, Ended, TooLong, NoFrame, WantOfMemory}
+use Rattle.live_frames.specs.declared.reading.FrameError.TheVariants.{SourceFault, Ended, TooLong, NoFrame}
+use Rattle.live_frames.specs.declared.reading.FrameError.TheVariants.{WantOfMemory}
 
 -- a line with its line feed
 pub record IsTakenLine (line : List ℕ) (old new : Spring) : Type 0 where

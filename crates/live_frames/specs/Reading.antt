@@ -7,7 +7,8 @@ use Rattle.pull_edge.specs.Source.{Spring, Takes}
 use Rattle.live_frames.specs.Frame.{IsFrame, is_line, most_bytes, head_of, size_of}
 use Rattle.live_frames.specs.declared.frame.Frame.{Frame}
 use Rattle.live_frames.specs.declared.reading.FrameError.{FrameError}
-use Rattle.live_frames.specs.declared.reading.FrameError.TheVariants.{SourceFault, Ended, TooLong, NoFrame, WantOfMemory}
+use Rattle.live_frames.specs.declared.reading.FrameError.TheVariants.{SourceFault, Ended, TooLong, NoFrame}
+use Rattle.live_frames.specs.declared.reading.FrameError.TheVariants.{WantOfMemory}
 
 -- the size that a line says
 abbrev pub size_at : List ℕ → Option ℕ

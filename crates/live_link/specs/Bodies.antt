@@ -1,5 +1,6 @@
 -- The pieces of a body, among bytes that come in.
-use Rattle.std.specs.Prelude.{ℕ, zero, suc, ◌&&◌, nat_le, List, [], ◌∷◌, ◌++◌, length, take, drop, Option, Some, None, if◌then◌else◌}
+use Rattle.std.specs.Prelude.{ℕ, zero, suc, ◌&&◌, nat_le, List, [], ◌∷◌, ◌++◌, length, take, drop, Option, Some, None}
+use Rattle.std.specs.Prelude.{if◌then◌else◌}
 use Rattle.json_tables.specs.Reading.{◌>>=◌}
 use Rattle.serde_json.specs.Data.{Data}
 use Rattle.live_frames.specs.Frame.{most_bytes, is_inside, head_of, size_of}

@@ -4,7 +4,13 @@ use Rattle.std.specs.Str.{bytes_eq}
 use Rattle.serde_json.specs.Data.{Data, string}
 use Rattle.json_tables.specs.Reading.{◌>>=◌, text_of}
 use Rattle.oci_errors.specs.declared.error_code.OciErrorCode.{OciErrorCode}
-use Rattle.oci_errors.specs.declared.error_code.OciErrorCode.TheVariants.{BlobUnknown, BlobUploadInvalid, BlobUploadUnknown, DigestInvalid, ManifestBlobUnknown, ManifestInvalid, ManifestUnknown, ManifestUnverified, NameInvalid, NameUnknown, NotFound, SizeInvalid, TagInvalid, Unauthorized, Denied, Unsupported, Toomanyrequests, Other}
+use Rattle.oci_errors.specs.declared.error_code.OciErrorCode.TheVariants.{BlobUnknown, BlobUploadInvalid}
+use Rattle.oci_errors.specs.declared.error_code.OciErrorCode.TheVariants.{BlobUploadUnknown, DigestInvalid}
+use Rattle.oci_errors.specs.declared.error_code.OciErrorCode.TheVariants.{ManifestBlobUnknown, ManifestInvalid}
+use Rattle.oci_errors.specs.declared.error_code.OciErrorCode.TheVariants.{ManifestUnknown, ManifestUnverified}
+use Rattle.oci_errors.specs.declared.error_code.OciErrorCode.TheVariants.{NameInvalid, NameUnknown, NotFound}
+use Rattle.oci_errors.specs.declared.error_code.OciErrorCode.TheVariants.{SizeInvalid, TagInvalid, Unauthorized, Denied}
+use Rattle.oci_errors.specs.declared.error_code.OciErrorCode.TheVariants.{Unsupported, Toomanyrequests, Other}
 
 -- the code of this text, if it is one of the table
 unfoldable pub known_code : List ℕ → Option OciErrorCode

@@ -1,5 +1,6 @@
 -- An image manifest or an image index.
-use Rattle.std.specs.Prelude.{◌≡◌, ℕ, List, true, false, Option, Some, None, IsSome, Result, Ok, Err, ⊤, unwrap_or, codes}
+use Rattle.std.specs.Prelude.{◌≡◌, ℕ, List, true, false, Option, Some, None, IsSome, Result, Ok, Err, ⊤, unwrap_or}
+use Rattle.std.specs.Prelude.{codes}
 use Rattle.serde_json.specs.Data.{Data}
 use Rattle.serde_json.specs.Written.{has_float}
 use Rattle.json_tables.specs.declared.error.ReadError.{ReadError}

@@ -1,10 +1,12 @@
 -- How the text of a reference is cut, and which parts make a reference.
-use Rattle.std.specs.Prelude.{ℕ, ◌==◌, List, [], ◌++◌, Bool, true, ◌&&◌, ◌||◌, not, if◌then◌else◌, Option, Some, None, length, nat_lt, is_none, codes}
+use Rattle.std.specs.Prelude.{ℕ, ◌==◌, List, [], ◌++◌, Bool, true, ◌&&◌, ◌||◌, not, if◌then◌else◌, Option, Some, None}
+use Rattle.std.specs.Prelude.{length, nat_lt, is_none, codes}
 use Rattle.std.specs.List.{list_any}
 use Rattle.std.specs.Option.{option_map_or}
 use Rattle.std.specs.Str.{bytes_eq}
 use Rattle.oci_names.specs.declared.parse_error.ParseError.{ParseError}
-use Rattle.oci_names.specs.declared.parse_error.ParseError.TheVariants.{ReferenceInvalidFormat, NameTooLong, DigestUnsupported, DigestInvalidLength}
+use Rattle.oci_names.specs.declared.parse_error.ParseError.TheVariants.{ReferenceInvalidFormat, NameTooLong}
+use Rattle.oci_names.specs.declared.parse_error.ParseError.TheVariants.{DigestUnsupported, DigestInvalidLength}
 use Rattle.oci_names.specs.Grammar.{before, after, is_domain, is_path, is_tag, is_digest}
 
 -- the parts of a text

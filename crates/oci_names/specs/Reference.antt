@@ -1,5 +1,6 @@
 -- What references mean: their parts, their text and how they are read.
-use Rattle.std.specs.Prelude.{ℕ, ◌==◌, List, ◌++◌, Bool, false, ◌&&◌, if◌then◌else◌, Option, Some, None, Result, Ok, Err, length, is_some, unwrap_or, codes}
+use Rattle.std.specs.Prelude.{ℕ, ◌==◌, List, ◌++◌, Bool, false, ◌&&◌, if◌then◌else◌, Option, Some, None, Result, Ok}
+use Rattle.std.specs.Prelude.{Err, length, is_some, unwrap_or, codes}
 use Rattle.std.specs.Option.{option_map_or, option_eq}
 use Rattle.std.specs.Str.{bytes_eq}
 use Rattle.oci_names.specs.declared.parse_error.ParseError.{ParseError}

@@ -54,7 +54,8 @@ fn read(alloc: Global, text: &str) -> Result<Reference, ParseError>
 }
 
 impl Reference {
-    ghost use Rattle.oci_names.specs.Reference.{registry_of, mirror_of, repository_of, tag_of, digest_of, whole_text, resolved_registry, namespace_of, is_read_as, reads_back};
+    ghost use Rattle.oci_names.specs.Reference.{registry_of, mirror_of, repository_of, tag_of, digest_of, whole_text};
+    ghost use Rattle.oci_names.specs.Reference.{resolved_registry, namespace_of, is_read_as, reads_back};
 
     /// Reads `[domain/]path[:tag][@digest]` (OCI distribution specification, "Pulling manifests", for the
     /// words of path, tag and digest). Without a domain the registry is `docker.io`, where a path without a

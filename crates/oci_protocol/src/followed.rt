@@ -2,6 +2,7 @@
 ghost use Rattle.std.specs.Prelude.{◌≡◌, ◌≤◌, IfOk, IsErrOf};
 ghost use Rattle.oci_protocol.specs.Follow.{Reaches, Misses, Cuts};
 
+use crate::sender::Sender;
 use json_values::Copied;
 use oci_transport::{AnswerHead, LinkError, Request, Transport, redirected};
 use std::alloc::Global;
@@ -29,13 +30,31 @@ pub fn reach<T: Transport>(
     ensures cut { IsErrOf result LinkError.WantOfMemory → Cuts times request.now
         (T.state transport.old) (T.state transport.new) }
 {
+    follow(alloc, transport, times, request)
+}
+
+// As `reach`, over a transport of which nothing can be taken: no body of a redirect is read.
+fn follow<S: Sender>(
+    alloc: Global,
+    sender: &mut S,
+    times: u64,
+    request: &Request,
+) -> Result<Reached, LinkError>
+    ensures count { (S.state sender.old).faults ≤ (S.state sender.new).faults }
+    ensures reached { IfOk result (λ r. Reaches times request.now r.head r.request
+        (S.state sender.old) (S.state sender.new)) }
+    ensures missed { IsErrOf result LinkError.Failed → Misses times request.now
+        (S.state sender.old) (S.state sender.new) }
+    ensures cut { IsErrOf result LinkError.WantOfMemory → Cuts times request.now
+        (S.state sender.old) (S.state sender.new) }
+{
     let mut left = times;
     let mut last = match request.copy(alloc) {
         Ok(last) => last,
         Err(_) => return Err(LinkError::WantOfMemory),
     };
     loop {
-        let head = match transport.send(alloc, &last) {
+        let head = match sender.ask(alloc, &last) {
             Ok(head) => head,
             Err(LinkError::Failed) => return Err(LinkError::Failed),
             Err(LinkError::WantOfMemory) => return Err(LinkError::WantOfMemory),

@@ -3,6 +3,7 @@
 
 mod followed;
 mod piped;
+mod sender;
 
 pub use followed::{Reached, reach};
 pub use piped::{PourError, pour};

@@ -1,5 +1,6 @@
 -- Where a redirect leads.
-use Rattle.std.specs.Prelude.{ℕ, Bool, true, false, ◌&&◌, ◌||◌, List, Option, Some, None, Ok, Err, codes, nat_eq, if◌then◌else◌}
+use Rattle.std.specs.Prelude.{ℕ, Bool, true, false, ◌&&◌, ◌||◌, List, Option, Some, None, Ok, Err, codes, nat_eq}
+use Rattle.std.specs.Prelude.{if◌then◌else◌}
 use Rattle.url.specs.Parts.{Parts, serialize}
 use Rattle.url.specs.Parser.{Parsed, parse_url}
 use Rattle.oci_transport.specs.Headers.{Fields, first_of, without, header_text}

@@ -1,6 +1,7 @@
 // Where a redirect leads.
 ghost use Rattle.std.specs.Prelude.{◌≡◌, IfOk, IsErrOf, Some, None};
-ghost use Rattle.oci_transport.specs.Redirects.{joined_text, may_follow, is_redirect_status, kept_headers, moved, moved_text, moved_from, moved_to, redirected};
+ghost use Rattle.oci_transport.specs.Redirects.{joined_text, may_follow, is_redirect_status, kept_headers, moved};
+ghost use Rattle.oci_transport.specs.Redirects.{moved_text, moved_from, moved_to, redirected};
 
 use crate::headers::{Headers, header_text};
 use crate::message::{AnswerHead, Method, Request};

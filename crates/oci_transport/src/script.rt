@@ -1,5 +1,6 @@
 // A transport of recorded answers.
-ghost use Rattle.std.specs.Prelude.{◌≡◌, IsTrue, ℕ, ◌+◌, ◌<◌, ◌≤◌, [], length, slice_get, All, IfOk, OnOk, OnErr, IsErrOf, Some, None};
+ghost use Rattle.std.specs.Prelude.{◌≡◌, IsTrue, ℕ, ◌+◌, ◌<◌, ◌≤◌, [], length, slice_get, All, IfOk, OnOk, OnErr};
+ghost use Rattle.std.specs.Prelude.{IsErrOf, Some, None};
 ghost use Rattle.oci_transport.specs.Recorded.{IsCalm};
 ghost use Rattle.oci_transport.specs.Pieces.{NoneEmpty, joined};
 ghost use Rattle.oci_transport.specs.Recorded.{answering, recorded_answer, last_pieces, last_stop, stop_within};

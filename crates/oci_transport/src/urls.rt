@@ -1,6 +1,7 @@
 // URLs of requests.
 ghost use Rattle.std.specs.Prelude.{◌≡◌, IfOk, IsErrOf, Some, None, option_copied};
-ghost use Rattle.oci_transport.specs.Urls.{is_web, request_url, registry_text, same_text, same_port, same_place, same_origin, targets};
+ghost use Rattle.oci_transport.specs.Urls.{is_web, request_url, registry_text, same_text, same_port, same_place};
+ghost use Rattle.oci_transport.specs.Urls.{same_origin, targets};
 
 use json_values::{Copied, Text};
 use std::alloc::{AllocError, Global};

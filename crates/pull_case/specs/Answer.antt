@@ -1,5 +1,6 @@
 -- Recorded answers.
-use Rattle.std.specs.Prelude.{◌≡◌, ℕ, ◌<◌, ◌&&◌, Result, Ok, Err, ⊤, List, [], ◌∷◌, Option, Some, None, option_map, length, nat_lt, nat_le, if◌then◌else◌, true, false, codes}
+use Rattle.std.specs.Prelude.{◌≡◌, ℕ, ◌<◌, ◌&&◌, Result, Ok, Err, ⊤, List, [], ◌∷◌, Option, Some, None, option_map}
+use Rattle.std.specs.Prelude.{length, nat_lt, nat_le, if◌then◌else◌, true, false, codes}
 use Rattle.std.specs.FinMap.{empty}
 use Rattle.std.specs.Str.{bytes_eq}
 use Rattle.std.proofs.Math.Nat.{zero-lt-suc}

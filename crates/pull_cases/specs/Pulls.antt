@@ -1,5 +1,6 @@
 -- The pulls of a case: one at each of its moments, by one client, over what the case's registry answers.
-use Rattle.std.specs.Prelude.{◌≡◌, ℕ, Bool, true, false, not, IsTrue, ◌&&◌, List, [], ◌∷◌, map, flat_map, Option, Some, None, Result, Ok, Err, codes}
+use Rattle.std.specs.Prelude.{◌≡◌, ℕ, Bool, true, false, not, IsTrue, ◌&&◌, List, [], ◌∷◌, map, flat_map, Option, Some}
+use Rattle.std.specs.Prelude.{None, Result, Ok, Err, codes}
 use Rattle.oci_transport.specs.Link.{AnsweredBy}
 use Rattle.oci_transport.specs.Calm.{calm}
 use Rattle.oci_transport.specs.declared.message.Exchange.{Exchange}

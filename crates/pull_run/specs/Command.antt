@@ -1,5 +1,6 @@
 -- What the words ask for.
-use Rattle.std.specs.Prelude.{ℕ, List, [], ◌∷◌, ◌==◌, ◌&&◌, Option, Some, None, option_map, if◌then◌else◌, codes, bytes_eq, nat_le, slice_index}
+use Rattle.std.specs.Prelude.{ℕ, List, [], ◌∷◌, ◌==◌, ◌&&◌, Option, Some, None, option_map, if◌then◌else◌, codes}
+use Rattle.std.specs.Prelude.{bytes_eq, nat_le, slice_index}
 use Rattle.engine_streams.specs.Head.{decimal_of}
 use Rattle.pull_generated.specs.Terms.{IsCount}
 use Rattle.pull_run.specs.Word.{word_of}

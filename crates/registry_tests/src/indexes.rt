@@ -8,14 +8,22 @@ use test_answers::{CONFIG_DIGEST, MANIFEST, MANIFEST_DIGEST, script};
 
 // Entries for `arm64` and `amd64`; the second one is the recorded manifest.
 const INDEX: &str =
-    r#"{"schemaVersion":2,"mediaType":"application/vnd.oci.image.index.v1+json","manifests":[{"mediaType":"application/vnd.oci.image.manifest.v1+json","digest":"sha256:b94d27b9934d3e08a52e52d7da7dabfac484efe37a5380ee9088f7ace2efcde9","size":1,"platform":{"architecture":"arm64","os":"linux"}},{"mediaType":"application/vnd.oci.image.manifest.v1+json","digest":"sha256:517b86da29754bfa57e312c35d4cf22caa38dbce39ecd24684830c1f9777a635","size":1,"platform":{"architecture":"amd64","os":"linux"}}]}"#;
+    "{\"schemaVersion\":2,\"mediaType\":\"application/vnd.oci.image.index.v1+json\",\
+        \"manifests\":[{\"mediaType\":\"application/vnd.oci.image.manifest.v1+json\",\
+        \"digest\":\"sha256:b94d27b9934d3e08a52e52d7da7dabfac484efe37a5380ee9088f7ace2efcde9\",\"size\":1,\
+        \"platform\":{\"architecture\":\"arm64\",\"os\":\"linux\"}},\
+        {\"mediaType\":\"application/vnd.oci.image.manifest.v1+json\",\
+        \"digest\":\"sha256:517b86da29754bfa57e312c35d4cf22caa38dbce39ecd24684830c1f9777a635\",\"size\":1,\
+        \"platform\":{\"architecture\":\"amd64\",\"os\":\"linux\"}}]}";
 
 const INDEX_DIGEST: &str =
     "sha256:a6d1c218804f4be0005f5cd9dd8fde970ad81ba2d25607eba577c9dde904f39e";
 
 // Its one entry is the index before.
 const OUTER_INDEX: &str =
-    r#"{"schemaVersion":2,"mediaType":"application/vnd.oci.image.index.v1+json","manifests":[{"mediaType":"application/vnd.oci.image.index.v1+json","digest":"sha256:a6d1c218804f4be0005f5cd9dd8fde970ad81ba2d25607eba577c9dde904f39e","size":1}]}"#;
+    "{\"schemaVersion\":2,\"mediaType\":\"application/vnd.oci.image.index.v1+json\",\
+        \"manifests\":[{\"mediaType\":\"application/vnd.oci.image.index.v1+json\",\
+        \"digest\":\"sha256:a6d1c218804f4be0005f5cd9dd8fde970ad81ba2d25607eba577c9dde904f39e\",\"size\":1}]}";
 
 // A client, and the image that it asks for.
 fn begun(alloc: Global, resolver: Option<PlatformResolver>) -> Option<(Client, Reference)> {

@@ -17,8 +17,9 @@ const IMAGE: &str = "localhost:5000/app:v1";
 const OTHER: &str =
     "localhost:5000/app@sha256:bec3f566a399bddd277a387434dcaf295311323236c6b1e2b5dd93ccd6795098";
 
-const PAYLOAD: &str =
-    r#"{"critical":{"identity":{"docker-reference":"localhost:5000/app"},"image":{"docker-manifest-digest":"sha256:517b86da29754bfa57e312c35d4cf22caa38dbce39ecd24684830c1f9777a635"},"type":"cosign container image signature"},"optional":null}"#;
+const PAYLOAD: &str = "{\"critical\":{\"identity\":{\"docker-reference\":\"localhost:5000/app\"},\
+        \"image\":{\"docker-manifest-digest\":\"sha256:517b86da29754bfa57e312c35d4cf22caa38dbce39ecd24684830c1f9\
+        777a635\"},\"type\":\"cosign container image signature\"},\"optional\":null}";
 
 const PAYLOAD_DIGEST: &str =
     "sha256:bec3f566a399bddd277a387434dcaf295311323236c6b1e2b5dd93ccd6795098";
@@ -27,7 +28,12 @@ const SIGNATURE_TAG: &str =
     "sha256-517b86da29754bfa57e312c35d4cf22caa38dbce39ecd24684830c1f9777a635.sig";
 
 const SIGNATURES: &str =
-    r#"{"schemaVersion":2,"mediaType":"application/vnd.oci.image.manifest.v1+json","config":{"mediaType":"application/vnd.oci.image.config.v1+json","digest":"sha256:44136fa355b3678a1146ad16f7e8649e94fb4fc21fe77e8310c060f61caaff8a","size":2},"layers":[{"mediaType":"application/vnd.dev.cosign.simplesigning.v1+json","digest":"sha256:bec3f566a399bddd277a387434dcaf295311323236c6b1e2b5dd93ccd6795098","size":234,"annotations":{"dev.cosignproject.cosign/signature":"c2lnMQ=="}}]}"#;
+    "{\"schemaVersion\":2,\"mediaType\":\"application/vnd.oci.image.manifest.v1+json\",\
+        \"config\":{\"mediaType\":\"application/vnd.oci.image.config.v1+json\",\
+        \"digest\":\"sha256:44136fa355b3678a1146ad16f7e8649e94fb4fc21fe77e8310c060f61caaff8a\",\"size\":2},\
+        \"layers\":[{\"mediaType\":\"application/vnd.dev.cosign.simplesigning.v1+json\",\
+        \"digest\":\"sha256:bec3f566a399bddd277a387434dcaf295311323236c6b1e2b5dd93ccd6795098\",\"size\":234,\
+        \"annotations\":{\"dev.cosignproject.cosign/signature\":\"c2lnMQ==\"}}]}";
 
 const SIGNATURES_DIGEST: &str =
     "sha256:352d647271ccfc459018f388cb2644fbd32245e9370879879ec72ddc20ee8327";
@@ -35,8 +41,8 @@ const SIGNATURES_DIGEST: &str =
 const NO_REFERRERS: &str =
     r#"{"schemaVersion":2,"mediaType":"application/vnd.oci.image.index.v1+json","manifests":[]}"#;
 
-/// Each answer, after that to the request for a token: those of the search, and those of the image. A token is asked for
-/// once more before the referrers are.
+/// Each answer, after that to the request for a token: those of the search, and those of the image. A token is asked
+/// for once more before the referrers are.
 const ANSWERS: [(&str, &str); 19] = [
     ("", ""),
     (MANIFEST_DIGEST, ""),

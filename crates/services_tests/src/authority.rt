@@ -68,7 +68,10 @@ fn a_chain_comes_with_or_without_a_timestamp(rt: HostRuntime) {
     let embedded = r#"{"signedCertificateEmbeddedSct":{"chain":{"certificates":["a","b"]}}}"#;
     assert!(rt; holds(second_version(rt.alloc(), embedded, 1, false)));
     let detached =
-        r#"{"signedCertificateDetachedSct":{"chain":{"certificates":["a","b","c"]},"signedCertificateTimestamp":"eyJzY3RfdmVyc2lvbiI6MCwiaWQiOiJBQUFBQUFBQUFBQUFBQUFBQUFBQUFBQUFBQUFBQUFBQUFBQUFBQUFBQUFBPSIsInRpbWVzdGFtcCI6MTY1NjQ0ODEzMTAwMCwic2lnbmF0dXJlIjoiQkFNQUFxcTciLCJleHRlbnNpb25zIjoiIn0="}}"#;
+        "{\"signedCertificateDetachedSct\":{\"chain\":{\"certificates\":[\"a\",\"b\",\"c\"]},\
+            \"signedCertificateTimestamp\":\"eyJzY3RfdmVyc2lvbiI6MCwiaWQiOiJBQUFBQUFBQUFBQUFBQUFBQUFBQUFBQUFBQUF\
+            BQUFBQUFBQUFBQUFBQUFBPSIsInRpbWVzdGFtcCI6MTY1NjQ0ODEzMTAwMCwic2lnbmF0dXJlIjoiQkFNQUFxcTciLCJleHRlbnN\
+            pb25zIjoiIn0=\"}}";
     assert!(rt; holds(second_version(rt.alloc(), detached, 2, true)));
 }
 

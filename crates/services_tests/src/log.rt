@@ -12,7 +12,13 @@ use std::alloc::Global;
 
 // An entry as the public log answers it.
 const ENTRY: &str =
-    r#"{"24296fb24b8ad77a68abfdb2e0b2fa7ec5bb6b4e35ab9cae2e8f1a3f7b1f6c1e2d3c4b5a69788796":{"body":"eyJhcGlWZXJzaW9uIjoiMC4wLjEiLCJraW5kIjoiaGFzaGVkcmVrb3JkIiwic3BlYyI6e319","integratedTime":1656448131,"logID":"c0d23d6ad406973f9559f3ba2d1ca01f84147d8ffc5b8445c224f98b9591801d","logIndex":7,"verification":{"inclusionProof":{"checkpoint":"rekor.sigstore.dev - 2605736670972794746\n8\n","hashes":["810320ec3029914695826d60133c67021f66ee0cfb09a6f79eb267ed9f55de2c"],"logIndex":7,"rootHash":"5e9a0c6a8a3ea8fb4e6f1a1b0c2d3e4f5a6b7c8d9e0f1a2b3c4d5e6f708192a3","treeSize":8},"signedEntryTimestamp":"MEUCIQDhd4l1"}}}"#;
+    "{\"24296fb24b8ad77a68abfdb2e0b2fa7ec5bb6b4e35ab9cae2e8f1a3f7b1f6c1e2d3c4b5a69788796\":{\"body\":\"eyJhcGlWZ\
+        XJzaW9uIjoiMC4wLjEiLCJraW5kIjoiaGFzaGVkcmVrb3JkIiwic3BlYyI6e319\",\"integratedTime\":1656448131,\
+        \"logID\":\"c0d23d6ad406973f9559f3ba2d1ca01f84147d8ffc5b8445c224f98b9591801d\",\"logIndex\":7,\
+        \"verification\":{\"inclusionProof\":{\"checkpoint\":\"rekor.sigstore.dev - 2605736670972794746\\n8\\n\"\
+        ,\"hashes\":[\"810320ec3029914695826d60133c67021f66ee0cfb09a6f79eb267ed9f55de2c\"],\"logIndex\":7,\
+        \"rootHash\":\"5e9a0c6a8a3ea8fb4e6f1a1b0c2d3e4f5a6b7c8d9e0f1a2b3c4d5e6f708192a3\",\"treeSize\":8},\
+        \"signedEntryTimestamp\":\"MEUCIQDhd4l1\"}}}";
 
 const UUID: &str =
     "24296fb24b8ad77a68abfdb2e0b2fa7ec5bb6b4e35ab9cae2e8f1a3f7b1f6c1e2d3c4b5a69788796";

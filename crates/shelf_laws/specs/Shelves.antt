@@ -1,5 +1,6 @@
 -- Which images a shelf has (OCI image specification, "Image Manifest", "Image Index").
-use Rattle.std.specs.Prelude.{◌≡◌, ◌<◌, ◌≤◌, ℕ, List, [], length, map as each, unwrap_or, Option, Some, None, Ok, Contains}
+use Rattle.std.specs.Prelude.{◌≡◌, ◌<◌, ◌≤◌, ℕ, List, [], length, map as each, unwrap_or, Option, Some, None, Ok}
+use Rattle.std.specs.Prelude.{Contains}
 use Rattle.std.specs.List.{All}
 use Rattle.std.specs.FinMap as map
 use Rattle.oci_digests.specs.Names.{Names}

@@ -1,5 +1,6 @@
 // What is kept, the latest last.
-ghost use Rattle.std.specs.Prelude.{◌≡◌, ◌≤◌, ◌<◌, [], ◌∷◌, ◌++◌, not, filter, length, option_copied, drop as rest_from};
+ghost use Rattle.std.specs.Prelude.{◌≡◌, ◌≤◌, ◌<◌, [], ◌∷◌, ◌++◌, not, filter, length, option_copied};
+ghost use Rattle.std.specs.Prelude.{drop as rest_from};
 ghost use Rattle.std.specs.Prelude.{Some, OnOk, OnErr, vec_len, vec_capacity};
 ghost use Rattle.std.specs.List.{find};
 ghost use Rattle.sig_answers.specs.Answers.{is_of, replaced, within};

@@ -6,7 +6,8 @@ use Rattle.sig_envelope.specs.Envelope.{envelope_of}
 use Rattle.sig_envelope.specs.Scrypt.{are_known, log_of}
 use Rattle.sig_envelope.specs.declared.envelope.Envelope.{Envelope}
 use Rattle.sig_envelope.specs.declared.error.DecryptCause.{DecryptCause}
-use Rattle.sig_envelope.specs.declared.error.DecryptCause.TheVariants.{UnknownCipher, UnknownKdf, UnexpectedParameters, NonceLength, UnsealRefused}
+use Rattle.sig_envelope.specs.declared.error.DecryptCause.TheVariants.{UnknownCipher, UnknownKdf, UnexpectedParameters}
+use Rattle.sig_envelope.specs.declared.error.DecryptCause.TheVariants.{NonceLength, UnsealRefused}
 use Rattle.sig_envelope.specs.declared.error.KdfError.{KdfError}
 use Rattle.sig_envelope.specs.declared.error.KdfError.TheVariants.{EnvelopeUnreadable, PrivateKeyDecryptError}
 

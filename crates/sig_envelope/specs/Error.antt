@@ -1,7 +1,8 @@
 -- Which refusals say only that memory was wanting.
 use Rattle.std.specs.Prelude.{Bool, true, false}
 use Rattle.sig_envelope.specs.declared.error.KdfError.{KdfError}
-use Rattle.sig_envelope.specs.declared.error.KdfError.TheVariants.{EnvelopeUnreadable, PrivateKeyDecryptError, WantOfMemory}
+use Rattle.sig_envelope.specs.declared.error.KdfError.TheVariants.{EnvelopeUnreadable, PrivateKeyDecryptError}
+use Rattle.sig_envelope.specs.declared.error.KdfError.TheVariants.{WantOfMemory}
 
 abbrev pub is_memory : KdfError → Bool
 is_memory EnvelopeUnreadable = false

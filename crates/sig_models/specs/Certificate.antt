@@ -12,7 +12,8 @@ use Rattle.sig_models.specs.declared.certificate.CertificateChain.{CertificateCh
 use Rattle.sig_models.specs.declared.certificate.SigningCertificateDetachedSCT.{SigningCertificateDetachedSCT}
 use Rattle.sig_models.specs.declared.certificate.SigningCertificateEmbeddedSCT.{SigningCertificateEmbeddedSCT}
 use Rattle.sig_models.specs.declared.certificate.SigningCertificate.{SigningCertificate}
-use Rattle.sig_models.specs.declared.certificate.SigningCertificate.TheVariants.{SignedCertificateDetachedSct, SignedCertificateEmbeddedSct}
+use Rattle.sig_models.specs.declared.certificate.SigningCertificate.TheVariants.{SignedCertificateDetachedSct}
+use Rattle.sig_models.specs.declared.certificate.SigningCertificate.TheVariants.{SignedCertificateEmbeddedSct}
 
 unfoldable pub chain_of : Data → Option CertificateChain
 chain_of d = do

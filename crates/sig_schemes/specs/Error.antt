@@ -1,7 +1,8 @@
 -- Which refusal says that memory was wanting.
 use Rattle.std.specs.Prelude.{Bool, true, false}
 use Rattle.sig_schemes.specs.declared.error.KeyError.{KeyError}
-use Rattle.sig_schemes.specs.declared.error.KeyError.TheVariants.{KeyParseError, KeyGenerationError, SigningError, UnmatchedKeyAndSigningScheme, WantOfMemory}
+use Rattle.sig_schemes.specs.declared.error.KeyError.TheVariants.{KeyParseError, KeyGenerationError, SigningError}
+use Rattle.sig_schemes.specs.declared.error.KeyError.TheVariants.{UnmatchedKeyAndSigningScheme, WantOfMemory}
 
 abbrev pub is_memory : KeyError → Bool
 is_memory KeyParseError = false

@@ -7,7 +7,9 @@ use Rattle.sig_schemes.specs.declared.scheme.KeyKind.TheVariants as kind
 use Rattle.sig_schemes.specs.declared.scheme.PaddingScheme.{PaddingScheme}
 use Rattle.sig_schemes.specs.declared.scheme.PaddingScheme.TheVariants.{PSS, PKCS1v15}
 use Rattle.sig_schemes.specs.declared.scheme.SigningScheme.{SigningScheme}
-use Rattle.sig_schemes.specs.declared.scheme.SigningScheme.TheVariants.{RSA_PSS_SHA256, RSA_PKCS1_SHA256, ECDSA_P256_SHA256_ASN1, ECDSA_P384_SHA384_ASN1, ECDSA_P521_SHA512_ASN1, ED25519}
+use Rattle.sig_schemes.specs.declared.scheme.SigningScheme.TheVariants.{RSA_PSS_SHA256, RSA_PKCS1_SHA256}
+use Rattle.sig_schemes.specs.declared.scheme.SigningScheme.TheVariants.{ECDSA_P256_SHA256_ASN1, ECDSA_P384_SHA384_ASN1}
+use Rattle.sig_schemes.specs.declared.scheme.SigningScheme.TheVariants.{ECDSA_P521_SHA512_ASN1, ED25519}
 
 -- the kind of a curve's keys
 abbrev pub kind_of : EllipticCurve → KeyKind

@@ -1,5 +1,6 @@
 -- A call to the log: a request, and what its answer says.
-use Rattle.std.specs.Prelude.{◌≡◌, ℕ, List, Bool, false, ◌&&◌, nat_le, nat_lt, if◌then◌else◌, Option, Some, None, option_map, Result, Ok, Err}
+use Rattle.std.specs.Prelude.{◌≡◌, ℕ, List, Bool, false, ◌&&◌, nat_le, nat_lt, if◌then◌else◌, Option, Some, None}
+use Rattle.std.specs.Prelude.{option_map, Result, Ok, Err}
 use Rattle.serde_json.specs.Data.{Data}
 use Rattle.serde_json.specs.Written.{has_float, compact_text}
 use Rattle.json_values.specs.JsonText.{plain_json_of}

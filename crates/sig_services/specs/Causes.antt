@@ -11,7 +11,8 @@ use Rattle.sig_services.specs.Call.{is_refusal, entity_in}
 use Rattle.sig_services.specs.Request.{address, agent_text, headers_sent}
 use Rattle.sig_services.specs.declared.configuration.Configuration.{Configuration}
 use Rattle.sig_services.specs.declared.error.Error.{Error}
-use Rattle.sig_services.specs.declared.error.Error.TheVariants.{Link as Broken, BodyTooLong, Url, Header, Json, ResponseError, WantOfMemory}
+use Rattle.sig_services.specs.declared.error.Error.TheVariants.{Link as Broken, BodyTooLong, Url, Header, Json}
+use Rattle.sig_services.specs.declared.error.Error.TheVariants.{ResponseError, WantOfMemory}
 
 -- one exchange, and this was answered
 abbrev pub IsAnswer : List Exchange → Answer → Type 0

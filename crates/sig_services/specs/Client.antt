@@ -1,5 +1,6 @@
 -- The certificate authority (Fulcio's API, versions 1 and 2).
-use Rattle.std.specs.Prelude.{ℕ, List, [], ◌∷◌, ◌++◌, nat_eq, length, if◌then◌else◌, Option, Some, None, Result, Ok, Err, codes}
+use Rattle.std.specs.Prelude.{ℕ, List, [], ◌∷◌, ◌++◌, nat_eq, length, if◌then◌else◌, Option, Some, None, Result, Ok}
+use Rattle.std.specs.Prelude.{Err, codes}
 use Rattle.std.specs.FinMap as map
 use Rattle.serde_json.specs.Written.{compact_text}
 use Rattle.url.specs.Parts.{Parts, serialize}
@@ -11,7 +12,8 @@ use Rattle.sig_models.specs.Certificate.{signing_certificate_of}
 use Rattle.sig_models.specs.CertificateRequest.{request_written, signing_request_written}
 use Rattle.sig_models.specs.declared.certificate_request.KeyAlgorithm.{KeyAlgorithm}
 use Rattle.sig_models.specs.declared.certificate.SigningCertificate.{SigningCertificate}
-use Rattle.sig_models.specs.declared.certificate.SigningCertificate.TheVariants.{SignedCertificateDetachedSct, SignedCertificateEmbeddedSct}
+use Rattle.sig_models.specs.declared.certificate.SigningCertificate.TheVariants.{SignedCertificateDetachedSct}
+use Rattle.sig_models.specs.declared.certificate.SigningCertificate.TheVariants.{SignedCertificateEmbeddedSct}
 use Rattle.oci_transport.specs.Headers.{Fields}
 use Rattle.oci_transport.specs.declared.message.Request.{Request}
 use Rattle.oci_transport.specs.declared.message.Answer.{Answer}
@@ -26,7 +28,8 @@ use Rattle.sig_services.specs.declared.client.FulcioClient.{FulcioClient}
 use Rattle.sig_services.specs.declared.client.FulcioCert.{FulcioCert}
 use Rattle.sig_services.specs.declared.client.CertificateResponse.{CertificateResponse}
 use Rattle.sig_services.specs.declared.fulcio_error.FulcioError.{FulcioError}
-use Rattle.sig_services.specs.declared.fulcio_error.FulcioError.TheVariants.{Link, BodyTooLong, Url, Header, Json, ChainTooShort}
+use Rattle.sig_services.specs.declared.fulcio_error.FulcioError.TheVariants.{Link, BodyTooLong, Url, Header, Json}
+use Rattle.sig_services.specs.declared.fulcio_error.FulcioError.TheVariants.{ChainTooShort}
 
 -- ---- the request
 
