@@ -71,7 +71,7 @@ abbrev client : Settings → Kept → Client
 client s k = record { settings = s; kept = k }
 
 answered_made : {A : Type 0} (s : Settings) (p : Row A) (k l : Kept) (m n : ℕ) (c : List Exchange) (a : A) → Runs p k m c n l (Ok a) → Fulfils is_memory s p (client s k) (client s l) (silent m) (silent n) (Ok a)
-answered_made s p k l m n c a run = record { made = λ at. (at, record { outcome = record { conversation = c; told = silent_extends m n c; runs = run } }) }
+answered_made s p k l m n c a run = record { made = λ at. (at, record { outcome = record { conversation = c; told = silent_extends m n c; runs = run; runs_by = λ t before by. absurd (cc by) } }) }
 
 -- one whose answer may be kept
 grows_call : {A : Type 0} (cache : Cache A) (law : IsCache cache) (call : Call) (now : ℕ) (row : Settings → Plain A) (kind_is : kind_called call ≡ cache.kind) (is_call : (s : Settings) → call_made (within s now) call ≡ answering cache (row s)) (s : Settings) → Grows s (cached (reads_back (image_called call)) cache (key_called call) now (row s))

@@ -7,7 +7,9 @@ use Rattle.cosign_chain.specs.declared.image.VerifiedImage.{VerifiedImage}
 use Rattle.cosign_rows.specs.Verified.{Whole}
 use Rattle.pull_case.specs.Policy.{meaning_of}
 use Rattle.pull_case.specs.declared.case.Case.{Case}
-use Rattle.pull_cases.specs.Pulls.{Talk, InTurn, Pulled, settings_of, row_of}
+use Rattle.pull_case.specs.Registry.{answering_by}
+use Rattle.pull_cases.proofs.PullsInTurn.{Turns, turns}
+use Rattle.pull_cases.specs.Pulls.{Talk, Pulled, settings_of, row_of}
 use Rattle.pull_setup.specs.Clients.{fresh}
 use Rattle.cache_laws.specs.Growth.{Grown, Grows}
 use Rattle.cache_laws.proofs.PartsInTurn.{as_it_was}
@@ -15,7 +17,7 @@ use Rattle.cache_laws.proofs.Pulls.{pull_grows}
 
 -- pulls in turn
 pub grows_in_turn : (s : Settings) (row : ℕ → Whole VerifiedImage) → ((moment : ℕ) → Grows s (row moment))
-    → (k : Kept) (m : ℕ) (talks : List Talk) (l : Kept) (n : ℕ) (log : List Place) → InTurn row k m talks l n → IsRun s log → IsBacked s k.1 log → Grown s l.1 log
+    → (k : Kept) (m : ℕ) (talks : List Talk) (l : Kept) (n : ℕ) (log : List Place) → Turns row k m talks l n → IsRun s log → IsBacked s k.1 log → Grown s l.1 log
 grows_in_turn s row each k m [] l n log turn run backed = as_it_was s k l log (ap (λ (k : Kept). k.1) turn.0) run backed
 grows_in_turn s row each k m (talk ∷ talks) l n log turn run backed =
     let one : Grown s turn.1.1 log = (each talk.moment).grows talk.before turn.1 m turn.2 talk.conversation talk.result log turn.3 run (subst (λ (k : Kept). IsBacked s k.1 log) turn.0 backed) in
@@ -28,4 +30,4 @@ new_backed s false = tt
 
 -- All answers that the calls of a case's pulls were given are those of calls that were made in full, fresh for each.
 pub case_grows : {case : Case} {talks : List Talk} (pulled : Pulled case talks) → Grown (settings_of case) pulled.kept.1 []
-case_grows {case} {talks} pulled = grows_in_turn (settings_of case) (row_of case pulled.image) (λ moment. pull_grows (settings_of case) moment case.auth (meaning_of case) pulled.image case.accepted) (fresh case.caching) 0 talks pulled.kept pulled.faults [] pulled.in_turn tt (new_backed (settings_of case) case.caching)
+case_grows {case} {talks} pulled = grows_in_turn (settings_of case) (row_of case pulled.image) (λ moment. pull_grows (settings_of case) moment case.auth (meaning_of case) pulled.image case.accepted) (fresh case.caching) 0 talks pulled.kept pulled.faults [] (turns (row_of case pulled.image) (answering_by case.registry) 0 (fresh case.caching) pulled.kept 0 pulled.faults talks pulled.in_turn) tt (new_backed (settings_of case) case.caching)

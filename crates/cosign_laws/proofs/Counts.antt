@@ -72,4 +72,4 @@ untold m n c = record { told = λ before is. none_some before is; table = λ a b
 
 -- a run is what a call does over a transport that tells nothing
 pub Runs-meets : {K A E : Type 0} (of_memory : E → Bool) (p : Proto K (Result A E)) (k l : K) (m n : ℕ) (c : List Exchange) (e : E) → of_memory e ≡ false → Runs p k m c n l (Err e) → Meets of_memory p (silent m) (silent n) k l (Err e)
-Runs-meets of_memory p k l m n c e other run = record { outcome = rw other (record { conversation = c; told = untold m n c; runs = run }) }
+Runs-meets of_memory p k l m n c e other run = record { outcome = rw other (record { conversation = c; told = untold m n c; runs = run; runs_by = λ t before by. none_some t by }) }

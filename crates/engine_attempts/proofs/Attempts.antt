@@ -6,7 +6,7 @@ use Rattle.std.proofs.lemmas.Result.{err_from_is_err_and}
 use Rattle.json_values.specs.Counts.{Rose}
 use Rattle.json_values.specs.Tray.{Tray}
 use Rattle.json_values.proofs.Sinks.{adds_none}
-use Rattle.oci_transport.specs.Link.{Link, Extends, Steady, answer_of}
+use Rattle.oci_transport.specs.Link.{Link, Extends, Steady, answer_of, EndsUnbroken}
 use Rattle.oci_transport.specs.declared.message.Request.{Request}
 use Rattle.oci_transport.specs.declared.message.Answer.{Answer}
 use Rattle.oci_transport.specs.declared.message.AnswerHead.{AnswerHead}
@@ -148,10 +148,10 @@ blob_unread to limit digest request head last old new k e (inr offered) reach is
 read_met : (url : List ℕ) (head : AnswerHead) (body : List ℕ) (p q : Plan) (r : Result (List ℕ) OciDistributionError) (link : Link) (k : Memory) → p ≡ q → Says r (read_by url (answer_of head body) q) → Meets is_memory (Done (read_by url (answer_of head body) p)) link link k k r
 read_met url head body p q r link k is says = said r (rw is says)
 
-pub blob_read : (to : Destination) (limit : ℕ) (digest : List ℕ) (request : Request) (head : AnswerHead) (last : Request) (body : List ℕ) (old mid new : Link) (k : Memory) (p : Plan) (r : Result (List ℕ) OciDistributionError) → {row : Row (List ℕ)} → Takes to limit digest request head row → Reaches 10 request head last old mid → plan_of digest head ≡ p → limit_of (reading_by to limit p) ≡ Some limit → mid.faults ≤ new.faults → new.told ≡ mid.told → Steady mid new → length body ≤ limit → ((rest : List ℕ) → mid.rest ≡ Some rest → body ≡ rest) → Says r (read_by last.url (answer_of head body) p) → Meets is_memory row old new k k r
+pub blob_read : (to : Destination) (limit : ℕ) (digest : List ℕ) (request : Request) (head : AnswerHead) (last : Request) (body : List ℕ) (old mid new : Link) (k : Memory) (p : Plan) (r : Result (List ℕ) OciDistributionError) → {row : Row (List ℕ)} → Takes to limit digest request head row → Reaches 10 request head last old mid → plan_of digest head ≡ p → limit_of (reading_by to limit p) ≡ Some limit → mid.faults ≤ new.faults → new.told ≡ mid.told → Steady mid new → length body ≤ limit → ((rest : List ℕ) → mid.rest ≡ Some rest → body ≡ rest) → EndsUnbroken mid new → Says r (read_by last.url (answer_of head body) p) → Meets is_memory row old new k k r
 unfolding attempt offer blob_reading
-blob_read to limit digest request head last body old mid new k p r (inl row) reach is reads le same steady small whole says = rw row (reached_answered 10 request (blob_reading to limit digest) (blob_reply digest) head last limit body reach (ap (λ (q : Plan). limit_of (reading_by to limit q)) is ∙ reads) le same steady small whole (read_met last.url head body (plan_of digest head) p r new k is says))
-blob_read to limit digest request head last body old mid new k p r (inr offered) reach is reads le same steady small whole says = rw offered.2 (reached_answered 10 request (offer_reading to limit digest) (offer_reply digest offered.1) head last limit body reach (ap limit_of (offered_reading to limit digest head offered.0) ∙ (ap (λ (q : Plan). limit_of (reading_by to limit q)) is ∙ reads)) le same steady small whole (read_met last.url head body (plan_of digest head) p r new k is says))
+blob_read to limit digest request head last body old mid new k p r (inl row) reach is reads le same steady small whole unbroken says = rw row (reached_answered 10 request (blob_reading to limit digest) (blob_reply digest) head last limit body reach (ap (λ (q : Plan). limit_of (reading_by to limit q)) is ∙ reads) le same steady small whole unbroken (read_met last.url head body (plan_of digest head) p r new k is says))
+blob_read to limit digest request head last body old mid new k p r (inr offered) reach is reads le same steady small whole unbroken says = rw offered.2 (reached_answered 10 request (offer_reading to limit digest) (offer_reply digest offered.1) head last limit body reach (ap limit_of (offered_reading to limit digest head offered.0) ∙ (ap (λ (q : Plan). limit_of (reading_by to limit q)) is ∙ reads)) le same steady small whole unbroken (read_met last.url head body (plan_of digest head) p r new k is says))
 
 pub blob_long : (to : Destination) (limit : ℕ) (digest : List ℕ) (request : Request) (head : AnswerHead) (last : Request) (old mid new : Link) (k : Memory) (p : Plan) → {row : Row (List ℕ)} → Takes to limit digest request head row → Reaches 10 request head last old mid → plan_of digest head ≡ p → limit_of (reading_by to limit p) ≡ Some limit → mid.faults ≤ new.faults → new.told ≡ mid.told → Steady mid new → ((rest : List ℕ) → mid.rest ≡ Some rest → limit < length rest) → Meets is_memory row old new k k (Err refusal.BodyTooLong)
 unfolding attempt offer blob_reading
@@ -169,11 +169,11 @@ blob_spilled limit digest request head last old mid new k given own (inl row) re
 blob_spilled limit digest request head last old mid new k given own (inr offered) reach is le same steady = rw offered.2 (reached_spilled 10 request (offer_reading IntoSink limit digest) (offer_reply digest offered.1) head last limit reach (offered_reading IntoSink limit digest head offered.0 ∙ ap (reading_by IntoSink limit) is) le same steady (Meets-err is_memory new k refusal.SinkFault refl))
 
 -- an answer of another status is refused, or memory was wanting to say why
-pub blob_judged : (to : Destination) (limit : ℕ) (digest : List ℕ) (request : Request) (head : AnswerHead) (last : Request) (body : List ℕ) (old mid new : Link) (k : Memory) (e : OciDistributionError) → {row : Row (List ℕ)} → Takes to limit digest request head row → Reaches 10 request head last old mid → plan_of digest head ≡ plan.Judge → mid.faults ≤ new.faults → new.told ≡ mid.told → Steady mid new → length body ≤ limit → ((rest : List ℕ) → mid.rest ≡ Some rest → body ≡ rest) → SaysError e (refused_answer 200 last.url (answer_of head body)) → Meets is_memory row old new k k (Err e)
-blob_judged to limit digest request head last body old mid new k e {row} takes reach is le same steady small whole says = by_memory (is_memory e) refl says where
+pub blob_judged : (to : Destination) (limit : ℕ) (digest : List ℕ) (request : Request) (head : AnswerHead) (last : Request) (body : List ℕ) (old mid new : Link) (k : Memory) (e : OciDistributionError) → {row : Row (List ℕ)} → Takes to limit digest request head row → Reaches 10 request head last old mid → plan_of digest head ≡ plan.Judge → mid.faults ≤ new.faults → new.told ≡ mid.told → Steady mid new → length body ≤ limit → ((rest : List ℕ) → mid.rest ≡ Some rest → body ≡ rest) → EndsUnbroken mid new → SaysError e (refused_answer 200 last.url (answer_of head body)) → Meets is_memory row old new k k (Err e)
+blob_judged to limit digest request head last body old mid new k e {row} takes reach is le same steady small whole unbroken says = by_memory (is_memory e) refl says where
   by_memory : (b : Bool) → is_memory e ≡ b → MatchBool b (Unit {0}) (e ≡ refused_answer 200 last.url (answer_of head body)) → Meets is_memory row old new k k (Err e)
   by_memory true of_memory says = blob_wanting to limit digest request head last old mid new k e takes reach le same steady of_memory
-  by_memory false other says = blob_read to limit digest request head last body old mid new k plan.Judge (Err e) takes reach is refl le same steady small whole (rw other (ap Err (sym says)))
+  by_memory false other says = blob_read to limit digest request head last body old mid new k plan.Judge (Err e) takes reach is refl le same steady small whole unbroken (rw other (ap Err (sym says)))
 
 chosen_first : {A : Type 0} (b : Bool) (x y : A) → b ≡ true → (if b then x else y) ≡ x
 chosen_first true x y h = refl
@@ -213,18 +213,18 @@ limit_into IntoSink limit = refl
 limit_into IntoMemory limit = refl
 
 -- the whole body was read, and what is said of its digests
-pub blob_compared : (to : Destination) (limit : ℕ) (digest : List ℕ) (request : Request) (head : AnswerHead) (last : Request) (body : List ℕ) (old mid new : Link) (k : Memory) (given : Option Expected) (own : Expected) (r : Result (List ℕ) OciDistributionError) → {row : Row (List ℕ)} → Takes to limit digest request head row → Reaches 10 request head last old mid → plan_of digest head ≡ plan.Pour given own → mid.faults ≤ new.faults → new.told ≡ mid.told → Steady mid new → length body ≤ limit → ((rest : List ℕ) → mid.rest ≡ Some rest → body ≡ rest) → Says r (both_compared given own body >> Ok body) → Meets is_memory row old new k k r
-blob_compared to limit digest request head last body old mid new k given own r takes reach is le same steady small whole says = blob_read to limit digest request head last body old mid new k (plan.Pour given own) r takes reach is (limit_into to limit) le same steady small whole says
+pub blob_compared : (to : Destination) (limit : ℕ) (digest : List ℕ) (request : Request) (head : AnswerHead) (last : Request) (body : List ℕ) (old mid new : Link) (k : Memory) (given : Option Expected) (own : Expected) (r : Result (List ℕ) OciDistributionError) → {row : Row (List ℕ)} → Takes to limit digest request head row → Reaches 10 request head last old mid → plan_of digest head ≡ plan.Pour given own → mid.faults ≤ new.faults → new.told ≡ mid.told → Steady mid new → length body ≤ limit → ((rest : List ℕ) → mid.rest ≡ Some rest → body ≡ rest) → EndsUnbroken mid new → Says r (both_compared given own body >> Ok body) → Meets is_memory row old new k k r
+blob_compared to limit digest request head last body old mid new k given own r takes reach is le same steady small whole unbroken says = blob_read to limit digest request head last body old mid new k (plan.Pour given own) r takes reach is (limit_into to limit) le same steady small whole unbroken says
 
 -- at the exit of a `?`
 pub compared_on : (e : OciDistributionError) (r s : Result (Unit {0}) OciDistributionError) → Says {A = Unit {0}} (Err e) s → IsErrAnd r (λ x. x ≡ e) → Says r s
 compared_on e r s says is = let at = err_from_is_err_and r is in rw (at.1, at.2) says
 
-pub held_other : (limit : ℕ) (digest : List ℕ) (request : Request) (head : AnswerHead) (last : Request) (body : List ℕ) (old mid new : Link) (k : Memory) (given : Option Expected) (own : Expected) (e : OciDistributionError) (r : Result (List ℕ) OciDistributionError) → {row : Row (List ℕ)} → Takes IntoMemory limit digest request head row → Reaches 10 request head last old mid → plan_of digest head ≡ plan.Pour given own → mid.faults ≤ new.faults → new.told ≡ mid.told → Steady mid new → length body ≤ limit → ((rest : List ℕ) → mid.rest ≡ Some rest → body ≡ rest) → Says {A = Unit} (Err e) (both_compared given own body) → IsErrAnd r (λ x. x ≡ e) → Meets is_memory row old new k k r
-held_other limit digest request head last body old mid new k given own e r takes reach is le same steady small whole bad from_is = let at = err_from_is_err_and r from_is in rw (at.1, at.2) (blob_compared IntoMemory limit digest request head last body old mid new k given own (Err e) takes reach is le same steady small whole (refused_says body e (both_compared given own body) bad))
+pub held_other : (limit : ℕ) (digest : List ℕ) (request : Request) (head : AnswerHead) (last : Request) (body : List ℕ) (old mid new : Link) (k : Memory) (given : Option Expected) (own : Expected) (e : OciDistributionError) (r : Result (List ℕ) OciDistributionError) → {row : Row (List ℕ)} → Takes IntoMemory limit digest request head row → Reaches 10 request head last old mid → plan_of digest head ≡ plan.Pour given own → mid.faults ≤ new.faults → new.told ≡ mid.told → Steady mid new → length body ≤ limit → ((rest : List ℕ) → mid.rest ≡ Some rest → body ≡ rest) → EndsUnbroken mid new → Says {A = Unit} (Err e) (both_compared given own body) → IsErrAnd r (λ x. x ≡ e) → Meets is_memory row old new k k r
+held_other limit digest request head last body old mid new k given own e r takes reach is le same steady small whole unbroken bad from_is = let at = err_from_is_err_and r from_is in rw (at.1, at.2) (blob_compared IntoMemory limit digest request head last body old mid new k given own (Err e) takes reach is le same steady small whole unbroken (refused_says body e (both_compared given own body) bad))
 
-pub held_whole : (limit : ℕ) (digest : List ℕ) (request : Request) (head : AnswerHead) (last : Request) (body : List ℕ) (old mid new : Link) (k : Memory) (given : Option Expected) (own : Expected) → {row : Row (List ℕ)} → Takes IntoMemory limit digest request head row → Reaches 10 request head last old mid → plan_of digest head ≡ plan.Pour given own → mid.faults ≤ new.faults → new.told ≡ mid.told → Steady mid new → length body ≤ limit → ((rest : List ℕ) → mid.rest ≡ Some rest → body ≡ rest) → both_compared given own body ≡ Ok tt → Meets is_memory row old new k k (Ok body)
-held_whole limit digest request head last body old mid new k given own takes reach is le same steady small whole good = blob_compared IntoMemory limit digest request head last body old mid new k given own (Ok body) takes reach is le same steady small whole (filled_says body (both_compared given own body) good)
+pub held_whole : (limit : ℕ) (digest : List ℕ) (request : Request) (head : AnswerHead) (last : Request) (body : List ℕ) (old mid new : Link) (k : Memory) (given : Option Expected) (own : Expected) → {row : Row (List ℕ)} → Takes IntoMemory limit digest request head row → Reaches 10 request head last old mid → plan_of digest head ≡ plan.Pour given own → mid.faults ≤ new.faults → new.told ≡ mid.told → Steady mid new → length body ≤ limit → ((rest : List ℕ) → mid.rest ≡ Some rest → body ≡ rest) → EndsUnbroken mid new → both_compared given own body ≡ Ok tt → Meets is_memory row old new k k (Ok body)
+held_whole limit digest request head last body old mid new k given own takes reach is le same steady small whole unbroken good = blob_compared IntoMemory limit digest request head last body old mid new k given own (Ok body) takes reach is le same steady small whole unbroken (filled_says body (both_compared given own body) good)
 
 -- memory was wanting to look at the head
 pub held_wanting : (limit : ℕ) (digest : List ℕ) (request : Request) (head : AnswerHead) (last : Request) (old new : Link) (k : Memory) (r : Result (List ℕ) OciDistributionError) → {row : Row (List ℕ)} → Takes IntoMemory limit digest request head row → Reaches 10 request head last old new → IsErrAnd r (λ x. x ≡ refusal.WantOfMemory) → Meets is_memory row old new k k r
@@ -249,11 +249,11 @@ not_sink_answer url answer = by_status (nat_eq answer.status 401) (is_success an
   by_status false false false h = cc
 
 -- an answer of another status is refused, or memory was wanting to say why
-pub spills_judged : (limit : ℕ) (digest : List ℕ) (request : Request) (head : AnswerHead) (last : Request) (body : List ℕ) (old mid new : Link) (k : Memory) (tray : Tray) (e : OciDistributionError) → {row : Row (List ℕ)} → Takes IntoSink limit digest request head row → Reaches 10 request head last old mid → plan_of digest head ≡ plan.Judge → mid.faults ≤ new.faults → new.told ≡ mid.told → Steady mid new → length body ≤ limit → ((rest : List ℕ) → mid.rest ≡ Some rest → body ≡ rest) → SaysError e (refused_answer 200 last.url (answer_of head body)) → Spills row old new k k tray tray (Err e)
-spills_judged limit digest request head last body old mid new k tray e {row} takes reach is le same steady small whole says = by_memory (is_memory e) refl says where
+pub spills_judged : (limit : ℕ) (digest : List ℕ) (request : Request) (head : AnswerHead) (last : Request) (body : List ℕ) (old mid new : Link) (k : Memory) (tray : Tray) (e : OciDistributionError) → {row : Row (List ℕ)} → Takes IntoSink limit digest request head row → Reaches 10 request head last old mid → plan_of digest head ≡ plan.Judge → mid.faults ≤ new.faults → new.told ≡ mid.told → Steady mid new → length body ≤ limit → ((rest : List ℕ) → mid.rest ≡ Some rest → body ≡ rest) → EndsUnbroken mid new → SaysError e (refused_answer 200 last.url (answer_of head body)) → Spills row old new k k tray tray (Err e)
+spills_judged limit digest request head last body old mid new k tray e {row} takes reach is le same steady small whole unbroken says = by_memory (is_memory e) refl says where
   by_memory : (b : Bool) → is_memory e ≡ b → MatchBool b (Unit {0}) (e ≡ refused_answer 200 last.url (answer_of head body)) → Spills row old new k k tray tray (Err e)
   by_memory true of_memory says = spills_none tray (blob_wanting IntoSink limit digest request head last old mid new k e takes reach le same steady of_memory) (λ h. let is : e ≡ refusal.SinkFault = cc in absurd (cc (rw is at of_memory)))
-  by_memory false other says = spills_none tray (blob_read IntoSink limit digest request head last body old mid new k plan.Judge (Err e) takes reach is refl le same steady small whole (rw other (ap Err (sym says)))) (λ h. let is : e ≡ refusal.SinkFault = cc in absurd (not_sink_answer last.url (answer_of head body) (sym says ∙ is)))
+  by_memory false other says = spills_none tray (blob_read IntoSink limit digest request head last body old mid new k plan.Judge (Err e) takes reach is refl le same steady small whole unbroken (rw other (ap Err (sym says)))) (λ h. let is : e ≡ refusal.SinkFault = cc in absurd (not_sink_answer last.url (answer_of head body) (sym says ∙ is)))
 
 -- ---- a body that was put whole
 
@@ -264,7 +264,7 @@ pub spills_whole : (limit : ℕ) (digest : List ℕ) (request : Request) (head :
     → Spills row old new k k before after (Ok tt)
 spills_whole limit digest request head last old mid new k before after from to given own takes reach is le same steady count pours fresh good = record {
   body = pours.body;
-  met = blob_read IntoSink limit digest request head last pours.body old mid new k (plan.Pour given own) (Ok pours.body) takes reach is refl le same steady pours.small pours.whole (filled_says pours.body _ (good pours.body (pours.hashed (given_algorithm given) own.algorithm fresh)));
+  met = blob_read IntoSink limit digest request head last pours.body old mid new k (plan.Pour given own) (Ok pours.body) takes reach is refl le same steady pours.small pours.whole pours.unbroken (filled_says pours.body _ (good pours.body (pours.hashed (given_algorithm given) own.algorithm fresh)));
   put = pours.put;
   front = front_told 10 request head last old mid new pours.body reach (pours_success digest head given own is) same steady (λ rest h. ([], sym (pours.whole rest h) ∙ sym (append-nil pours.body)));
   count = count;
@@ -295,7 +295,7 @@ pub spills_other : (limit : ℕ) (digest : List ℕ) (request : Request) (head :
     → Spills row old new k k before after r
 spills_other limit digest request head last old mid new k before after from to given own e r takes reach is le same steady count pours fresh bad from_is = let at = err_from_is_err_and r from_is in rw (at.1, at.2) (record {
   body = pours.body;
-  met = blob_read IntoSink limit digest request head last pours.body old mid new k (plan.Pour given own) (Err e) takes reach is refl le same steady pours.small pours.whole (refused_says pours.body e _ (bad pours.body (pours.hashed (given_algorithm given) own.algorithm fresh)));
+  met = blob_read IntoSink limit digest request head last pours.body old mid new k (plan.Pour given own) (Err e) takes reach is refl le same steady pours.small pours.whole pours.unbroken (refused_says pours.body e _ (bad pours.body (pours.hashed (given_algorithm given) own.algorithm fresh)));
   put = pours.put;
   front = front_told 10 request head last old mid new pours.body reach (pours_success digest head given own is) same steady (λ rest h. ([], sym (pours.whole rest h) ∙ sym (append-nil pours.body)));
   count = count;

@@ -2,7 +2,7 @@
 use Rattle.std.proofs.Common.{◌≡◌, ◌≤◌, ◌<◌, ℕ, List, ◌++◌, Some, Result, Ok, Err, IfOk, length, refl}
 use Rattle.std.specs.Result.{IsErrAnd}
 use Rattle.std.proofs.lemmas.Result.{err_from_is_err_and}
-use Rattle.oci_transport.specs.Link.{Link, Steady, answer_of}
+use Rattle.oci_transport.specs.Link.{Link, Steady, answer_of, EndsUnbroken}
 use Rattle.json_values.specs.Counts.{Rose}
 use Rattle.oci_transport.specs.declared.message.Request.{Request}
 use Rattle.oci_transport.specs.declared.message.AnswerHead.{AnswerHead}
@@ -21,10 +21,10 @@ within : (limit : ℕ) (head : AnswerHead) → limit_of (read_within limit head)
 unfolding read_within
 within limit head = refl
 
-pub whole_answered : (times : ℕ) (request : Request) (limit : ℕ) (head : AnswerHead) (last : Request) (body : List ℕ) (old mid new : Link) → Reaches times request head last old mid → mid.faults ≤ new.faults → new.told ≡ mid.told → Steady mid new → length body ≤ limit → ((rest : List ℕ) → mid.rest ≡ Some rest → body ≡ rest)
+pub whole_answered : (times : ℕ) (request : Request) (limit : ℕ) (head : AnswerHead) (last : Request) (body : List ℕ) (old mid new : Link) → Reaches times request head last old mid → mid.faults ≤ new.faults → new.told ≡ mid.told → Steady mid new → length body ≤ limit → ((rest : List ℕ) → mid.rest ≡ Some rest → body ≡ rest) → EndsUnbroken mid new
     → (k : Memory) → Meets is_memory (whole times request limit) old new k k (Ok (record { url = last.url; answer = answer_of head body }))
 unfolding whole
-whole_answered times request limit head last body old mid new reach le same steady small all k = reached_answered times request (read_within limit) whole_reply head last limit body reach (within limit head) le same steady small all (Meets-ok is_memory new k _)
+whole_answered times request limit head last body old mid new reach le same steady small all unbroken k = reached_answered times request (read_within limit) whole_reply head last limit body reach (within limit head) le same steady small all unbroken (Meets-ok is_memory new k _)
 
 pub whole_long : (times : ℕ) (request : Request) (limit : ℕ) (head : AnswerHead) (last : Request) (old mid new : Link) → Reaches times request head last old mid → mid.faults ≤ new.faults → new.told ≡ mid.told → Steady mid new → ((rest : List ℕ) → mid.rest ≡ Some rest → limit < length rest)
     → (k : Memory) → Meets is_memory (whole times request limit) old new k k (Err refusal.BodyTooLong)

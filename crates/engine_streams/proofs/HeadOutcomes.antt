@@ -62,7 +62,7 @@ unfolding judged
 judged_refused limit takes made request head last old mid new k e reach is le same steady (inl wanted) = reached_cut is_memory 10 request (judged_reading limit takes) (judged_reply made) head last k e reach le same steady wanted
 judged_refused limit takes made request head last old mid new k e reach is le same steady (inr (inl x)) = rw x.0 (reached_failed 10 request (judged_reading limit takes) (judged_reply made) head last reach le same steady x.1 (Meets-err is_memory new k refusal.TransportFault refl))
 judged_refused limit takes made request head last old mid new k e reach is le same steady (inr (inr (inl x))) = rw x.0 (reached_long 10 request (judged_reading limit takes) (judged_reply made) head last limit reach (read limit takes head is) le same steady x.1 (Meets-err is_memory new k refusal.BodyTooLong refl))
-judged_refused limit takes made request head last old mid new k e reach is le same steady (inr (inr (inr x))) = reached_answered 10 request (judged_reading limit takes) (judged_reply made) head last limit x.0 reach (read limit takes head is) le same steady x.1 x.2 (said (Err e) (unless_memory (is_memory e) _ (ap Err (sym x.3))))
+judged_refused limit takes made request head last old mid new k e reach is le same steady (inr (inr (inr x))) = reached_answered 10 request (judged_reading limit takes) (judged_reply made) head last limit x.0 reach (read limit takes head is) le same steady x.1 x.2 x.3 (said (Err e) (unless_memory (is_memory e) _ (ap Err (sym x.4))))
 
 -- ---- which answers are taken
 

@@ -1,7 +1,7 @@
 -- What the transports of a shelf show after a step of what they serve.
 use Rattle.std.proofs.Common.{◌≡◌, ℕ, ◌+◌, Bool, true, false, ◌||◌, not, ◌==◌, List, [], ◌∷◌, length, take, drop, Some, None, refl, sym, ap, subst, ◌∙◌, arith}
 use Rattle.std.proofs.lemmas.Bool.Decides.{nat_tests}
-use Rattle.oci_transport.specs.Link.{Answering, NeverFails, Steady, Answers, AddsUnanswered, LeavesRest, Takes}
+use Rattle.oci_transport.specs.Link.{Link, EndsUnbroken, Answering, NeverFails, Steady, Answers, AddsUnanswered, LeavesRest, Takes}
 use Rattle.oci_transport.specs.declared.message.Request.{Request}
 use Rattle.oci_transport.specs.declared.message.AnswerHead.{AnswerHead}
 use Rattle.oci_link.specs.Served.{IsAnswered, IsUnanswered, GivesPiece}
@@ -55,8 +55,23 @@ nothing a b faults raised old new request step = λ before h. ap (λ n. Some (dr
 pub stays : (a b : Answering) (faults raised : ℕ) (old new : Served) → b ≡ a → (NeverFails a → raised ≡ faults) → Steady (link_of old faults a) (link_of new raised b)
 stays a b faults raised old new same quiet = same_table a (link_of old faults a) (link_of new raised b) refl (ap Some same) quiet
 
-pub gives : (a b : Answering) (faults : ℕ) (old new : Served) (piece : List ℕ) → GivesPiece piece old new → Takes piece (link_of old faults a) (link_of new faults b)
-gives a b faults old new piece step = takes old.body piece old.given (link_of old faults a) (link_of new faults b) refl (ap Some (ap (λ n. drop n new.body) step.given ∙ ap (drop (old.given + length piece)) step.body)) step.piece_is
+-- no body breaks off
+pub whole_bodies : (shelf : Shelf) (place : ℕ) → (answering shelf).breaks place ≡ false
+unfolding answering
+whole_bodies shelf place = refl
+
+pub bodies_unknown : (shelf : Shelf) (sends pieces : List ℕ) (place : ℕ) → (failing shelf sends pieces).breaks place ≡ false
+unfolding failing
+bodies_unknown shelf sends pieces place = refl
+
+unbroken : (a : Answering) (faults : ℕ) (old : Served) (new : Link) → ((place : ℕ) → a.breaks place ≡ false) → EndsUnbroken (link_of old faults a) new
+unbroken a faults old new never t before e by told breaks =
+    let same : a ≡ t = cc by in
+    let here : a.breaks (length before) ≡ true = ap (λ (x : Answering). x.breaks (length before)) same ∙ breaks in
+    absurd (cc (sym (never (length before)) ∙ here))
+
+pub gives : (a b : Answering) (faults : ℕ) (old new : Served) (piece : List ℕ) → ((place : ℕ) → a.breaks place ≡ false) → GivesPiece piece old new → Takes piece (link_of old faults a) (link_of new faults b)
+gives a b faults old new piece never step = takes old.body piece old.given (link_of old faults a) (link_of new faults b) refl (ap Some (ap (λ n. drop n new.body) step.given ∙ ap (drop (old.given + length piece)) step.body)) step.piece_is (unbroken a faults old (link_of new faults b) never)
 
 some_is : {A : Type 0} (x y : A) → Some x ≡ Some y → x ≡ y
 some_is x y h = cc h

@@ -10,16 +10,22 @@ use Rattle.oci_link.specs.declared.faulty_shelf.FaultyShelf.{FaultyShelf}
 
 -- each request is answered by the table, and nothing fails
 unfoldable pub answering : Shelf → Answering
-answering shelf = record { answer = λ place request. Some (answer shelf request); fails = λ place. false }
+answering shelf = record {
+  answer = λ place request. Some (answer shelf request);
+  fails = λ place. false;
+  breaks = λ place. false;
+}
 
 abbrev pub is_among : ℕ → List ℕ → Bool
 is_among n numbers = list_any (λ m. m == n) numbers
 
--- the sends of these numbers fail, and where any call for a piece fails, it may be at each place
+-- the sends of these numbers fail, and where any call for a piece fails, it may be at each place, so
+-- that of no body it is known that it breaks off
 unfoldable pub failing : Shelf → List ℕ → List ℕ → Answering
 failing shelf sends pieces = record {
   answer = λ place request. if is_among place sends then None else Some (answer shelf request);
   fails = λ place. is_among place sends || not (length pieces == 0);
+  breaks = λ place. false;
 }
 
 -- what is told, and what is left of the last body

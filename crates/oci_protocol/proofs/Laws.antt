@@ -1,12 +1,12 @@
-use Rattle.std.proofs.Common.{◌≡◌, ◌≤◌, inl, inr, ℕ, Bool, true, false, List, [], ◌∷◌, ◌++◌, Result, Ok, Err, refl, arith}
+use Rattle.std.proofs.Common.{◌≡◌, ◌≤◌, ◌+◌, inl, inr, ℕ, suc, Bool, true, false, List, [], ◌∷◌, ◌++◌, Result, Ok, Err, length, length-append, refl, subst, arith}
 use Rattle.std.specs.Prelude.{MatchBool}
-use Rattle.oci_transport.specs.Link.{Link, IsAtMost, AddsAtMost}
+use Rattle.oci_transport.specs.Link.{Link, Answering, IsAtMost, AddsAtMost}
 use Rattle.oci_protocol.proofs.Conversations.{Extends-more, Extends-none}
 use Rattle.oci_transport.specs.declared.message.Request.{Request}
 use Rattle.oci_transport.specs.declared.message.AnswerHead.{AnswerHead}
 use Rattle.oci_transport.specs.declared.message.Exchange.{Exchange}
 use Rattle.oci_protocol.specs.Proto.{Reading, Reply, Proto, Done, Ask, Recall, Keep, bind, unless_refused, ◌>>=◌}
-use Rattle.oci_protocol.specs.Runs.{Hears, Runs, Stops, Performs, Breaks, Outcome, Meets}
+use Rattle.oci_protocol.specs.Runs.{Hears, Runs, RunsBy, Stops, Performs, Breaks, Outcome, Meets}
 
 -- a run of one protocol and a run of the one that its answer gives are a run of both
 pub Runs-bind : {K A B : Type 0} (p : Proto K A) (f : A → Proto K B) (k l j : K) (m n o : ℕ) (c d : List Exchange) (a : A) (b : B) → Runs p k m c n l a → Runs (f a) l n d o j b → Runs (bind p f) k m (c ++ d) o j b
@@ -17,6 +17,26 @@ Runs-bind (Ask request reading next) f k l j m n o [] d a b r s = absurd r
 Runs-bind (Ask request reading next) f k l j m n o (e ∷ c) d a b r s = (r.0, r.1, r.2, Runs-bind (next r.1) f k l j r.0 n o c d a b r.3 s)
 Runs-bind (Recall next) f k l j m n o c d a b r s = Runs-bind (next k) f k l j m n o c d a b r s
 Runs-bind (Keep kept rest) f k l j m n o c d a b r s = Runs-bind rest f kept l j m n o c d a b r s
+
+-- the same by what is answered
+pub RunsBy-bind : {K A B : Type 0} (t : Answering) (place : ℕ) (p : Proto K A) (f : A → Proto K B) (k l j : K) (m n o : ℕ) (c d : List Exchange) (a : A) (b : B) → RunsBy t place p k m c n l a → RunsBy t (place + length c) (f a) l n d o j b → RunsBy t place (bind p f) k m (c ++ d) o j b
+unfolding RunsBy bind
+RunsBy-bind t place (Done x) f k l j m n o [] d a b r s = rw (r.2, r.1, r.0) (subst (λ q. RunsBy t q (f a) l n d o j b) (omega arith) s)
+RunsBy-bind t place (Done x) f k l j m n o (e ∷ c) d a b r s = absurd r
+RunsBy-bind t place (Ask request reading next) f k l j m n o [] d a b r s = absurd r
+RunsBy-bind t place (Ask request reading next) f k l j m n o (e ∷ c) d a b r s = (r.0, r.1, r.2, r.3, RunsBy-bind t (suc place) (next r.1) f k l j r.0 n o c d a b r.4 (subst (λ q. RunsBy t q (f a) l n d o j b) (omega arith) s))
+RunsBy-bind t place (Recall next) f k l j m n o c d a b r s = RunsBy-bind t place (next k) f k l j m n o c d a b r s
+RunsBy-bind t place (Keep kept rest) f k l j m n o c d a b r s = RunsBy-bind t place rest f kept l j m n o c d a b r s
+
+-- and it is a run
+pub RunsBy-runs : {K A : Type 0} (t : Answering) (place : ℕ) (p : Proto K A) (k l : K) (m n : ℕ) (c : List Exchange) (a : A) → RunsBy t place p k m c n l a → Runs p k m c n l a
+unfolding RunsBy Runs
+RunsBy-runs t place (Done x) k l m n [] a r = r
+RunsBy-runs t place (Done x) k l m n (e ∷ c) a r = absurd r
+RunsBy-runs t place (Ask request reading next) k l m n [] a r = absurd r
+RunsBy-runs t place (Ask request reading next) k l m n (e ∷ c) a r = (r.0, r.1, r.2, RunsBy-runs t (suc place) (next r.1) k l r.0 n c a r.4)
+RunsBy-runs t place (Recall next) k l m n c a r = RunsBy-runs t place (next k) k l m n c a r
+RunsBy-runs t place (Keep kept rest) k l m n c a r = RunsBy-runs t place rest kept l m n c a r
 
 -- nothing was done yet
 pub Stops-start : {K A : Type 0} (p : Proto K A) (k : K) (m : ℕ) → Stops p k m [] k
@@ -60,14 +80,18 @@ Runs-count (Keep kept rest) k l m n c a r = Runs-count rest kept l m n c a r
 
 -- what needs no request
 pub Performs-done : {K A : Type 0} (link : Link) (k : K) (a : A) → Performs (Done a) link link k k a
-unfolding Runs
-Performs-done link k a = record { conversation = []; told = Extends-none link; runs = (refl, refl, refl) }
+unfolding Runs RunsBy
+Performs-done link k a = record { conversation = []; told = Extends-none link; runs = (refl, refl, refl); runs_by = λ t before by told. (refl, refl, refl) }
 
 pub Performs-bind : {K A B : Type 0} {p : Proto K A} (f : A → Proto K B) {old mid new : Link} {k l j : K} {a : A} {b : B} → Performs p old mid k l a → Performs (f a) mid new l j b → Performs (bind p f) old new k j b
 Performs-bind {p} f {old} {mid} {new} {k} {l} {j} {a} {b} first second = record {
   conversation = first.conversation ++ second.conversation;
   told = Extends-more old mid new first.conversation second.conversation first.told second.told;
   runs = Runs-bind p f k l j old.faults mid.faults new.faults first.conversation second.conversation a b first.runs second.runs;
+  runs_by = λ t before by told.
+      let behind = second.runs_by t (before ++ first.conversation) (first.told.stays.steady t by) (first.told.told before told) in
+      RunsBy-bind t (length before) p f k l j old.faults mid.faults new.faults first.conversation second.conversation a b (first.runs_by t before by told)
+      (subst (λ q. RunsBy t q (f a) l mid.faults second.conversation new.faults j b) (length-append before first.conversation) behind);
 }
 
 pub Breaks-start : {K A : Type 0} (p : Proto K A) (link : Link) (k : K) → Breaks p link link k k
@@ -127,8 +151,8 @@ pub Meets-memory : {K A E : Type 0} (of_memory : E → Bool) (p : Proto K (Resul
 Meets-memory of_memory p link k e h = record { outcome = rw h (Breaks-start p link k) }
 
 performs-recall : {K A : Type 0} (next : K → Proto K A) {old new : Link} {k l : K} {x : A} → Performs (next k) old new k l x → Performs (Recall next) old new k l x
-unfolding Runs
-performs-recall next h = record { conversation = h.conversation; told = h.told; runs = h.runs }
+unfolding Runs RunsBy
+performs-recall next h = record { conversation = h.conversation; told = h.told; runs = h.runs; runs_by = h.runs_by }
 
 breaks-recall : {K A : Type 0} (next : K → Proto K A) {old new : Link} {k l : K} → Breaks (next k) old new k l → Breaks (Recall next) old new k l
 unfolding Stops
@@ -141,8 +165,8 @@ Meets-recall {of_memory} next {old} {new} {k} {l} {r} rest = record {
 }
 
 performs-keep : {K A : Type 0} (kept : K) (rest : Proto K A) {old new : Link} {k l : K} {x : A} → Performs rest old new kept l x → Performs (Keep kept rest) old new k l x
-unfolding Runs
-performs-keep kept rest h = record { conversation = h.conversation; told = h.told; runs = h.runs }
+unfolding Runs RunsBy
+performs-keep kept rest h = record { conversation = h.conversation; told = h.told; runs = h.runs; runs_by = h.runs_by }
 
 breaks-keep : {K A : Type 0} (kept : K) (rest : Proto K A) {old new : Link} {k l : K} → Breaks rest old new kept l → Breaks (Keep kept rest) old new k l
 unfolding Stops
@@ -155,11 +179,15 @@ Meets-keep {of_memory} kept rest {old} {new} {k} {l} {r} met = record {
 }
 
 performs-ask : {K A : Type 0} {request : Request} {reading : AnswerHead → Reading} (next : Reply → Proto K A) {old mid new : Link} {k l : K} {reply : Reply} {x : A} → Hears request reading old mid reply → Performs (next reply) mid new k l x → Performs (Ask request reading next) old new k l x
-unfolding Runs
-performs-ask next {old} {mid} {new} {reply} first h = record {
+unfolding Runs RunsBy
+performs-ask next {old} {mid} {new} {k} {l} {reply} {x} first h = record {
   conversation = first.exchange ∷ h.conversation;
   told = Extends-more old mid new (first.exchange ∷ []) h.conversation first.told h.told;
   runs = (mid.faults, reply, first.replies, h.runs);
+  runs_by = λ t before by told.
+      let behind = h.runs_by t (before ++ first.exchange ∷ []) (first.told.stays.steady t by) (first.told.told before told) in
+      let place : length (before ++ first.exchange ∷ []) ≡ suc (length before) = omega (arith, length-append before (first.exchange ∷ [])) in
+      (mid.faults, reply, first.replies, first.unbroken t before by told, subst (λ q. RunsBy t q (next reply) k mid.faults h.conversation new.faults l x) place behind);
 }
 
 breaks-ask : {K A : Type 0} {request : Request} {reading : AnswerHead → Reading} (next : Reply → Proto K A) {old mid new : Link} {k l : K} {reply : Reply} → Hears request reading old mid reply → Breaks (next reply) mid new k l → Breaks (Ask request reading next) old new k l

@@ -70,6 +70,7 @@ poured_whole limit taken piece from to old mid new before after p takes empty = 
       let first = p.so_far.taken.front rest h in
       let none : first.0 ≡ [] = (takes.front first.0 first.2).3 (nil_from_length piece empty) in
       sym (first.1 ∙ ap (λ (r : List ℕ). p.body ++ r) none ∙ append-nil p.body);
+  unbroken = λ t shown e by told breaks. takes.unbroken (nil_from_length piece empty) t shown e (p.so_far.taken.stays.steady t by) (p.so_far.taken.told ∙ told) breaks;
   put = p.so_far.put;
   hashed = p.so_far.hashed;
 }

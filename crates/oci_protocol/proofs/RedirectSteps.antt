@@ -1,13 +1,13 @@
-use Rattle.std.proofs.Common.{◌≡◌, ◌≤◌, ◌<◌, ◌+◌, inl, inr, ℕ, suc, zero, Bool, true, List, [], ◌∷◌, ◌++◌, Option, Some, None, Result, Err, length, replicate, refl, ap, ◌∙◌, arith}
+use Rattle.std.proofs.Common.{◌≡◌, ◌≤◌, ◌<◌, ◌+◌, inl, inr, ℕ, suc, zero, Bool, true, List, [], ◌∷◌, ◌++◌, Option, Some, None, Result, Err, length, length-append, replicate, refl, ap, subst, ◌∙◌, arith}
 use Rattle.std.proofs.lemmas.List.{length-replicate}
 use Rattle.json_values.specs.Counts.{Rose}
-use Rattle.oci_transport.specs.Link.{Link, Extends, AddsAtMost, Steady, answer_of}
+use Rattle.oci_transport.specs.Link.{Link, Answering, Extends, AddsAtMost, Steady, EndsUnbroken, answer_of}
 use Rattle.oci_transport.specs.Redirects.{redirected}
 use Rattle.oci_transport.specs.declared.message.Request.{Request}
 use Rattle.oci_transport.specs.declared.message.AnswerHead.{AnswerHead}
 use Rattle.oci_transport.specs.declared.message.Exchange.{Exchange}
 use Rattle.oci_protocol.specs.Proto.{Reading, Unread, Piped, limit_of, read_none, Reply, Headed, Answered, Failed, TooLong, SinkFailed, Proto}
-use Rattle.oci_protocol.specs.Runs.{Replies, Hears, Runs, Stops, Performs, Breaks, Meets}
+use Rattle.oci_protocol.specs.Runs.{Replies, Hears, Runs, RunsBy, Stops, Performs, Breaks, Meets}
 use Rattle.oci_protocol.specs.Follow.{unread_if, turned, turn, follow, reading_at, Trail, Follows, IsFinal, Reaches, Misses, Cuts}
 use Rattle.oci_protocol.proofs.Conversations.{Extends-more, Extends-still, Extends-untold, Steady-more}
 use Rattle.oci_protocol.proofs.Laws.{Meets-ask, Meets-cut, outcome_by}
@@ -32,6 +32,15 @@ trail_runs zero request reading next m (e ∷ c) left last between k d after l a
 trail_runs (suc n) request reading next m (e ∷ c) left last between k d after l a t r =
     (t.0, Headed t.1, turned_replies request reading m e t.0 t.1 t.2 t.3 t.4, rw t.3 (trail_runs n t.2 reading next t.0 c left last between k d after l a t.5 r))
 
+-- the same by what is answered: no body of a redirect is read
+trail_runs_by : {K A : Type 0} (t : Answering) (place : ℕ) (n : ℕ) (request : Request) (reading : AnswerHead → Reading) (next : Request → Reply → Proto K A) (m : ℕ) (c : List Exchange) (left : ℕ) (last : Request) (between : ℕ) (k : K) (d : List Exchange) (after : ℕ) (l : K) (a : A)
+    → Trail n request m c left last between → RunsBy t (place + length c) (follow left last reading next) k between d after l a → RunsBy t place (follow n request reading next) k m (c ++ d) after l a
+unfolding Trail RunsBy follow
+trail_runs_by t place n request reading next m [] left last between k d after l a h r = rw (h.0, h.1, h.2) (subst (λ q. RunsBy t q (follow left last reading next) k between d after l a) (omega arith) r)
+trail_runs_by t place zero request reading next m (e ∷ c) left last between k d after l a h r = absurd h
+trail_runs_by t place (suc n) request reading next m (e ∷ c) left last between k d after l a h r =
+    (h.0, Headed h.1, turned_replies request reading m e h.0 h.1 h.2 h.3 h.4, tt, rw h.3 (trail_runs_by t (suc place) n h.2 reading next h.0 c left last between k d after l a h.5 (subst (λ q. RunsBy t q (follow left last reading next) k between d after l a) (omega arith) r)))
+
 trail_stops : {K A : Type 0} (n : ℕ) (request : Request) (reading : AnswerHead → Reading) (next : Request → Reply → Proto K A) (m : ℕ) (c : List Exchange) (left : ℕ) (last : Request) (between : ℕ) (k : K) (d : List Exchange) (l : K)
     → Trail n request m c left last between → Stops (follow left last reading next) k between d l → Stops (follow n request reading next) k m (c ++ d) l
 unfolding Trail Stops follow
@@ -45,7 +54,14 @@ pub follows_met : {K A E : Type 0} {of_memory : E → Bool} (n : ℕ) (request :
     → Follows n request left last old mid → Meets of_memory (follow left last reading next) mid new k l r → Meets of_memory (follow n request reading next) old new k l r
 follows_met {K} {A} {E} {of_memory} n request reading next left last old mid {new} {k} {l} {r} f met = record { outcome = outcome_by of_memory (follow left last reading next) (follow n request reading next) old mid new k k l performs breaks r met.outcome } where
   performs : (x : Result A E) → Performs (follow left last reading next) mid new k l x → Performs (follow n request reading next) old new k l x
-  performs x h = record { conversation = f.conversation ++ h.conversation; told = Extends-more old mid new f.conversation h.conversation f.told h.told; runs = trail_runs n request reading next old.faults f.conversation left last mid.faults k h.conversation new.faults l x f.trail h.runs }
+  performs x h = record {
+    conversation = f.conversation ++ h.conversation;
+    told = Extends-more old mid new f.conversation h.conversation f.told h.told;
+    runs = trail_runs n request reading next old.faults f.conversation left last mid.faults k h.conversation new.faults l x f.trail h.runs;
+    runs_by = λ t before by told.
+        let behind = h.runs_by t (before ++ f.conversation) (f.told.stays.steady t by) (f.told.told before told) in
+        trail_runs_by t (length before) n request reading next old.faults f.conversation left last mid.faults k h.conversation new.faults l x f.trail (subst (λ q. RunsBy t q (follow left last reading next) k mid.faults h.conversation new.faults l x) (length-append before f.conversation) behind);
+  }
 
   breaks : Breaks (follow left last reading next) mid new k l → Breaks (follow n request reading next) old new k l
   breaks h = record { conversation = f.conversation ++ h.conversation; told = Extends-more old mid new f.conversation h.conversation f.told h.told; stops = trail_stops n request reading next old.faults f.conversation left last mid.faults k h.conversation l f.trail h.stops; count = omega (arith, follows_count n request left last old mid f, h.count) }
@@ -87,6 +103,7 @@ reached_headed n request reading next head last {old} {new} reach unread rest = 
       exchange = record { request = last; answer = Some (answer_of head reach.sent.body); faults = reach.mid.faults };
       told = reach.sent.added;
       replies = record { request_is = refl; faults_is = refl; count = reach.count; reply_is = (reach.sent.body, refl, final_reading reach.left last reading head reach.final ∙ unread) };
+      unbroken = λ t before by told. tt;
     }) rest)
 
 limit_at : (left : ℕ) (last : Request) (reading : AnswerHead → Reading) (head : AnswerHead) (limit : ℕ) → IsFinal left last head → limit_of (reading head) ≡ Some limit → limit_of (reading_at left last reading head) ≡ Some limit
@@ -94,15 +111,16 @@ limit_at left last reading head limit final is = ap limit_of (final_reading left
 
 -- the body was read whole
 pub reached_answered : {K A E : Type 0} {of_memory : E → Bool} (n : ℕ) (request : Request) (reading : AnswerHead → Reading) (next : Request → Reply → Proto K (Result A E)) (head : AnswerHead) (last : Request) (limit : ℕ) (body : List ℕ) {old mid new end : Link} {k l : K} {r : Result A E}
-    → Reaches n request head last old mid → limit_of (reading head) ≡ Some limit → mid.faults ≤ new.faults → new.told ≡ mid.told → Steady mid new → length body ≤ limit → ((rest : List ℕ) → mid.rest ≡ Some rest → body ≡ rest)
+    → Reaches n request head last old mid → limit_of (reading head) ≡ Some limit → mid.faults ≤ new.faults → new.told ≡ mid.told → Steady mid new → length body ≤ limit → ((rest : List ℕ) → mid.rest ≡ Some rest → body ≡ rest) → EndsUnbroken mid new
     → Meets of_memory (next last (Answered (answer_of head body))) new end k l r → Meets of_memory (follow n request reading next) old end k l r
-reached_answered n request reading next head last limit body {old} {mid} {new} reach is le same steady small whole rest = follows_met n request reading next reach.left last old reach.mid reach.follows
+reached_answered n request reading next head last limit body {old} {mid} {new} reach is le same steady small whole unbroken rest = follows_met n request reading next reach.left last old reach.mid reach.follows
     (follow_asked reach.left last reading next (Answered (answer_of head body)) tt (by_told reach.mid.told refl) rest) where
       hears : Extends reach.mid new (record { request = last; answer = Some (answer_of head body); faults = reach.mid.faults } ∷ []) → Hears last (reading_at reach.left last reading) reach.mid new (Answered (answer_of head body))
       hears told = record {
         exchange = record { request = last; answer = Some (answer_of head body); faults = reach.mid.faults };
         told = told;
         replies = record { request_is = refl; faults_is = refl; count = omega (arith, reach.count); reply_is = (limit, refl, limit_at reach.left last reading head limit reach.final is, small) };
+        unbroken = λ t before by shown breaks. unbroken t before _ (reach.sent.added.stays.steady t by) (reach.sent.added.told before shown) breaks;
       }
 
       by_told : (t : Option (List Exchange)) → reach.mid.told ≡ t → Hears last (reading_at reach.left last reading) reach.mid new (Answered (answer_of head body))
@@ -120,6 +138,7 @@ reached_long n request reading next head last limit {old} {mid} {new} reach is l
         exchange = record { request = last; answer = Some (answer_of head body); faults = reach.mid.faults };
         told = told;
         replies = record { request_is = refl; faults_is = refl; count = omega (arith, reach.count); reply_is = (answer_of head body, limit, refl, limit_at reach.left last reading head limit reach.final is, h) };
+        unbroken = λ t before by shown. tt;
       }
 
       by_told : (t : Option (List Exchange)) → reach.mid.told ≡ t → Hears last (reading_at reach.left last reading) reach.mid new TooLong
@@ -135,6 +154,7 @@ reached_failed n request reading next head last {old} {mid} {new} reach le same 
       exchange = record { request = last; answer = Some (answer_of head reach.sent.body); faults = reach.mid.faults };
       told = Extends-still reach.mid mid new _ reach.sent.added same steady;
       replies = record { request_is = refl; faults_is = refl; count = omega (arith, reach.count); reply_is = omega (arith, reach.count) };
+      unbroken = λ t before by told. tt;
     }) rest)
 
 -- the sink failed while the body was read
@@ -146,6 +166,7 @@ reached_spilled n request reading next head last limit {old} {mid} {new} reach i
       exchange = record { request = last; answer = Some (answer_of head reach.sent.body); faults = reach.mid.faults };
       told = Extends-still reach.mid mid new _ reach.sent.added same steady;
       replies = record { request_is = refl; faults_is = refl; count = omega (arith, reach.count); reply_is = (answer_of head reach.sent.body, limit, refl, final_reading reach.left last reading head reach.final ∙ is) };
+      unbroken = λ t before by told. tt;
     }) rest)
 
 -- memory was wanting while the body was read, or before
@@ -162,6 +183,7 @@ missed n request reading next {old} {new} m rest = follows_met n request reading
       exchange = record { request = m.last; answer = None; faults = m.mid.faults };
       told = m.added;
       replies = record { request_is = refl; faults_is = refl; count = m.count; reply_is = m.rose };
+      unbroken = λ t before by told. tt;
     }) (rest m.last))
 
 -- memory was wanting

@@ -5,7 +5,7 @@ use Rattle.oci_transport.specs.Link.{Link, Answering}
 use Rattle.oci_transport.specs.declared.message.Request.{Request}
 use Rattle.oci_transport.specs.declared.message.Exchange.{Exchange}
 use Rattle.oci_protocol.specs.Proto.{SinkFailed, Proto, Done, Ask, Recall, Keep}
-use Rattle.oci_protocol.specs.Runs.{Runs, Stops, Performs, Breaks, Outcome, Meets}
+use Rattle.oci_protocol.specs.Runs.{Runs, RunsBy, Stops, Performs, Breaks, Outcome, Meets}
 use Rattle.oci_protocol.specs.Drive.{reply_to, Driven, driven, Drives, Spilt}
 use Rattle.oci_protocol.specs.Ends.{Ends}
 use Rattle.oci_protocol.specs.Lift.{lifted}
@@ -23,6 +23,15 @@ Runs-lifted (Ask request reading next) x k l m n [] a r = absurd r
 Runs-lifted (Ask request reading next) x k l m n (e ∷ c) a r = (r.0, r.1, r.2, Runs-lifted (next r.1) x k l r.0 n c a r.3)
 Runs-lifted (Recall next) x k l m n c a r = Runs-lifted (next k) x k l m n c a r
 Runs-lifted (Keep kept rest) x k l m n c a r = Runs-lifted rest x kept l m n c a r
+
+RunsBy-lifted : {K C A : Type 0} (t : Answering) (place : ℕ) (p : Proto K A) (x : C) (k l : K) (m n : ℕ) (c : List Exchange) (a : A) → RunsBy t place p k m c n l a → RunsBy t place (lifted p) (k, x) m c n (l, x) a
+unfolding RunsBy lifted
+RunsBy-lifted t place (Done y) x k l m n [] a r = (r.0, ap (λ k. (k, x)) r.1, r.2)
+RunsBy-lifted t place (Done y) x k l m n (e ∷ c) a r = absurd r
+RunsBy-lifted t place (Ask request reading next) x k l m n [] a r = absurd r
+RunsBy-lifted t place (Ask request reading next) x k l m n (e ∷ c) a r = (r.0, r.1, r.2, r.3, RunsBy-lifted t (suc place) (next r.1) x k l r.0 n c a r.4)
+RunsBy-lifted t place (Recall next) x k l m n c a r = RunsBy-lifted t place (next k) x k l m n c a r
+RunsBy-lifted t place (Keep kept rest) x k l m n c a r = RunsBy-lifted t place rest x kept l m n c a r
 
 -- and a run over more is a run
 pub Runs-unlifted : {K C A : Type 0} (p : Proto K A) (k l : K × C) (m n : ℕ) (c : List Exchange) (a : A) → Runs (lifted p) k m c n l a → Runs p k.0 m c n l.0 a × (k.1 ≡ l.1)
@@ -46,7 +55,7 @@ Stops-lifted (Keep kept rest) x k l m c (inl s) = inl (s.0, ap (λ k. (k, x)) s.
 Stops-lifted (Keep kept rest) x k l m c (inr s) = inr (Stops-lifted rest x kept l m c s)
 
 performs : {K C A : Type 0} (p : Proto K A) (x : C) {old new : Link} {k l : K} {a : A} → Performs p old new k l a → Performs (lifted p) old new (k, x) (l, x) a
-performs p x {old} {new} {k} {l} {a} h = record { conversation = h.conversation; told = h.told; runs = Runs-lifted p x k l old.faults new.faults h.conversation a h.runs }
+performs p x {old} {new} {k} {l} {a} h = record { conversation = h.conversation; told = h.told; runs = Runs-lifted p x k l old.faults new.faults h.conversation a h.runs; runs_by = λ t before by told. RunsBy-lifted t _ p x k l old.faults new.faults h.conversation a (h.runs_by t before by told) }
 
 breaks : {K C A : Type 0} (p : Proto K A) (x : C) {old new : Link} {k l : K} → Breaks p old new k l → Breaks (lifted p) old new (k, x) (l, x)
 breaks p x {old} {new} {k} {l} h = record { conversation = h.conversation; told = h.told; stops = Stops-lifted p x k l old.faults h.conversation h.stops; count = h.count }

@@ -1,5 +1,5 @@
 use Rattle.std.specs.Prelude.{◌≡◌, ◌≤◌, ℕ, List, [], ◌++◌, Some, Option, length}
-use Rattle.oci_transport.specs.Link.{Link, HasTaken}
+use Rattle.oci_transport.specs.Link.{Link, HasTaken, EndsUnbroken}
 use Rattle.json_values.specs.Tray.{Tray, Adds}
 use Rattle.oci_digests.specs.declared.digester.Algorithm.{Algorithm}
 use Rattle.oci_digests.specs.declared.both.Digesters.{Digesters}
@@ -17,6 +17,7 @@ pub record Pours (limit : ℕ) (from to : Digesters) (old new : Link) (before af
   pub body : List ℕ
   pub small : length body ≤ limit
   pub whole : (rest : List ℕ) → old.rest ≡ Some rest → body ≡ rest
+  pub unbroken : EndsUnbroken old new
   pub put : Adds body before after
   pub hashed : (a : Option Algorithm) (b : Algorithm) → BothHold from a b [] → BothHold to a b body
 

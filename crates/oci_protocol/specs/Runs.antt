@@ -1,6 +1,7 @@
-use Rattle.std.specs.Prelude.{◌≡◌, ◌<◌, ◌≤◌, ◌⊎◌, ℕ, Bool, List, [], ◌∷◌, Some, Result, Ok, Err, MatchBool, length}
+use Rattle.std.specs.Prelude.{◌≡◌, ◌<◌, ◌≤◌, ◌⊎◌, ℕ, suc, Bool, true, List, [], ◌∷◌, Some, Result, Ok, Err, MatchBool}
+use Rattle.std.specs.Prelude.{length}
 use Rattle.json_values.specs.Counts.{Rose}
-use Rattle.oci_transport.specs.Link.{Link, Extends, answer_of}
+use Rattle.oci_transport.specs.Link.{Link, Answering, Extends, answer_of}
 use Rattle.oci_transport.specs.declared.message.Request.{Request}
 use Rattle.oci_transport.specs.declared.message.Answer.{Answer}
 use Rattle.oci_transport.specs.declared.message.AnswerHead.{AnswerHead}
@@ -31,11 +32,18 @@ pub record Replies (request : Request)
   pub count : before ≤ after
   pub reply_is : IsReply reading e after reply
 
+-- a body that is known to break off was read whole only behind its fault: the count rose
+abbrev pub IsUnbroken : Answering → ℕ → ℕ → ℕ → Reply → Type 0
+IsUnbroken t place before after (Answered answer) = t.breaks place ≡ true → Rose before after
+IsUnbroken t place before after reply = Unit {0}
+
 -- one exchange came, where exchanges are told, and this reply of it
 pub record Hears (request : Request) (reading : AnswerHead → Reading) (old new : Link) (reply : Reply) : Type 0 where
   pub exchange : Exchange
   pub told : Extends old new (exchange ∷ [])
   pub replies : Replies request reading old.faults exchange new.faults reply
+  pub unbroken : (t : Answering) (before : List Exchange) → old.answers ≡ Some t → old.told ≡ Some before
+      → IsUnbroken t (length before) old.faults new.faults reply
 
 -- what is so of the exchanges that came, where exchanges are told
 pub record Told (P : List Exchange → Type 0) (old new : Link) : Type 0 where
@@ -54,6 +62,18 @@ Runs (Ask request reading next) k m (e ∷ c) n l a = (after : ℕ) × (reply : 
 Runs (Recall next) k m c n l a = Runs (next k) k m c n l a
 Runs (Keep kept rest) k m c n l a = Runs rest kept m c n l a
 
+-- The same over what a transport answers by, from this place of its whole conversation on.
+unfoldable pub RunsBy : {K A : Type 0}
+    → Answering → ℕ → Proto K A → K → ℕ → List Exchange → ℕ → K → A → Type 0
+RunsBy t place (Done x) k m [] n l a = (m ≡ n) × (k ≡ l) × (x ≡ a)
+RunsBy t place (Done x) k m (e ∷ c) n l a = ⊥
+RunsBy t place (Ask request reading next) k m [] n l a = ⊥
+RunsBy t place (Ask request reading next) k m (e ∷ c) n l a = (after : ℕ) × (reply : Reply)
+    × Replies request reading m e after reply × IsUnbroken t place m after reply
+    × RunsBy t (suc place) (next reply) k after c n l a
+RunsBy t place (Recall next) k m c n l a = RunsBy t place (next k) k m c n l a
+RunsBy t place (Keep kept rest) k m c n l a = RunsBy t place rest kept m c n l a
+
 -- The exchanges c are a front of a run, cut off anywhere, also before the last one's answer was
 -- read. Where it was cut off, l was kept.
 unfoldable pub Stops : {K A : Type 0} → Proto K A → K → ℕ → List Exchange → K → Type 0
@@ -71,6 +91,8 @@ pub record Performs {K A : Type 0} (p : Proto K A) (old new : Link) (k l : K) (a
   pub conversation : List Exchange
   pub told : Extends old new conversation
   pub runs : Runs p k old.faults conversation new.faults l a
+  pub runs_by : (t : Answering) (before : List Exchange) → old.answers ≡ Some t → old.told ≡ Some before
+      → RunsBy t (length before) p k old.faults conversation new.faults l a
 
 -- a front of it did
 pub record Breaks {K A : Type 0} (p : Proto K A) (old new : Link) (k l : K) : Type 0 where

@@ -1,3 +1,4 @@
 pub mod Fields
 pub mod ScriptAnswers
+pub mod ScriptBreaks
 pub mod ScriptCalm

@@ -1,15 +1,18 @@
 -- What a transport shows, and what a step of it may change.
-use Rattle.std.specs.Prelude.{◌≡◌, ℕ, suc, ◌≤◌, Bool, false, List, [], ◌∷◌, ◌++◌, length, Option, Some, None}
+use Rattle.json_values.specs.Counts.{Rose}
+use Rattle.std.specs.Prelude.{◌≡◌, ℕ, suc, ◌≤◌, Bool, true, false, List, [], ◌∷◌, ◌++◌, length, Option, Some, None}
 use Rattle.oci_transport.specs.declared.message.Request.{Request}
 use Rattle.oci_transport.specs.declared.message.Answer.{Answer}
 use Rattle.oci_transport.specs.declared.message.AnswerHead.{AnswerHead}
 use Rattle.oci_transport.specs.declared.message.Exchange.{Exchange}
 
 -- what a transport answers by: the answer to a request at a place of its whole conversation, none
--- where the send fails; and whether anything may fail at that place
+-- where the send fails; whether anything may fail at that place; and whether the body of the answer
+-- there breaks off, so that a call for a piece of it fails before its end comes
 pub record Answering : Type 0 where
   pub answer : ℕ → Request → Option Answer
   pub fails : ℕ → Bool
+  pub breaks : ℕ → Bool
 
 -- what a transport shows: its exchanges where it tells them, what is left of the last answer's body
 -- where it tells that, how many faults it had, and what it answers by where that is known, which is
@@ -77,8 +80,16 @@ pub record AddsAtMost (request : Request) (old new : Link) : Type 0 where
   pub added : Extends old new conversation
   pub most : IsAtMost request old.faults conversation
 
--- the piece is the front of what was left, and an empty one means that nothing was left
+-- the end of the last answer's body came: where that is known to break off, its fault was met, so
+-- that the count rose since the request was sent
+abbrev pub EndsUnbroken : Link → Link → Type 0
+EndsUnbroken old new = (a : Answering) (before : List Exchange) (e : Exchange) → old.answers ≡ Some a
+    → old.told ≡ Some (before ++ e ∷ []) → a.breaks (length before) ≡ true → Rose e.faults new.faults
+
+-- the piece is the front of what was left, and an empty one means that nothing was left, and ends
+-- the body
 pub record Takes (piece : List ℕ) (old new : Link) : Type 0 where
+  pub unbroken : piece ≡ [] → EndsUnbroken old new
   pub front : (rest : List ℕ) → old.rest ≡ Some rest
       → (left : List ℕ) × (rest ≡ piece ++ left) × (new.rest ≡ Some left) × (piece ≡ [] → rest ≡ [])
 

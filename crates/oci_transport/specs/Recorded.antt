@@ -4,7 +4,8 @@ use Rattle.oci_transport.specs.declared.recorded.Recorded.{Recorded}
 use Rattle.oci_transport.specs.declared.message.Answer.{Answer}
 use Rattle.oci_transport.specs.Link.{Answering}
 use Rattle.oci_transport.specs.Pieces.{joined}
-use Rattle.std.specs.Prelude.{zero, suc, Bool, true, ◌||◌, nat_le, is_some, IsTrue, []}
+use Rattle.std.specs.Prelude.{zero, suc, Bool, true, false, ◌||◌, ◌&&◌, nat_le, is_some, IsTrue, [], ◌∷◌}
+use Rattle.json_values.specs.Counts.{raised}
 use Rattle.oci_transport.specs.Calm.{calm}
 use Rattle.oci_transport.specs.declared.message.Exchange.{Exchange}
 
@@ -42,6 +43,7 @@ unfoldable pub answering : List Recorded → Answering
 answering items = record {
   answer = λ place request. recorded_answer (slice_get items place);
   fails = λ place. may_fail (slice_get items place);
+  breaks = λ place. is_some (fails_before_of (slice_get items place));
 }
 
 -- these exchanges came of the records, this count stands after them, and it rose only where a record may fail
@@ -57,3 +59,24 @@ last_pieces items (suc place) = pieces_of (slice_get items place)
 abbrev pub last_stop : List Recorded → ℕ → Option ℕ
 last_stop items zero = None
 last_stop items (suc place) = fails_before_of (slice_get items place)
+
+-- the count as the last of these exchanges was sent, or this one where there is none
+abbrev pub last_count : List Exchange → ℕ → ℕ
+last_count [] count = count
+last_count (e ∷ []) count = e.faults
+last_count (e ∷ f ∷ c) count = last_count (f ∷ c) count
+
+-- no more pieces were given than stand before the fault
+abbrev pub not_past : Option ℕ → ℕ → Bool
+not_past None given = true
+not_past (Some n) given = nat_le given n
+
+-- since the last request was sent, at this count, a fault was met, or no piece behind one was given
+abbrev pub met : Option ℕ → ℕ → Bool → ℕ → ℕ → Bool
+met stop given true sent count = nat_le (raised sent) count
+met stop given false sent count = nat_le sent count && not_past stop given
+
+-- so much was given of the last answer
+abbrev pub HasMet : List Recorded → List Exchange → ℕ → Bool → ℕ → Type 0
+HasMet items told given stopped count =
+    IsTrue (met (last_stop items (length told)) given stopped (last_count told count) count)

@@ -1,7 +1,7 @@
 // A transport of recorded answers.
 ghost use Rattle.std.specs.Prelude.{◌≡◌, IsTrue, ℕ, ◌+◌, ◌<◌, ◌≤◌, [], length, slice_get, All, IfOk, OnOk, OnErr};
 ghost use Rattle.std.specs.Prelude.{IsErrOf, Some, None};
-ghost use Rattle.oci_transport.specs.Recorded.{IsCalm};
+ghost use Rattle.oci_transport.specs.Recorded.{IsCalm, HasMet};
 ghost use Rattle.oci_transport.specs.Pieces.{NoneEmpty, joined};
 ghost use Rattle.oci_transport.specs.Recorded.{answering, recorded_answer, last_pieces, last_stop, stop_within};
 
@@ -20,6 +20,7 @@ pub struct Script {
     stopped: bool,
     faults: u64,
     ghost calm: { IsCalm answers told faults },
+    ghost met: { HasMet answers told given stopped faults },
 }
 
 impl Script {

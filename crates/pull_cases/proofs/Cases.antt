@@ -34,6 +34,8 @@ use Rattle.sig_calls.specs.declared.reference.OciReference.{OciReference}
 use Rattle.pull_setup.specs.declared.asked.Asked.{Asked}
 use Rattle.pull_cases.specs.Opening.{client_in, Opens}
 use Rattle.pull_cases.specs.declared.pulls.Opened.{Opened}
+use Rattle.pull_case.specs.Registry.{answering_by}
+use Rattle.pull_cases.proofs.PullsInTurn.{Turns, turns}
 use Rattle.pull_cases.specs.Pulls.{Talk, InTurn, settings_of, row_of, SoundResult, EachSound, ReportsCase}
 use Rattle.pull_cases.specs.Rounds.{row_by, row_for, Played}
 use Rattle.pull_cases.specs.declared.pulls.Terms.{Terms}
@@ -58,7 +60,7 @@ sound_result : (case : Case) (image : Reference) (k : Kept) (moment m n : ℕ) (
 sound_result case image k moment m n c (Ok v) h = h
 sound_result case image k moment m n c (Err e) h = tt
 
-each_sound : (case : Case) (image : Reference) (k l : Kept) (m n : ℕ) (talks : List Talk) → InTurn (row_of case image) k m talks l n → EachSound case image talks
+each_sound : (case : Case) (image : Reference) (k l : Kept) (m n : ℕ) (talks : List Talk) → Turns (row_of case image) k m talks l n → EachSound case image talks
 each_sound case image k l m n [] h = tt
 each_sound case image k l m n (talk ∷ talks) h = (sound_result case image talk.before talk.moment m h.2 talk.conversation talk.result ((verified_seen talk.before (within (settings_of case) talk.moment) (meaning_of case) image case.auth case.accepted).seen h.1 m h.2 talk.conversation talk.result h.3), each_sound case image h.1 l h.2 n talks h.4)
 
@@ -67,7 +69,7 @@ pub reports_case : {V : Type 0} {H : V → Type 0} (policy : PullPolicy V H) (ow
     → reference_of case.reference ≡ Ok image → policy.keys ≡ case.keys → policy.constraints ≡ constraints_by case.constraints
     → Played (row_by (meaning policy own (trust_of case)) (settings_of case) image case.auth case.accepted) case.registry case.moments (fresh case.caching) l made → ReportsCase case made
 reports_case policy own case image l made reads keys constraints played =
-    let turn = subst (λ row. InTurn row (fresh case.caching) 0 played.talks l played.faults) (row_same policy own case image (policy_is policy case keys constraints)) played.in_turn in
+    let turn = subst (λ row. InTurn row (answering_by case.registry) 0 (fresh case.caching) 0 played.talks l played.faults) (row_same policy own case image (policy_is policy case keys constraints)) played.in_turn in
     record {
       talks = played.talks;
       pulled = record {
@@ -79,7 +81,7 @@ reports_case policy own case image l made reads keys constraints played =
         in_turn = turn;
         answered = played.answered;
         calm_is = played.calm_is;
-        sound = each_sound case image (fresh case.caching) l 0 played.faults played.talks turn;
+        sound = each_sound case image (fresh case.caching) l 0 played.faults played.talks (turns (row_of case image) (answering_by case.registry) 0 (fresh case.caching) l 0 played.faults played.talks turn);
         whole = played.whole;
       };
       written = played.written;

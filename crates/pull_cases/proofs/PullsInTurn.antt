@@ -1,5 +1,5 @@
 -- Pulls one after another.
-use Rattle.std.proofs.Common.{◌≡◌, ℕ, Bool, true, false, not, ◌&&◌, ◌||◌, List, [], ◌∷◌, ◌++◌, map, Result, Ok, Err, refl, sym, ap, subst, ◌∙◌, append_assoc, append-nil}
+use Rattle.std.proofs.Common.{◌≡◌, ℕ, Bool, true, false, not, ◌&&◌, ◌||◌, List, [], ◌∷◌, ◌++◌, map, Result, Ok, Err, refl, sym, ap, subst, ◌∙◌, append_assoc, append-nil, arith}
 use Rattle.std.specs.Prelude.{MatchBool, IsTrue, OnOk, Some, length, take, drop, get_or, ◌+◌, ◌-◌, ◌<◌, ◌≤◌}
 use native.Mathlib.Numerals.{unary_clauses}
 use Rattle.std.proofs.lemmas.List.{length-append, take_rest}
@@ -13,7 +13,8 @@ use Rattle.pull_case.specs.declared.registry.Registry.{Registry}
 use Rattle.pull_case.specs.declared.replay.Replay.{Replay}
 use Rattle.pull_case.specs.declared.replay.Replay.TheVariants.{Script, Shelf}
 use Rattle.oci_transport.specs.declared.message.Exchange.{Exchange}
-use Rattle.oci_protocol.specs.Runs.{Runs, Performs, Breaks, Meets}
+use Rattle.oci_protocol.specs.Runs.{Runs, RunsBy, Performs, Breaks, Meets}
+use Rattle.oci_protocol.proofs.Laws.{RunsBy-runs}
 use Rattle.oci_protocol.proofs.Conversations.{Extends-more}
 use Rattle.sig_calls.specs.Clients.{Kept}
 use Rattle.cosign_rows.specs.Refusal.{is_memory}
@@ -30,9 +31,26 @@ use Rattle.cosign_layers.specs.Standing.{Owns}
 use Rattle.pull_cases.specs.declared.pulls.Terms.{Terms}
 use Rattle.pull_cases.specs.Rounds.{row_for, Rounds, Round, Played}
 
-turn_more : (row : ℕ → Whole VerifiedImage) (k l j : Kept) (m n o : ℕ) (talks : List Talk) (talk : Talk) → InTurn row k m talks l n → l ≡ talk.before → Runs (row talk.moment) talk.before n talk.conversation o j talk.result → InTurn row k m (talks ++ talk ∷ []) j o
-turn_more row k l j m n o [] talk h is run = (h.0 ∙ is, j, o, rw h.1 run, (refl, refl))
-turn_more row k l j m n o (t ∷ talks) talk h is run = (h.0, h.1, h.2, h.3, turn_more row h.1 l j h.2 n o talks talk h.4 is run)
+turn_more : (row : ℕ → Whole VerifiedImage) (t : Answering) (place : ℕ) (k l j : Kept) (m n o : ℕ) (talks : List Talk) (talk : Talk) → InTurn row t place k m talks l n → l ≡ talk.before → RunsBy t (place + length (joined talks)) (row talk.moment) talk.before n talk.conversation o j talk.result → InTurn row t place k m (talks ++ talk ∷ []) j o
+turn_more row t place k l j m n o [] talk h is run =
+    let here : RunsBy t place (row talk.moment) talk.before n talk.conversation o j talk.result = subst (λ q. RunsBy t q (row talk.moment) talk.before n talk.conversation o j talk.result) (omega arith) run in
+    (h.0 ∙ is, j, o, rw h.1 here, (refl, refl))
+turn_more row t place k l j m n o (first ∷ talks) talk h is run =
+    let behind : place + length (joined (first ∷ talks)) ≡ (place + length first.conversation) + length (joined talks) = omega (arith, length-append first.conversation (joined talks)) in
+    (h.0, h.1, h.2, h.3, turn_more row t (place + length first.conversation) h.1 l j h.2 n o talks talk h.4 is (subst (λ q. RunsBy t q (row talk.moment) talk.before n talk.conversation o j talk.result) behind run))
+
+-- pulls in turn, whatever answers them
+abbrev pub Turns : (ℕ → Whole VerifiedImage) → Kept → ℕ → List Talk → Kept → ℕ → Type 0
+Turns row k m [] l n = (k ≡ l) × (m ≡ n)
+Turns row k m (talk ∷ talks) l n =
+    (k ≡ talk.before) × (kept : Kept) × (count : ℕ)
+    × Runs (row talk.moment) talk.before m talk.conversation count kept talk.result
+    × Turns row kept count talks l n
+
+pub turns : (row : ℕ → Whole VerifiedImage) (t : Answering) (place : ℕ) (k l : Kept) (m n : ℕ) (talks : List Talk) → InTurn row t place k m talks l n → Turns row k m talks l n
+turns row t place k l m n [] h = h
+turns row t place k l m n (talk ∷ talks) h =
+    (h.0, h.1, h.2, RunsBy-runs t place (row talk.moment) talk.before h.1 m h.2 talk.conversation talk.result h.3, turns row t (place + length talk.conversation) h.1 l h.2 n talks h.4)
 
 joined_more : (talks : List Talk) (talk : Talk) → joined (talks ++ talk ∷ []) ≡ joined talks ++ talk.conversation
 joined_more [] talk = append-nil talk.conversation
@@ -67,25 +85,28 @@ not_both true b = refl
 not_both false b = refl
 
 one_more : {row : ℕ → Whole VerifiedImage} {mid new : Link} {k l : Kept} {before after : Report} (talk : Talk)
-    → k ≡ talk.before → Extends mid new talk.conversation → Runs (row talk.moment) talk.before mid.faults talk.conversation new.faults l talk.result → is_wanting talk.result ≡ false → after.bytes ≡ before.bytes ++ report_of talk → after.refused ≡ (before.refused || not (is_answered talk.result))
+    → k ≡ talk.before → Extends mid new talk.conversation → ((t : Answering) (before : List Exchange) → mid.answers ≡ Some t → mid.told ≡ Some before → RunsBy t (length before) (row talk.moment) talk.before mid.faults talk.conversation new.faults l talk.result) → is_wanting talk.result ≡ false → after.bytes ≡ before.bytes ++ report_of talk → after.refused ≡ (before.refused || not (is_answered talk.result))
     → (moments : List ℕ) (start : Link) (j : Kept) → Rounds row moments start mid j k before → Rounds row (moments ++ talk.moment ∷ []) start new j l after
 one_more {row} {mid} {new} {k} {l} {before} {after} talk here told run done bytes refused moments start j rounds = record {
   talks = rounds.talks ++ talk ∷ [];
   moments_are = moments_more rounds.talks talk ∙ ap (λ ms. ms ++ talk.moment ∷ []) rounds.moments_are;
   told = rw joined_more (Extends-more start mid new (joined rounds.talks) talk.conversation rounds.told told);
-  in_turn = turn_more row j k l start.faults mid.faults new.faults rounds.talks talk rounds.in_turn here run;
+  in_turn = λ t shown by telling.
+      let own = run t (shown ++ joined rounds.talks) (rounds.told.stays.steady t by) (rounds.told.told shown telling) in
+      turn_more row t (length shown) j k l start.faults mid.faults new.faults rounds.talks talk (rounds.in_turn t shown by telling) here
+      (subst (λ q. RunsBy t q (row talk.moment) talk.before mid.faults talk.conversation new.faults l talk.result) (length-append shown (joined rounds.talks)) own);
   whole = whole_more rounds.talks talk rounds.whole done;
   written = bytes ∙ ap (λ b. b ++ report_of talk) rounds.written ∙ sym (reports_more rounds.talks talk);
   refused = refused ∙ ap (λ b. b || not (is_answered talk.result)) rounds.refused ∙ not_both (all_answered rounds.talks) (is_answered talk.result) ∙ ap not (sym (answered_more rounds.talks talk));
 }
 
 pub round : {row : ℕ → Whole VerifiedImage} {moment : ℕ} {mid new : Link} {k l : Kept} {before after : Report} (c : List Exchange) (r : Result VerifiedImage PullRefusal)
-    → Extends mid new c → Runs (row moment) k mid.faults c new.faults l r → is_wanting r ≡ false → after.bytes ≡ before.bytes ++ report moment c r → after.refused ≡ (before.refused || not (is_answered r)) → Round row moment mid new k l before after
+    → Extends mid new c → ((t : Answering) (shown : List Exchange) → mid.answers ≡ Some t → mid.told ≡ Some shown → RunsBy t (length shown) (row moment) k mid.faults c new.faults l r) → is_wanting r ≡ false → after.bytes ≡ before.bytes ++ report moment c r → after.refused ≡ (before.refused || not (is_answered r)) → Round row moment mid new k l before after
 round {row} {moment} {mid} {new} {k} {l} {before} {after} c r told run done bytes refused = record { more = one_more {row = row} {mid = mid} {new = new} {k = k} {l = l} {before = before} {after = after} (record { before = k; moment = moment; conversation = c; result = r }) refl told run done bytes refused }
 
 -- no pull yet
 pub none_yet : {row : ℕ → Whole VerifiedImage} {link : Link} {k : Kept} (made : Report) → Extends link link [] → made.bytes ≡ [] → made.refused ≡ false → Rounds row [] link link k k made
-none_yet made told bytes refused = record { talks = []; moments_are = refl; told = told; in_turn = (refl, refl); whole = tt; written = bytes; refused = refused }
+none_yet made told bytes refused = record { talks = []; moments_are = refl; told = told; in_turn = λ t shown by telling. (refl, refl); whole = tt; written = bytes; refused = refused }
 
 -- a pull that memory did not cut off was made whole
 pub whole : {p : Whole VerifiedImage} {old new : Link} {k l : Kept} (r : Result VerifiedImage PullRefusal) → is_wanting r ≡ false → Meets is_memory p old new k l r → Performs p old new k l r
@@ -102,7 +123,7 @@ pub told_round : {row : ℕ → Whole VerifiedImage} {moment : ℕ} {mid new : L
 told_round {row} {moment} {mid} {new} {k} {l} {before} {after} r old_told new_told old_is new_is done met bytes refused =
     let p = whole {p = row moment} {old = mid} {new = new} {k = k} {l = l} r done met in
     let all : new_told ≡ old_told ++ p.conversation = cc (new_is ∙ p.told.told old_told (sym old_is)) in
-    round {row = row} {moment = moment} {mid = mid} {new = new} {k = k} {l = l} {before = before} {after = after} p.conversation r p.told p.runs done (bytes ∙ ap (λ (c : List Exchange). before.bytes ++ report moment c r) (take_rest new_told (length old_told) ∙ behind old_told p.conversation new_told all)) refused
+    round {row = row} {moment = moment} {mid = mid} {new = new} {k = k} {l = l} {before = before} {after = after} p.conversation r p.told p.runs_by done (bytes ∙ ap (λ (c : List Exchange). before.bytes ++ report moment c r) (take_rest new_told (length old_told) ∙ behind old_told p.conversation new_told all)) refused
 
 -- one pull more, by the same row
 pub next_round : {row same : ℕ → Whole VerifiedImage} {moments all : List ℕ} {moment : ℕ} {start mid new : Link} {j k l : Kept} {before after : Report}
@@ -131,7 +152,7 @@ played {row} {moments} {k} {l} {made} registry first last told faults table roun
       talks = rounds.talks;
       moments_are = rounds.moments_are;
       faults = (state_of last).faults;
-      in_turn = subst (λ (n : ℕ). InTurn row k n rounds.talks l (state_of last).faults) faults rounds.in_turn;
+      in_turn = subst (λ (n : ℕ). InTurn row (answering_by registry) 0 k n rounds.talks l (state_of last).faults) faults (rounds.in_turn (answering_by registry) [] table told);
       whole = rounds.whole;
       answered = rounds.told.table (answering_by registry) [] table told;
       calm_is = subst (λ (a : Answering). IsTrue (calm a.fails 0 (joined rounds.talks) (state_of last).faults)) same (calm_is (joined rounds.talks) all);

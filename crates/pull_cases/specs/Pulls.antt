@@ -1,12 +1,13 @@
 -- The pulls of a case: one at each of its moments, by one client, over what the case's registry answers.
-use Rattle.std.specs.Prelude.{◌≡◌, ℕ, Bool, true, false, not, IsTrue, ◌&&◌, List, [], ◌∷◌, map, flat_map, Option, Some}
+use Rattle.std.specs.Prelude.{◌≡◌, ◌+◌, length, ℕ, Bool, true, false, not, IsTrue, ◌&&◌, List, [], ◌∷◌, map, flat_map}
+use Rattle.std.specs.Prelude.{Option, Some}
 use Rattle.std.specs.Prelude.{None, Result, Ok, Err, codes}
-use Rattle.oci_transport.specs.Link.{AnsweredBy}
+use Rattle.oci_transport.specs.Link.{Answering, AnsweredBy}
 use Rattle.oci_transport.specs.Calm.{calm}
 use Rattle.oci_transport.specs.declared.message.Exchange.{Exchange}
 use Rattle.oci_names.specs.declared.reference.Reference.{Reference}
 use Rattle.oci_names.specs.Reference.{reference_of}
-use Rattle.oci_protocol.specs.Runs.{Runs}
+use Rattle.oci_protocol.specs.Runs.{RunsBy}
 use Rattle.engine_terms.specs.Contexts.{within}
 use Rattle.engine_terms.specs.declared.settings.Settings.{Settings}
 use Rattle.sig_calls.specs.Clients.{Kept}
@@ -65,13 +66,14 @@ abbrev pub all_answered : List Talk → Bool
 all_answered [] = true
 all_answered (talk ∷ talks) = is_answered talk.result && all_answered talks
 
--- pulls in turn: each is a whole run of its row, and goes on from what the one before it kept
-abbrev pub InTurn : (ℕ → Whole VerifiedImage) → Kept → ℕ → List Talk → Kept → ℕ → Type 0
-InTurn row k m [] l n = (k ≡ l) × (m ≡ n)
-InTurn row k m (talk ∷ talks) l n =
+-- pulls in turn, over what a registry answers from this place on: each is a whole run of its row, and goes on from what
+-- the one before it kept
+abbrev pub InTurn : (ℕ → Whole VerifiedImage) → Answering → ℕ → Kept → ℕ → List Talk → Kept → ℕ → Type 0
+InTurn row t place k m [] l n = (k ≡ l) × (m ≡ n)
+InTurn row t place k m (talk ∷ talks) l n =
     (k ≡ talk.before) × (kept : Kept) × (count : ℕ)
-    × Runs (row talk.moment) talk.before m talk.conversation count kept talk.result
-    × InTurn row kept count talks l n
+    × RunsBy t place (row talk.moment) talk.before m talk.conversation count kept talk.result
+    × InTurn row t (place + length talk.conversation) kept count talks l n
 
 abbrev pub settings_of : Case → Settings
 settings_of case = settings_by case.protocol case.limit case.platform
@@ -95,14 +97,15 @@ EachSound case image (talk ∷ talks) =
 
 -- The pulls of a case by a client that was fresh before the first. Each exchange was answered by the recorded answer
 -- at its place, or by the table of the shelf. A transport's fault stands only where one is recorded: over a shelf
--- nothing may fail, and the counts of the exchanges and the last one are equal. Memory was wanting in none of them.
+-- nothing may fail, and the counts of the exchanges and the last one are equal. A fault that is recorded inside a body
+-- is met where that body is read whole. Memory was wanting in none of them.
 pub record Pulled (case : Case) (talks : List Talk) : Type 0 where
   pub image : Reference
   pub reads : reference_of case.reference ≡ Ok image
   pub moments : map moment_of talks ≡ case.moments
   pub kept : Kept
   pub faults : ℕ
-  pub in_turn : InTurn (row_of case image) (fresh case.caching) 0 talks kept faults
+  pub in_turn : InTurn (row_of case image) (answering_by case.registry) 0 (fresh case.caching) 0 talks kept faults
   pub answered : AnsweredBy (answering_by case.registry) 0 (joined talks)
   pub calm_is : IsTrue (calm (answering_by case.registry).fails 0 (joined talks) faults)
   pub sound : EachSound case image talks

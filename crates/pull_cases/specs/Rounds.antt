@@ -1,7 +1,8 @@
 -- The pulls so far, and what the client and the replay came to.
-use Rattle.std.specs.Prelude.{◌≡◌, ℕ, not, IsTrue, List, ◌∷◌, [], ◌++◌, map}
+use Rattle.std.specs.Prelude.{◌≡◌, ℕ, not, IsTrue, List, ◌∷◌, [], ◌++◌, map, length, Some}
 use Rattle.std.specs.FinMap.{FinMap}
-use Rattle.oci_transport.specs.Link.{Link, Extends, AnsweredBy}
+use Rattle.oci_transport.specs.Link.{Link, Answering, Extends, AnsweredBy}
+use Rattle.oci_transport.specs.declared.message.Exchange.{Exchange}
 use Rattle.oci_transport.specs.Calm.{calm}
 use Rattle.oci_names.specs.declared.reference.Reference.{Reference}
 use Rattle.oci_auth.specs.declared.auth.RegistryAuth.{RegistryAuth}
@@ -41,7 +42,8 @@ pub record Rounds (row : ℕ → Whole VerifiedImage) (moments : List ℕ) (old 
   pub talks : List Talk
   pub moments_are : map moment_of talks ≡ moments
   pub told : Extends old new (joined talks)
-  pub in_turn : InTurn row k old.faults talks l new.faults
+  pub in_turn : (t : Answering) (before : List Exchange) → old.answers ≡ Some t → old.told ≡ Some before
+      → InTurn row t (length before) k old.faults talks l new.faults
   pub whole : EachWhole talks
   pub written : made.bytes ≡ reports talks
   pub refused : made.refused ≡ not (all_answered talks)
@@ -58,7 +60,7 @@ pub record Played (row : ℕ → Whole VerifiedImage) (registry : Registry) (mom
   pub talks : List Talk
   pub moments_are : map moment_of talks ≡ moments
   pub faults : ℕ
-  pub in_turn : InTurn row k 0 talks l faults
+  pub in_turn : InTurn row (answering_by registry) 0 k 0 talks l faults
   pub whole : EachWhole talks
   pub answered : AnsweredBy (answering_by registry) 0 (joined talks)
   pub calm_is : IsTrue (calm (answering_by registry).fails 0 (joined talks) faults)

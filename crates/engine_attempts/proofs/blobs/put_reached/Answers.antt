@@ -10,7 +10,7 @@ pub returns-in-Refuse : goal.returns-in-Refuse
 returns-in-Refuse g c = λ old request k p reached takes. spills_none _ (blob_unread _ _ _ _ _ _ _ _ k _ takes reached (sym c.in_ok-plan.ensures ∙ c.in-Refuse.is)) (digest_is_none _ _)
 
 pub returns-in-Ok : goal.returns-in-Ok
-returns-in-Ok g c = λ old request k p reached takes. spills_judged _ _ _ _ _ _ _ _ _ k _ _ takes reached (sym c.in_ok-plan.ensures ∙ c.in-Judge.is) c.read_body.ensures.count c.read_body.ensures.told c.read_body.ensures.steady c.in-Ok.ensures.within c.in-Ok.ensures.whole c.refusal_of.ensures
+returns-in-Ok g c = λ old request k p reached takes. spills_judged _ _ _ _ _ _ _ _ _ k _ _ takes reached (sym c.in_ok-plan.ensures ∙ c.in-Judge.is) c.read_body.ensures.count c.read_body.ensures.told c.read_body.ensures.steady c.in-Ok.ensures.within c.in-Ok.ensures.whole c.in-Ok.ensures.unbroken c.refusal_of.ensures
 
 pub returns-in-Err-TransportFault : goal.returns-in-Err-TransportFault
 returns-in-Err-TransportFault g c = λ old request k p reached takes. spills_none _ (blob_failed _ _ _ _ _ _ _ _ _ k takes reached c.read_body.ensures.count c.read_body.ensures.told c.read_body.ensures.steady (c.in-Err-TransportFault.ensures.fault (rw c.in-Err-TransportFault.field-0-is refl))) (fault_is_none _)

@@ -1,6 +1,6 @@
 use Rattle.std.proofs.Common.{ap, refl, sym, ◌∙◌}
 use Rattle.oci_link.specs.State.{failing, is_among}
-use Rattle.oci_link.proofs.ServedLinks.{gives, stays, piece_may_fail}
+use Rattle.oci_link.proofs.ServedLinks.{gives, bodies_unknown, stays, piece_may_fail}
 use Rattle.oci_link.proofs.faulty_shelf.FaultyShelfTransport.piece.Goals as goal
 
 pub returns-then-is_among-clause-steady : goal.returns-then-is_among-clause-steady
@@ -13,4 +13,4 @@ returns-then-is_among-clause-steady c =
 pub returns-clause-taken : goal.returns-clause-taken
 returns-clause-taken c =
     let t = c.args.self.now in
-    gives (failing t.served.shelf t.sends t.pieces) (failing c.next.new.self.shelf t.sends t.pieces) t.faults t.served c.next.new.self c.in_ok-piece.piece c.in_ok-piece.ensures.ok
+    gives (failing t.served.shelf t.sends t.pieces) (failing c.next.new.self.shelf t.sends t.pieces) t.faults t.served c.next.new.self c.in_ok-piece.piece (bodies_unknown t.served.shelf t.sends t.pieces) c.in_ok-piece.ensures.ok

@@ -1,10 +1,22 @@
-use Rattle.std.proofs.Common.{refl, sym, ◌∙◌}
+use Rattle.std.proofs.Common.{◌≡◌, ◌≤◌, length, arith, refl, sym, ◌∙◌}
 use Rattle.oci_transport.proofs.ScriptCalm.{stop_given, calm_stop}
+use Rattle.oci_transport.specs.Recorded.{last_pieces}
+use Rattle.oci_transport.specs.Script.{state_of}
 use Rattle.oci_transport.proofs.ScriptAnswers.{same_answers}
+use Rattle.oci_transport.proofs.ScriptBreaks.{met_stop, takes_none, ends_unbroken}
 use Rattle.oci_transport.proofs.script.ScriptTransport.piece.Goals as goal
 
 pub returns-then-eq-clause-steady : goal.returns-then-eq-clause-steady
 returns-then-eq-clause-steady c = same_answers c.args.self.now.answers _ _ refl refl
 
 pub invariant_of-self : goal.invariant_of-self
-invariant_of-self c = record { calm = calm_stop c.args.self.now.answers c.args.self.now.told c.args.self.now.given c.args.self.now.faults _ (stop_given c.args.self.now.stopped c.stop.result _ c.args.self.now.given c.stop.ensures (sym c.eq.ensures ∙ c.if-eq.true)) c.args.self.now.calm }
+invariant_of-self c = record { met = rw c.saturating_add-self.ensures (met_stop c.args.self.now.answers c.args.self.now.told c.args.self.now.given c.args.self.now.stopped c.args.self.now.faults c.stop.result c.stop.ensures (sym c.eq.ensures ∙ c.if-eq.true) c.args.self.now.met); calm = calm_stop c.args.self.now.answers c.args.self.now.told c.args.self.now.given c.args.self.now.faults _ (stop_given c.args.self.now.stopped c.stop.result _ c.args.self.now.given c.stop.ensures (sym c.eq.ensures ∙ c.if-eq.true)) c.args.self.now.calm }
+
+pub returns-clause-taken : goal.returns-clause-taken
+returns-clause-taken c =
+    let script = c.args.self.now in
+    let pieces : c.last_pieces-pieces.result.now ≡ last_pieces script.answers (length script.told) = c.last_pieces-pieces.ensures.pieces ∙ (λ i. last_pieces (c.as_slice.ensures i) (length (c.as_slice-2.ensures i))) in
+    let none : length c.last_pieces-pieces.result.now ≤ script.given = (omega (arith, c.if-self-pieces.false)) in
+    let all : length (last_pieces script.answers (length script.told)) ≤ script.given = rw pieces at none in
+    let unbroken = ends_unbroken script.answers script.told script.given script.stopped script.faults c.stop.result c.stop.ensures (sym c.eq.ensures ∙ c.if-eq.false) script.met all (state_of script) (state_of script) refl refl refl in
+    rw c.empty.ensures (takes_none (last_pieces script.answers (length script.told)) script.given (state_of script) all refl unbroken)
