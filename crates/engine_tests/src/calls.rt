@@ -239,7 +239,7 @@ fn a_registry_without_a_challenge_asks_for_no_token(rt: HostRuntime) {
 // What is written as a part of a client stays there, and nothing else of it changes.
 fn keep_tokens_for(client: &mut Client, seconds: u64)
     ensures settings { client.new.settings ≡ client.old.settings }
-    ensures kept { client.new.memory.tokens.default_expiration_secs ≡ seconds }
+    ensures kept { client.new.tokens.default_expiration_secs ≡ seconds }
 {
     client.tokens.default_expiration_secs = seconds;
 }

@@ -10,6 +10,7 @@ use Rattle.engine_laws.specs.Confined.{Within}
 use Rattle.engine_laws.specs.Held.{asking, pulling}
 use Rattle.engine_laws.specs.Referrers.{WithinReferrers}
 use Rattle.oci_engine.specs.declared.client.Client.{Client}
+use Rattle.oci_engine.specs.Kept.{memory_of}
 use Rattle.oci_engine.specs.Refusals.{at_moment}
 
 -- To the image's registry and to the realm that it names, and nowhere else: so it is of each request that was told.
@@ -19,7 +20,9 @@ use Rattle.oci_engine.specs.Refusals.{at_moment}
 abbrev pub StaysFor : RegistryOperation → Client → Client → ℕ → Reference → Option RegistryAuth → Link → Link
     → Type 0
 StaysFor op before after moment image handed old new =
-    Told (Within (asking before.memory (at_moment before moment) image op handed) before.settings after.memory) old new
+    Told
+    (Within (asking (memory_of before) (at_moment before moment) image op handed) before.settings (memory_of after))
+    old new
 
 -- of a call that pulls
 abbrev pub Stays : Client → Client → ℕ → Reference → Option RegistryAuth → Link → Link → Type 0
@@ -30,5 +33,6 @@ Stays before after moment image handed old new = StaysFor Pull before after mome
 abbrev pub StaysWithTag : Client → Client → ℕ → Reference → Link → Link → Type 0
 StaysWithTag before after moment image old new =
     Told
-    (WithinReferrers (pulling before.memory (at_moment before moment) image None) before.settings after.memory)
+    (WithinReferrers
+    (pulling (memory_of before) (at_moment before moment) image None) before.settings (memory_of after))
     old new

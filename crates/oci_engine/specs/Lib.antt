@@ -1,7 +1,7 @@
 pub mod Clients
 pub mod ConfigFiles
 pub mod Confinement
-pub mod Lending
+pub mod Kept
 pub mod Refusals
 pub mod StreamRefusals
 pub use Rattle.engine_laws.specs.Answered

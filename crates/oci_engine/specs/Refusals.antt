@@ -16,6 +16,7 @@ use Rattle.engine_terms.specs.declared.error.OciDistributionError.{OciDistributi
 use Rattle.engine_terms.specs.declared.error.OciDistributionError.TheVariants as refusal
 use Rattle.engine_rows.specs.Blobs.{Destination}
 use Rattle.oci_engine.specs.declared.client.Client.{Client}
+use Rattle.oci_engine.specs.Kept.{memory_of}
 use Rattle.engine_laws.specs.Held.{pulling}
 use Rattle.engine_laws.specs.Referrers.{ReferrersCause}
 use Rattle.engine_laws.specs.Causes.{Cause, AnswerCause, DocumentCause, BadHeader, OwnDigest, ManifestUrl}
@@ -41,7 +42,7 @@ at_moment client moment = within client.settings moment
 -- a value that the call would show cannot stand in a header; credentials may be handed in
 abbrev pub BadHeaderOf : Client → ℕ → Reference → Option RegistryAuth → List ℕ → List Exchange → Type 0
 BadHeaderOf client moment image a types =
-    BadHeader (pulling client.memory (at_moment client moment) image a) client.settings types
+    BadHeader (pulling (memory_of client) (at_moment client moment) image a) client.settings types
 
 -- of the image's digest
 abbrev pub DigestRefused : Client → ℕ → Reference → RegistryAuth → List Exchange → ℕ
@@ -93,7 +94,7 @@ BlobRefused to client moment image layer c now e =
 -- of a list of referrers
 abbrev pub ReferrersRefused : Client → ℕ → Reference → List Exchange → ℕ → OciDistributionError → Type 0
 ReferrersRefused client moment image c now e =
-    ReferrersCause (pulling client.memory (at_moment client moment) image None) client.settings c now e
+    ReferrersCause (pulling (memory_of client) (at_moment client moment) image None) client.settings c now e
 
 -- a reference without a digest is refused as that, unless memory was wanting
 abbrev pub DigestWanted : {A : Type 0} → Reference → Result A OciDistributionError → Type 0

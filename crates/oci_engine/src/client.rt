@@ -17,6 +17,7 @@ ghost use Rattle.engine_rows.specs.Image.{pull};
 ghost use Rattle.engine_laws.specs.Answered.{DigestAnswered, Body, LastBody, TookBlob};
 ghost use Rattle.engine_laws.specs.Causes.{HasBadHeader, IsEarly};
 ghost use Rattle.oci_engine.specs.Clients.{settings_of, default_config};
+ghost use Rattle.oci_engine.specs.Kept.{memory_of};
 ghost use Rattle.oci_engine.specs.Confinement.{Stays, StaysFor};
 ghost use Rattle.oci_engine.specs.Refusals.{RefusedFor, FaultCounted, UrlRefused, at_moment};
 ghost use Rattle.oci_engine.specs.Refusals.{DigestRefused, DocumentRefused, ManifestRefused};
@@ -28,52 +29,53 @@ use crate::source::ClientConfigSource;
 use engine_requests::AsLayerDescriptor;
 use engine_rows::ImageData;
 use engine_terms::{Call, OciDistributionError, Settings};
-use json_values::{Blob, Sink, Text};
-use oci_auth::{Memory, RegistryAuth, RegistryOperation};
+use json_values::{Blob, Sink, Text, TextMap};
+use oci_auth::{Memory, RegistryAuth, RegistryOperation, TokenCache};
 use oci_manifests::OciManifest;
 use oci_names::Reference;
 use oci_platforms::PlatformResolver;
 use oci_transport::Transport;
 use std::alloc::{AllocError, Global};
-use std::ops::{Deref, DerefMut};
+use std::mem;
 
 /// A client of registries. Each call makes the requests of its row over the transport that it is handed.
 #[derive(Drop)]
 pub struct Client {
     pub settings: Settings,
-    /// What is kept between the calls.
-    pub memory: Memory,
+    /// The credentials that are stored, by registry.
+    pub credentials: TextMap<RegistryAuth>,
+    /// The tokens that are kept between the calls.
+    pub tokens: TokenCache,
 }
 
-/// What a client keeps is read and set as its own: `client.tokens`, `client.credentials`.
-impl Deref for Client {
-    type Target = Memory;
-
-    ghost deref_gives = { λ client memory. memory ≡ client.memory };
-
-    fn deref(&self) -> &Memory {
-        &self.memory
+// What is kept, moved out for a call: the crates below borrow it as one value.
+pub(crate) fn lend(credentials: &mut TextMap<RegistryAuth>, tokens: &mut TokenCache) -> Memory
+    ensures { result ≡ record { credentials = credentials.old; tokens = tokens.old } }
+{
+    let alloc = tokens.alloc();
+    Memory {
+        credentials: mem::replace(credentials, TextMap::new(alloc)),
+        tokens: mem::replace(tokens, TokenCache::new(alloc, 0)),
     }
 }
 
-impl DerefMut for Client {
-    ghost use Rattle.std.specs.Borrow.{sem};
-    ghost use Rattle.oci_engine.specs.Lending.{LendsMemory};
-
-    ghost deref_mut_gives = { λ client memory. memory ≡ client.memory };
-
-    fn deref_mut(&mut self) -> &mut Memory
-        ensures* writes_back { sem 𝓛 (LendsMemory self.entry result) }
-        ensures value { result.now ≡ self.old.memory }
-    {
-        &mut self.memory
-    }
+// What a call answers that is lent what the client keeps, which it moves back.
+macro_rules! lent {
+    ($client:ident, $memory:ident, $call:expr) => {{
+        let mut $memory = crate::client::lend(&mut $client.credentials, &mut $client.tokens);
+        let answer = $call;
+        $client.credentials = $memory.credentials;
+        $client.tokens = $memory.tokens;
+        answer
+    }};
 }
+
+pub(crate) use lent;
 
 impl Client {
     pub fn new(alloc: Global, config: ClientConfig) -> Client
         ensures settings { result.settings ≡ settings_of config }
-        ensures fresh { result.memory ≡ fresh config.default_token_expiration_secs }
+        ensures fresh { memory_of result ≡ fresh config.default_token_expiration_secs }
     {
         let ClientConfig {
             protocol,
@@ -83,6 +85,10 @@ impl Client {
             max_body_bytes,
             ..
         } = config;
+        let Memory {
+            credentials,
+            tokens,
+        } = Memory::new(alloc, default_token_expiration_secs);
         Client {
             settings: Settings {
                 protocol,
@@ -90,7 +96,8 @@ impl Client {
                 max_body_bytes,
                 platform_resolver,
             },
-            memory: Memory::new(alloc, default_token_expiration_secs),
+            credentials,
+            tokens,
         }
     }
 
@@ -101,7 +108,7 @@ impl Client {
     ) -> Result<Client, AllocError>
         ensures settings { IfOk result (λ client. client.settings ≡ settings_of (S.configured source.now)) }
         ensures fresh { IfOk result
-            (λ client. client.memory ≡ fresh (S.configured source.now).default_token_expiration_secs) }
+            (λ client. memory_of client ≡ fresh (S.configured source.now).default_token_expiration_secs) }
     {
         let config = source.client_config(alloc)?;
         Ok(Client::new(alloc, config))
@@ -110,7 +117,7 @@ impl Client {
     /// The client of the default configuration.
     pub fn default(alloc: Global) -> Result<Client, AllocError>
         ensures settings { IfOk result (λ client. client.settings ≡ settings_of default_config) }
-        ensures fresh { IfOk result (λ client. client.memory ≡ fresh 60) }
+        ensures fresh { IfOk result (λ client. memory_of client ≡ fresh 60) }
     {
         let config = ClientConfig::default(alloc)?;
         Ok(Client::new(alloc, config))
@@ -130,11 +137,16 @@ impl Client {
         auth: &RegistryAuth,
     ) -> Result<(), AllocError>
         ensures ok { OnOk result
-            (self.new ≡ record self.old { memory = stored self.old.memory registry.now auth.now }) }
+            (memory_of self.new ≡ stored (memory_of self.old) registry.now auth.now) }
+        ensures settings { self.new.settings ≡ self.old.settings }
         ensures err { OnErr result (self.new ≡ self.old) }
     {
-        let alloc = self.memory.tokens.alloc();
-        oci_auth::store(alloc, &mut self.memory, registry, auth)
+        let alloc = self.tokens.alloc();
+        lent!(
+            self,
+            memory,
+            oci_auth::store(alloc, &mut memory, registry, auth)
+        )
     }
 
     /// Stores credentials and gets their token for the operation, which is kept. The text of a token is answered, and
@@ -149,7 +161,7 @@ impl Client {
         operation: RegistryOperation,
     ) -> Result<Option<Text>, OciDistributionError>
         ensures run { Meets is_memory (token_given (at_moment self.old moment) image.now authentication.now operation)
-            (T.state transport.old) (T.state transport.new) self.old.memory self.new.memory result }
+            (T.state transport.old) (T.state transport.new) (memory_of self.old) (memory_of self.new) result }
         ensures settings { self.new.settings ≡ self.old.settings }
         ensures confined { StaysFor operation self.old self.new moment image.now (Some authentication.now)
             (T.state transport.old) (T.state transport.new) }
@@ -164,13 +176,17 @@ impl Client {
             image,
             moment,
         };
-        engine_steps::token_given(
-            alloc,
-            transport,
-            &mut self.memory,
-            &call,
-            authentication,
-            operation,
+        lent!(
+            self,
+            memory,
+            engine_steps::token_given(
+                alloc,
+                transport,
+                &mut memory,
+                &call,
+                authentication,
+                operation,
+            )
         )
     }
 
@@ -184,7 +200,7 @@ impl Client {
         auth: &RegistryAuth,
     ) -> Result<Text, OciDistributionError>
         ensures run { Meets is_memory (fetch_manifest_digest (at_moment self.old moment) image.now auth.now)
-            (T.state transport.old) (T.state transport.new) self.old.memory self.new.memory result }
+            (T.state transport.old) (T.state transport.new) (memory_of self.old) (memory_of self.new) result }
         ensures settings { self.new.settings ≡ self.old.settings }
         ensures confined { Stays self.old self.new moment image.now (Some auth.now)
             (T.state transport.old) (T.state transport.new) }
@@ -201,7 +217,11 @@ impl Client {
             image,
             moment,
         };
-        engine_pull::fetch_manifest_digest(alloc, transport, &mut self.memory, &call, auth)
+        lent!(
+            self,
+            memory,
+            engine_pull::fetch_manifest_digest(alloc, transport, &mut memory, &call, auth)
+        )
     }
 
     /// The bytes of the image's manifest or index, with their digest.
@@ -216,7 +236,7 @@ impl Client {
     ) -> Result<(Blob, Text), OciDistributionError>
         ensures run { Meets is_memory
             (pull_manifest_raw (at_moment self.old moment) image.now auth.now (listed accepted_media_types.now))
-            (T.state transport.old) (T.state transport.new) self.old.memory self.new.memory result }
+            (T.state transport.old) (T.state transport.new) (memory_of self.old) (memory_of self.new) result }
         ensures settings { self.new.settings ≡ self.old.settings }
         ensures confined { Stays self.old self.new moment image.now (Some auth.now)
             (T.state transport.old) (T.state transport.new) }
@@ -237,13 +257,17 @@ impl Client {
             image,
             moment,
         };
-        let found = engine_pull::pull_manifest_raw(
-            alloc,
-            transport,
-            &mut self.memory,
-            &call,
-            auth,
-            types.as_str(),
+        let found = lent!(
+            self,
+            memory,
+            engine_pull::pull_manifest_raw(
+                alloc,
+                transport,
+                &mut memory,
+                &call,
+                auth,
+                types.as_str(),
+            )
         )?;
         Ok(found)
     }
@@ -258,7 +282,7 @@ impl Client {
         auth: &RegistryAuth,
     ) -> Result<(OciManifest, Text), OciDistributionError>
         ensures run { Meets is_memory (pull_manifest (at_moment self.old moment) image.now auth.now)
-            (T.state transport.old) (T.state transport.new) self.old.memory self.new.memory result }
+            (T.state transport.old) (T.state transport.new) (memory_of self.old) (memory_of self.new) result }
         ensures settings { self.new.settings ≡ self.old.settings }
         ensures confined { Stays self.old self.new moment image.now (Some auth.now)
             (T.state transport.old) (T.state transport.new) }
@@ -273,7 +297,11 @@ impl Client {
             image,
             moment,
         };
-        engine_pull::pull_manifest(alloc, transport, &mut self.memory, &call, auth)
+        lent!(
+            self,
+            memory,
+            engine_pull::pull_manifest(alloc, transport, &mut memory, &call, auth)
+        )
     }
 
     /// The image with its configuration and its layers, whose media types are among these.
@@ -287,7 +315,7 @@ impl Client {
         accepted_media_types: &[Text],
     ) -> Result<ImageData, OciDistributionError>
         ensures run { Meets is_memory (pull (at_moment self.old moment) image.now auth.now accepted_media_types.now)
-            (T.state transport.old) (T.state transport.new) self.old.memory self.new.memory result }
+            (T.state transport.old) (T.state transport.new) (memory_of self.old) (memory_of self.new) result }
         ensures settings { self.new.settings ≡ self.old.settings }
         ensures confined { Stays self.old self.new moment image.now (Some auth.now)
             (T.state transport.old) (T.state transport.new) }
@@ -303,13 +331,17 @@ impl Client {
             image,
             moment,
         };
-        engine_pull::pull(
-            alloc,
-            transport,
-            &mut self.memory,
-            &call,
-            auth,
-            accepted_media_types,
+        lent!(
+            self,
+            memory,
+            engine_pull::pull(
+                alloc,
+                transport,
+                &mut memory,
+                &call,
+                auth,
+                accepted_media_types,
+            )
         )
     }
 
@@ -326,7 +358,7 @@ impl Client {
         out: &mut K,
     ) -> Result<(), OciDistributionError>
         ensures spills { Spills (pull_blob (at_moment self.old moment) image.now (L.layer layer.now))
-            (T.state transport.old) (T.state transport.new) self.old.memory self.new.memory
+            (T.state transport.old) (T.state transport.new) (memory_of self.old) (memory_of self.new)
             (K.state out.old) (K.state out.new) result }
         ensures settings { self.new.settings ≡ self.old.settings }
         ensures confined { Stays self.old self.new moment image.now None
@@ -347,7 +379,11 @@ impl Client {
             moment,
         };
         let layer = layer.as_layer_descriptor();
-        engine_pull::pull_blob(alloc, transport, &mut self.memory, &call, &layer, out)
+        lent!(
+            self,
+            memory,
+            engine_pull::pull_blob(alloc, transport, &mut memory, &call, &layer, out)
+        )
     }
 
     /// The bytes of a blob of the image's repository, which is asked for at the same places.
@@ -360,7 +396,7 @@ impl Client {
         layer: &L,
     ) -> Result<Blob, OciDistributionError>
         ensures run { Meets is_memory (held_blob (at_moment self.old moment) image.now (L.layer layer.now))
-            (T.state transport.old) (T.state transport.new) self.old.memory self.new.memory result }
+            (T.state transport.old) (T.state transport.new) (memory_of self.old) (memory_of self.new) result }
         ensures settings { self.new.settings ≡ self.old.settings }
         ensures confined { Stays self.old self.new moment image.now None
             (T.state transport.old) (T.state transport.new) }
@@ -381,6 +417,10 @@ impl Client {
             moment,
         };
         let layer = layer.as_layer_descriptor();
-        engine_pull::pulled_blob(alloc, transport, &mut self.memory, &call, &layer)
+        lent!(
+            self,
+            memory,
+            engine_pull::pulled_blob(alloc, transport, &mut memory, &call, &layer)
+        )
     }
 }

@@ -8,10 +8,11 @@ ghost use Rattle.engine_rows.specs.Manifests.{pull_image_manifest, pull_image_ma
 ghost use Rattle.engine_rows.specs.Manifests.{pull_manifest_and_config, pull_manifest_and_config_and_list_digest};
 ghost use Rattle.engine_laws.specs.Causes.{HasBadHeader, IsEarly};
 ghost use Rattle.oci_engine.specs.Confinement.{Stays};
+ghost use Rattle.oci_engine.specs.Kept.{memory_of};
 ghost use Rattle.oci_engine.specs.Refusals.{RefusedFor, FaultCounted, UrlRefused, at_moment};
 ghost use Rattle.oci_engine.specs.Refusals.{FoundRefused, ConfigRefused};
 
-use crate::client::Client;
+use crate::client::{Client, lent};
 use engine_terms::{Call, OciDistributionError};
 use json_values::Text;
 use oci_auth::RegistryAuth;
@@ -33,7 +34,7 @@ impl Client {
     ) -> Result<(OciImageManifest, Text, Option<Text>), OciDistributionError>
         ensures run { Meets is_memory
             (pull_image_manifest_and_list_digest (at_moment self.old moment) image.now auth.now)
-            (T.state transport.old) (T.state transport.new) self.old.memory self.new.memory result }
+            (T.state transport.old) (T.state transport.new) (memory_of self.old) (memory_of self.new) result }
         ensures settings { self.new.settings ≡ self.old.settings }
         ensures confined { Stays self.old self.new moment image.now (Some auth.now)
             (T.state transport.old) (T.state transport.new) }
@@ -48,12 +49,16 @@ impl Client {
             image,
             moment,
         };
-        engine_pull::pull_image_manifest_and_list_digest(
-            alloc,
-            transport,
-            &mut self.memory,
-            &call,
-            auth,
+        lent!(
+            self,
+            memory,
+            engine_pull::pull_image_manifest_and_list_digest(
+                alloc,
+                transport,
+                &mut memory,
+                &call,
+                auth,
+            )
         )
     }
 
@@ -67,7 +72,7 @@ impl Client {
         auth: &RegistryAuth,
     ) -> Result<(OciImageManifest, Text), OciDistributionError>
         ensures run { Meets is_memory (pull_image_manifest (at_moment self.old moment) image.now auth.now)
-            (T.state transport.old) (T.state transport.new) self.old.memory self.new.memory result }
+            (T.state transport.old) (T.state transport.new) (memory_of self.old) (memory_of self.new) result }
         ensures settings { self.new.settings ≡ self.old.settings }
         ensures confined { Stays self.old self.new moment image.now (Some auth.now)
             (T.state transport.old) (T.state transport.new) }
@@ -82,7 +87,11 @@ impl Client {
             image,
             moment,
         };
-        engine_pull::pull_image_manifest(alloc, transport, &mut self.memory, &call, auth)
+        lent!(
+            self,
+            memory,
+            engine_pull::pull_image_manifest(alloc, transport, &mut memory, &call, auth)
+        )
     }
 
     /// The manifest of an image with its digest, its configuration as text, and the digest of the index that led to it,
@@ -97,7 +106,7 @@ impl Client {
     ) -> Result<(OciImageManifest, Text, Text, Option<Text>), OciDistributionError>
         ensures run { Meets is_memory
             (pull_manifest_and_config_and_list_digest (at_moment self.old moment) image.now auth.now)
-            (T.state transport.old) (T.state transport.new) self.old.memory self.new.memory result }
+            (T.state transport.old) (T.state transport.new) (memory_of self.old) (memory_of self.new) result }
         ensures settings { self.new.settings ≡ self.old.settings }
         ensures confined { Stays self.old self.new moment image.now (Some auth.now)
             (T.state transport.old) (T.state transport.new) }
@@ -112,12 +121,16 @@ impl Client {
             image,
             moment,
         };
-        engine_pull::pull_manifest_and_config_and_list_digest(
-            alloc,
-            transport,
-            &mut self.memory,
-            &call,
-            auth,
+        lent!(
+            self,
+            memory,
+            engine_pull::pull_manifest_and_config_and_list_digest(
+                alloc,
+                transport,
+                &mut memory,
+                &call,
+                auth,
+            )
         )
     }
 
@@ -131,7 +144,7 @@ impl Client {
         auth: &RegistryAuth,
     ) -> Result<(OciImageManifest, Text, Text), OciDistributionError>
         ensures run { Meets is_memory (pull_manifest_and_config (at_moment self.old moment) image.now auth.now)
-            (T.state transport.old) (T.state transport.new) self.old.memory self.new.memory result }
+            (T.state transport.old) (T.state transport.new) (memory_of self.old) (memory_of self.new) result }
         ensures settings { self.new.settings ≡ self.old.settings }
         ensures confined { Stays self.old self.new moment image.now (Some auth.now)
             (T.state transport.old) (T.state transport.new) }
@@ -146,6 +159,10 @@ impl Client {
             image,
             moment,
         };
-        engine_pull::pull_manifest_and_config(alloc, transport, &mut self.memory, &call, auth)
+        lent!(
+            self,
+            memory,
+            engine_pull::pull_manifest_and_config(alloc, transport, &mut memory, &call, auth)
+        )
     }
 }

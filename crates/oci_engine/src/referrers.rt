@@ -8,10 +8,11 @@ ghost use Rattle.engine_requests.specs.Requests.{manifest_types};
 ghost use Rattle.engine_rows.specs.Referrers.{pull_referrers};
 ghost use Rattle.engine_laws.specs.Causes.{HasBadHeader, IsEarly};
 ghost use Rattle.oci_engine.specs.Confinement.{StaysWithTag};
+ghost use Rattle.oci_engine.specs.Kept.{memory_of};
 ghost use Rattle.oci_engine.specs.Refusals.{RefusedFor, FaultCounted, UrlRefused, at_moment};
 ghost use Rattle.oci_engine.specs.Refusals.{ReferrersRefused, DigestWanted};
 
-use crate::client::Client;
+use crate::client::{Client, lent};
 use engine_terms::{Call, OciDistributionError};
 use oci_manifests::OciImageIndex;
 use oci_names::Reference;
@@ -32,7 +33,7 @@ impl Client {
     ) -> Result<OciImageIndex, OciDistributionError>
         ensures run { Meets is_memory
             (pull_referrers (at_moment self.old moment) image.now (option_copied artifact_type.entry))
-            (T.state transport.old) (T.state transport.new) self.old.memory self.new.memory result }
+            (T.state transport.old) (T.state transport.new) (memory_of self.old) (memory_of self.new) result }
         ensures settings { self.new.settings ≡ self.old.settings }
         ensures confined { StaysWithTag self.old self.new moment image.now
             (T.state transport.old) (T.state transport.new) }
@@ -50,6 +51,10 @@ impl Client {
             image,
             moment,
         };
-        engine_pull::pull_referrers(alloc, transport, &mut self.memory, &call, artifact_type)
+        lent!(
+            self,
+            memory,
+            engine_pull::pull_referrers(alloc, transport, &mut memory, &call, artifact_type)
+        )
     }
 }

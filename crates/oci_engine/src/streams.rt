@@ -9,10 +9,11 @@ ghost use Rattle.engine_streams.specs.Blobs.{stream_in, IsLeft};
 ghost use Rattle.engine_streams.specs.Streams.{IsOpen, opening_of};
 ghost use Rattle.engine_laws.specs.Causes.{HasBadHeader, IsEarly, IsRefusedAs};
 ghost use Rattle.oci_engine.specs.Confinement.{Stays};
+ghost use Rattle.oci_engine.specs.Kept.{memory_of};
 ghost use Rattle.oci_engine.specs.Refusals.{RefusedFor, FaultCounted, UrlRefused, at_moment};
 ghost use Rattle.oci_engine.specs.StreamRefusals.{StreamRefused, Overflows, Fits, range_of};
 
-use crate::client::Client;
+use crate::client::{Client, lent};
 use engine_requests::AsLayerDescriptor;
 use engine_streams::{BlobResponse, ByteRange, SizedStream};
 use engine_terms::{Call, GenericCause, OciDistributionError};
@@ -33,7 +34,8 @@ impl Client {
         layer: &L,
     ) -> Result<SizedStream, OciDistributionError>
         ensures run { Meets is_memory (blob_stream (at_moment self.old moment) image.now (L.layer layer.now))
-            (T.state transport.old) (T.state transport.new) self.old.memory self.new.memory (opening_in result) }
+            (T.state transport.old) (T.state transport.new)
+            (memory_of self.old) (memory_of self.new) (opening_in result) }
         ensures settings { self.new.settings ≡ self.old.settings }
         ensures confined { Stays self.old self.new moment image.now None
             (T.state transport.old) (T.state transport.new) }
@@ -52,7 +54,11 @@ impl Client {
             moment,
         };
         let layer = layer.as_layer_descriptor();
-        engine_streams::pull_blob_stream(alloc, transport, &mut self.memory, &call, &layer)
+        lent!(
+            self,
+            memory,
+            engine_streams::pull_blob_stream(alloc, transport, &mut memory, &call, &layer)
+        )
     }
 
     /// Bytes of a blob from the offset on, and no more than the length where one is given, piece by piece. A registry
@@ -69,7 +75,8 @@ impl Client {
     ) -> Result<BlobResponse, OciDistributionError>
         ensures run { Meets is_memory
             (blob_stream_partial (at_moment self.old moment) image.now (L.layer layer.now) (range_of offset length))
-            (T.state transport.old) (T.state transport.new) self.old.memory self.new.memory (response_in result) }
+            (T.state transport.old) (T.state transport.new)
+            (memory_of self.old) (memory_of self.new) (response_in result) }
         ensures settings { self.new.settings ≡ self.old.settings }
         ensures confined { Stays self.old self.new moment image.now None
             (T.state transport.old) (T.state transport.new) }
@@ -94,13 +101,17 @@ impl Client {
         };
         let layer = layer.as_layer_descriptor();
         let range = ByteRange { offset, length };
-        engine_streams::pull_blob_stream_partial(
-            alloc,
-            transport,
-            &mut self.memory,
-            &call,
-            &layer,
-            range,
+        lent!(
+            self,
+            memory,
+            engine_streams::pull_blob_stream_partial(
+                alloc,
+                transport,
+                &mut memory,
+                &call,
+                &layer,
+                range,
+            )
         )
     }
 }

@@ -35,6 +35,7 @@ use Rattle.sig_calls.specs.Wording.{refusal, worded}
 use Rattle.sig_registry.proofs.InWords.{worded_fault, worded_no_sink}
 use Rattle.sig_calls.specs.Clients.{Plain}
 use Rattle.sig_registry.specs.States.{PlainlyMade}
+use Rattle.oci_engine.specs.Kept.{memory_of}
 
 -- a refusal that is the result of both
 result_is : {B : Type 0} (e : SigstoreError) (r : Result B SigstoreError) → IsErrAnd r (λ x. x ≡ e) → r ≡ Err e
@@ -43,18 +44,18 @@ result_is e r is = let at = err_from_is_err_and r is in at.1 ∙ ap Err at.2
 -- the first one was refused
 pub made_refused : {A B : Type 0} (s : Settings) {p : Plain A} (f : A → Plain B) {c d : Client} {old new : Link} (e : SigstoreError) (r : Result B SigstoreError) → PlainlyMade s p c d old new (Err e) → IsErrAnd r (λ x. x ≡ e) → PlainlyMade s (p >>= f) c d old new r
 made_refused {A} {B} s {p} f {c} {d} {old} {new} e r first is = record { made = by_settings } where
-  by_settings : c.settings ≡ s → (d.settings ≡ s) × Meets is_memory (p >>= f) old new c.memory d.memory r
+  by_settings : c.settings ≡ s → (d.settings ≡ s) × Meets is_memory (p >>= f) old new (memory_of c) (memory_of d) r
   by_settings same =
-      let h : (d.settings ≡ s) × Meets is_memory p old new c.memory d.memory (Err e) = first.made same in
-      (h.0, subst (λ z. Meets is_memory (p >>= f) old new c.memory d.memory z) (sym (result_is e r is)) (Meets-refused f h.1))
+      let h : (d.settings ≡ s) × Meets is_memory p old new (memory_of c) (memory_of d) (Err e) = first.made same in
+      (h.0, subst (λ z. Meets is_memory (p >>= f) old new (memory_of c) (memory_of d) z) (sym (result_is e r is)) (Meets-refused f h.1))
 
 -- both were made
 pub made_next : {A B : Type 0} (s : Settings) {p : Plain A} (f : A → Plain B) {c m d : Client} {old mid new : Link} (a : A) (r : Result B SigstoreError) → PlainlyMade s p c m old mid (Ok a) → PlainlyMade s (f a) m d mid new r → PlainlyMade s (p >>= f) c d old new r
 made_next {A} {B} s {p} f {c} {m} {d} {old} {mid} {new} a r first second = record { made = by_settings } where
-  by_settings : c.settings ≡ s → (d.settings ≡ s) × Meets is_memory (p >>= f) old new c.memory d.memory r
+  by_settings : c.settings ≡ s → (d.settings ≡ s) × Meets is_memory (p >>= f) old new (memory_of c) (memory_of d) r
   by_settings same =
-      let h : (m.settings ≡ s) × Meets is_memory p old mid c.memory m.memory (Ok a) = first.made same in
-      let g : (d.settings ≡ s) × Meets is_memory (f a) mid new m.memory d.memory r = second.made h.0 in
+      let h : (m.settings ≡ s) × Meets is_memory p old mid (memory_of c) (memory_of m) (Ok a) = first.made same in
+      let g : (d.settings ≡ s) × Meets is_memory (f a) mid new (memory_of m) (memory_of d) r = second.made h.0 in
       (g.0, Meets-next f h.1 g.1)
 
 -- the first one's refusal is the result

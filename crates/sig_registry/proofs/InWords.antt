@@ -25,6 +25,7 @@ use Rattle.sig_calls.specs.Wording.{refusal, worded}
 use Rattle.sig_calls.specs.Clients.{Plain}
 use Rattle.sig_registry.specs.States.{PlainlyMade}
 use Rattle.sig_calls.specs.Calls.{in_words}
+use Rattle.oci_engine.specs.Kept.{memory_of}
 
 true_is_not_false : true ≡ false → ⊥
 true_is_not_false h = cc h
@@ -59,7 +60,7 @@ in_the_words {A} called image {p} {old} {new} {k} {l} (Err e) s h w = by_memory 
 
 -- a call of a client that keeps its settings
 pub made : {A : Type 0} (called : Called) (image : Reference) (row : Settings → Engine A) (s : Settings) {c d : Client} {old new : Link} {r : Result A OciDistributionError} {t : Result A SigstoreError}
-    → d.settings ≡ c.settings → Meets engine_is_memory (row c.settings) old new c.memory d.memory r → Says t (worded called (whole_text image) r)
+    → d.settings ≡ c.settings → Meets engine_is_memory (row c.settings) old new (memory_of c) (memory_of d) r → Says t (worded called (whole_text image) r)
     → PlainlyMade s (in_words called image (row s)) c d old new t
 made called image row s {c} {d} {old} {new} {r} {t} kept met says = record { made = λ same. (kept ∙ same, rw (sym same) (in_the_words called image r t met says)) }
 

@@ -5,16 +5,19 @@ use Rattle.engine_terms.specs.Contexts.{within}
 use Rattle.oci_engine.proofs.client.Client.pull_image_manifest.Goals as goal
 
 pub returns-clause-causes : goal.returns-clause-causes
-returns-clause-causes g c = one_reason (within c.args.self.now.settings c.args.moment) c.args.image.now c.args.auth.now c.pull_image_manifest.ensures
+returns-clause-causes g c = one_reason (within c.args.self.now.settings c.args.moment) c.args.image.now c.args.auth.now (rw c.lend-memory.ensures at c.pull_image_manifest-answer.ensures)
 
 pub returns-clause-fault : goal.returns-clause-fault
-returns-clause-fault g c = one_fault (within c.args.self.now.settings c.args.moment) c.args.image.now c.args.auth.now c.pull_image_manifest.ensures
+returns-clause-fault g c = one_fault (within c.args.self.now.settings c.args.moment) c.args.image.now c.args.auth.now (rw c.lend-memory.ensures at c.pull_image_manifest-answer.ensures)
 
 pub returns-clause-no_url : goal.returns-clause-no_url
-returns-clause-no_url g c = λ none. met_only _ (one_url (within c.args.self.now.settings c.args.moment) c.args.image.now c.args.auth.now none) c.pull_image_manifest.ensures
+returns-clause-no_url g c = λ none. met_only _ (one_url (within c.args.self.now.settings c.args.moment) c.args.image.now c.args.auth.now none) (rw c.lend-memory.ensures at c.pull_image_manifest-answer.ensures)
 
 pub returns-clause-bad_header : goal.returns-clause-bad_header
-returns-clause-bad_header g c = λ bad. met_early (one_bad (within c.args.self.now.settings c.args.moment) c.args.image.now c.args.auth.now bad) c.pull_image_manifest.ensures
+returns-clause-bad_header g c = λ bad. met_early (one_bad (within c.args.self.now.settings c.args.moment) c.args.image.now c.args.auth.now bad) (rw c.lend-memory.ensures at c.pull_image_manifest-answer.ensures)
 
 pub returns-clause-confined : goal.returns-clause-confined
-returns-clause-confined g c = one_confined (within c.args.self.now.settings c.args.moment) c.args.image.now c.args.auth.now c.pull_image_manifest.ensures
+returns-clause-confined g c = one_confined (within c.args.self.now.settings c.args.moment) c.args.image.now c.args.auth.now (rw c.lend-memory.ensures at c.pull_image_manifest-answer.ensures)
+
+pub returns-clause-run : goal.returns-clause-run
+returns-clause-run g c = rw c.lend-memory.ensures at c.pull_image_manifest-answer.ensures

@@ -5,16 +5,19 @@ use Rattle.engine_terms.specs.Contexts.{within}
 use Rattle.oci_engine.proofs.client.Client.pull_manifest_and_config_and_list_digest.Goals as goal
 
 pub returns-clause-causes : goal.returns-clause-causes
-returns-clause-causes g c = config_reason (within c.args.self.now.settings c.args.moment) c.args.image.now c.args.auth.now c.pull_manifest_and_config_and_list_digest.ensures
+returns-clause-causes g c = config_reason (within c.args.self.now.settings c.args.moment) c.args.image.now c.args.auth.now (rw c.lend-memory.ensures at c.pull_manifest_and_config_and_list_digest-answer.ensures)
 
 pub returns-clause-fault : goal.returns-clause-fault
-returns-clause-fault g c = config_fault (within c.args.self.now.settings c.args.moment) c.args.image.now c.args.auth.now c.pull_manifest_and_config_and_list_digest.ensures
+returns-clause-fault g c = config_fault (within c.args.self.now.settings c.args.moment) c.args.image.now c.args.auth.now (rw c.lend-memory.ensures at c.pull_manifest_and_config_and_list_digest-answer.ensures)
 
 pub returns-clause-no_url : goal.returns-clause-no_url
-returns-clause-no_url g c = λ none. met_only _ (config_url (within c.args.self.now.settings c.args.moment) c.args.image.now c.args.auth.now none) c.pull_manifest_and_config_and_list_digest.ensures
+returns-clause-no_url g c = λ none. met_only _ (config_url (within c.args.self.now.settings c.args.moment) c.args.image.now c.args.auth.now none) (rw c.lend-memory.ensures at c.pull_manifest_and_config_and_list_digest-answer.ensures)
 
 pub returns-clause-bad_header : goal.returns-clause-bad_header
-returns-clause-bad_header g c = λ bad. met_early (config_bad (within c.args.self.now.settings c.args.moment) c.args.image.now c.args.auth.now bad) c.pull_manifest_and_config_and_list_digest.ensures
+returns-clause-bad_header g c = λ bad. met_early (config_bad (within c.args.self.now.settings c.args.moment) c.args.image.now c.args.auth.now bad) (rw c.lend-memory.ensures at c.pull_manifest_and_config_and_list_digest-answer.ensures)
 
 pub returns-clause-confined : goal.returns-clause-confined
-returns-clause-confined g c = config_confined (within c.args.self.now.settings c.args.moment) c.args.image.now c.args.auth.now c.pull_manifest_and_config_and_list_digest.ensures
+returns-clause-confined g c = config_confined (within c.args.self.now.settings c.args.moment) c.args.image.now c.args.auth.now (rw c.lend-memory.ensures at c.pull_manifest_and_config_and_list_digest-answer.ensures)
+
+pub returns-clause-run : goal.returns-clause-run
+returns-clause-run g c = rw c.lend-memory.ensures at c.pull_manifest_and_config_and_list_digest-answer.ensures

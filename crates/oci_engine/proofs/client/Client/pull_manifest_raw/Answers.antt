@@ -11,37 +11,43 @@ pub returns-in_err-types-clause-run : goal.returns-in_err-types-clause-run
 returns-in_err-types-clause-run g c = wanting c.from_residual.ensures.1
 
 pub returns-clause-body : goal.returns-clause-body
-returns-clause-body g c = raw_body (within c.args.self.now.settings c.args.moment) c.args.image.now c.args.auth.now _ c.in_ok-found.ensures
+returns-clause-body g c = raw_body (within c.args.self.now.settings c.args.moment) c.args.image.now c.args.auth.now _ (rw c.lend-memory.ensures at c.in_ok-found.ensures)
 
 pub returns-clause-named : goal.returns-clause-named
-returns-clause-named g c = raw_named (within c.args.self.now.settings c.args.moment) c.args.image.now c.args.auth.now _ c.in_ok-found.ensures
+returns-clause-named g c = raw_named (within c.args.self.now.settings c.args.moment) c.args.image.now c.args.auth.now _ (rw c.lend-memory.ensures at c.in_ok-found.ensures)
 
 pub returns-clause-given : goal.returns-clause-given
-returns-clause-given g c = raw_given (within c.args.self.now.settings c.args.moment) c.args.image.now c.args.auth.now _ c.in_ok-found.ensures
+returns-clause-given g c = raw_given (within c.args.self.now.settings c.args.moment) c.args.image.now c.args.auth.now _ (rw c.lend-memory.ensures at c.in_ok-found.ensures)
 
 pub returns-in_err-found-clause-causes : goal.returns-in_err-found-clause-causes
-returns-in_err-found-clause-causes g c = listed_reason (within c.args.self.now.settings c.args.moment) c.args.image.now c.args.auth.now _ _ (c.as_str.ensures ∙ c.in_ok-types.ensures) (passed_on c.in_err-found.ensures c.from_residual-in_err-found.ensures.1)
+returns-in_err-found-clause-causes g c = listed_reason (within c.args.self.now.settings c.args.moment) c.args.image.now c.args.auth.now _ _ (c.as_str.ensures ∙ c.in_ok-types.ensures) (passed_on (rw c.lend-memory.ensures at c.in_err-found.ensures) c.from_residual-in_err-found.ensures.1)
 
 pub returns-in_err-found-clause-fault : goal.returns-in_err-found-clause-fault
-returns-in_err-found-clause-fault g c = raw_fault (within c.args.self.now.settings c.args.moment) c.args.image.now c.args.auth.now _ (passed_on c.in_err-found.ensures c.from_residual-in_err-found.ensures.1)
+returns-in_err-found-clause-fault g c = raw_fault (within c.args.self.now.settings c.args.moment) c.args.image.now c.args.auth.now _ (passed_on (rw c.lend-memory.ensures at c.in_err-found.ensures) c.from_residual-in_err-found.ensures.1)
 
 pub returns-clause-no_url : goal.returns-clause-no_url
-returns-clause-no_url g c = λ none. met_only _ (raw_url (within c.args.self.now.settings c.args.moment) c.args.image.now c.args.auth.now _ none) c.in_ok-found.ensures
+returns-clause-no_url g c = λ none. met_only _ (raw_url (within c.args.self.now.settings c.args.moment) c.args.image.now c.args.auth.now _ none) (rw c.lend-memory.ensures at c.in_ok-found.ensures)
 
 pub returns-in_err-found-clause-no_url : goal.returns-in_err-found-clause-no_url
-returns-in_err-found-clause-no_url g c = λ none. met_only _ (raw_url (within c.args.self.now.settings c.args.moment) c.args.image.now c.args.auth.now _ none) (passed_on c.in_err-found.ensures c.from_residual-in_err-found.ensures.1)
+returns-in_err-found-clause-no_url g c = λ none. met_only _ (raw_url (within c.args.self.now.settings c.args.moment) c.args.image.now c.args.auth.now _ none) (passed_on (rw c.lend-memory.ensures at c.in_err-found.ensures) c.from_residual-in_err-found.ensures.1)
 
 pub returns-clause-bad_header : goal.returns-clause-bad_header
-returns-clause-bad_header g c = λ bad. met_early (raw_bad (within c.args.self.now.settings c.args.moment) c.args.image.now c.args.auth.now _ bad) (listed_met (within c.args.self.now.settings c.args.moment) c.args.image.now c.args.auth.now _ _ (c.as_str.ensures ∙ c.in_ok-types.ensures) c.in_ok-found.ensures)
+returns-clause-bad_header g c = λ bad. met_early (raw_bad (within c.args.self.now.settings c.args.moment) c.args.image.now c.args.auth.now _ bad) (listed_met (within c.args.self.now.settings c.args.moment) c.args.image.now c.args.auth.now _ _ (c.as_str.ensures ∙ c.in_ok-types.ensures) (rw c.lend-memory.ensures at c.in_ok-found.ensures))
 
 pub returns-in_err-found-clause-bad_header : goal.returns-in_err-found-clause-bad_header
-returns-in_err-found-clause-bad_header g c = λ bad. met_early (raw_bad (within c.args.self.now.settings c.args.moment) c.args.image.now c.args.auth.now _ bad) (listed_met (within c.args.self.now.settings c.args.moment) c.args.image.now c.args.auth.now _ _ (c.as_str.ensures ∙ c.in_ok-types.ensures) (passed_on c.in_err-found.ensures c.from_residual-in_err-found.ensures.1))
+returns-in_err-found-clause-bad_header g c = λ bad. met_early (raw_bad (within c.args.self.now.settings c.args.moment) c.args.image.now c.args.auth.now _ bad) (listed_met (within c.args.self.now.settings c.args.moment) c.args.image.now c.args.auth.now _ _ (c.as_str.ensures ∙ c.in_ok-types.ensures) (passed_on (rw c.lend-memory.ensures at c.in_err-found.ensures) c.from_residual-in_err-found.ensures.1))
 
 pub returns-clause-confined : goal.returns-clause-confined
-returns-clause-confined g c = raw_confined (within c.args.self.now.settings c.args.moment) c.args.image.now c.args.auth.now _ c.in_ok-found.ensures
+returns-clause-confined g c = raw_confined (within c.args.self.now.settings c.args.moment) c.args.image.now c.args.auth.now _ (rw c.lend-memory.ensures at c.in_ok-found.ensures)
 
 pub returns-in_err-types-clause-confined : goal.returns-in_err-types-clause-confined
 returns-in_err-types-clause-confined g c = raw_confined (within c.args.self.now.settings c.args.moment) c.args.image.now c.args.auth.now _ (returns-in_err-types-clause-run g c)
 
 pub returns-in_err-found-clause-confined : goal.returns-in_err-found-clause-confined
-returns-in_err-found-clause-confined g c = raw_confined (within c.args.self.now.settings c.args.moment) c.args.image.now c.args.auth.now _ (passed_on c.in_err-found.ensures c.from_residual-in_err-found.ensures.1)
+returns-in_err-found-clause-confined g c = raw_confined (within c.args.self.now.settings c.args.moment) c.args.image.now c.args.auth.now _ (passed_on (rw c.lend-memory.ensures at c.in_err-found.ensures) c.from_residual-in_err-found.ensures.1)
+
+pub returns-in_err-found-clause-run : goal.returns-in_err-found-clause-run
+returns-in_err-found-clause-run g c = listed_met (within c.args.self.now.settings c.args.moment) c.args.image.now c.args.auth.now _ _ (c.as_str.ensures ∙ c.in_ok-types.ensures) (passed_on (rw c.lend-memory.ensures at c.in_err-found.ensures) c.from_residual-in_err-found.ensures.1)
+
+pub returns-clause-run : goal.returns-clause-run
+returns-clause-run g c = listed_met (within c.args.self.now.settings c.args.moment) c.args.image.now c.args.auth.now _ _ (c.as_str.ensures ∙ c.in_ok-types.ensures) (rw c.lend-memory.ensures at c.in_ok-found.ensures)

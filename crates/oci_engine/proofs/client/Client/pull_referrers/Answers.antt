@@ -8,19 +8,22 @@ use Rattle.engine_terms.specs.Contexts.{within}
 use Rattle.oci_engine.proofs.client.Client.pull_referrers.Goals as goal
 
 pub returns-clause-causes : goal.returns-clause-causes
-returns-clause-causes g c = referrers_reason (within c.args.self.now.settings c.args.moment) c.args.image.now (option_copied c.args.artifact_type) c.pull_referrers.ensures
+returns-clause-causes g c = referrers_reason (within c.args.self.now.settings c.args.moment) c.args.image.now (option_copied c.args.artifact_type) (rw c.lend-memory.ensures at c.pull_referrers-answer.ensures)
 
 pub returns-clause-fault : goal.returns-clause-fault
-returns-clause-fault g c = referrers_fault (within c.args.self.now.settings c.args.moment) c.args.image.now (option_copied c.args.artifact_type) c.pull_referrers.ensures
+returns-clause-fault g c = referrers_fault (within c.args.self.now.settings c.args.moment) c.args.image.now (option_copied c.args.artifact_type) (rw c.lend-memory.ensures at c.pull_referrers-answer.ensures)
 
 pub returns-clause-no_digest : goal.returns-clause-no_digest
-returns-clause-no_digest g c = λ none. met_only _ (no_digest (within c.args.self.now.settings c.args.moment) c.args.image.now (option_copied c.args.artifact_type) none) c.pull_referrers.ensures
+returns-clause-no_digest g c = λ none. met_only _ (no_digest (within c.args.self.now.settings c.args.moment) c.args.image.now (option_copied c.args.artifact_type) none) (rw c.lend-memory.ensures at c.pull_referrers-answer.ensures)
 
 pub returns-clause-confined : goal.returns-clause-confined
-returns-clause-confined g c = referrers_confined (within c.args.self.now.settings c.args.moment) c.args.image.now (option_copied c.args.artifact_type) c.pull_referrers.ensures
+returns-clause-confined g c = referrers_confined (within c.args.self.now.settings c.args.moment) c.args.image.now (option_copied c.args.artifact_type) (rw c.lend-memory.ensures at c.pull_referrers-answer.ensures)
 
 pub returns-clause-no_url : goal.returns-clause-no_url
-returns-clause-no_url g c = of_digest _ (digest_of c.args.image.now) (λ digest is none. met_only _ (referrers_no_url (within c.args.self.now.settings c.args.moment) c.args.image.now (option_copied c.args.artifact_type) digest is none) c.pull_referrers.ensures)
+returns-clause-no_url g c = of_digest _ (digest_of c.args.image.now) (λ digest is none. met_only _ (referrers_no_url (within c.args.self.now.settings c.args.moment) c.args.image.now (option_copied c.args.artifact_type) digest is none) (rw c.lend-memory.ensures at c.pull_referrers-answer.ensures))
 
 pub returns-clause-bad_header : goal.returns-clause-bad_header
-returns-clause-bad_header g c = of_digest _ (digest_of c.args.image.now) (λ digest is bad. met_early (referrers_bad (within c.args.self.now.settings c.args.moment) c.args.image.now (option_copied c.args.artifact_type) digest is bad) c.pull_referrers.ensures)
+returns-clause-bad_header g c = of_digest _ (digest_of c.args.image.now) (λ digest is bad. met_early (referrers_bad (within c.args.self.now.settings c.args.moment) c.args.image.now (option_copied c.args.artifact_type) digest is bad) (rw c.lend-memory.ensures at c.pull_referrers-answer.ensures))
+
+pub returns-clause-run : goal.returns-clause-run
+returns-clause-run g c = rw c.lend-memory.ensures at c.pull_referrers-answer.ensures

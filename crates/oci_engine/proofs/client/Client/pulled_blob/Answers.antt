@@ -7,25 +7,28 @@ use Rattle.engine_terms.specs.Contexts.{within}
 use Rattle.oci_engine.proofs.client.Client.pulled_blob.Goals as goal
 
 pub returns-clause-body : goal.returns-clause-body
-returns-clause-body g c = blob_body IntoMemory (within c.args.self.now.settings c.args.moment) c.args.image.now _ (rw c.as_layer_descriptor-layer.ensures at c.pulled_blob.ensures)
+returns-clause-body g c = blob_body IntoMemory (within c.args.self.now.settings c.args.moment) c.args.image.now _ (rw (c.as_layer_descriptor-layer.ensures, c.lend-memory.ensures) at c.pulled_blob-answer.ensures)
 
 pub returns-clause-named : goal.returns-clause-named
-returns-clause-named g c = blob_named IntoMemory (within c.args.self.now.settings c.args.moment) c.args.image.now _ (rw c.as_layer_descriptor-layer.ensures at c.pulled_blob.ensures)
+returns-clause-named g c = blob_named IntoMemory (within c.args.self.now.settings c.args.moment) c.args.image.now _ (rw (c.as_layer_descriptor-layer.ensures, c.lend-memory.ensures) at c.pulled_blob-answer.ensures)
 
 pub returns-clause-causes : goal.returns-clause-causes
-returns-clause-causes g c = blob_reason IntoMemory (within c.args.self.now.settings c.args.moment) c.args.image.now _ (rw c.as_layer_descriptor-layer.ensures at c.pulled_blob.ensures)
+returns-clause-causes g c = blob_reason IntoMemory (within c.args.self.now.settings c.args.moment) c.args.image.now _ (rw (c.as_layer_descriptor-layer.ensures, c.lend-memory.ensures) at c.pulled_blob-answer.ensures)
 
 pub returns-clause-fault : goal.returns-clause-fault
-returns-clause-fault g c = blob_fault IntoMemory (within c.args.self.now.settings c.args.moment) c.args.image.now _ (rw c.as_layer_descriptor-layer.ensures at c.pulled_blob.ensures)
+returns-clause-fault g c = blob_fault IntoMemory (within c.args.self.now.settings c.args.moment) c.args.image.now _ (rw (c.as_layer_descriptor-layer.ensures, c.lend-memory.ensures) at c.pulled_blob-answer.ensures)
 
 pub returns-clause-last : goal.returns-clause-last
-returns-clause-last g c = blob_last IntoMemory (within c.args.self.now.settings c.args.moment) c.args.image.now _ (rw c.as_layer_descriptor-layer.ensures at c.pulled_blob.ensures)
+returns-clause-last g c = blob_last IntoMemory (within c.args.self.now.settings c.args.moment) c.args.image.now _ (rw (c.as_layer_descriptor-layer.ensures, c.lend-memory.ensures) at c.pulled_blob-answer.ensures)
 
 pub returns-clause-no_url : goal.returns-clause-no_url
-returns-clause-no_url g c = λ none. met_only _ (blob_url IntoMemory (within c.args.self.now.settings c.args.moment) c.args.image.now _ none) (rw c.as_layer_descriptor-layer.ensures at c.pulled_blob.ensures)
+returns-clause-no_url g c = λ none. met_only _ (blob_url IntoMemory (within c.args.self.now.settings c.args.moment) c.args.image.now _ none) (rw (c.as_layer_descriptor-layer.ensures, c.lend-memory.ensures) at c.pulled_blob-answer.ensures)
 
 pub returns-clause-bad_header : goal.returns-clause-bad_header
-returns-clause-bad_header g c = λ bad. met_early (blob_bad IntoMemory (within c.args.self.now.settings c.args.moment) c.args.image.now _ bad) (rw c.as_layer_descriptor-layer.ensures at c.pulled_blob.ensures)
+returns-clause-bad_header g c = λ bad. met_early (blob_bad IntoMemory (within c.args.self.now.settings c.args.moment) c.args.image.now _ bad) (rw (c.as_layer_descriptor-layer.ensures, c.lend-memory.ensures) at c.pulled_blob-answer.ensures)
 
 pub returns-clause-confined : goal.returns-clause-confined
-returns-clause-confined g c = blob_confined IntoMemory (within c.args.self.now.settings c.args.moment) c.args.image.now _ (rw c.as_layer_descriptor-layer.ensures at c.pulled_blob.ensures)
+returns-clause-confined g c = blob_confined IntoMemory (within c.args.self.now.settings c.args.moment) c.args.image.now _ (rw (c.as_layer_descriptor-layer.ensures, c.lend-memory.ensures) at c.pulled_blob-answer.ensures)
+
+pub returns-clause-run : goal.returns-clause-run
+returns-clause-run g c = rw (c.as_layer_descriptor-layer.ensures, c.lend-memory.ensures) at c.pulled_blob-answer.ensures
