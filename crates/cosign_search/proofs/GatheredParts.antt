@@ -1,7 +1,7 @@
 -- Rows whose answers go behind the part that is there.
 use Rattle.std.proofs.Common.{◌≡◌, Result, Ok, Err, refl, sym, subst, ◌∙◌}
 use Rattle.oci_transport.specs.Link.{Link}
-use Rattle.oci_protocol.specs.Proto.{Proto, Done, Ask, Recall, Keep, bind, unless_refused, ◌>>=◌}
+use Rattle.oci_protocol.specs.Proto.{Proto, Done, Ask, Recall, Keep, Consult, bind, unless_refused, ◌>>=◌}
 use Rattle.engine_terms.specs.declared.settings.Settings.{Settings}
 use Rattle.sig_calls.specs.declared.error.SigstoreError.{SigstoreError}
 use Rattle.sig_calls.specs.Error.{is_memory}
@@ -18,6 +18,7 @@ bind_joined (Done a) f g = refl
 bind_joined (Ask request reading next) f g = λ i. Ask request reading (λ reply. bind_joined (next reply) f g i)
 bind_joined (Recall next) f g = λ i. Recall (λ kept. bind_joined (next kept) f g i)
 bind_joined (Keep kept rest) f g = λ i. Keep kept (bind_joined rest f g i)
+bind_joined (Consult next) f g = λ i. Consult (λ said. bind_joined (next said) f g i)
 
 -- what is the same after each answer is the same after the row
 bind_same : {K A B : Type 0} (p : Proto K A) (f g : A → Proto K B) → ((a : A) → f a ≡ g a) → bind p f ≡ bind p g

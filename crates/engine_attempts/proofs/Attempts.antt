@@ -6,7 +6,7 @@ use Rattle.std.proofs.lemmas.Result.{err_from_is_err_and}
 use Rattle.json_values.specs.Counts.{Rose}
 use Rattle.json_values.specs.Tray.{Tray}
 use Rattle.json_values.proofs.Sinks.{adds_none}
-use Rattle.oci_transport.specs.Link.{Link, Extends, Steady, answer_of, EndsUnbroken}
+use Rattle.oci_transport.specs.Link.{Link, Extends, Steady, answer_of, EndsUnbroken, TakesPast}
 use Rattle.oci_transport.specs.declared.message.Request.{Request}
 use Rattle.oci_transport.specs.declared.message.Answer.{Answer}
 use Rattle.oci_transport.specs.declared.message.AnswerHead.{AnswerHead}
@@ -153,7 +153,7 @@ unfolding attempt offer blob_reading
 blob_read to limit digest request head last body old mid new k p r (inl row) reach is reads le same steady small whole unbroken says = rw row (reached_answered 10 request (blob_reading to limit digest) (blob_reply digest) head last limit body reach (ap (λ (q : Plan). limit_of (reading_by to limit q)) is ∙ reads) le same steady small whole unbroken (read_met last.url head body (plan_of digest head) p r new k is says))
 blob_read to limit digest request head last body old mid new k p r (inr offered) reach is reads le same steady small whole unbroken says = rw offered.2 (reached_answered 10 request (offer_reading to limit digest) (offer_reply digest offered.1) head last limit body reach (ap limit_of (offered_reading to limit digest head offered.0) ∙ (ap (λ (q : Plan). limit_of (reading_by to limit q)) is ∙ reads)) le same steady small whole unbroken (read_met last.url head body (plan_of digest head) p r new k is says))
 
-pub blob_long : (to : Destination) (limit : ℕ) (digest : List ℕ) (request : Request) (head : AnswerHead) (last : Request) (old mid new : Link) (k : Memory) (p : Plan) → {row : Row (List ℕ)} → Takes to limit digest request head row → Reaches 10 request head last old mid → plan_of digest head ≡ p → limit_of (reading_by to limit p) ≡ Some limit → mid.faults ≤ new.faults → new.told ≡ mid.told → Steady mid new → ((rest : List ℕ) → mid.rest ≡ Some rest → limit < length rest) → Meets is_memory row old new k k (Err refusal.BodyTooLong)
+pub blob_long : (to : Destination) (limit : ℕ) (digest : List ℕ) (request : Request) (head : AnswerHead) (last : Request) (old mid new : Link) (k : Memory) (p : Plan) → {row : Row (List ℕ)} → Takes to limit digest request head row → Reaches 10 request head last old mid → plan_of digest head ≡ p → limit_of (reading_by to limit p) ≡ Some limit → mid.faults ≤ new.faults → new.told ≡ mid.told → Steady mid new → TakesPast limit mid new → Meets is_memory row old new k k (Err refusal.BodyTooLong)
 unfolding attempt offer blob_reading
 blob_long to limit digest request head last old mid new k p (inl row) reach is reads le same steady long = rw row (reached_long 10 request (blob_reading to limit digest) (blob_reply digest) head last limit reach (ap (λ (q : Plan). limit_of (reading_by to limit q)) is ∙ reads) le same steady long (Meets-err is_memory new k refusal.BodyTooLong refl))
 blob_long to limit digest request head last old mid new k p (inr offered) reach is reads le same steady long = rw offered.2 (reached_long 10 request (offer_reading to limit digest) (offer_reply digest offered.1) head last limit reach (ap limit_of (offered_reading to limit digest head offered.0) ∙ (ap (λ (q : Plan). limit_of (reading_by to limit q)) is ∙ reads)) le same steady long (Meets-err is_memory new k refusal.BodyTooLong refl))

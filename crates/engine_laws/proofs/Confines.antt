@@ -18,7 +18,7 @@ use Rattle.oci_auth.specs.declared.auth.RegistryAuth.{RegistryAuth}
 use Rattle.oci_auth.specs.declared.memory.Memory.{Memory}
 use Rattle.oci_auth.specs.declared.token_type.RegistryOperation.TheVariants.{Pull}
 use Rattle.oci_auth.specs.declared.token_type.RegistryTokenType.{RegistryTokenType}
-use Rattle.oci_protocol.specs.Proto.{Proto, Done, Ask, Recall, Keep, bind, unless_refused, ◌>>=◌}
+use Rattle.oci_protocol.specs.Proto.{Proto, Done, Ask, Recall, Keep, Consult, bind, unless_refused, ◌>>=◌}
 use Rattle.oci_protocol.specs.Lift.{lifted}
 use Rattle.oci_protocol.specs.Runs.{Meets, Told}
 use Rattle.oci_protocol.specs.Safe.{Safe}
@@ -45,6 +45,7 @@ Safe-held P I Q (Done a) k seen lasts i h = i
 Safe-held P I Q (Ask request reading next) k seen lasts i h = (h.0, λ e before after reply r. Safe-held P I Q (next reply) k (seen ++ e ∷ []) lasts (lasts k seen (e ∷ []) i) (h.1 e before after reply r))
 Safe-held P I Q (Recall next) k seen lasts i h = Safe-held P I Q (next k) k seen lasts i h
 Safe-held P I Q (Keep kept rest) k seen lasts i h = (h.0, Safe-held P I Q rest kept seen lasts h.0 h.1)
+Safe-held P I Q (Consult next) k seen lasts i h = λ said. Safe-held P I Q (next said) k seen lasts i (h said)
 
 -- From wherever the part begins, its requests carry what they may, and what is kept stays so. It keeps credentials and
 -- tokens, as `of` shows, and maybe more.

@@ -5,7 +5,7 @@ use Rattle.json_values.specs.Counts.{Rose}
 use Rattle.oci_transport.specs.Link.{Link}
 use Rattle.oci_transport.specs.declared.message.Request.{Request}
 use Rattle.oci_transport.specs.declared.message.Exchange.{Exchange}
-use Rattle.oci_protocol.specs.Proto.{Proto, Done, Ask, Recall, Keep}
+use Rattle.oci_protocol.specs.Proto.{Proto, Done, Ask, Recall, Keep, Consult}
 use Rattle.oci_protocol.specs.Runs.{Runs, Performs, Breaks, Outcome, Meets, Told}
 use Rattle.oci_protocol.specs.Safe.{Safe}
 use Rattle.oci_protocol.specs.Shows.{Shows, ByAnswer}
@@ -30,6 +30,7 @@ runs_sent (Ask request reading next) k l m n [] a r = tt
 runs_sent (Ask request reading next) k l m n (e ∷ c) a r = (omega (arith, r.2.faults_is), sent_lower m r.0 c r.2.count (runs_sent (next r.1) k l r.0 n c a r.3))
 runs_sent (Recall next) k l m n c a r = runs_sent (next k) k l m n c a r
 runs_sent (Keep kept rest) k l m n c a r = runs_sent rest kept l m n c a r
+runs_sent (Consult next) k l m n c a r = runs_sent (next r.0) k l m n c a r.1
 
 sent_last : (m : ℕ) (c : List Exchange) (last : Exchange) → SentFrom m (c ++ last ∷ []) → m ≤ last.faults
 sent_last m [] last h = h.0

@@ -4,7 +4,7 @@ use Rattle.std.specs.Prelude.{MatchBool}
 use Rattle.oci_transport.specs.Link.{Link}
 use Rattle.oci_transport.specs.declared.message.Request.{Request}
 use Rattle.oci_transport.specs.declared.message.Exchange.{Exchange}
-use Rattle.oci_protocol.specs.Proto.{Proto, Done, Ask, Recall, Keep, bind}
+use Rattle.oci_protocol.specs.Proto.{Proto, Done, Ask, Recall, Keep, Consult, bind}
 use Rattle.oci_protocol.specs.Runs.{Runs, Stops, Performs, Breaks, Outcome, Meets, Told}
 use Rattle.oci_protocol.specs.Safe.{Safe, EachAfter}
 use Rattle.oci_protocol.proofs.Parts.{Runs-parts}
@@ -46,6 +46,7 @@ Stops-parts (Ask request reading next) f k m [] l s = inl s
 Stops-parts (Ask request reading next) f k m (e ∷ c) l (inl s) = inl (inl s)
 Stops-parts (Ask request reading next) f k m (e ∷ c) l (inr s) = later (Ask request reading next) (next s.1) f k m s.0 (e ∷ c) c (e ∷ []) k l refl (λ first count between a r. (s.0, s.1, s.2, r)) (Stops-parts (next s.1) f k s.0 c l s.3) (λ h. inr (s.0, s.1, s.2, h))
 Stops-parts (Recall next) f k m c l s = later (Recall next) (next k) f k m m c c [] k l refl (λ first count between a r. r) (Stops-parts (next k) f k m c l s) (λ h. h)
+Stops-parts (Consult next) f k m c l s = later (Consult next) (next s.0) f k m m c c [] k l refl (λ first count between a r. (s.0, r)) (Stops-parts (next s.0) f k m c l s.1) (λ h. (s.0, h))
 Stops-parts (Keep kept rest) f k m c l (inl s) = inl (inl s)
 Stops-parts (Keep kept rest) f k m c l (inr s) = later (Keep kept rest) rest f k m m c c [] kept l refl (λ first count between a r. r) (Stops-parts rest f kept m c l s) (λ h. inr h)
 

@@ -4,7 +4,7 @@ use Rattle.std.specs.Prelude.{MatchBool}
 use Rattle.oci_transport.specs.Link.{Link}
 use Rattle.oci_transport.specs.declared.message.Request.{Request}
 use Rattle.oci_transport.specs.declared.message.Exchange.{Exchange}
-use Rattle.oci_protocol.specs.Proto.{Proto, Done, Ask, Recall, Keep}
+use Rattle.oci_protocol.specs.Proto.{Proto, Done, Ask, Recall, Keep, Consult}
 use Rattle.oci_protocol.specs.Runs.{Runs, Stops, Performs, Breaks, Outcome, Meets, Told}
 use Rattle.oci_protocol.specs.Safe.{Safe, EachAfter}
 use Rattle.oci_protocol.proofs.Safety.{Runs-safe, Stops-safe}
@@ -24,6 +24,7 @@ Runs-keeps P I Q (Ask request reading next) k l m n seen [] a lasts i h r = absu
 Runs-keeps P I Q (Ask request reading next) k l m n seen (e ∷ c) a lasts i h r = subst (I l) (append_assoc seen (e ∷ []) c) (Runs-keeps P I Q (next r.1) k l r.0 n (seen ++ e ∷ []) c a lasts (lasts k seen (e ∷ []) i) (h.1 e m r.0 r.1 r.2) r.3)
 Runs-keeps P I Q (Recall next) k l m n seen c a lasts i h r = Runs-keeps P I Q (next k) k l m n seen c a lasts i h r
 Runs-keeps P I Q (Keep kept rest) k l m n seen c a lasts i h r = Runs-keeps P I Q rest kept l m n seen c a lasts h.0 h.1 r
+Runs-keeps P I Q (Consult next) k l m n seen c a lasts i h r = Runs-keeps P I Q (next r.0) k l m n seen c a lasts i (h r.0) r.1
 
 pub Stops-keeps : {K A : Type 0} (P : K → List Exchange → Request → Type 0) (I : K → List Exchange → Type 0) (Q : K → List Exchange → A → Type 0) (p : Proto K A) (k l : K) (m : ℕ) (seen c : List Exchange) → Lasts I → I k seen → Safe P I Q k seen p → Stops p k m c l → I l (seen ++ c)
 unfolding Safe Stops
@@ -33,6 +34,7 @@ Stops-keeps P I Q (Ask request reading next) k l m seen [] lasts i h s = ends_he
 Stops-keeps P I Q (Ask request reading next) k l m seen (e ∷ c) lasts i h (inl s) = lasts l seen (e ∷ c) (subst (λ k. I k seen) s.3 i)
 Stops-keeps P I Q (Ask request reading next) k l m seen (e ∷ c) lasts i h (inr s) = subst (I l) (append_assoc seen (e ∷ []) c) (Stops-keeps P I Q (next s.1) k l s.0 (seen ++ e ∷ []) c lasts (lasts k seen (e ∷ []) i) (h.1 e m s.0 s.1 s.2) s.3)
 Stops-keeps P I Q (Recall next) k l m seen c lasts i h s = Stops-keeps P I Q (next k) k l m seen c lasts i h s
+Stops-keeps P I Q (Consult next) k l m seen c lasts i h s = Stops-keeps P I Q (next s.0) k l m seen c lasts i (h s.0) s.1
 Stops-keeps P I Q (Keep kept rest) k l m seen c lasts i h (inl s) = lasts l seen c (subst (λ k. I k seen) s.1 i)
 Stops-keeps P I Q (Keep kept rest) k l m seen c lasts i h (inr s) = Stops-keeps P I Q rest kept l m seen c lasts h.0 h.1 s
 
@@ -43,6 +45,7 @@ Safe-keeps P I Q (Done x) k seen lasts i h = (i, h)
 Safe-keeps P I Q (Ask request reading next) k seen lasts i h = (h.0, λ e before after reply r. Safe-keeps P I Q (next reply) k (seen ++ e ∷ []) lasts (lasts k seen (e ∷ []) i) (h.1 e before after reply r))
 Safe-keeps P I Q (Recall next) k seen lasts i h = Safe-keeps P I Q (next k) k seen lasts i h
 Safe-keeps P I Q (Keep kept rest) k seen lasts i h = (h.0, Safe-keeps P I Q rest kept seen lasts h.0 h.1)
+Safe-keeps P I Q (Consult next) k seen lasts i h = λ said. Safe-keeps P I Q (next said) k seen lasts i (h said)
 
 -- so it is of a call's requests and of what is kept after it, whatever it answered
 pub Meets-within : {K A E : Type 0} {of_memory : E → Bool} (P : List Exchange → Request → Type 0) (I : K → List Exchange → Type 0) (Q : K → List Exchange → Result A E → Type 0) (R : List Exchange → Type 0) {p : Proto K (Result A E)} {old new : Link} {k l : K} {r : Result A E} → Lasts I → I k []

@@ -2,7 +2,7 @@
 use Rattle.std.proofs.Common.{◌≡◌, ◌≤◌, ◌<◌, ℕ, List, ◌++◌, Some, Result, Ok, Err, IfOk, length, refl}
 use Rattle.std.specs.Result.{IsErrAnd}
 use Rattle.std.proofs.lemmas.Result.{err_from_is_err_and}
-use Rattle.oci_transport.specs.Link.{Link, Steady, answer_of, EndsUnbroken}
+use Rattle.oci_transport.specs.Link.{Link, Steady, answer_of, EndsUnbroken, TakesPast}
 use Rattle.json_values.specs.Counts.{Rose}
 use Rattle.oci_transport.specs.declared.message.Request.{Request}
 use Rattle.oci_transport.specs.declared.message.AnswerHead.{AnswerHead}
@@ -26,7 +26,7 @@ pub whole_answered : (times : ℕ) (request : Request) (limit : ℕ) (head : Ans
 unfolding whole
 whole_answered times request limit head last body old mid new reach le same steady small all unbroken k = reached_answered times request (read_within limit) whole_reply head last limit body reach (within limit head) le same steady small all unbroken (Meets-ok is_memory new k _)
 
-pub whole_long : (times : ℕ) (request : Request) (limit : ℕ) (head : AnswerHead) (last : Request) (old mid new : Link) → Reaches times request head last old mid → mid.faults ≤ new.faults → new.told ≡ mid.told → Steady mid new → ((rest : List ℕ) → mid.rest ≡ Some rest → limit < length rest)
+pub whole_long : (times : ℕ) (request : Request) (limit : ℕ) (head : AnswerHead) (last : Request) (old mid new : Link) → Reaches times request head last old mid → mid.faults ≤ new.faults → new.told ≡ mid.told → Steady mid new → TakesPast limit mid new
     → (k : Memory) → Meets is_memory (whole times request limit) old new k k (Err refusal.BodyTooLong)
 unfolding whole
 whole_long times request limit head last old mid new reach le same steady long k = reached_long times request (read_within limit) whole_reply head last limit reach (within limit head) le same steady long (Meets-err is_memory new k refusal.BodyTooLong refl)

@@ -4,7 +4,7 @@ use Rattle.std.specs.Prelude.{MatchBool}
 use Rattle.std.specs.Result.{IsErrAnd}
 use Rattle.std.proofs.lemmas.Result.{err_from_is_err_and}
 use Rattle.json_values.specs.Counts.{Rose}
-use Rattle.oci_transport.specs.Link.{Link, Steady, answer_of, EndsUnbroken}
+use Rattle.oci_transport.specs.Link.{Link, Steady, answer_of, EndsUnbroken, TakesPast}
 use Rattle.oci_transport.specs.declared.message.Request.{Request}
 use Rattle.oci_transport.specs.declared.message.AnswerHead.{AnswerHead}
 use Rattle.oci_auth.specs.declared.memory.Memory.{Memory}
@@ -40,7 +40,7 @@ pub named_answered : (times : ℕ) (request : Request) (limit : ℕ) (head : Ans
 unfolding named_after
 named_answered times request limit head last digest body old mid new k reach is le same steady small all unbroken = reached_answered times request (named_reading limit) named_reply head last limit body reach (at_digest limit digest head is) le same steady small all unbroken (said _ (ap (read_named (record { url = last.url; answer = answer_of head body })) is))
 
-pub named_long : (times : ℕ) (request : Request) (limit : ℕ) (head : AnswerHead) (last : Request) (digest : List ℕ) (old mid new : Link) (k : Memory) → Reaches times request head last old mid → header_digest head.headers ≡ Ok (Some digest) → mid.faults ≤ new.faults → new.told ≡ mid.told → Steady mid new → ((rest : List ℕ) → mid.rest ≡ Some rest → limit < length rest)
+pub named_long : (times : ℕ) (request : Request) (limit : ℕ) (head : AnswerHead) (last : Request) (digest : List ℕ) (old mid new : Link) (k : Memory) → Reaches times request head last old mid → header_digest head.headers ≡ Ok (Some digest) → mid.faults ≤ new.faults → new.told ≡ mid.told → Steady mid new → TakesPast limit mid new
     → Meets is_memory (named_after times request limit) old new k k (Err refusal.BodyTooLong)
 unfolding named_after
 named_long times request limit head last digest old mid new k reach is le same steady long = reached_long times request (named_reading limit) named_reply head last limit reach (at_digest limit digest head is) le same steady long (Meets-err is_memory new k refusal.BodyTooLong refl)

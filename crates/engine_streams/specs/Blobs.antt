@@ -1,7 +1,7 @@
 -- A blob whose bytes are left to be taken, in the words of the OCI distribution specification ("Pulling blobs").
-use Rattle.std.specs.Prelude.{◌≡◌, ◌≤◌, ◌<◌, ◌⊎◌, ℕ, true, List, [], ◌∷◌, length, Option, Some, None, Result, Ok, Err}
+use Rattle.std.specs.Prelude.{◌≡◌, ◌≤◌, ◌⊎◌, ℕ, true, List, [], ◌∷◌, length, Option, Some, None, Result, Ok, Err}
 use Rattle.json_values.specs.Counts.{Rose}
-use Rattle.oci_transport.specs.Link.{Link, answer_of, EndsUnbroken}
+use Rattle.oci_transport.specs.Link.{Link, answer_of, EndsUnbroken, TakesPast}
 use Rattle.oci_transport.specs.declared.message.AnswerHead.{AnswerHead}
 use Rattle.oci_transport.specs.declared.message.Method.TheVariants.{Get}
 use Rattle.oci_transport.specs.declared.message.Request.{Request}
@@ -101,6 +101,6 @@ abbrev pub Refuses : ℕ → List ℕ → AnswerHead → Link → Link → OciDi
 Refuses limit url head old new e =
     (is_memory e ≡ true)
     ⊎ ((e ≡ refusal.TransportFault) × Rose old.faults new.faults)
-    ⊎ ((e ≡ refusal.BodyTooLong) × ((rest : List ℕ) → old.rest ≡ Some rest → limit < length rest))
+    ⊎ ((e ≡ refusal.BodyTooLong) × TakesPast limit old new)
     ⊎ ((body : List ℕ) × (length body ≤ limit) × ((rest : List ℕ) → old.rest ≡ Some rest → body ≡ rest)
     × EndsUnbroken old new × (e ≡ refused_answer 200 url (answer_of head body)))

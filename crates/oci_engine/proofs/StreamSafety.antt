@@ -14,7 +14,7 @@ use Rattle.oci_auth.specs.declared.memory.Memory.{Memory}
 use Rattle.oci_auth.specs.declared.token_type.RegistryOperation.{RegistryOperation}
 use Rattle.oci_auth.specs.declared.token_type.RegistryOperation.TheVariants.{Pull}
 use Rattle.oci_auth.specs.declared.token_type.RegistryTokenType.{RegistryTokenType}
-use Rattle.oci_protocol.specs.Proto.{Reply, Headed, Answered, Failed, TooLong, SinkFailed, Proto, Done, Ask, Recall, Keep, unless_refused, ◌>>=◌}
+use Rattle.oci_protocol.specs.Proto.{Reply, Headed, Answered, Failed, TooLong, SinkFailed, Proto, Done, Ask, Recall, Keep, Consult, unless_refused, ◌>>=◌}
 use Rattle.oci_protocol.specs.Ends.{Ends}
 use Rattle.oci_protocol.specs.Safe.{Safe}
 use Rattle.oci_protocol.proofs.Ends.{Ends-any, Ends-bind}
@@ -129,6 +129,7 @@ Safe-both P I Q E (Done a) k seen s e = (s, e)
 Safe-both P I Q E (Ask request reading next) k seen s e = (s.0, λ x before after reply replies. Safe-both P I Q E (next reply) k (seen ++ x ∷ []) (s.1 x before after reply replies) (e reply))
 Safe-both P I Q E (Recall next) k seen s e = Safe-both P I Q E (next k) k seen s (e k)
 Safe-both P I Q E (Keep kept rest) k seen s e = (s.0, Safe-both P I Q E rest kept seen s.1 e)
+Safe-both P I Q E (Consult next) k seen s e = λ said. Safe-both P I Q E (next said) k seen (s said) (e said)
 
 abbrev IfRoom : Result Request OciDistributionError → Type 0
 IfRoom (Ok request) = HasRoom request

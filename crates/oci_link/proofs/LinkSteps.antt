@@ -3,7 +3,7 @@ use Rattle.std.proofs.Common.{◌≡◌, ℕ, zero, suc, ◌+◌, ◌<◌, ◌�
 use Rattle.std.specs.Prelude.{min, nat_lt}
 use Rattle.std.proofs.lemmas.Bool.Decides.{nat_tests}
 use Rattle.std.proofs.lemmas.List.{take_all, drop-drop}
-use Rattle.oci_transport.specs.Link.{Link, Answering, NeverFails, Steady, Extends, Answers, AddsAtMost, Takes, answer_of, EndsUnbroken}
+use Rattle.oci_transport.specs.Link.{Link, Answering, NeverFails, Steady, Extends, Answers, AddsAtMost, Takes, answer_of, EndsUnbroken, StaysUnbroken}
 use Rattle.oci_transport.specs.declared.message.Request.{Request}
 use Rattle.oci_transport.specs.declared.message.Answer.{Answer}
 use Rattle.oci_transport.specs.declared.message.AnswerHead.{AnswerHead}
@@ -66,9 +66,10 @@ drop_further : (given n : ℕ) (body : List ℕ) → drop (given + n) body ≡ d
 drop_further given n body = sym (drop-drop n given body)
 
 -- a front of what is left was given
-pub takes : (body piece : List ℕ) (given : ℕ) (old new : Link) → old.rest ≡ Some (drop given body) → new.rest ≡ Some (drop (given + length piece) body) → piece ≡ take 65536 (drop given body) → EndsUnbroken old new → Takes piece old new
-takes body piece given old new was now is unbroken = record {
-  unbroken = λ none. unbroken;
+pub takes : (body piece : List ℕ) (given : ℕ) (old new : Link) → old.rest ≡ Some (drop given body) → new.rest ≡ Some (drop (given + length piece) body) → piece ≡ take 65536 (drop given body) → EndsUnbroken old new → StaysUnbroken old new → Takes piece old new
+takes body piece given old new was now is ends unbroken = record {
+  ends = λ none. ends;
+  unbroken = unbroken;
   front = λ rest h.
       let same : drop given body ≡ rest = some_is _ _ (sym was ∙ h) in
       let parts : rest ≡ piece ++ drop (length piece) rest = subst (λ r. r ≡ piece ++ drop (length piece) r) same (subst (λ p. drop given body ≡ p ++ drop (length p) (drop given body)) (sym is) (cut 65536 (drop given body))) in (

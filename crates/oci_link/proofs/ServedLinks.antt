@@ -1,9 +1,11 @@
 -- What the transports of a shelf show after a step of what they serve.
-use Rattle.std.proofs.Common.{◌≡◌, ℕ, ◌+◌, Bool, true, false, ◌||◌, not, ◌==◌, List, [], ◌∷◌, length, take, drop, Some, None, refl, sym, ap, subst, ◌∙◌, arith}
+use Rattle.std.proofs.Common.{◌≡◌, ℕ, ◌+◌, ◌<◌, Bool, true, false, ◌||◌, not, ◌==◌, List, [], ◌∷◌, length, take, drop, Some, None, refl, sym, ap, subst, ◌∙◌, arith}
 use Rattle.std.proofs.lemmas.Bool.Decides.{nat_tests}
-use Rattle.oci_transport.specs.Link.{Link, EndsUnbroken, Answering, NeverFails, Steady, Answers, AddsUnanswered, LeavesRest, Takes}
+use Rattle.oci_transport.specs.Link.{Link, BreaksOff, Answering, NeverFails, Steady, Answers, AddsUnanswered, LeavesRest, Takes}
 use Rattle.oci_transport.specs.declared.message.Request.{Request}
+use Rattle.oci_transport.specs.declared.message.Answer.{Answer}
 use Rattle.oci_transport.specs.declared.message.AnswerHead.{AnswerHead}
+use Rattle.oci_transport.specs.declared.message.Exchange.{Exchange}
 use Rattle.oci_link.specs.Served.{IsAnswered, IsUnanswered, GivesPiece}
 use Rattle.oci_link.specs.State.{answering, failing, is_among, link_of}
 use Rattle.oci_link.specs.Table.{answer}
@@ -56,22 +58,23 @@ pub stays : (a b : Answering) (faults raised : ℕ) (old new : Served) → b ≡
 stays a b faults raised old new same quiet = same_table a (link_of old faults a) (link_of new raised b) refl (ap Some same) quiet
 
 -- no body breaks off
-pub whole_bodies : (shelf : Shelf) (place : ℕ) → (answering shelf).breaks place ≡ false
+pub whole_bodies : (shelf : Shelf) (place : ℕ) → (answering shelf).breaks place ≡ None
 unfolding answering
 whole_bodies shelf place = refl
 
-pub bodies_unknown : (shelf : Shelf) (sends pieces : List ℕ) (place : ℕ) → (failing shelf sends pieces).breaks place ≡ false
+pub bodies_unknown : (shelf : Shelf) (sends pieces : List ℕ) (place : ℕ) → (failing shelf sends pieces).breaks place ≡ None
 unfolding failing
 bodies_unknown shelf sends pieces place = refl
 
-unbroken : (a : Answering) (faults : ℕ) (old : Served) (new : Link) → ((place : ℕ) → a.breaks place ≡ false) → EndsUnbroken (link_of old faults a) new
-unbroken a faults old new never t before e by told breaks =
-    let same : a ≡ t = cc by in
-    let here : a.breaks (length before) ≡ true = ap (λ (x : Answering). x.breaks (length before)) same ∙ breaks in
-    absurd (cc (sym (never (length before)) ∙ here))
+unbroken : (a : Answering) (faults : ℕ) (old : Served) → ((place : ℕ) → a.breaks place ≡ None) → (e : Exchange) (answer : Answer) (bytes : ℕ) → BreaksOff e answer bytes (link_of old faults a) → ⊥
+unbroken a faults old never e answer bytes b =
+    let same : a ≡ b.table = cc b.answers in
+    let here : a.breaks (length b.before) ≡ Some bytes = ap (λ (x : Answering). x.breaks (length b.before)) same ∙ b.breaks in
+    let some : Some bytes ≡ None = sym here ∙ never (length b.before) in
+    cc some
 
-pub gives : (a b : Answering) (faults : ℕ) (old new : Served) (piece : List ℕ) → ((place : ℕ) → a.breaks place ≡ false) → GivesPiece piece old new → Takes piece (link_of old faults a) (link_of new faults b)
-gives a b faults old new piece never step = takes old.body piece old.given (link_of old faults a) (link_of new faults b) refl (ap Some (ap (λ n. drop n new.body) step.given ∙ ap (drop (old.given + length piece)) step.body)) step.piece_is (unbroken a faults old (link_of new faults b) never)
+pub gives : (a b : Answering) (faults : ℕ) (old new : Served) (piece : List ℕ) → ((place : ℕ) → a.breaks place ≡ None) → GivesPiece piece old new → Takes piece (link_of old faults a) (link_of new faults b)
+gives a b faults old new piece never step = takes old.body piece old.given (link_of old faults a) (link_of new faults b) refl (ap Some (ap (λ n. drop n new.body) step.given ∙ ap (drop (old.given + length piece)) step.body)) step.piece_is (λ e answer bytes is. absurd (unbroken a faults old never e answer bytes is)) (λ e answer bytes is past. absurd (unbroken a faults old never e answer bytes is))
 
 some_is : {A : Type 0} (x y : A) → Some x ≡ Some y → x ≡ y
 some_is x y h = cc h

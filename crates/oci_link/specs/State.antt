@@ -13,7 +13,7 @@ unfoldable pub answering : Shelf → Answering
 answering shelf = record {
   answer = λ place request. Some (answer shelf request);
   fails = λ place. false;
-  breaks = λ place. false;
+  breaks = λ place. None;
 }
 
 abbrev pub is_among : ℕ → List ℕ → Bool
@@ -25,7 +25,7 @@ unfoldable pub failing : Shelf → List ℕ → List ℕ → Answering
 failing shelf sends pieces = record {
   answer = λ place request. if is_among place sends then None else Some (answer shelf request);
   fails = λ place. is_among place sends || not (length pieces == 0);
-  breaks = λ place. false;
+  breaks = λ place. None;
 }
 
 -- what is told, and what is left of the last body

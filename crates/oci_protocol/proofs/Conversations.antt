@@ -2,16 +2,11 @@
 use Rattle.std.proofs.Common.{◌≡◌, ◌+◌, ℕ, suc, List, [], ◌∷◌, ◌++◌, Some, None, length, length-append, refl, sym, ◌∙◌, ap, subst, append_assoc, append-nil, arith}
 use Rattle.oci_transport.specs.Link.{Link, Answering, AnsweredBy, Steady, Extends}
 use Rattle.oci_transport.specs.declared.message.Exchange.{Exchange}
+pub use Rattle.oci_transport.proofs.TakenBytes.{Steady-more}
 
 -- what stays as it is is steady
 pub Steady-none : (link : Link) → Steady link link
 Steady-none link = record { steady = λ a h. h; quiet = λ a h quiet. refl }
-
-pub Steady-more : (a b c : Link) → Steady a b → Steady b c → Steady a c
-Steady-more a b c first second = record {
-  steady = λ t h. second.steady t (first.steady t h);
-  quiet = λ t h quiet. second.quiet t (first.steady t h) quiet ∙ first.quiet t h quiet;
-}
 
 pub AnsweredBy-append : (t : Answering) (place : ℕ) (x y : List Exchange) → AnsweredBy t place x → AnsweredBy t (place + length x) y → AnsweredBy t place (x ++ y)
 AnsweredBy-append t place [] y first second = subst (λ n. AnsweredBy t n y) (omega arith) second

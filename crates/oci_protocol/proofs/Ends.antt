@@ -2,7 +2,7 @@ use Rattle.std.proofs.Common.{ℕ, Bool, true, false, List, [], ◌∷◌, Resul
 use Rattle.std.specs.Prelude.{MatchBool}
 use Rattle.oci_transport.specs.Link.{Link}
 use Rattle.oci_transport.specs.declared.message.Exchange.{Exchange}
-use Rattle.oci_protocol.specs.Proto.{Proto, Done, Ask, Recall, Keep, bind, unless_refused, ◌>>=◌}
+use Rattle.oci_protocol.specs.Proto.{Proto, Done, Ask, Recall, Keep, Consult, bind, unless_refused, ◌>>=◌}
 use Rattle.oci_protocol.specs.Runs.{Runs, Performs, Breaks, Outcome, Meets}
 use Rattle.oci_protocol.specs.Ends.{Ends, OnAnswer, UnlessMemory}
 
@@ -13,6 +13,7 @@ Ends-any Q (Done a) all = all a
 Ends-any Q (Ask request reading next) all = λ reply. Ends-any Q (next reply) all
 Ends-any Q (Recall next) all = λ k. Ends-any Q (next k) all
 Ends-any Q (Keep kept rest) all = Ends-any Q rest all
+Ends-any Q (Consult next) all = λ said. Ends-any Q (next said) all
 
 pub Ends-bind : {K A B : Type 0} (P : A → Type 0) (Q : B → Type 0) (p : Proto K A) (f : A → Proto K B) → Ends P p → ((a : A) → P a → Ends Q (f a)) → Ends Q (bind p f)
 unfolding Ends bind
@@ -20,6 +21,7 @@ Ends-bind P Q (Done a) f h each = each a h
 Ends-bind P Q (Ask request reading next) f h each = λ reply. Ends-bind P Q (next reply) f (h reply) each
 Ends-bind P Q (Recall next) f h each = λ k. Ends-bind P Q (next k) f (h k) each
 Ends-bind P Q (Keep kept rest) f h each = Ends-bind P Q rest f h each
+Ends-bind P Q (Consult next) f h each = λ said. Ends-bind P Q (next said) f (h said) each
 
 unless : {K A B E : Type 0} (P : A → Type 0) (Q : B → Type 0) (f : A → Proto K (Result B E)) → ((a : A) → P a → Ends (OnAnswer Q) (f a)) → (r : Result A E) → OnAnswer P r → Ends (OnAnswer Q) (unless_refused f r)
 unfolding Ends
@@ -38,6 +40,7 @@ Runs-ends Q (Ask request reading next) k l m n [] a h r = absurd r
 Runs-ends Q (Ask request reading next) k l m n (e ∷ c) a h r = Runs-ends Q (next r.1) k l r.0 n c a (h r.1) r.3
 Runs-ends Q (Recall next) k l m n c a h r = Runs-ends Q (next k) k l m n c a (h k) r
 Runs-ends Q (Keep kept rest) k l m n c a h r = Runs-ends Q rest kept l m n c a h r
+Runs-ends Q (Consult next) k l m n c a h r = Runs-ends Q (next r.0) k l m n c a (h r.0) r.1
 
 -- so it is of a call's result
 pub Meets-ends : {K A E : Type 0} {of_memory : E → Bool} (Q : Result A E → Type 0) {p : Proto K (Result A E)} {old new : Link} {k l : K} {r : Result A E} → Ends Q p → Meets of_memory p old new k l r → UnlessMemory of_memory Q r
@@ -60,3 +63,4 @@ Ends-more P Q (Done a) h each = each a h
 Ends-more P Q (Ask request reading next) h each = λ reply. Ends-more P Q (next reply) (h reply) each
 Ends-more P Q (Recall next) h each = λ k. Ends-more P Q (next k) (h k) each
 Ends-more P Q (Keep kept rest) h each = Ends-more P Q rest h each
+Ends-more P Q (Consult next) h each = λ said. Ends-more P Q (next said) (h said) each

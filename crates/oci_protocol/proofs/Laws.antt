@@ -1,11 +1,11 @@
-use Rattle.std.proofs.Common.{◌≡◌, ◌≤◌, ◌+◌, inl, inr, ℕ, suc, Bool, true, false, List, [], ◌∷◌, ◌++◌, Result, Ok, Err, length, length-append, refl, subst, arith}
+use Rattle.std.proofs.Common.{◌≡◌, ◌≤◌, ◌+◌, inl, inr, ℕ, suc, Bool, true, false, List, [], ◌∷◌, ◌++◌, Option, None, Result, Ok, Err, length, length-append, refl, subst, arith}
 use Rattle.std.specs.Prelude.{MatchBool}
 use Rattle.oci_transport.specs.Link.{Link, Answering, IsAtMost, AddsAtMost}
 use Rattle.oci_protocol.proofs.Conversations.{Extends-more, Extends-none}
 use Rattle.oci_transport.specs.declared.message.Request.{Request}
 use Rattle.oci_transport.specs.declared.message.AnswerHead.{AnswerHead}
 use Rattle.oci_transport.specs.declared.message.Exchange.{Exchange}
-use Rattle.oci_protocol.specs.Proto.{Reading, Reply, Proto, Done, Ask, Recall, Keep, bind, unless_refused, ◌>>=◌}
+use Rattle.oci_protocol.specs.Proto.{Reading, Reply, Proto, Done, Ask, Recall, Keep, Consult, bind, unless_refused, ◌>>=◌}
 use Rattle.oci_protocol.specs.Runs.{Hears, Runs, RunsBy, Stops, Performs, Breaks, Outcome, Meets}
 
 -- a run of one protocol and a run of the one that its answer gives are a run of both
@@ -17,6 +17,7 @@ Runs-bind (Ask request reading next) f k l j m n o [] d a b r s = absurd r
 Runs-bind (Ask request reading next) f k l j m n o (e ∷ c) d a b r s = (r.0, r.1, r.2, Runs-bind (next r.1) f k l j r.0 n o c d a b r.3 s)
 Runs-bind (Recall next) f k l j m n o c d a b r s = Runs-bind (next k) f k l j m n o c d a b r s
 Runs-bind (Keep kept rest) f k l j m n o c d a b r s = Runs-bind rest f kept l j m n o c d a b r s
+Runs-bind (Consult next) f k l j m n o c d a b r s = (r.0, Runs-bind (next r.0) f k l j m n o c d a b r.1 s)
 
 -- the same by what is answered
 pub RunsBy-bind : {K A B : Type 0} (t : Answering) (place : ℕ) (p : Proto K A) (f : A → Proto K B) (k l j : K) (m n o : ℕ) (c d : List Exchange) (a : A) (b : B) → RunsBy t place p k m c n l a → RunsBy t (place + length c) (f a) l n d o j b → RunsBy t place (bind p f) k m (c ++ d) o j b
@@ -27,6 +28,7 @@ RunsBy-bind t place (Ask request reading next) f k l j m n o [] d a b r s = absu
 RunsBy-bind t place (Ask request reading next) f k l j m n o (e ∷ c) d a b r s = (r.0, r.1, r.2, r.3, RunsBy-bind t (suc place) (next r.1) f k l j r.0 n o c d a b r.4 (subst (λ q. RunsBy t q (f a) l n d o j b) (omega arith) s))
 RunsBy-bind t place (Recall next) f k l j m n o c d a b r s = RunsBy-bind t place (next k) f k l j m n o c d a b r s
 RunsBy-bind t place (Keep kept rest) f k l j m n o c d a b r s = RunsBy-bind t place rest f kept l j m n o c d a b r s
+RunsBy-bind t place (Consult next) f k l j m n o c d a b r s = (r.0, RunsBy-bind t place (next r.0) f k l j m n o c d a b r.1 s)
 
 -- and it is a run
 pub RunsBy-runs : {K A : Type 0} (t : Answering) (place : ℕ) (p : Proto K A) (k l : K) (m n : ℕ) (c : List Exchange) (a : A) → RunsBy t place p k m c n l a → Runs p k m c n l a
@@ -37,6 +39,7 @@ RunsBy-runs t place (Ask request reading next) k l m n [] a r = absurd r
 RunsBy-runs t place (Ask request reading next) k l m n (e ∷ c) a r = (r.0, r.1, r.2, RunsBy-runs t (suc place) (next r.1) k l r.0 n c a r.4)
 RunsBy-runs t place (Recall next) k l m n c a r = RunsBy-runs t place (next k) k l m n c a r
 RunsBy-runs t place (Keep kept rest) k l m n c a r = RunsBy-runs t place rest kept l m n c a r
+RunsBy-runs t place (Consult next) k l m n c a r = (r.0, RunsBy-runs t place (next r.0) k l m n c a r.1)
 
 -- nothing was done yet
 pub Stops-start : {K A : Type 0} (p : Proto K A) (k : K) (m : ℕ) → Stops p k m [] k
@@ -45,6 +48,7 @@ Stops-start (Done x) k m = refl
 Stops-start (Ask request reading next) k m = refl
 Stops-start (Recall next) k m = Stops-start (next k) k m
 Stops-start (Keep kept rest) k m = inl (refl, refl)
+Stops-start (Consult next) k m = (None, Stops-start (next None) k m)
 
 -- a front of the first part is a front of both
 pub Stops-first : {K A B : Type 0} (p : Proto K A) (f : A → Proto K B) (k l : K) (m : ℕ) (c : List Exchange) → Stops p k m c l → Stops (bind p f) k m c l
@@ -57,6 +61,7 @@ Stops-first (Ask request reading next) f k l m (e ∷ c) (inr s) = inr (s.0, s.1
 Stops-first (Recall next) f k l m c s = Stops-first (next k) f k l m c s
 Stops-first (Keep kept rest) f k l m c (inl s) = inl s
 Stops-first (Keep kept rest) f k l m c (inr s) = inr (Stops-first rest f kept l m c s)
+Stops-first (Consult next) f k l m c s = (s.0, Stops-first (next s.0) f k l m c s.1)
 
 -- a run of the first part and a front of what its answer gives are a front of both
 pub Stops-second : {K A B : Type 0} (p : Proto K A) (f : A → Proto K B) (k l j : K) (m n : ℕ) (c d : List Exchange) (a : A) → Runs p k m c n l a → Stops (f a) l n d j → Stops (bind p f) k m (c ++ d) j
@@ -67,6 +72,7 @@ Stops-second (Ask request reading next) f k l j m n [] d a r s = absurd r
 Stops-second (Ask request reading next) f k l j m n (e ∷ c) d a r s = inr (r.0, r.1, r.2, Stops-second (next r.1) f k l j r.0 n c d a r.3 s)
 Stops-second (Recall next) f k l j m n c d a r s = Stops-second (next k) f k l j m n c d a r s
 Stops-second (Keep kept rest) f k l j m n c d a r s = inr (Stops-second rest f kept l j m n c d a r s)
+Stops-second (Consult next) f k l j m n c d a r s = (r.0, Stops-second (next r.0) f k l j m n c d a r.1 s)
 
 -- the count of faults never falls in a run
 pub Runs-count : {K A : Type 0} (p : Proto K A) (k l : K) (m n : ℕ) (c : List Exchange) (a : A) → Runs p k m c n l a → m ≤ n
@@ -77,6 +83,7 @@ Runs-count (Ask request reading next) k l m n [] a r = absurd r
 Runs-count (Ask request reading next) k l m n (e ∷ c) a r = omega (arith, r.2.count, Runs-count (next r.1) k l r.0 n c a r.3)
 Runs-count (Recall next) k l m n c a r = Runs-count (next k) k l m n c a r
 Runs-count (Keep kept rest) k l m n c a r = Runs-count rest kept l m n c a r
+Runs-count (Consult next) k l m n c a r = Runs-count (next r.0) k l m n c a r.1
 
 -- what needs no request
 pub Performs-done : {K A : Type 0} (link : Link) (k : K) (a : A) → Performs (Done a) link link k k a
@@ -176,6 +183,20 @@ breaks-keep kept rest h = record { conversation = h.conversation; told = h.told;
 pub Meets-keep : {K A E : Type 0} {of_memory : E → Bool} (kept : K) (rest : Proto K (Result A E)) {old new : Link} {k l : K} {r : Result A E} → Meets of_memory rest old new kept l r → Meets of_memory (Keep kept rest) old new k l r
 Meets-keep {of_memory} kept rest {old} {new} {k} {l} {r} met = record {
   outcome = outcome_by of_memory rest (Keep kept rest) old old new k kept l (λ x h. performs-keep kept rest h) (λ h. breaks-keep kept rest h) r met.outcome;
+}
+
+performs-consult : {K A : Type 0} (next : Option (List ℕ) → Proto K A) (said : Option (List ℕ)) {old new : Link} {k l : K} {x : A} → Performs (next said) old new k l x → Performs (Consult next) old new k l x
+unfolding Runs RunsBy
+performs-consult next said h = record { conversation = h.conversation; told = h.told; runs = (said, h.runs); runs_by = λ t before by told. (said, h.runs_by t before by told) }
+
+breaks-consult : {K A : Type 0} (next : Option (List ℕ) → Proto K A) (said : Option (List ℕ)) {old new : Link} {k l : K} → Breaks (next said) old new k l → Breaks (Consult next) old new k l
+unfolding Stops
+breaks-consult next said h = record { conversation = h.conversation; told = h.told; stops = (said, h.stops); count = h.count }
+
+-- this is said from outside
+pub Meets-consult : {K A E : Type 0} {of_memory : E → Bool} (next : Option (List ℕ) → Proto K (Result A E)) (said : Option (List ℕ)) {old new : Link} {k l : K} {r : Result A E} → Meets of_memory (next said) old new k l r → Meets of_memory (Consult next) old new k l r
+Meets-consult {of_memory} next said {old} {new} {k} {l} {r} rest = record {
+  outcome = outcome_by of_memory (next said) (Consult next) old old new k k l (λ x h. performs-consult next said h) (λ h. breaks-consult next said h) r rest.outcome;
 }
 
 performs-ask : {K A : Type 0} {request : Request} {reading : AnswerHead → Reading} (next : Reply → Proto K A) {old mid new : Link} {k l : K} {reply : Reply} {x : A} → Hears request reading old mid reply → Performs (next reply) mid new k l x → Performs (Ask request reading next) old new k l x

@@ -1,6 +1,6 @@
 use Rattle.std.proofs.Common.{◌≡◌, ℕ, List, [], ◌∷◌, ◌++◌, Result, Ok, Err, refl, ap}
 use Rattle.oci_transport.specs.declared.message.Exchange.{Exchange}
-use Rattle.oci_protocol.specs.Proto.{Proto, Done, Ask, Recall, Keep, bind, unless_refused, ◌>>=◌}
+use Rattle.oci_protocol.specs.Proto.{Proto, Done, Ask, Recall, Keep, Consult, bind, unless_refused, ◌>>=◌}
 use Rattle.oci_protocol.specs.Runs.{Runs}
 
 -- a run of two parts in turn
@@ -28,6 +28,9 @@ Runs-parts (Recall next) f k m c n j b r =
 Runs-parts (Keep kept rest) f k m c n j b r =
     let parts = Runs-parts rest f kept m c n j b r in
     record { first = parts.first; second = parts.second; joined = parts.joined; between = parts.between; count = parts.count; answer = parts.answer; runs_first = parts.runs_first; runs_second = parts.runs_second }
+Runs-parts (Consult next) f k m c n j b r =
+    let parts = Runs-parts (next r.0) f k m c n j b r.1 in
+    record { first = parts.first; second = parts.second; joined = parts.joined; between = parts.between; count = parts.count; answer = parts.answer; runs_first = (r.0, parts.runs_first); runs_second = parts.runs_second }
 
 -- a run of two parts in turn, neither refused
 pub record OkParts {K A B E : Type 0} (p : Proto K (Result A E)) (f : A → Proto K (Result B E)) (k : K) (m : ℕ) (c : List Exchange) (n : ℕ) (j : K) (b : B) : Type 0 where

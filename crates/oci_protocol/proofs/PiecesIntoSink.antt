@@ -1,7 +1,8 @@
 use Rattle.std.proofs.Common.{◌≡◌, ◌<◌, ◌≤◌, ◌+◌, ◌-◌, ℕ, List, [], ◌++◌, Option, Some, length, length-append, refl, sym, ap, subst, ◌∙◌, append-nil, append_assoc, arith}
 use Rattle.std.proofs.lemmas.List.{nil_from_length}
-use Rattle.oci_transport.specs.Link.{Link, Steady, HasTaken, Takes}
-use Rattle.oci_protocol.proofs.Conversations.{Steady-none, Steady-more}
+use Rattle.oci_transport.specs.Link.{Link, Steady, Takes, TakesPast}
+use Rattle.oci_transport.proofs.TakenBytes.{taken_more, taken_ends, taken_past}
+use Rattle.oci_protocol.proofs.Conversations.{Steady-none}
 use Rattle.json_values.specs.Tray.{Tray, Adds, AddsFront}
 use Rattle.json_values.proofs.Sinks.{adds_none, adds_more}
 use Rattle.oci_digests.specs.declared.digester.Algorithm.{Algorithm}
@@ -26,22 +27,6 @@ poured_none limit ds link tray = record {
     count = omega arith;
     hashed = λ a b h. h;
   };
-}
-
--- the bytes of the piece were taken
-pub takes_as : {bytes piece : List ℕ} {old new : Link} → bytes ≡ piece → Takes piece old new → Takes bytes old new
-takes_as {bytes} {piece} {old} {new} is takes = subst (λ p. Takes p old new) (sym is) takes
-
--- a piece was taken
-taken_more : (bytes piece : List ℕ) (old mid new : Link) → HasTaken bytes old mid → new.told ≡ mid.told → Steady mid new → mid.faults ≤ new.faults → Takes piece mid new → HasTaken (bytes ++ piece) old new
-taken_more bytes piece old mid new so told steady count takes = record {
-  told = told ∙ so.told;
-  count = omega (arith, so.count);
-  stays = Steady-more old mid new so.stays steady;
-  front = λ rest h.
-      let first = so.front rest h in
-      let next = takes.front first.0 first.2 in
-      (next.0, first.1 ∙ ap (λ (r : List ℕ). bytes ++ r) next.1 ∙ sym (append_assoc bytes piece next.0), next.2);
 }
 
 pub poured_more : (limit taken : ℕ) (piece : List ℕ) (from to' to : Digesters) (old mid new : Link) (before between after : Tray) → Poured limit taken from to' old mid before between
@@ -70,7 +55,7 @@ poured_whole limit taken piece from to old mid new before after p takes empty = 
       let first = p.so_far.taken.front rest h in
       let none : first.0 ≡ [] = (takes.front first.0 first.2).3 (nil_from_length piece empty) in
       sym (first.1 ∙ ap (λ (r : List ℕ). p.body ++ r) none ∙ append-nil p.body);
-  unbroken = λ t shown e by told breaks. takes.unbroken (nil_from_length piece empty) t shown e (p.so_far.taken.stays.steady t by) (p.so_far.taken.told ∙ told) breaks;
+  unbroken = taken_ends p.body piece old mid new p.so_far.taken takes empty;
   put = p.so_far.put;
   hashed = p.so_far.hashed;
 }
@@ -94,9 +79,5 @@ poured_part limit taken piece from to old mid new before between after p takes p
   put = adds_more p.body part.front before between after p.so_far.put part.added;
 }
 
-pub poured_long : (limit taken : ℕ) (piece : List ℕ) (from to : Digesters) (old mid new : Link) (before after : Tray) → Poured limit taken from to old mid before after → Takes piece mid new → limit - taken < length piece → (rest : List ℕ) → old.rest ≡ Some rest → limit < length rest
-poured_long limit taken piece from to old mid new before after p takes long rest h =
-    let first = p.so_far.taken.front rest h in
-    let next = takes.front first.0 first.2 in
-    let all : length rest ≡ length (p.body ++ (piece ++ next.0)) = ap length (first.1 ∙ ap (λ (r : List ℕ). p.body ++ r) next.1) in
-    omega (arith, all, length-append p.body (piece ++ next.0), length-append piece next.0, p.taken_is, p.small)
+pub poured_long : (limit taken : ℕ) (piece : List ℕ) (from to : Digesters) (old mid new : Link) (before after : Tray) → Poured limit taken from to old mid before after → Takes piece mid new → limit - taken < length piece → TakesPast limit old new
+poured_long limit taken piece from to old mid new before after p takes long = taken_past limit p.body piece old mid new p.so_far.taken (omega (arith, p.taken_is, p.small)) takes (omega (arith, p.taken_is, long))

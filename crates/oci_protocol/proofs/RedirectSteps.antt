@@ -1,13 +1,14 @@
-use Rattle.std.proofs.Common.{◌≡◌, ◌≤◌, ◌<◌, ◌+◌, inl, inr, ℕ, suc, zero, Bool, true, List, [], ◌∷◌, ◌++◌, Option, Some, None, Result, Err, length, length-append, replicate, refl, ap, subst, ◌∙◌, arith}
+use Rattle.std.proofs.Common.{◌≡◌, ◌≤◌, ◌<◌, ◌+◌, inl, inr, ℕ, suc, zero, Bool, true, List, [], ◌∷◌, ◌++◌, Option, Some, None, Result, Err, length, length-append, replicate, refl, sym, ap, subst, ◌∙◌, arith}
 use Rattle.std.proofs.lemmas.List.{length-replicate}
 use Rattle.json_values.specs.Counts.{Rose}
-use Rattle.oci_transport.specs.Link.{Link, Answering, Extends, AddsAtMost, Steady, EndsUnbroken, answer_of}
+use Rattle.oci_transport.specs.Link.{Link, Answering, Answers, Extends, AddsAtMost, Steady, BreaksOff, IsPast, EndsUnbroken, TakesPast, answer_of, exchange_of}
 use Rattle.oci_transport.specs.Redirects.{redirected}
 use Rattle.oci_transport.specs.declared.message.Request.{Request}
+use Rattle.oci_transport.specs.declared.message.Answer.{Answer}
 use Rattle.oci_transport.specs.declared.message.AnswerHead.{AnswerHead}
 use Rattle.oci_transport.specs.declared.message.Exchange.{Exchange}
 use Rattle.oci_protocol.specs.Proto.{Reading, Unread, Piped, limit_of, read_none, Reply, Headed, Answered, Failed, TooLong, SinkFailed, Proto}
-use Rattle.oci_protocol.specs.Runs.{Replies, Hears, Runs, RunsBy, Stops, Performs, Breaks, Meets}
+use Rattle.oci_protocol.specs.Runs.{head_part, IsUnbroken, Replies, Hears, Runs, RunsBy, Stops, Performs, Breaks, Meets}
 use Rattle.oci_protocol.specs.Follow.{unread_if, turned, turn, follow, reading_at, Trail, Follows, IsFinal, Reaches, Misses, Cuts}
 use Rattle.oci_protocol.proofs.Conversations.{Extends-more, Extends-still, Extends-untold, Steady-more}
 use Rattle.oci_protocol.proofs.Laws.{Meets-ask, Meets-cut, outcome_by}
@@ -109,6 +110,11 @@ reached_headed n request reading next head last {old} {new} reach unread rest = 
 limit_at : (left : ℕ) (last : Request) (reading : AnswerHead → Reading) (head : AnswerHead) (limit : ℕ) → IsFinal left last head → limit_of (reading head) ≡ Some limit → limit_of (reading_at left last reading head) ≡ Some limit
 limit_at left last reading head limit final is = ap limit_of (final_reading left last reading head final) ∙ is
 
+-- where the body of the answer breaks off
+breaks_at : (head : AnswerHead) (last : Request) (old mid : Link) (sent : Answers last head old mid) (t : Answering) (before : List Exchange) (bytes : ℕ) → old.answers ≡ Some t → old.told ≡ Some before → t.breaks (length before) ≡ Some bytes
+    → BreaksOff (exchange_of last (Some (answer_of head sent.body)) old) (answer_of head sent.body) bytes mid
+breaks_at head last old mid sent t before bytes by shown breaks = record { table = t; before = before; answers = sent.added.stays.steady t by; told = sent.added.told before shown; answered = sym (sent.added.table t before by shown).0; breaks = breaks }
+
 -- the body was read whole
 pub reached_answered : {K A E : Type 0} {of_memory : E → Bool} (n : ℕ) (request : Request) (reading : AnswerHead → Reading) (next : Request → Reply → Proto K (Result A E)) (head : AnswerHead) (last : Request) (limit : ℕ) (body : List ℕ) {old mid new end : Link} {k l : K} {r : Result A E}
     → Reaches n request head last old mid → limit_of (reading head) ≡ Some limit → mid.faults ≤ new.faults → new.told ≡ mid.told → Steady mid new → length body ≤ limit → ((rest : List ℕ) → mid.rest ≡ Some rest → body ≡ rest) → EndsUnbroken mid new
@@ -120,30 +126,54 @@ reached_answered n request reading next head last limit body {old} {mid} {new} r
         exchange = record { request = last; answer = Some (answer_of head body); faults = reach.mid.faults };
         told = told;
         replies = record { request_is = refl; faults_is = refl; count = omega (arith, reach.count); reply_is = (limit, refl, limit_at reach.left last reading head limit reach.final is, small) };
-        unbroken = λ t before by shown breaks. unbroken t before _ (reach.sent.added.stays.steady t by) (reach.sent.added.told before shown) breaks;
+        unbroken = λ t before by shown bytes breaks. unbroken _ _ bytes (breaks_at head last reach.mid mid reach.sent t before bytes by shown breaks);
       }
 
       by_told : (t : Option (List Exchange)) → reach.mid.told ≡ t → Hears last (reading_at reach.left last reading) reach.mid new (Answered (answer_of head body))
       by_told None none = hears (Extends-untold reach.mid new _ none (Steady-more reach.mid mid new reach.sent.added.stays steady))
       by_told (Some before) h = hears (rw (whole reach.sent.body (reach.sent.rest before h)) (Extends-still reach.mid mid new _ reach.sent.added same steady))
 
+-- a head has one limit
+one_limit : (read : AnswerHead → Reading) (head : AnswerHead) (body : List ℕ) (answer : Answer) (other limit : ℕ) → Some (answer_of head body) ≡ Some answer → limit_of (read (head_part answer)) ≡ Some other → limit_of (read head) ≡ Some limit → other ≡ limit
+one_limit read head body answer other limit is_answer is_other is_limit =
+    let same : answer_of head body ≡ answer = cc is_answer in
+    let found : limit_of (read head) ≡ Some other = ap (λ a. limit_of (read (head_part a))) same ∙ is_other in
+    let some : Some limit ≡ Some other = sym is_limit ∙ found in
+    cc some
+
+longer : (body : List ℕ) (limit : ℕ) (new : Link) → IsPast body limit new → limit < length body
+longer body limit new past = omega (arith, past.2)
+
 -- the body was longer than the limit
 pub reached_long : {K A E : Type 0} {of_memory : E → Bool} (n : ℕ) (request : Request) (reading : AnswerHead → Reading) (next : Request → Reply → Proto K (Result A E)) (head : AnswerHead) (last : Request) (limit : ℕ) {old mid new end : Link} {k l : K} {r : Result A E}
-    → Reaches n request head last old mid → limit_of (reading head) ≡ Some limit → mid.faults ≤ new.faults → new.told ≡ mid.told → Steady mid new → ((rest : List ℕ) → mid.rest ≡ Some rest → limit < length rest)
+    → Reaches n request head last old mid → limit_of (reading head) ≡ Some limit → mid.faults ≤ new.faults → new.told ≡ mid.told → Steady mid new → TakesPast limit mid new
     → Meets of_memory (next last TooLong) new end k l r → Meets of_memory (follow n request reading next) old end k l r
 reached_long n request reading next head last limit {old} {mid} {new} reach is le same steady long rest = follows_met n request reading next reach.left last old reach.mid reach.follows
     (follow_asked reach.left last reading next TooLong tt (by_told reach.mid.told refl) rest) where
-      hears : (body : List ℕ) → limit < length body → Extends reach.mid new (record { request = last; answer = Some (answer_of head body); faults = reach.mid.faults } ∷ []) → Hears last (reading_at reach.left last reading) reach.mid new TooLong
-      hears body h told = record {
+      read : AnswerHead → Reading
+      read = reading_at reach.left last reading
+
+      -- that of the last answer, as far as it is told
+      sent : Exchange
+      sent = exchange_of last (Some (answer_of head reach.sent.body)) reach.mid
+
+      passed : (t : Answering) (before : List Exchange) → reach.mid.answers ≡ Some t → reach.mid.told ≡ Some before → IsUnbroken t (length before) read sent new.faults TooLong
+      passed t before by shown answer other bytes is_answer is_limit breaks small =
+          let same : other ≡ limit = one_limit read head reach.sent.body answer other limit is_answer is_limit (limit_at reach.left last reading head limit reach.final is) in
+          let past = long.past reach.sent.body (reach.sent.rest before shown) in
+          long.unbroken _ _ bytes (breaks_at head last reach.mid mid reach.sent t before bytes by shown breaks) (past.0, past.1, omega (arith, small, same, past.2))
+
+      hears : (body : List ℕ) → limit < length body → Extends reach.mid new (exchange_of last (Some (answer_of head body)) reach.mid ∷ []) → ((t : Answering) (before : List Exchange) → reach.mid.answers ≡ Some t → reach.mid.told ≡ Some before → IsUnbroken t (length before) read (exchange_of last (Some (answer_of head body)) reach.mid) new.faults TooLong) → Hears last read reach.mid new TooLong
+      hears body h told unbroken = record {
         exchange = record { request = last; answer = Some (answer_of head body); faults = reach.mid.faults };
         told = told;
         replies = record { request_is = refl; faults_is = refl; count = omega (arith, reach.count); reply_is = (answer_of head body, limit, refl, limit_at reach.left last reading head limit reach.final is, h) };
-        unbroken = λ t before by shown. tt;
+        unbroken = unbroken;
       }
 
       by_told : (t : Option (List Exchange)) → reach.mid.told ≡ t → Hears last (reading_at reach.left last reading) reach.mid new TooLong
-      by_told None none = hears (replicate (limit + 1) 0) (omega (arith, length-replicate {A = ℕ} (limit + 1) 0)) (Extends-untold reach.mid new _ none (Steady-more reach.mid mid new reach.sent.added.stays steady))
-      by_told (Some before) h = hears reach.sent.body (long reach.sent.body (reach.sent.rest before h)) (Extends-still reach.mid mid new _ reach.sent.added same steady)
+      by_told None none = hears (replicate (limit + 1) 0) (omega (arith, length-replicate {A = ℕ} (limit + 1) 0)) (Extends-untold reach.mid new _ none (Steady-more reach.mid mid new reach.sent.added.stays steady)) (λ t before by shown. absurd (cc (none, shown)))
+      by_told (Some before) h = hears reach.sent.body (longer reach.sent.body limit new (long.past reach.sent.body (reach.sent.rest before h))) (Extends-still reach.mid mid new _ reach.sent.added same steady) passed
 
 -- a fault came while the body was read
 pub reached_failed : {K A E : Type 0} {of_memory : E → Bool} (n : ℕ) (request : Request) (reading : AnswerHead → Reading) (next : Request → Reply → Proto K (Result A E)) (head : AnswerHead) (last : Request) {old mid new end : Link} {k l : K} {r : Result A E}

@@ -1,11 +1,11 @@
 -- What each whole run of a protocol shows, by its parts.
-use Rattle.std.proofs.Common.{◌≡◌, ℕ, Bool, true, false, List, [], ◌∷◌, ◌++◌, Result, Ok, Err, IfOk, refl, sym, subst, ◌∙◌, append_assoc, append-nil}
+use Rattle.std.proofs.Common.{◌≡◌, ℕ, Bool, true, false, List, [], ◌∷◌, ◌++◌, Option, Result, Ok, Err, IfOk, refl, sym, subst, ◌∙◌, append_assoc, append-nil}
 use Rattle.std.specs.Prelude.{MatchBool}
 use Rattle.oci_transport.specs.Link.{Link}
 use Rattle.oci_transport.specs.declared.message.Request.{Request}
 use Rattle.oci_transport.specs.declared.message.AnswerHead.{AnswerHead}
 use Rattle.oci_transport.specs.declared.message.Exchange.{Exchange}
-use Rattle.oci_protocol.specs.Proto.{Reading, Reply, Proto, Done, Recall, Keep, bind, unless_refused, ◌>>=◌}
+use Rattle.oci_protocol.specs.Proto.{Reading, Reply, Proto, Done, Recall, Keep, Consult, bind, unless_refused, ◌>>=◌}
 use Rattle.oci_protocol.specs.Runs.{Runs, Performs, Breaks, Outcome, Meets, Told}
 use Rattle.oci_protocol.specs.Ends.{UnlessMemory}
 use Rattle.oci_protocol.specs.Follow.{follow}
@@ -74,6 +74,11 @@ Shows-recall Q next each = record { shows = λ k l m n c a r. (each k).shows k l
 pub Shows-keep : {K A : Type 0} (Q : ℕ → List Exchange → ℕ → A → Type 0) (kept : K) (rest : Proto K A) → Shows Q rest → Shows Q (Keep kept rest)
 unfolding Runs
 Shows-keep Q kept rest h = record { shows = λ k l m n c a r. h.shows kept l m n c a r }
+
+-- whatever is said from outside
+pub Shows-consult : {K A : Type 0} (Q : ℕ → List Exchange → ℕ → A → Type 0) (next : Option (List ℕ) → Proto K A) → ((said : Option (List ℕ)) → Shows Q (next said)) → Shows Q (Consult next)
+unfolding Runs
+Shows-consult Q next each = record { shows = λ k l m n c a r. (each r.0).shows k l m n c a r.1 }
 
 heard_of : {K A : Type 0} {n : ℕ} {request : Request} {reading : AnswerHead → Reading} {next : Request → Reply → Proto K A} {k : K} {m : ℕ} {c : List Exchange} {after : ℕ} {l : K} {a : A} (t : Trailed n request reading next k m c after l a) → Heard n request reading m (t.redirects ++ t.exchange ∷ []) t.count t.last t.reply
 heard_of t = record { redirects = t.redirects; exchange = t.exchange; split = refl; left = t.left; before = t.before; trail = t.trail; replies = t.replies; settles = t.settles }

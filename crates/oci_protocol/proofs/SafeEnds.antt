@@ -3,7 +3,7 @@ use Rattle.std.proofs.Common.{◌≡◌, inl, inr, ℕ, Bool, false, List, [], �
 use Rattle.oci_transport.specs.Link.{Link}
 use Rattle.oci_transport.specs.declared.message.Request.{Request}
 use Rattle.oci_transport.specs.declared.message.Exchange.{Exchange}
-use Rattle.oci_protocol.specs.Proto.{Proto, Done, Ask, Recall, Keep}
+use Rattle.oci_protocol.specs.Proto.{Proto, Done, Ask, Recall, Keep, Consult}
 use Rattle.oci_protocol.specs.Runs.{Runs, Stops, Performs, Meets, Told}
 use Rattle.oci_protocol.specs.Safe.{Safe}
 
@@ -16,6 +16,7 @@ Runs-ends-safe P I Q (Ask request reading next) k l m n seen [] a h r = absurd r
 Runs-ends-safe P I Q (Ask request reading next) k l m n seen (e ∷ c) a h r = subst (λ s. Q l s a) (append_assoc seen (e ∷ []) c) (Runs-ends-safe P I Q (next r.1) k l r.0 n (seen ++ e ∷ []) c a (h.1 e m r.0 r.1 r.2) r.3)
 Runs-ends-safe P I Q (Recall next) k l m n seen c a h r = Runs-ends-safe P I Q (next k) k l m n seen c a h r
 Runs-ends-safe P I Q (Keep kept rest) k l m n seen c a h r = Runs-ends-safe P I Q rest kept l m n seen c a h.1 r
+Runs-ends-safe P I Q (Consult next) k l m n seen c a h r = Runs-ends-safe P I Q (next r.0) k l m n seen c a (h r.0) r.1
 
 -- so it is of a call's answer
 pub Meets-ends-safe : {K A E : Type 0} {of_memory : E → Bool} (P : K → List Exchange → Request → Type 0) (I : K → List Exchange → Type 0) (Q : K → List Exchange → Result A E → Type 0) {p : Proto K (Result A E)} {old new : Link} {k l : K} {a : A}
@@ -51,6 +52,7 @@ Stops-kept P I Q (Ask request reading next) k l m before since (e ∷ c) i h (in
     let safe : Safe P I Q k (before ++ (since ++ e ∷ [])) (next s.1) = subst (λ seen. Safe P I Q k seen (next s.1)) (append_assoc before since (e ∷ [])) (h.1 e m s.0 s.1 s.2) in
     subst (KeptAfter I l) (ap (λ x. x ++ c) (sym (append_assoc before since (e ∷ []))) ∙ append_assoc (before ++ since) (e ∷ []) c) (Stops-kept P I Q (next s.1) k l s.0 before (since ++ e ∷ []) c i safe s.3)
 Stops-kept P I Q (Recall next) k l m before since c i h s = Stops-kept P I Q (next k) k l m before since c i h s
+Stops-kept P I Q (Consult next) k l m before since c i h s = Stops-kept P I Q (next s.0) k l m before since c i (h s.0) s.1
 Stops-kept P I Q (Keep kept rest) k l m before since c i h (inl s) = record { front = before; rest = since ++ c; split = append_assoc before since c; holds = rw (← s.1) i }
 Stops-kept P I Q (Keep kept rest) k l m before since c i h (inr s) =
     let safe : Safe P I Q kept ((before ++ since) ++ []) rest = subst (λ seen. Safe P I Q kept seen rest) (sym (append-nil (before ++ since))) h.1 in

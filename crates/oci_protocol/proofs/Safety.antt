@@ -5,7 +5,7 @@ use Rattle.oci_transport.specs.Redirects.{redirected}
 use Rattle.oci_transport.specs.declared.message.Request.{Request}
 use Rattle.oci_transport.specs.declared.message.AnswerHead.{AnswerHead}
 use Rattle.oci_transport.specs.declared.message.Exchange.{Exchange}
-use Rattle.oci_protocol.specs.Proto.{Reading, Reply, Headed, Answered, Failed, TooLong, SinkFailed, Proto, Done, Ask, Recall, Keep, bind, unless_refused, ◌>>=◌}
+use Rattle.oci_protocol.specs.Proto.{Reading, Reply, Headed, Answered, Failed, TooLong, SinkFailed, Proto, Done, Ask, Recall, Keep, Consult, bind, unless_refused, ◌>>=◌}
 use Rattle.oci_protocol.specs.Runs.{Replies, Runs, Stops, Performs, Breaks, Outcome, Meets, Told}
 use Rattle.oci_protocol.specs.Follow.{go_if, turn, turned, follow}
 use Rattle.oci_protocol.specs.Safe.{Safe, EachAfter}
@@ -18,6 +18,7 @@ Safe-bind P I R Q (Done a) f k seen h each = each k seen a h
 Safe-bind P I R Q (Ask request reading next) f k seen h each = (h.0, λ e before after reply r. Safe-bind P I R Q (next reply) f k (seen ++ e ∷ []) (h.1 e before after reply r) each)
 Safe-bind P I R Q (Recall next) f k seen h each = Safe-bind P I R Q (next k) f k seen h each
 Safe-bind P I R Q (Keep kept rest) f k seen h each = (h.0, Safe-bind P I R Q rest f kept seen h.1 each)
+Safe-bind P I R Q (Consult next) f k seen h each = λ said. Safe-bind P I R Q (next said) f k seen (h said) each
 
 -- what holds after a step, or after its refusal
 abbrev pub Either : {K A E : Type 0} → (K → List Exchange → A → Type 0) → (K → List Exchange → Type 0) → K → List Exchange → Result A E → Type 0
@@ -84,6 +85,7 @@ Runs-safe P I Q (Ask request reading next) k l m n seen (e ∷ c) a h r =
     record { each = (rw r.2.request_is h.0, rest.each); after = rw append_assoc at rest.after }
 Runs-safe P I Q (Recall next) k l m n seen c a h r = Runs-safe P I Q (next k) k l m n seen c a h r
 Runs-safe P I Q (Keep kept rest) k l m n seen c a h r = Runs-safe P I Q rest kept l m n seen c a h.1 r
+Runs-safe P I Q (Consult next) k l m n seen c a h r = Runs-safe P I Q (next r.0) k l m n seen c a (h r.0) r.1
 
 pub Stops-safe : {K A : Type 0} (P : List Exchange → Request → Type 0) (I : K → List Exchange → Type 0) (Q : K → List Exchange → A → Type 0) (p : Proto K A) (k l : K) (m : ℕ) (seen c : List Exchange) → Safe (λ k. P) I Q k seen p → Stops p k m c l → EachAfter P seen c
 unfolding Safe Stops
@@ -93,6 +95,7 @@ Stops-safe P I Q (Ask request reading next) k l m seen [] h s = tt
 Stops-safe P I Q (Ask request reading next) k l m seen (e ∷ c) h (inl s) = (rw s.0 h.0, rw s.2 tt)
 Stops-safe P I Q (Ask request reading next) k l m seen (e ∷ c) h (inr s) = (rw s.2.request_is h.0, Stops-safe P I Q (next s.1) k l s.0 (seen ++ e ∷ []) c (h.1 e m s.0 s.1 s.2) s.3)
 Stops-safe P I Q (Recall next) k l m seen c h s = Stops-safe P I Q (next k) k l m seen c h s
+Stops-safe P I Q (Consult next) k l m seen c h s = Stops-safe P I Q (next s.0) k l m seen c (h s.0) s.1
 Stops-safe P I Q (Keep kept rest) k l m seen [] h s = tt
 Stops-safe P I Q (Keep kept rest) k l m seen (e ∷ c) h (inl s) = absurd (cc (s.0))
 Stops-safe P I Q (Keep kept rest) k l m seen (e ∷ c) h (inr s) = Stops-safe P I Q rest kept l m seen (e ∷ c) h.1 s

@@ -8,7 +8,7 @@ use Rattle.oci_transport.specs.declared.message.Request.{Request}
 use Rattle.oci_transport.specs.declared.message.Answer.{Answer}
 use Rattle.oci_transport.specs.declared.message.AnswerHead.{AnswerHead}
 use Rattle.oci_transport.specs.declared.message.Exchange.{Exchange}
-use Rattle.oci_protocol.specs.Proto.{Reading, Unread, Within, Piped, limit_of, Reply, Headed, Answered, Failed, TooLong, SinkFailed, Proto, Done, Ask, Recall, Keep, bind, unless_refused, ◌>>=◌}
+use Rattle.oci_protocol.specs.Proto.{Reading, Unread, Within, Piped, limit_of, Reply, Headed, Answered, Failed, TooLong, SinkFailed, Proto, Done, Ask, Recall, Keep, Consult, bind, unless_refused, ◌>>=◌}
 use Rattle.oci_protocol.specs.Runs.{head_part, IsReply, Runs}
 use Rattle.oci_protocol.specs.Ends.{Ends}
 use Rattle.oci_protocol.specs.Follow.{unread_if, turned, go_if, turn, follow}
@@ -52,6 +52,7 @@ Runs-driven x t (Ask request reading next) place k l m n (e ∷ c) a spilt other
     ap (λ reply. driven t (next reply) (suc place) k) (sym reply) ∙ Runs-driven x t (next r.1) (suc place) k l r.0 n c a (spilt.1 r.1) other h.1 (omega arith) (omega arith) r.3 ∙ (λ i. record { place = here i; kept = l; answer = a })
 Runs-driven x t (Recall next) place k l m n c a spilt other h le lt r = Runs-driven x t (next k) place k l m n c a (spilt k) other h le lt r
 Runs-driven x t (Keep kept rest) place k l m n c a spilt other h le lt r = Runs-driven x t rest place kept l m n c a spilt other h le lt r
+Runs-driven x t (Consult next) place k l m n c a spilt other h le lt r = absurd spilt
 
 -- one part, and after it what its answer gives
 pub driven-bind : {K A B : Type 0} (t : Answering) (p : Proto K A) (f : A → Proto K B) (place : ℕ) (k : K) → driven t (bind p f) place k ≡ driven t (f (driven t p place k).answer) (driven t p place k).place (driven t p place k).kept
@@ -60,6 +61,7 @@ driven-bind t (Done a) f place k = refl
 driven-bind t (Ask request reading next) f place k = driven-bind t (next (reply_to reading (t.answer place request))) f (suc place) k
 driven-bind t (Recall next) f place k = driven-bind t (next k) f place k
 driven-bind t (Keep kept rest) f place k = driven-bind t rest f place kept
+driven-bind t (Consult next) f place k = driven-bind t (next None) f place k
 
 pub Drives-done : {K A E : Type 0} {t : Answering} {place : ℕ} {k : K} {a : A} → Drives {E = E} t (Done (Ok a)) place place k k a
 unfolding driven

@@ -1,10 +1,10 @@
 -- What is so of a protocol is so of it over more that is kept.
-use Rattle.std.proofs.Common.{◌≡◌, inl, inr, ℕ, suc, Bool, true, false, List, [], ◌∷◌, ◌++◌, Result, Ok, Err, ap}
+use Rattle.std.proofs.Common.{◌≡◌, inl, inr, ℕ, suc, Bool, true, false, List, [], None, ◌∷◌, ◌++◌, Result, Ok, Err, ap}
 use Rattle.std.specs.Prelude.{MatchBool}
 use Rattle.oci_transport.specs.Link.{Link, Answering}
 use Rattle.oci_transport.specs.declared.message.Request.{Request}
 use Rattle.oci_transport.specs.declared.message.Exchange.{Exchange}
-use Rattle.oci_protocol.specs.Proto.{SinkFailed, Proto, Done, Ask, Recall, Keep}
+use Rattle.oci_protocol.specs.Proto.{SinkFailed, Proto, Done, Ask, Recall, Keep, Consult}
 use Rattle.oci_protocol.specs.Runs.{Runs, RunsBy, Stops, Performs, Breaks, Outcome, Meets}
 use Rattle.oci_protocol.specs.Drive.{reply_to, Driven, driven, Drives, Spilt}
 use Rattle.oci_protocol.specs.Ends.{Ends}
@@ -23,6 +23,7 @@ Runs-lifted (Ask request reading next) x k l m n [] a r = absurd r
 Runs-lifted (Ask request reading next) x k l m n (e ∷ c) a r = (r.0, r.1, r.2, Runs-lifted (next r.1) x k l r.0 n c a r.3)
 Runs-lifted (Recall next) x k l m n c a r = Runs-lifted (next k) x k l m n c a r
 Runs-lifted (Keep kept rest) x k l m n c a r = Runs-lifted rest x kept l m n c a r
+Runs-lifted (Consult next) x k l m n c a r = (r.0, Runs-lifted (next r.0) x k l m n c a r.1)
 
 RunsBy-lifted : {K C A : Type 0} (t : Answering) (place : ℕ) (p : Proto K A) (x : C) (k l : K) (m n : ℕ) (c : List Exchange) (a : A) → RunsBy t place p k m c n l a → RunsBy t place (lifted p) (k, x) m c n (l, x) a
 unfolding RunsBy lifted
@@ -32,6 +33,7 @@ RunsBy-lifted t place (Ask request reading next) x k l m n [] a r = absurd r
 RunsBy-lifted t place (Ask request reading next) x k l m n (e ∷ c) a r = (r.0, r.1, r.2, r.3, RunsBy-lifted t (suc place) (next r.1) x k l r.0 n c a r.4)
 RunsBy-lifted t place (Recall next) x k l m n c a r = RunsBy-lifted t place (next k) x k l m n c a r
 RunsBy-lifted t place (Keep kept rest) x k l m n c a r = RunsBy-lifted t place rest x kept l m n c a r
+RunsBy-lifted t place (Consult next) x k l m n c a r = (r.0, RunsBy-lifted t place (next r.0) x k l m n c a r.1)
 
 -- and a run over more is a run
 pub Runs-unlifted : {K C A : Type 0} (p : Proto K A) (k l : K × C) (m n : ℕ) (c : List Exchange) (a : A) → Runs (lifted p) k m c n l a → Runs p k.0 m c n l.0 a × (k.1 ≡ l.1)
@@ -42,6 +44,7 @@ Runs-unlifted (Ask request reading next) k l m n [] a r = absurd r
 Runs-unlifted (Ask request reading next) k l m n (e ∷ c) a r = let rest = Runs-unlifted (next r.1) k l r.0 n c a r.3 in ((r.0, r.1, r.2, rest.0), rest.1)
 Runs-unlifted (Recall next) k l m n c a r = Runs-unlifted (next k.0) k l m n c a r
 Runs-unlifted (Keep kept rest) k l m n c a r = Runs-unlifted rest (kept, k.1) l m n c a r
+Runs-unlifted (Consult next) k l m n c a r = let rest = Runs-unlifted (next r.0) k l m n c a r.1 in ((r.0, rest.0), rest.1)
 
 Stops-lifted : {K C A : Type 0} (p : Proto K A) (x : C) (k l : K) (m : ℕ) (c : List Exchange) → Stops p k m c l → Stops (lifted p) (k, x) m c (l, x)
 unfolding Stops lifted
@@ -53,6 +56,7 @@ Stops-lifted (Ask request reading next) x k l m (e ∷ c) (inr s) = inr (s.0, s.
 Stops-lifted (Recall next) x k l m c s = Stops-lifted (next k) x k l m c s
 Stops-lifted (Keep kept rest) x k l m c (inl s) = inl (s.0, ap (λ k. (k, x)) s.1)
 Stops-lifted (Keep kept rest) x k l m c (inr s) = inr (Stops-lifted rest x kept l m c s)
+Stops-lifted (Consult next) x k l m c s = (s.0, Stops-lifted (next s.0) x k l m c s.1)
 
 performs : {K C A : Type 0} (p : Proto K A) (x : C) {old new : Link} {k l : K} {a : A} → Performs p old new k l a → Performs (lifted p) old new (k, x) (l, x) a
 performs p x {old} {new} {k} {l} {a} h = record { conversation = h.conversation; told = h.told; runs = Runs-lifted p x k l old.faults new.faults h.conversation a h.runs; runs_by = λ t before by told. RunsBy-lifted t _ p x k l old.faults new.faults h.conversation a (h.runs_by t before by told) }
@@ -87,6 +91,7 @@ Safe-lifted P I Q (Done a) k x seen h = h
 Safe-lifted P I Q (Ask request reading next) k x seen h = (h.0, λ e before after reply r. Safe-lifted P I Q (next reply) k x (seen ++ e ∷ []) (h.1 e before after reply r))
 Safe-lifted P I Q (Recall next) k x seen h = Safe-lifted P I Q (next k) k x seen h
 Safe-lifted P I Q (Keep kept rest) k x seen h = (h.0, Safe-lifted P I Q rest kept x seen h.1)
+Safe-lifted P I Q (Consult next) k x seen h = λ said. Safe-lifted P I Q (next said) k x seen (h said)
 
 pub Ends-lifted : {K A : Type 0} (C : Type 0) (Q : A → Type 0) (p : Proto K A) → Ends Q p → Ends Q (lifted {C = C} p)
 unfolding Ends lifted
@@ -94,6 +99,7 @@ Ends-lifted C Q (Done a) h = h
 Ends-lifted C Q (Ask request reading next) h = λ reply. Ends-lifted C Q (next reply) (h reply)
 Ends-lifted C Q (Recall next) h = λ k. Ends-lifted C Q (next k.0) (h k.0)
 Ends-lifted C Q (Keep kept rest) h = λ k. Ends-lifted C Q rest h
+Ends-lifted C Q (Consult next) h = λ said. Ends-lifted C Q (next said) (h said)
 
 pub Spilt-lifted : {K A : Type 0} (C : Type 0) (x : A) (p : Proto K A) → Spilt x p → Spilt x (lifted {C = C} p)
 unfolding Spilt lifted
@@ -101,6 +107,7 @@ Spilt-lifted C x (Done a) h = h
 Spilt-lifted C x (Ask request reading next) h = (Ends-lifted C (λ a. a ≡ x) (next SinkFailed) h.0, λ reply. Spilt-lifted C x (next reply) (h.1 reply))
 Spilt-lifted C x (Recall next) h = λ k. Spilt-lifted C x (next k.0) (h k.0)
 Spilt-lifted C x (Keep kept rest) h = λ k. Spilt-lifted C x rest h
+Spilt-lifted C x (Consult next) h = absurd h
 
 -- ---- what it comes to over a table
 
@@ -110,6 +117,7 @@ driven-lifted {K} {C} {A} t (Done y) x place after k l a h = ap (λ (end : Drive
 driven-lifted t (Ask request reading next) x place after k l a h = driven-lifted t (next (reply_to reading (t.answer place request))) x (suc place) after k l a h
 driven-lifted t (Recall next) x place after k l a h = driven-lifted t (next k) x place after k l a h
 driven-lifted t (Keep kept rest) x place after k l a h = driven-lifted t rest x place after kept l a h
+driven-lifted t (Consult next) x place after k l a h = driven-lifted t (next None) x place after k l a h
 
 pub Drives-lifted : {K C A E : Type 0} {t : Answering} {p : Proto K (Result A E)} (x : C) {place after : ℕ} {k l : K} {a : A} → Drives t p place after k l a → Drives t (lifted p) place after (k, x) (l, x) a
 Drives-lifted {t = t} {p = p} x {place = place} {after = after} {k = k} {l = l} {a = a} h = record { drives = driven-lifted t p x place after k l (Ok a) h.drives }

@@ -4,7 +4,7 @@ use Rattle.oci_transport.specs.Link.{Answering}
 use Rattle.oci_transport.specs.declared.message.Answer.{Answer}
 use Rattle.oci_transport.specs.declared.message.AnswerHead.{AnswerHead}
 use Rattle.oci_protocol.specs.Proto.{Reading, Unread, Within, Piped, Reply, Headed, Answered, Failed, TooLong}
-use Rattle.oci_protocol.specs.Proto.{SinkFailed, Proto, Done, Ask, Recall, Keep}
+use Rattle.oci_protocol.specs.Proto.{SinkFailed, Proto, Done, Ask, Recall, Keep, Consult}
 use Rattle.oci_protocol.specs.Runs.{head_part}
 use Rattle.oci_protocol.specs.Ends.{Ends}
 
@@ -34,15 +34,18 @@ driven t (Done a) place k = record { place = place; kept = k; answer = a }
 driven t (Ask request reading next) place k = driven t (next (reply_to reading (t.answer place request))) (suc place) k
 driven t (Recall next) place k = driven t (next k) place k
 driven t (Keep kept rest) place k = driven t rest place kept
+-- where nothing is said
+driven t (Consult next) place k = driven t (next None) place k
 
 -- it comes to this answer, and keeps l in the place of k
 pub record Drives {K A E : Type 0} (t : Answering) (p : Proto K (Result A E)) (place after : ℕ) (k l : K)
     (a : A) : Type 0 where
   pub drives : driven t p place k ≡ record { place = after; kept = l; answer = Ok a }
 
--- where the sink fails, this is the answer
+-- where the sink fails, this is the answer, and nothing is asked outside
 unfoldable pub Spilt : {K A : Type 0} → A → Proto K A → Type 0
 Spilt x (Done a) = Unit {0}
 Spilt x (Ask request reading next) = Ends (λ a. a ≡ x) (next SinkFailed) × ((reply : Reply) → Spilt x (next reply))
 Spilt {K} x (Recall next) = (k : K) → Spilt x (next k)
 Spilt x (Keep kept rest) = Spilt x rest
+Spilt x (Consult next) = ⊥

@@ -1,12 +1,13 @@
-use Rattle.std.specs.Prelude.{Bool, Result, Ok, Err, MatchBool}
-use Rattle.oci_protocol.specs.Proto.{Reply, Proto, Done, Ask, Recall, Keep}
+use Rattle.std.specs.Prelude.{ℕ, Bool, List, Option, Result, Ok, Err, MatchBool}
+use Rattle.oci_protocol.specs.Proto.{Reply, Proto, Done, Ask, Recall, Keep, Consult}
 
--- this is so of each answer of the protocol, whatever the replies and whatever is kept
+-- this is so of each answer of the protocol, whatever the replies, whatever is kept and whatever is said
 unfoldable pub Ends : {K A : Type 0} → (A → Type 0) → Proto K A → Type 0
 Ends Q (Done a) = Q a
 Ends Q (Ask request reading next) = (reply : Reply) → Ends Q (next reply)
 Ends {K} Q (Recall next) = (k : K) → Ends Q (next k)
 Ends Q (Keep kept rest) = Ends Q rest
+Ends Q (Consult next) = (said : Option (List ℕ)) → Ends Q (next said)
 
 -- this is so of the answer, if there is one
 abbrev pub OnAnswer : {A E : Type 0} → (A → Type 0) → Result A E → Type 0

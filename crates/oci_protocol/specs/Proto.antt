@@ -1,4 +1,4 @@
-use Rattle.std.specs.Prelude.{ℕ, Option, Some, None, Result, Ok, Err}
+use Rattle.std.specs.Prelude.{ℕ, List, Option, Some, None, Result, Ok, Err}
 use Rattle.oci_transport.specs.declared.message.Request.{Request}
 use Rattle.oci_transport.specs.declared.message.Answer.{Answer}
 use Rattle.oci_transport.specs.declared.message.AnswerHead.{AnswerHead}
@@ -32,12 +32,14 @@ pub data Reply : Type 0 where
   SinkFailed : Reply
 
 -- A protocol with answers in A and something kept in K: it ends with an answer, or makes a request
--- and goes on by the reply, or looks at what is kept, or keeps something else.
+-- and goes on by the reply, or looks at what is kept, or keeps something else, or goes on by what is
+-- said from outside, which no exchange determines: some bytes, or none.
 pub data Proto (K A : Type 0) : Type 0 where
   Done : (answer : A) → Proto K A
   Ask : (request : Request) → (reading : AnswerHead → Reading) → (next : Reply → Proto K A) → Proto K A
   Recall : (next : K → Proto K A) → Proto K A
   Keep : (kept : K) → (rest : Proto K A) → Proto K A
+  Consult : (next : Option (List ℕ) → Proto K A) → Proto K A
 
 -- one protocol, and then the one that its answer gives
 unfoldable pub bind : {K A B : Type 0} → Proto K A → (A → Proto K B) → Proto K B
@@ -45,6 +47,7 @@ bind (Done a) f = f a
 bind (Ask request reading next) f = Ask request reading (λ reply. bind (next reply) f)
 bind (Recall next) f = Recall (λ kept. bind (next kept) f)
 bind (Keep kept rest) f = Keep kept (bind rest f)
+bind (Consult next) f = Consult (λ said. bind (next said) f)
 
 -- an error ends it
 abbrev pub unless_refused : {K A B E : Type 0} → (A → Proto K (Result B E)) → Result A E → Proto K (Result B E)

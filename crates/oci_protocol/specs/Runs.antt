@@ -1,4 +1,4 @@
-use Rattle.std.specs.Prelude.{◌≡◌, ◌<◌, ◌≤◌, ◌⊎◌, ℕ, suc, Bool, true, List, [], ◌∷◌, Some, Result, Ok, Err, MatchBool}
+use Rattle.std.specs.Prelude.{◌≡◌, ◌<◌, ◌≤◌, ◌⊎◌, ℕ, suc, Bool, List, [], ◌∷◌, Option, Some, Result, Ok, Err, MatchBool}
 use Rattle.std.specs.Prelude.{length}
 use Rattle.json_values.specs.Counts.{Rose}
 use Rattle.oci_transport.specs.Link.{Link, Answering, Extends, answer_of}
@@ -7,7 +7,7 @@ use Rattle.oci_transport.specs.declared.message.Answer.{Answer}
 use Rattle.oci_transport.specs.declared.message.AnswerHead.{AnswerHead}
 use Rattle.oci_transport.specs.declared.message.Exchange.{Exchange}
 use Rattle.oci_protocol.specs.Proto.{Reading, Unread, Piped, limit_of, Reply, Headed, Answered, Failed}
-use Rattle.oci_protocol.specs.Proto.{TooLong, SinkFailed, Proto, Done, Ask, Recall, Keep}
+use Rattle.oci_protocol.specs.Proto.{TooLong, SinkFailed, Proto, Done, Ask, Recall, Keep, Consult}
 
 abbrev pub head_part : Answer → AnswerHead
 head_part answer = record { status = answer.status; headers = answer.headers }
@@ -32,10 +32,14 @@ pub record Replies (request : Request)
   pub count : before ≤ after
   pub reply_is : IsReply reading e after reply
 
--- a body that is known to break off was read whole only behind its fault: the count rose
-abbrev pub IsUnbroken : Answering → ℕ → ℕ → ℕ → Reply → Type 0
-IsUnbroken t place before after (Answered answer) = t.breaks place ≡ true → Rose before after
-IsUnbroken t place before after reply = Unit {0}
+-- a body that is known to break off was read past that place only behind its fault: the count rose
+abbrev pub IsUnbroken : Answering → ℕ → (AnswerHead → Reading) → Exchange → ℕ → Reply → Type 0
+IsUnbroken t place reading e after (Answered answer) = (bytes : ℕ) → t.breaks place ≡ Some bytes
+    → Rose e.faults after
+IsUnbroken t place reading e after TooLong = (answer : Answer) (limit bytes : ℕ) → e.answer ≡ Some answer
+    → limit_of (reading (head_part answer)) ≡ Some limit → t.breaks place ≡ Some bytes → bytes ≤ limit
+    → Rose e.faults after
+IsUnbroken t place reading e after reply = Unit {0}
 
 -- one exchange came, where exchanges are told, and this reply of it
 pub record Hears (request : Request) (reading : AnswerHead → Reading) (old new : Link) (reply : Reply) : Type 0 where
@@ -43,7 +47,7 @@ pub record Hears (request : Request) (reading : AnswerHead → Reading) (old new
   pub told : Extends old new (exchange ∷ [])
   pub replies : Replies request reading old.faults exchange new.faults reply
   pub unbroken : (t : Answering) (before : List Exchange) → old.answers ≡ Some t → old.told ≡ Some before
-      → IsUnbroken t (length before) old.faults new.faults reply
+      → IsUnbroken t (length before) reading exchange new.faults reply
 
 -- what is so of the exchanges that came, where exchanges are told
 pub record Told (P : List Exchange → Type 0) (old new : Link) : Type 0 where
@@ -61,6 +65,7 @@ Runs (Ask request reading next) k m (e ∷ c) n l a = (after : ℕ) × (reply : 
     × Replies request reading m e after reply × Runs (next reply) k after c n l a
 Runs (Recall next) k m c n l a = Runs (next k) k m c n l a
 Runs (Keep kept rest) k m c n l a = Runs rest kept m c n l a
+Runs (Consult next) k m c n l a = (said : Option (List ℕ)) × Runs (next said) k m c n l a
 
 -- The same over what a transport answers by, from this place of its whole conversation on.
 unfoldable pub RunsBy : {K A : Type 0}
@@ -69,10 +74,11 @@ RunsBy t place (Done x) k m [] n l a = (m ≡ n) × (k ≡ l) × (x ≡ a)
 RunsBy t place (Done x) k m (e ∷ c) n l a = ⊥
 RunsBy t place (Ask request reading next) k m [] n l a = ⊥
 RunsBy t place (Ask request reading next) k m (e ∷ c) n l a = (after : ℕ) × (reply : Reply)
-    × Replies request reading m e after reply × IsUnbroken t place m after reply
+    × Replies request reading m e after reply × IsUnbroken t place reading e after reply
     × RunsBy t (suc place) (next reply) k after c n l a
 RunsBy t place (Recall next) k m c n l a = RunsBy t place (next k) k m c n l a
 RunsBy t place (Keep kept rest) k m c n l a = RunsBy t place rest kept m c n l a
+RunsBy t place (Consult next) k m c n l a = (said : Option (List ℕ)) × RunsBy t place (next said) k m c n l a
 
 -- The exchanges c are a front of a run, cut off anywhere, also before the last one's answer was
 -- read. Where it was cut off, l was kept.
@@ -84,6 +90,7 @@ Stops (Ask request reading next) k m (e ∷ c) l = ((e.request ≡ request) × (
     ⊎ ((after : ℕ) × (reply : Reply) × Replies request reading m e after reply × Stops (next reply) k after c l)
 Stops (Recall next) k m c l = Stops (next k) k m c l
 Stops (Keep kept rest) k m c l = ((c ≡ []) × (k ≡ l)) ⊎ Stops rest kept m c l
+Stops (Consult next) k m c l = (said : Option (List ℕ)) × Stops (next said) k m c l
 
 -- The protocol ran whole over the transport, from old to new. The conversation is what was told,
 -- where exchanges are told.

@@ -1,7 +1,7 @@
-use Rattle.std.specs.Prelude.{ℕ, List, [], ◌∷◌, ◌++◌}
+use Rattle.std.specs.Prelude.{ℕ, List, [], ◌∷◌, ◌++◌, Option}
 use Rattle.oci_transport.specs.declared.message.Request.{Request}
 use Rattle.oci_transport.specs.declared.message.Exchange.{Exchange}
-use Rattle.oci_protocol.specs.Proto.{Reply, Proto, Done, Ask, Recall, Keep}
+use Rattle.oci_protocol.specs.Proto.{Reply, Proto, Done, Ask, Recall, Keep, Consult}
 use Rattle.oci_protocol.specs.Runs.{Replies}
 
 -- What is kept and the exchanges so far decide what may be asked (P), kept (I) and answered (Q).
@@ -13,6 +13,7 @@ Safe P I Q k seen (Ask request reading next) = P k seen request
     → Safe P I Q k (seen ++ e ∷ []) (next reply))
 Safe P I Q k seen (Recall next) = Safe P I Q k seen (next k)
 Safe P I Q k seen (Keep kept rest) = I kept seen × Safe P I Q kept seen rest
+Safe P I Q k seen (Consult next) = (said : Option (List ℕ)) → Safe P I Q k seen (next said)
 
 -- each exchange of these may be asked after those before it
 abbrev pub EachAfter : (List Exchange → Request → Type 0) → List Exchange → List Exchange → Type 0

@@ -1,7 +1,7 @@
 // An answer's body, piece by piece into a sink.
-ghost use Rattle.std.specs.Prelude.{◌≡◌, ◌≤◌, ◌<◌, length, OnOk, OnErr, IsErrOf, Some};
+ghost use Rattle.std.specs.Prelude.{◌≡◌, ◌≤◌, OnOk, OnErr, IsErrOf};
 ghost use Rattle.json_values.specs.Counts.{Rose};
-ghost use Rattle.oci_transport.specs.Link.{Steady};
+ghost use Rattle.oci_transport.specs.Link.{Steady, TakesPast};
 ghost use Rattle.oci_protocol.specs.Poured.{Pours, PoursFront};
 
 use json_values::{Copied, Sink, SinkError, put_all};
@@ -49,8 +49,8 @@ pub fn pour<T: Transport, S: Sink>(
     ensures poured { OnOk result (Pours limit digesters.old digesters.new
         (T.state transport.old) (T.state transport.new) (S.state sink.old) (S.state sink.new)) }
     ensures front { PoursFront (T.state transport.old) (S.state sink.old) (S.state sink.new) }
-    ensures long { IsErrOf result PourError.BodyTooLong → (rest : _)
-        → (T.state transport.old).rest ≡ Some rest → limit < length rest }
+    ensures long { IsErrOf result PourError.BodyTooLong
+        → TakesPast limit (T.state transport.old) (T.state transport.new) }
     ensures fault { IsErrOf result PourError.TransportFault
         → Rose (T.state transport.old).faults (T.state transport.new).faults }
     ensures sink_fault { IsErrOf result PourError.SinkFault → Rose (S.state sink.old).faults (S.state sink.new).faults }

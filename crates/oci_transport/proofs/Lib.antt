@@ -2,3 +2,4 @@ pub mod Fields
 pub mod ScriptAnswers
 pub mod ScriptBreaks
 pub mod ScriptCalm
+pub mod TakenBytes

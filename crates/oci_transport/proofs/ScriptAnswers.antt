@@ -38,7 +38,7 @@ told_next items old new before e answers same was told is = record {
   stays = same_answers items old new answers same;
 }
 
-body_of : (o : Option Recorded) (answer : Answer) → recorded_answer o ≡ Some answer → joined (pieces_of o) ≡ answer.body
+pub body_of : (o : Option Recorded) (answer : Answer) → recorded_answer o ≡ Some answer → joined (pieces_of o) ≡ answer.body
 body_of None answer h = cc h
 body_of (Some r) answer h = by_fails r.fails h where
   by_fails : (b : Bool) → (if b then None else Some (record { status = r.status; headers = r.headers; body = joined r.pieces })) ≡ Some answer → joined (if b then [] else r.pieces) ≡ answer.body
@@ -52,7 +52,7 @@ nothing_of (Some r) h = by_fails r.fails h where
   by_fails true h = refl
   by_fails false h = cc h
 
-length_next : {A : Type 0} (xs : List A) (x : A) → length (xs ++ x ∷ []) ≡ suc (length xs)
+pub length_next : {A : Type 0} (xs : List A) (x : A) → length (xs ++ x ∷ []) ≡ suc (length xs)
 length_next [] x = refl
 length_next (y ∷ xs) x = ap suc (length_next xs x)
 

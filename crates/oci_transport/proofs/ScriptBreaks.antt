@@ -1,14 +1,18 @@
--- A script gives the end of a body that breaks off only behind its fault.
-use Rattle.std.proofs.Common.{◌≡◌, ◌≢◌, ◌≤◌, ◌<◌, ◌+◌, ℕ, suc, zero, Bool, true, false, List, [], ◌∷◌, ◌++◌, length, slice_get, drop, Some, None, Option, if◌then◌else◌, refl, sym, ap, subst, ◌∙◌, arith}
-use Rattle.std.specs.Prelude.{IsTrue, ◌&&◌, nat_le, nat_eq, is_some}
+-- A script gives what stands behind a break of a body, and its end, only behind its fault.
+use Rattle.std.proofs.Common.{◌≡◌, ◌≢◌, ◌≤◌, ◌<◌, ◌+◌, ℕ, suc, zero, Bool, true, false, List, [], ◌∷◌, ◌++◌, length, slice_get, take, drop, Some, None, Option, if◌then◌else◌, refl, sym, ap, subst, ◌∙◌, arith}
+use Rattle.std.specs.Prelude.{IsTrue, ◌&&◌, nat_le, nat_eq, is_some, option_map}
+use Rattle.std.proofs.Common.{length-append, get_or}
+use Rattle.std.proofs.lemmas.List.{at_drop_more}
 use Rattle.std.specs.Option.{option_eq}
 use Rattle.std.proofs.lemmas.Bool.Decides.{nat_tests}
 use Rattle.json_values.specs.Counts.{raised, Rose}
-use Rattle.oci_transport.specs.Link.{Link, Answering, EndsUnbroken, Takes}
-use Rattle.oci_transport.specs.Pieces.{joined}
-use Rattle.oci_transport.specs.Recorded.{fails_before_of, stop_within, pieces_of, answering, last_stop, last_pieces, last_count, not_past, met, HasMet}
+use Rattle.oci_transport.specs.Link.{Link, Answering, BreaksOff, EndsUnbroken, StaysUnbroken, Takes}
+use Rattle.oci_transport.specs.Pieces.{NoneEmpty, joined}
+use Rattle.oci_transport.proofs.ScriptAnswers.{body_of, length_next}
+use Rattle.oci_transport.specs.Recorded.{bytes_within, break_of, fails_before_of, stop_within, pieces_of, answering, last_stop, last_pieces, last_count, not_past, met, HasMet}
 use Rattle.oci_transport.specs.declared.recorded.Recorded.{Recorded}
 use Rattle.oci_transport.specs.declared.message.Exchange.{Exchange}
+use Rattle.oci_transport.specs.declared.message.Answer.{Answer}
 
 le_true : (m n : ℕ) → m ≤ n → nat_le m n ≡ true
 le_true m n h = grind (arith, nat_tests, h)
@@ -97,10 +101,6 @@ rose_of o false given sent count other all breaks h = by (fails_before_of o) ref
       let equal : option_eq nat_eq (Some n) (Some given) ≡ true = (grind (arith, nat_tests, same)) in
       absurd (cc (other, equal))
 
-length_next : {A : Type 0} (xs : List A) (x : A) → length (xs ++ x ∷ []) ≡ suc (length xs)
-length_next [] x = refl
-length_next (y ∷ xs) x = ap suc (length_next xs x)
-
 some_is : {A : Type 0} (x y : A) → Some x ≡ Some y → x ≡ y
 some_is x y h = cc h
 
@@ -111,23 +111,89 @@ drop_past zero (x ∷ xs) h = absurd (omega (arith, h))
 drop_past (suc n) [] h = refl
 drop_past (suc n) (x ∷ xs) h = drop_past n xs (omega (arith, h))
 
-pub takes_none : (pieces : List (List ℕ)) (given : ℕ) (link : Link) → length pieces ≤ given → link.rest ≡ Some (joined (drop given pieces)) → EndsUnbroken link link → Takes [] link link
-takes_none pieces given link all rest unbroken = record {
-  unbroken = λ none. unbroken;
+pub takes_none : (pieces : List (List ℕ)) (given : ℕ) (link : Link) → length pieces ≤ given → link.rest ≡ Some (joined (drop given pieces)) → EndsUnbroken link link → StaysUnbroken link link → Takes [] link link
+takes_none pieces given link all rest ends unbroken = record {
+  ends = λ none. ends;
+  unbroken = unbroken;
   front = λ left h. (left, refl, h, λ none. some_is _ _ (sym h ∙ rest ∙ ap (λ ps. Some (joined ps)) (drop_past given pieces all)));
 }
 
+-- where the answer of the last of these exchanges breaks off
+record LastOf (items : List Recorded) (told : List Exchange) (count : ℕ) (e : Exchange) (body : List ℕ) (bytes : ℕ) : Type 0 where
+  place : ℕ
+  sent_is : length told ≡ suc place
+  count_is : last_count told count ≡ e.faults
+  body_is : joined (pieces_of (slice_get items place)) ≡ body
+  break_is : break_of (slice_get items place) ≡ Some bytes
+
+last_of : (items : List Recorded) (told : List Exchange) (count : ℕ) (old : Link) → old.answers ≡ Some (answering items) → old.told ≡ Some told → (e : Exchange) (answer : Answer) (bytes : ℕ) → BreaksOff e answer bytes old → LastOf items told count e answer.body bytes
+unfolding answering
+last_of items told count old answers telling e answer bytes b =
+    let told_is : told ≡ b.before ++ e ∷ [] = some_is _ _ (sym telling ∙ b.told) in
+    let table : answering items ≡ b.table = some_is _ _ (sym answers ∙ b.answers) in
+    record {
+      place = length b.before;
+      sent_is = ap length told_is ∙ length_next b.before e;
+      count_is = ap (λ c. last_count c count) told_is ∙ count_last b.before e count;
+      body_is = body_of (slice_get items (length b.before)) answer (ap (λ (t : Answering). t.answer (length b.before) e.request) table ∙ b.answered);
+      break_is = ap (λ (t : Answering). t.breaks (length b.before)) table ∙ b.breaks;
+    }
+
+-- a break is a number of pieces
+break_some : (pieces : List (List ℕ)) (o : Option ℕ) (bytes : ℕ) → option_map (bytes_within pieces) o ≡ Some bytes → is_some o ≡ true
+break_some pieces None bytes h = cc h
+break_some pieces (Some n) bytes h = refl
+
 pub ends_unbroken : (items : List Recorded) (told : List Exchange) (given : ℕ) (stopped : Bool) (count : ℕ) (stop : Option ℕ) → stop ≡ (if stopped then None else last_stop items (length told)) → option_eq nat_eq stop (Some given) ≡ false → HasMet items told given stopped count
     → length (last_pieces items (length told)) ≤ given → (old new : Link) → old.answers ≡ Some (answering items) → old.told ≡ Some told → new.faults ≡ count → EndsUnbroken old new
-unfolding answering
-ends_unbroken items told given stopped count stop is other h all old new answers telling faults a before e by shown breaks =
-    let told_is : told ≡ before ++ e ∷ [] = some_is _ _ (sym telling ∙ shown) in
-    let place : length told ≡ suc (length before) = ap length told_is ∙ length_next before e in
-    let table : answering items ≡ a = some_is _ _ (sym answers ∙ by) in
-    let sent : last_count told count ≡ e.faults = ap (λ c. last_count c count) told_is ∙ count_last before e count in
-    let rose : Rose (last_count told count) count = rose_of (slice_get items (length before)) stopped given (last_count told count) count
-    (ap (λ n. option_eq nat_eq (stop_by stopped (last_stop items n)) (Some given)) (sym place) ∙ rw is at other)
-    (rw place at all)
-    (ap (λ t. t.breaks (length before)) table ∙ breaks)
-    (ap (λ n. met (last_stop items n) given stopped (last_count told count) count) (sym place) ∙ h) in
-    rw (← sent, faults) rose
+ends_unbroken items told given stopped count stop is other h all old new answers telling faults e answer bytes b =
+    let l = last_of items told count old answers telling e answer bytes b in
+    let rose : Rose (last_count told count) count = rose_of (slice_get items l.place) stopped given (last_count told count) count
+    (ap (λ n. option_eq nat_eq (stop_by stopped (last_stop items n)) (Some given)) (sym l.sent_is) ∙ rw is at other)
+    (rw l.sent_is at all)
+    (break_some (pieces_of (slice_get items l.place)) (fails_before_of (slice_get items l.place)) bytes l.break_is)
+    (ap (λ n. met (last_stop items n) given stopped (last_count told count) count) (sym l.sent_is) ∙ h) in
+    rw (← l.count_is, faults) rose
+
+-- the bytes of a front of the pieces, and of the others
+bytes_split : (n : ℕ) (pieces : List (List ℕ)) → bytes_within pieces n + length (joined (drop n pieces)) ≡ length (joined pieces)
+bytes_split zero pieces = omega arith
+bytes_split (suc n) [] = refl
+bytes_split (suc n) (p ∷ ps) = omega (arith, bytes_split n ps, length-append p (joined (take n ps)), length-append p (joined ps))
+
+bytes_more : (m n : ℕ) (pieces : List (List ℕ)) → m ≤ n → bytes_within pieces m ≤ bytes_within pieces n
+bytes_more zero n pieces h = omega arith
+bytes_more (suc m) zero pieces h = absurd (omega (arith, h))
+bytes_more (suc m) (suc n) [] h = omega arith
+bytes_more (suc m) (suc n) (p ∷ ps) h = omega (arith, bytes_more m n ps (omega (arith, h)), length-append p (joined (take m ps)), length-append p (joined (take n ps)))
+
+-- behind the break only where the fault was met
+rose_past : (pieces : List (List ℕ)) (stop : Option ℕ) (stopped : Bool) (given sent count bytes : ℕ) → option_map (bytes_within pieces) stop ≡ Some bytes → bytes + length (joined (drop given pieces)) < length (joined pieces) → met stop given stopped sent count ≡ true → Rose sent count
+rose_past pieces stop true given sent count bytes is past h = le_of (raised sent) count h
+rose_past pieces None false given sent count bytes is past h = absurd (cc is)
+rose_past pieces (Some n) false given sent count bytes is past h =
+    let small : given ≤ n = le_of given n (parts (nat_le sent count) (nat_le given n) h).1 in
+    let bytes_is : bytes_within pieces n ≡ bytes = some_is _ _ is in
+    absurd (omega (arith, past, bytes_is, bytes_more given n pieces small, bytes_split given pieces))
+
+pub stays_unbroken : (items : List Recorded) (told : List Exchange) (given : ℕ) (stopped : Bool) (count : ℕ) → HasMet items told given stopped count → (old new : Link) → old.answers ≡ Some (answering items) → old.told ≡ Some told → new.faults ≡ count → new.rest ≡ Some (joined (drop given (last_pieces items (length told)))) → StaysUnbroken old new
+stays_unbroken items told given stopped count h old new answers telling faults rest e answer bytes b past =
+    let l = last_of items told count old answers telling e answer bytes b in
+    let left : past.0 ≡ joined (drop given (pieces_of (slice_get items l.place))) = some_is _ _ (sym past.1 ∙ rest) ∙ ap (λ n. joined (drop given (last_pieces items n))) l.sent_is in
+    let behind : bytes + length (joined (drop given (pieces_of (slice_get items l.place)))) < length (joined (pieces_of (slice_get items l.place))) = omega (arith, ap length left, ap length l.body_is, past.2) in
+    let rose : Rose (last_count told count) count = rose_past (pieces_of (slice_get items l.place)) (fails_before_of (slice_get items l.place)) stopped given (last_count told count) count bytes l.break_is behind
+    (ap (λ n. met (last_stop items n) given stopped (last_count told count) count) (sym l.sent_is) ∙ h) in
+    rw (← l.count_is, faults) rose
+
+joined_at : (n : ℕ) (pieces : List (List ℕ)) (piece : List ℕ) → n < length pieces → piece ≡ get_or pieces n piece → joined (drop n pieces) ≡ piece ++ joined (drop (n + 1) pieces)
+joined_at n pieces piece h is = at_drop_more joined pieces n piece h ∙ ap (λ p. p ++ joined (drop (n + 1) pieces)) (sym is)
+
+-- the next piece is taken
+pub takes_next : (pieces : List (List ℕ)) (given : ℕ) (piece : List ℕ) (old new : Link) → NoneEmpty pieces → old.rest ≡ Some (joined (drop given pieces)) → new.rest ≡ Some (joined (drop (given + 1) pieces)) → given < length pieces → piece ≡ get_or pieces given piece → StaysUnbroken old new → Takes piece old new
+takes_next pieces given piece old new full rest left within is unbroken =
+    let some : 0 < length piece = subst (λ p. 0 < length p) (sym is) (full given piece within) in
+    record {
+      ends = λ none. absurd (omega (arith, some, ap length none));
+      unbroken = unbroken;
+      front = λ all h. (joined (drop (given + 1) pieces), some_is _ _ (sym h ∙ rest) ∙ joined_at given pieces piece within is, left, λ none. absurd (omega (arith, some, ap length none)));
+    }

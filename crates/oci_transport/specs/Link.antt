@@ -1,18 +1,18 @@
 -- What a transport shows, and what a step of it may change.
 use Rattle.json_values.specs.Counts.{Rose}
-use Rattle.std.specs.Prelude.{◌≡◌, ℕ, suc, ◌≤◌, Bool, true, false, List, [], ◌∷◌, ◌++◌, length, Option, Some, None}
+use Rattle.std.specs.Prelude.{◌≡◌, ℕ, suc, ◌≤◌, ◌<◌, ◌+◌, Bool, false, List, [], ◌∷◌, ◌++◌, length, Option, Some, None}
 use Rattle.oci_transport.specs.declared.message.Request.{Request}
 use Rattle.oci_transport.specs.declared.message.Answer.{Answer}
 use Rattle.oci_transport.specs.declared.message.AnswerHead.{AnswerHead}
 use Rattle.oci_transport.specs.declared.message.Exchange.{Exchange}
 
 -- what a transport answers by: the answer to a request at a place of its whole conversation, none
--- where the send fails; whether anything may fail at that place; and whether the body of the answer
--- there breaks off, so that a call for a piece of it fails before its end comes
+-- where the send fails; whether anything may fail at that place; and where the body of the answer
+-- there breaks off, behind how many of its bytes: the call for the next ones, or for its end, fails
 pub record Answering : Type 0 where
   pub answer : ℕ → Request → Option Answer
   pub fails : ℕ → Bool
-  pub breaks : ℕ → Bool
+  pub breaks : ℕ → Option ℕ
 
 -- what a transport shows: its exchanges where it tells them, what is left of the last answer's body
 -- where it tells that, how many faults it had, and what it answers by where that is known, which is
@@ -80,18 +80,43 @@ pub record AddsAtMost (request : Request) (old new : Link) : Type 0 where
   pub added : Extends old new conversation
   pub most : IsAtMost request old.faults conversation
 
--- the end of the last answer's body came: where that is known to break off, its fault was met, so
--- that the count rose since the request was sent
+-- by what a transport answers by, this is the answer of the last exchange, and its body breaks off
+-- behind so many bytes
+pub record BreaksOff (e : Exchange) (answer : Answer) (bytes : ℕ) (link : Link) : Type 0 where
+  pub table : Answering
+  pub before : List Exchange
+  pub answers : link.answers ≡ Some table
+  pub told : link.told ≡ Some (before ++ e ∷ [])
+  pub answered : table.answer (length before) e.request ≡ Some answer
+  pub breaks : table.breaks (length before) ≡ Some bytes
+
+-- where the rest is told, more than so many bytes of this body are taken
+abbrev pub IsPast : List ℕ → ℕ → Link → Type 0
+IsPast body bytes link = (left : List ℕ) × (link.rest ≡ Some left) × (bytes + length left < length body)
+
+-- the end of the last answer's body came: where that breaks off, its fault was met, so that the count
+-- rose since the request was sent
 abbrev pub EndsUnbroken : Link → Link → Type 0
-EndsUnbroken old new = (a : Answering) (before : List Exchange) (e : Exchange) → old.answers ≡ Some a
-    → old.told ≡ Some (before ++ e ∷ []) → a.breaks (length before) ≡ true → Rose e.faults new.faults
+EndsUnbroken old new = (e : Exchange) (answer : Answer) (bytes : ℕ) → BreaksOff e answer bytes old
+    → Rose e.faults new.faults
+
+-- and so it was where bytes are taken that stand behind the break
+abbrev pub StaysUnbroken : Link → Link → Type 0
+StaysUnbroken old new = (e : Exchange) (answer : Answer) (bytes : ℕ) → BreaksOff e answer bytes old
+    → IsPast answer.body bytes new → Rose e.faults new.faults
 
 -- the piece is the front of what was left, and an empty one means that nothing was left, and ends
 -- the body
 pub record Takes (piece : List ℕ) (old new : Link) : Type 0 where
-  pub unbroken : piece ≡ [] → EndsUnbroken old new
+  pub ends : piece ≡ [] → EndsUnbroken old new
+  pub unbroken : StaysUnbroken old new
   pub front : (rest : List ℕ) → old.rest ≡ Some rest
       → (left : List ℕ) × (rest ≡ piece ++ left) × (new.rest ≡ Some left) × (piece ≡ [] → rest ≡ [])
+
+-- more than so many bytes were taken, and where the body breaks off before them, its fault was met
+pub record TakesPast (limit : ℕ) (old new : Link) : Type 0 where
+  pub unbroken : StaysUnbroken old new
+  pub past : (rest : List ℕ) → old.rest ≡ Some rest → IsPast rest limit new
 
 -- these bytes were taken so far, and nothing was sent
 pub record HasTaken (bytes : List ℕ) (old new : Link) : Type 0 where

@@ -1,5 +1,5 @@
 -- Recorded answers, and what they answer by.
-use Rattle.std.specs.Prelude.{ℕ, List, length, slice_get, Option, Some, None, if◌then◌else◌}
+use Rattle.std.specs.Prelude.{ℕ, List, length, slice_get, take, Option, Some, None, option_map, if◌then◌else◌}
 use Rattle.oci_transport.specs.declared.recorded.Recorded.{Recorded}
 use Rattle.oci_transport.specs.declared.message.Answer.{Answer}
 use Rattle.oci_transport.specs.Link.{Answering}
@@ -38,12 +38,20 @@ abbrev pub may_fail : Option Recorded → Bool
 may_fail None = true
 may_fail (Some r) = r.fails || is_some (stop_within r.fails_before (length r.pieces))
 
+-- the bytes of so many pieces
+abbrev pub bytes_within : List (List ℕ) → ℕ → ℕ
+bytes_within pieces count = length (joined (take count pieces))
+
+-- behind how many bytes of its body a call fails
+abbrev pub break_of : Option Recorded → Option ℕ
+break_of r = option_map (bytes_within (pieces_of r)) (fails_before_of r)
+
 -- one record after another, whatever is asked
 unfoldable pub answering : List Recorded → Answering
 answering items = record {
   answer = λ place request. recorded_answer (slice_get items place);
   fails = λ place. may_fail (slice_get items place);
-  breaks = λ place. is_some (fails_before_of (slice_get items place));
+  breaks = λ place. break_of (slice_get items place);
 }
 
 -- these exchanges came of the records, this count stands after them, and it rose only where a record may fail

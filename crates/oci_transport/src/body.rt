@@ -1,6 +1,6 @@
-ghost use Rattle.std.specs.Prelude.{◌≡◌, ◌≤◌, ◌<◌, length, IfOk, OnOk, IsErrOf};
+ghost use Rattle.std.specs.Prelude.{◌≡◌, ◌≤◌, length, IfOk, OnOk, IsErrOf};
 ghost use Rattle.json_values.specs.Counts.{Rose};
-ghost use Rattle.oci_transport.specs.Link.{Steady, EndsRest, EndsUnbroken};
+ghost use Rattle.oci_transport.specs.Link.{Steady, EndsRest, EndsUnbroken, TakesPast};
 ghost use Rattle.oci_transport.specs.declared.body.BodyError.TheVariants.{WantOfMemory as out_of_memory};
 
 use crate::transport::{LinkError, Transport};
@@ -51,7 +51,7 @@ pub fn read_body<T: Transport>(
     ensures ended { OnOk result (EndsRest (T.state transport.old) (T.state transport.new)) }
     ensures unbroken { OnOk result (EndsUnbroken (T.state transport.old) (T.state transport.new)) }
     ensures long { IsErrOf result BodyError.BodyTooLong
-        → (rest : _) → (T.state transport.old).rest ≡ Some rest → limit < length rest }
+        → TakesPast limit (T.state transport.old) (T.state transport.new) }
     ensures fault { IsErrOf result BodyError.TransportFault
         → Rose (T.state transport.old).faults (T.state transport.new).faults }
 {

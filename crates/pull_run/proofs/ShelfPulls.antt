@@ -7,7 +7,7 @@ use Rattle.oci_transport.specs.Calm.{calm}
 use Rattle.oci_transport.specs.declared.message.Exchange.{Exchange}
 use Rattle.oci_names.specs.Reference.{reference_of}
 use Rattle.oci_names.specs.declared.reference.Reference.{Reference}
-use Rattle.oci_protocol.specs.Proto.{Proto, Done, Ask, Recall, Keep}
+use Rattle.oci_protocol.specs.Proto.{Proto, Done, Ask, Recall, Keep, Consult}
 use Rattle.oci_protocol.specs.Runs.{Runs}
 use Rattle.oci_protocol.proofs.Laws.{Runs-count}
 use Rattle.oci_link.specs.State.{answering}
@@ -56,6 +56,7 @@ first_count (Done x) k l m n e c a r = absurd r
 first_count (Ask request reading next) k l m n e c a r = r.2.faults_is
 first_count (Recall next) k l m n e c a r = first_count (next k) k l m n e c a r
 first_count (Keep kept rest) k l m n e c a r = first_count rest kept l m n e c a r
+first_count (Consult next) k l m n e c a r = first_count (next r.0) k l m n e c a r.1
 
 -- without an exchange the count stays
 none_count : {K A : Type 0} (p : Proto K A) (k l : K) (m n : ℕ) (a : A) → Runs p k m [] n l a → n ≡ m
@@ -64,6 +65,7 @@ none_count (Done x) k l m n a r = sym r.0
 none_count (Ask request reading next) k l m n a r = absurd r
 none_count (Recall next) k l m n a r = none_count (next k) k l m n a r
 none_count (Keep kept rest) k l m n a r = none_count rest kept l m n a r
+none_count (Consult next) k l m n a r = none_count (next r.0) k l m n a r.1
 
 -- ---- the pull
 

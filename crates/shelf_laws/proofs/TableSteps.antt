@@ -8,7 +8,7 @@ use Rattle.oci_transport.specs.declared.message.Request.{Request}
 use Rattle.oci_transport.specs.declared.message.Answer.{Answer}
 use Rattle.oci_transport.specs.declared.message.AnswerHead.{AnswerHead}
 use Rattle.oci_transport.specs.declared.message.Exchange.{Exchange}
-use Rattle.oci_protocol.specs.Proto.{Reading, Unread, Within, Piped, limit_of, Reply, Headed, Answered, Failed, TooLong, SinkFailed, Proto, Done, Ask, Recall, Keep, bind, unless_refused, ◌>>=◌}
+use Rattle.oci_protocol.specs.Proto.{Reading, Unread, Within, Piped, limit_of, Reply, Headed, Answered, Failed, TooLong, SinkFailed, Proto, Done, Ask, Recall, Keep, Consult, bind, unless_refused, ◌>>=◌}
 use Rattle.oci_protocol.specs.Runs.{head_part, IsReply, Runs, Performs, Breaks, Outcome, Meets}
 use Rattle.oci_protocol.specs.Ends.{UnlessMemory}
 use Rattle.oci_protocol.specs.Follow.{unread_if, turned, go_if, turn, follow}
@@ -24,6 +24,7 @@ Comes-more table P Q (Done a) k h more = more k a h
 Comes-more table P Q (Ask request reading next) k h more = (h.0, Comes-more table P Q (next (reply_of (reading (head_part (table request))) (table request))) k h.1 more)
 Comes-more table P Q (Recall next) k h more = Comes-more table P Q (next k) k h more
 Comes-more table P Q (Keep kept rest) k h more = Comes-more table P Q rest kept h more
+Comes-more table P Q (Consult next) k h more = absurd h
 
 pub Comes-bind : {K A B : Type 0} (table : Request → Answer) (P : K → A → Type 0) (Q : K → B → Type 0) (p : Proto K A) (f : A → Proto K B) (k : K) → Comes table P p k → ((l : K) (a : A) → P l a → Comes table Q (f a) l) → Comes table Q (bind p f) k
 unfolding Comes bind
@@ -31,6 +32,7 @@ Comes-bind table P Q (Done a) f k h next = next k a h
 Comes-bind table P Q (Ask request reading rest) f k h next = (h.0, Comes-bind table P Q (rest (reply_of (reading (head_part (table request))) (table request))) f k h.1 next)
 Comes-bind table P Q (Recall rest) f k h next = Comes-bind table P Q (rest k) f k h next
 Comes-bind table P Q (Keep kept rest) f k h next = Comes-bind table P Q rest f kept h next
+Comes-bind table P Q (Consult rest) f k h next = absurd h
 
 module _ {K : Type 0} {I : K → Type 0} {table : Request → Answer} where
   pub Gives-done : {A E : Type 0} {P : A → Type 0} (r : Result A E) → Yields P r → Gives I table P (Done r)
@@ -212,6 +214,7 @@ Runs-comes table Q (Ask request reading next) k l m n (e ∷ c) a h by le lt r =
     Runs-comes table Q (next r.1) k l r.0 n c a (subst (λ x. Comes table Q (next x) k) (sym reply) h.1) by.1 (omega arith) (omega arith) r.3
 Runs-comes table Q (Recall next) k l m n c a h by le lt r = Runs-comes table Q (next k) k l m n c a h by le lt r
 Runs-comes table Q (Keep kept rest) k l m n c a h by le lt r = Runs-comes table Q rest kept l m n c a h by le lt r
+Runs-comes table Q (Consult next) k l m n c a h by le lt r = absurd h
 
 -- a whole run over a transport that answers by the table, and had no fault
 pub Runs-over : {K A : Type 0} (table : Request → Answer) (Q : K → A → Type 0) (t : Answering) (p : Proto K A) (place : ℕ) (k l : K) (m n : ℕ) (c : List Exchange) (a : A) → TableOf table t → Comes table Q p k → AnsweredBy t place c → n ≤ m → m < 2 ^ 64 - 1 → Runs p k m c n l a → Q l a

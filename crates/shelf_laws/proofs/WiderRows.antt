@@ -2,7 +2,7 @@
 use Rattle.std.proofs.Common.{◌≡◌, Result, refl, sym, subst}
 use Rattle.oci_transport.specs.declared.message.Request.{Request}
 use Rattle.oci_transport.specs.declared.message.Answer.{Answer}
-use Rattle.oci_protocol.specs.Proto.{Proto, Done, Ask, Recall, Keep}
+use Rattle.oci_protocol.specs.Proto.{Proto, Done, Ask, Recall, Keep, Consult}
 use Rattle.oci_protocol.specs.Runs.{head_part}
 use Rattle.oci_protocol.specs.Drive.{reply_of}
 use Rattle.oci_protocol.specs.Lift.{lifted}
@@ -16,6 +16,7 @@ Comes-lifted table Q (Done a) k x h = (h, refl)
 Comes-lifted table Q (Ask request reading next) k x h = (h.0, Comes-lifted table Q (next (reply_of (reading (head_part (table request))) (table request))) k x h.1)
 Comes-lifted table Q (Recall next) k x h = Comes-lifted table Q (next k) k x h
 Comes-lifted table Q (Keep kept rest) k x h = Comes-lifted table Q rest kept x h
+Comes-lifted table Q (Consult next) k x h = absurd h
 
 -- it comes to one answer, of which both are so
 pub Comes-both : {K A : Type 0} (table : Request → Answer) (P Q : K → A → Type 0) (p : Proto K A) (k : K) → Comes table P p k → Comes table Q p k → Comes table (λ l a. P l a × Q l a) p k
@@ -24,6 +25,7 @@ Comes-both table P Q (Done a) k g h = (g, h)
 Comes-both table P Q (Ask request reading next) k g h = (g.0, Comes-both table P Q (next (reply_of (reading (head_part (table request))) (table request))) k g.1 h.1)
 Comes-both table P Q (Recall next) k g h = Comes-both table P Q (next k) k g h
 Comes-both table P Q (Keep kept rest) k g h = Comes-both table P Q rest kept g h
+Comes-both table P Q (Consult next) k g h = absurd g
 
 -- what hangs on no answer is so where it comes to one
 pub Comes-always : {K A : Type 0} (table : Request → Answer) (P : Type 0) (p : Proto K A) (k : K) → Comes table (λ l a. P) p k → P
@@ -32,6 +34,7 @@ Comes-always table P (Done a) k h = h
 Comes-always table P (Ask request reading next) k h = Comes-always table P (next (reply_of (reading (head_part (table request))) (table request))) k h.1
 Comes-always table P (Recall next) k h = Comes-always table P (next k) k h
 Comes-always table P (Keep kept rest) k h = Comes-always table P rest kept h
+Comes-always table P (Consult next) k h = absurd h
 
 -- of what it comes to, that it comes to it
 pub Comes-itself : {K A : Type 0} (table : Request → Answer) (P : K → A → Type 0) (p : Proto K A) (k : K) → Comes table P p k → Comes table (λ l a. P l a × ComesTo table p k a) p k
@@ -42,6 +45,7 @@ Comes-itself {K} {A} table P (Ask request reading next) k h =
     (h.0, Comes-more table (λ l a. P l a × ComesTo table (next reply) k a) (λ l a. P l a × ComesTo table (Ask request reading next) k a) (next reply) k (Comes-itself table P (next reply) k h.1) (λ l a is. (is.0, (h.0, is.1))))
 Comes-itself table P (Recall next) k h = Comes-more table (λ l a. P l a × ComesTo table (next k) k a) (λ l a. P l a × ComesTo table (Recall next) k a) (next k) k (Comes-itself table P (next k) k h) (λ l a is. is)
 Comes-itself table P (Keep kept rest) k h = Comes-more table (λ l a. P l a × ComesTo table rest kept a) (λ l a. P l a × ComesTo table (Keep kept rest) k a) rest kept (Comes-itself table P rest kept h) (λ l a is. is)
+Comes-itself table P (Consult next) k h = absurd h
 
 -- two things that are so of the answer that it comes to, from one place
 pub ComesTo-is : {K A : Type 0} (table : Request → Answer) (P : K → A → Type 0) (p : Proto K A) (k : K) (answer : A) (Q : A → Type 0) → ((l : K) (a : A) → P l a → Q a) → Comes table P p k → ComesTo table p k answer → Q answer

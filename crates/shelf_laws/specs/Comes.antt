@@ -2,7 +2,7 @@
 use Rattle.std.specs.Prelude.{◌≡◌, Bool, true, Result, Ok, Err}
 use Rattle.oci_transport.specs.declared.message.Request.{Request}
 use Rattle.oci_transport.specs.declared.message.Answer.{Answer}
-use Rattle.oci_protocol.specs.Proto.{Reading, Unread, Within, Piped, Proto, Done, Ask, Recall, Keep}
+use Rattle.oci_protocol.specs.Proto.{Reading, Unread, Within, Piped, Proto, Done, Ask, Recall, Keep, Consult}
 use Rattle.oci_protocol.specs.Runs.{head_part}
 use Rattle.oci_protocol.specs.Drive.{reply_of}
 
@@ -13,7 +13,7 @@ IsHeld (Within limit) = Unit {0}
 IsHeld (Piped limit) = ⊥
 
 -- By this table the protocol, with k kept, comes to an answer, and to what is then kept, of which this is so. No
--- body goes into a sink.
+-- body goes into a sink, and nothing is asked outside.
 unfoldable pub Comes : {K A : Type 0} → (Request → Answer) → (K → A → Type 0) → Proto K A → K → Type 0
 Comes table Q (Done a) k = Q k a
 Comes table Q (Ask request reading next) k =
@@ -21,6 +21,7 @@ Comes table Q (Ask request reading next) k =
     × Comes table Q (next (reply_of (reading (head_part (table request))) (table request))) k
 Comes table Q (Recall next) k = Comes table Q (next k) k
 Comes table Q (Keep kept rest) k = Comes table Q rest kept
+Comes table Q (Consult next) k = ⊥
 
 -- it comes to this answer
 abbrev pub ComesTo : {K A : Type 0} → (Request → Answer) → Proto K A → K → A → Type 0

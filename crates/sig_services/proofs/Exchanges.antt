@@ -1,6 +1,6 @@
 -- One request and its whole answer, each outcome of it.
 use Rattle.std.proofs.Common.{◌≡◌, ◌≤◌, ◌<◌, ℕ, Bool, true, false, List, Some, Ok, Err, length, refl}
-use Rattle.oci_transport.specs.Link.{Link, Steady, answer_of, EndsUnbroken}
+use Rattle.oci_transport.specs.Link.{Link, Steady, answer_of, EndsUnbroken, TakesPast}
 use Rattle.json_values.specs.Counts.{Rose}
 use Rattle.oci_transport.specs.declared.message.Request.{Request}
 use Rattle.oci_transport.specs.declared.message.AnswerHead.{AnswerHead}
@@ -21,7 +21,7 @@ module _ {E : Type 0} (is_memory : E → Bool) (link too_long : E) where
   unfolding whole
   answered limit request head last body old mid new reach le same steady small all unbroken k = reached_answered 0 request (read_within limit) (whole_reply link too_long) head last limit body reach (within limit head) le same steady small all unbroken (Meets-ok is_memory new k _)
 
-  pub long : (limit : ℕ) (request : Request) (head : AnswerHead) (last : Request) (old mid new : Link) → is_memory too_long ≡ false → Reaches 0 request head last old mid → mid.faults ≤ new.faults → new.told ≡ mid.told → Steady mid new → ((rest : List ℕ) → mid.rest ≡ Some rest → limit < length rest)
+  pub long : (limit : ℕ) (request : Request) (head : AnswerHead) (last : Request) (old mid new : Link) → is_memory too_long ≡ false → Reaches 0 request head last old mid → mid.faults ≤ new.faults → new.told ≡ mid.told → Steady mid new → TakesPast limit mid new
       → (k : Unit {0}) → Meets is_memory (whole link too_long limit request) old new k k (Err too_long)
   unfolding whole
   long limit request head last old mid new other reach le same steady longer k = reached_long 0 request (read_within limit) (whole_reply link too_long) head last limit reach (within limit head) le same steady longer (Meets-err is_memory new k too_long other)

@@ -1,9 +1,11 @@
-use Rattle.std.proofs.Common.{◌≡◌, ◌≤◌, length, arith, refl, sym, ◌∙◌}
+use Rattle.std.proofs.Common.{◌≡◌, ◌≤◌, ◌+◌, Some, drop, get_or, length, arith, refl, sym, ◌∙◌}
 use Rattle.oci_transport.proofs.ScriptCalm.{stop_given, calm_stop}
 use Rattle.oci_transport.specs.Recorded.{last_pieces}
+use Rattle.oci_transport.specs.Link.{Link}
+use Rattle.oci_transport.specs.Pieces.{joined}
 use Rattle.oci_transport.specs.Script.{state_of}
 use Rattle.oci_transport.proofs.ScriptAnswers.{same_answers}
-use Rattle.oci_transport.proofs.ScriptBreaks.{met_stop, takes_none, ends_unbroken}
+use Rattle.oci_transport.proofs.ScriptBreaks.{met_stop, takes_none, ends_unbroken, stays_unbroken, met_given, takes_next}
 use Rattle.oci_transport.proofs.script.ScriptTransport.piece.Goals as goal
 
 pub returns-then-eq-clause-steady : goal.returns-then-eq-clause-steady
@@ -19,4 +21,14 @@ returns-clause-taken c =
     let none : length c.last_pieces-pieces.result.now ≤ script.given = (omega (arith, c.if-self-pieces.false)) in
     let all : length (last_pieces script.answers (length script.told)) ≤ script.given = rw pieces at none in
     let unbroken = ends_unbroken script.answers script.told script.given script.stopped script.faults c.stop.result c.stop.ensures (sym c.eq.ensures ∙ c.if-eq.false) script.met all (state_of script) (state_of script) refl refl refl in
-    rw c.empty.ensures (takes_none (last_pieces script.answers (length script.told)) script.given (state_of script) all refl unbroken)
+    let stays = stays_unbroken script.answers script.told script.given script.stopped script.faults script.met (state_of script) (state_of script) refl refl refl refl in
+    rw c.empty.ensures (takes_none (last_pieces script.answers (length script.told)) script.given (state_of script) all refl unbroken stays)
+
+pub returns-then-self-pieces-clause-taken : goal.returns-then-self-pieces-clause-taken
+returns-then-self-pieces-clause-taken c =
+    let script = c.args.self.now in
+    let met = met_given script.answers script.told script.given script.stopped script.faults c.stop.result c.stop.ensures (sym c.eq.ensures ∙ c.if-eq.false) script.met in
+    let pieces : c.last_pieces-pieces.result.now ≡ last_pieces script.answers (length script.told) = c.last_pieces-pieces.ensures.pieces ∙ (λ i. last_pieces (c.as_slice.ensures i) (length (c.as_slice-2.ensures i))) in
+    let after : Link = record (state_of script) { rest = Some (joined (drop (script.given + 1) (last_pieces script.answers (length script.told)))) } in
+    let piece : c.in_ok-piece.piece ≡ get_or (last_pieces script.answers (length script.told)) script.given c.in_ok-piece.piece = rw (← pieces, c.in_ok-piece.ensures) c.index-pieces-self.is in
+    takes_next (last_pieces script.answers (length script.told)) script.given c.in_ok-piece.piece (state_of script) after (rw pieces at c.last_pieces-pieces.ensures.none_empty) refl refl (rw pieces at c.if-self-pieces.true) piece (stays_unbroken script.answers script.told (script.given + 1) script.stopped script.faults met (state_of script) after refl refl refl refl)
