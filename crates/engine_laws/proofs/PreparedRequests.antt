@@ -100,7 +100,7 @@ asks_of s method url types token request is =
 abbrev pub Silent : {A : Type 0} → ℕ → List Exchange → ℕ → A → Type 0
 Silent m c n a = c ≡ []
 
-silent_done : {A : Type 0} (a : A) → Shows {K = Memory} Silent (Done a)
+pub silent_done : {A : Type 0} (a : A) → Shows {K = Memory} Silent (Done a)
 silent_done a = Shows-done Silent a (λ m. refl)
 
 silent_recalled : Shows Silent recalled
@@ -136,7 +136,7 @@ record One (request : Request) (c : List Exchange) : Type 0 where
   split : c ≡ exchange ∷ []
   request_is : exchange.request ≡ request
 
-one_heard : (request last : Request) {reading : AnswerHead → Reading} (m after : ℕ) (c : List Exchange) (reply : Reply) (h : Heard zero request reading m c after last reply) → (c ≡ h.exchange ∷ []) × (h.exchange.request ≡ request)
+pub one_heard : (request last : Request) {reading : AnswerHead → Reading} (m after : ℕ) (c : List Exchange) (reply : Reply) (h : Heard zero request reading m c after last reply) → (c ≡ h.exchange ∷ []) × (h.exchange.request ≡ request)
 unfolding Trail
 one_heard request last m after c reply h = by_trail h.redirects h.split h.trail where
   by_trail : (redirects : List Exchange) → c ≡ redirects ++ h.exchange ∷ [] → Trail zero request m redirects h.left last h.before → (c ≡ h.exchange ∷ []) × (h.exchange.request ≡ request)
@@ -222,7 +222,7 @@ after_head s image a op request m n c (Ok head) asks h = Shows-more (λ start d 
     (λ start o d t g. subst (λ (x : List Exchange). OfTokenStep s image op (x ++ d)) (sym h.split) (behind_step s image op h.exchange h.answer d (subst (AsksRegistry s image) (sym h.request_is) asks) h.answered (subst (λ (x : AnswerHead). Behind s image op (wanted x) d) (sym h.head_is) g)))
 after_head s image a op request m n c (Err e) asks h = Shows-done (λ start d o t. OfTokenStep s image op (c ++ d)) (Err e) (λ start. subst (λ (x : List Exchange). OfTokenStep s image op (x ++ [])) (sym h.split) (subst (AsksRegistry s image) (sym h.request_is) asks))
 
-abbrev Stepped : Settings → Reference → RegistryOperation → {A : Type 0} → ℕ → List Exchange → ℕ → A → Type 0
+abbrev pub Stepped : Settings → Reference → RegistryOperation → {A : Type 0} → ℕ → List Exchange → ℕ → A → Type 0
 Stepped s image op m c n a = OfTokenStep s image op c
 
 stepped_registry : (s : Settings) (image : Reference) (a : RegistryAuth) (op : RegistryOperation) → Shows (Stepped s image op) (registry_asked s image a op)
@@ -255,7 +255,7 @@ stepped_where : (s : Context) (image : Reference) (op : RegistryOperation) (b : 
 stepped_where s image op true = stepped_for s image op
 stepped_where s image op false = Shows-done (Stepped s.settings image op) (Ok None) (λ m. tt)
 
-stepped_authorized : (s : Context) (image : Reference) (op : RegistryOperation) (url : Parts) → Shows (Stepped s.settings image op) (authorized s image op url)
+pub stepped_authorized : (s : Context) (image : Reference) (op : RegistryOperation) (url : Parts) → Shows (Stepped s.settings image op) (authorized s image op url)
 unfolding authorized
 stepped_authorized s image op url = Shows-step (Stepped s.settings image op) (url_read (registry_text s.settings image)) _ (λ registry is. stepped_where s image op (goes_to (request_url (serialize url)) registry)) (λ e is m. tt)
 

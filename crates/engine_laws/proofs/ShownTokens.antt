@@ -121,7 +121,7 @@ bad_listing s types e is = by_step (into_err (with_header map.empty (codes "user
   by_step (inl refused) = inl (refused_value map.empty (codes "user-agent") s.user_agent e 0 none_held refl refused)
   by_step (inr (headers, named, refused)) = inr (refused_value headers (codes "accept") types e 1 (ap held (with_ok map.empty (codes "user-agent") s.user_agent headers named) ∙ one_held s.user_agent) refl refused)
 
-bad_request : (x : Entry) (s : Settings) (method : Method) (url : Parts) (types : List ℕ) (token : Option RegistryTokenType) (c : List Exchange) (e : OciDistributionError) → MayShow x c token → request_of s method url (Some types) token ≡ Err e → BadHeader x s types c
+pub bad_request : (x : Entry) (s : Settings) (method : Method) (url : Parts) (types : List ℕ) (token : Option RegistryTokenType) (c : List Exchange) (e : OciDistributionError) → MayShow x c token → request_of s method url (Some types) token ≡ Err e → BadHeader x s types c
 unfolding request_of
 bad_request x s method url types token c e shown is = by_headers (into_err (headers_of s (Some types) token) (λ headers. Ok (bare_request method url headers)) e is) where
   listing : Result Fields OciDistributionError
@@ -344,15 +344,15 @@ unfolding token_for Safe bind
 for_safe x s types l c keeps = by_auth x s types (map.get l.credentials (resolved_registry x.image)) (token_at l.tokens (key_of x.image x.operation) x.moment) l c refl keeps (kept_shown x l c (token_at l.tokens (key_of x.image x.operation) x.moment) keeps refl)
 
 -- the URL goes to the image's registry
-abbrev GoesTo : Settings → Reference → Parts → Type 0
+abbrev pub GoesTo : Settings → Reference → Parts → Type 0
 GoesTo s image url = (registry : Parts) × (to : Parts) × (request_url (registry_text s image) ≡ Some registry) × (request_url (serialize url) ≡ Some to) × (targets to registry ≡ true)
 
 -- the token, where there is one, may be shown there
-abbrev MayShowAt : Entry → Settings → Parts → List Exchange → Option RegistryTokenType → Type 0
+abbrev pub MayShowAt : Entry → Settings → Parts → List Exchange → Option RegistryTokenType → Type 0
 MayShowAt x s url c None = Unit {0}
 MayShowAt x s url c (Some token) = GoesTo s x.image url × IsHeld x c token
 
-abbrev AuthorizedAt : Entry → Settings → List ℕ → Parts → Memory → List Exchange → Result (Option RegistryTokenType) OciDistributionError → Type 0
+abbrev pub AuthorizedAt : Entry → Settings → List ℕ → Parts → Memory → List Exchange → Result (Option RegistryTokenType) OciDistributionError → Type 0
 AuthorizedAt x s types url l c (Ok token) = Keeps x l c × MayShowAt x s url c token
 AuthorizedAt x s types url l c (Err e) = HeaderCause x s types c e
 
@@ -372,12 +372,12 @@ where_safe : (x : Entry) (s : Settings) (types : List ℕ) (url registry : Parts
 where_safe x s types url registry true l c registry_is goes keeps = where_goes x s types url registry (request_url (serialize url)) l c registry_is refl goes keeps
 where_safe x s types url registry false l c registry_is goes keeps = safe_done x s (AuthorizedAt x s types url) l c _ (keeps, tt)
 
-url_safe : {B : Type 0} (x : Entry) (s : Settings) (Q : Memory → List Exchange → Result B OciDistributionError → Type 0) (text : List ℕ) (f : Parts → Row B) (l : Memory) (c : List Exchange) (o : Option Parts) → request_url text ≡ o → Q l c (Err (refusal.UrlParseError text)) → ((url : Parts) → request_url text ≡ Some url → Safe (Carries x s) (Keeps x) Q l c (f url)) → Safe (Carries x s) (Keeps x) Q l c (Done (url_or text o) >>= f)
+pub url_safe : {B : Type 0} (x : Entry) (s : Settings) (Q : Memory → List Exchange → Result B OciDistributionError → Type 0) (text : List ℕ) (f : Parts → Row B) (l : Memory) (c : List Exchange) (o : Option Parts) → request_url text ≡ o → Q l c (Err (refusal.UrlParseError text)) → ((url : Parts) → request_url text ≡ Some url → Safe (Carries x s) (Keeps x) Q l c (f url)) → Safe (Carries x s) (Keeps x) Q l c (Done (url_or text o) >>= f)
 unfolding bind
 url_safe x s Q text f l c (Some url) is bad each = each url is
 url_safe x s Q text f l c None is bad each = safe_done x s Q l c _ bad
 
-authorized_safe : (x : Entry) (s : Settings) (types : List ℕ) (url : Parts) (l : Memory) (c : List Exchange) → Keeps x l c → Safe (Carries x s) (Keeps x) (AuthorizedAt x s types url) l c (authorized (within s x.moment) x.image x.operation url)
+pub authorized_safe : (x : Entry) (s : Settings) (types : List ℕ) (url : Parts) (l : Memory) (c : List Exchange) → Keeps x l c → Safe (Carries x s) (Keeps x) (AuthorizedAt x s types url) l c (authorized (within s x.moment) x.image x.operation url)
 unfolding authorized
 authorized_safe x s types url l c keeps = url_safe x s (AuthorizedAt x s types url) (registry_text s x.image) _ l c (request_url (registry_text s x.image)) refl tt (λ registry registry_is. where_safe x s types url registry (goes_to (request_url (serialize url)) registry) l c registry_is refl keeps)
 
@@ -386,11 +386,11 @@ abbrev pub Ready : Entry → Settings → List ℕ → Memory → List Exchange 
 Ready x s types l c (Ok request) = Keeps x l c × Sent x s c request
 Ready x s types l c (Err e) = HeaderCause x s types c e
 
-sent_by : (x : Entry) (s : Settings) (url : Parts) (c : List Exchange) (request : Request) (token : Option RegistryTokenType) → request.url ≡ serialize url → MayShowAt x s url c token → Each (SentValue x s c request) (values_by token)
+pub sent_by : (x : Entry) (s : Settings) (url : Parts) (c : List Exchange) (request : Request) (token : Option RegistryTokenType) → request.url ≡ serialize url → MayShowAt x s url c token → Each (SentValue x s c request) (values_by token)
 sent_by x s url c request None is shown = tt
 sent_by x s url c request (Some token) is shown = ((record { registry = shown.0.0; url = shown.0.1; registry_is = shown.0.2; url_is = ap request_url is ∙ shown.0.3; goes = shown.0.4 }, token, shown.1, refl), tt)
 
-shown_at : (x : Entry) (s : Settings) (url : Parts) (c : List Exchange) (token : Option RegistryTokenType) → MayShowAt x s url c token → MayShow x c token
+pub shown_at : (x : Entry) (s : Settings) (url : Parts) (c : List Exchange) (token : Option RegistryTokenType) → MayShowAt x s url c token → MayShow x c token
 shown_at x s url c None shown = tt
 shown_at x s url c (Some token) shown = shown.1
 

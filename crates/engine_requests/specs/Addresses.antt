@@ -34,6 +34,11 @@ abbrev pub blob_text : Settings → Reference → List ℕ → List ℕ
 blob_text s image digest = base_text s image ++ repository_of image ++ codes "/blobs/" ++ digest ++ mirrored
     (namespace_of image)
 
+-- where uploads of blobs begin
+abbrev pub uploads_text : Settings → Reference → List ℕ
+uploads_text s image = base_text s image ++ repository_of image ++ codes "/blobs/uploads/" ++ mirrored
+    (namespace_of image)
+
 abbrev pub url_or : List ℕ → Option Parts → Result Parts OciDistributionError
 url_or text (Some url) = Ok url
 url_or text None = Err (refusal.UrlParseError text)

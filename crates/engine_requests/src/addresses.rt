@@ -2,7 +2,7 @@
 ghost use Rattle.std.specs.Prelude.{◌≡◌, ◌++◌, IfOk, OnOk, OnErr, option_copied};
 ghost use Rattle.engine_terms.specs.Error.{Says};
 ghost use Rattle.engine_requests.specs.Addresses.{registry_text, base_text, manifest_name};
-ghost use Rattle.engine_requests.specs.Addresses.{mirrored, manifest_text, blob_text, url_read};
+ghost use Rattle.engine_requests.specs.Addresses.{mirrored, manifest_text, blob_text, uploads_text, url_read};
 ghost use Rattle.oci_names.specs.Reference.{tag_of, digest_of, namespace_of};
 
 use engine_terms::{OciDistributionError, Settings};
@@ -12,7 +12,12 @@ use oci_transport::{UrlError, request_url};
 use std::alloc::{AllocError, Global};
 use url::Url;
 
-fn registry_text(alloc: Global, settings: &Settings, image: &Reference) -> Result<Text, AllocError>
+/// The text of the registry itself: scheme, host and port.
+pub fn registry_text(
+    alloc: Global,
+    settings: &Settings,
+    image: &Reference,
+) -> Result<Text, AllocError>
     ensures { IfOk result (λ text. text ≡ registry_text settings.now image.now) }
 {
     let registry = image.resolve_registry();
@@ -87,6 +92,16 @@ fn blob_text(
     Ok(text)
 }
 
+fn uploads_text(alloc: Global, settings: &Settings, image: &Reference) -> Result<Text, AllocError>
+    ensures { IfOk result (λ text. text ≡ uploads_text settings.now image.now) }
+{
+    let mut text = base_text(alloc, settings, image)?;
+    text.push_str(image.repository())?;
+    text.push_str("/blobs/uploads/")?;
+    push_mirrored(&mut text, image)?;
+    Ok(text)
+}
+
 /// The URL of a text, which is refused where it is none.
 pub fn read_url(alloc: Global, text: Text) -> Result<Url, OciDistributionError>
     ensures { Says result (url_read text) }
@@ -147,6 +162,19 @@ pub fn blob_url(
     ensures { Says result (url_read (blob_text settings.now image.now digest.now)) }
 {
     let text = blob_text(alloc, settings, image, digest)?;
+    let url = read_url(alloc, text)?;
+    Ok(url)
+}
+
+/// The URL at which an upload of a blob to the image's repository begins.
+pub fn uploads_url(
+    alloc: Global,
+    settings: &Settings,
+    image: &Reference,
+) -> Result<Url, OciDistributionError>
+    ensures { Says result (url_read (uploads_text settings.now image.now)) }
+{
+    let text = uploads_text(alloc, settings, image)?;
     let url = read_url(alloc, text)?;
     Ok(url)
 }

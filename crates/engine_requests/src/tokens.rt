@@ -73,8 +73,8 @@ fn scope_of(alloc: Global, image: &Reference, op: RegistryOperation) -> Result<T
     Ok(text)
 }
 
-// The URL with one more pair in its query.
-pub(crate) fn with_pair(mut url: Url, name: &str, value: &str) -> Result<Url, AllocError>
+/// The URL with one more pair in its query.
+pub fn with_pair(mut url: Url, name: &str, value: &str) -> Result<Url, AllocError>
     ensures { IfOk result (λ made. made ≡ append_query_pairs url ((name.now, value.now) ∷ [])) }
 {
     match url.append_query_pairs(&[(name, value)]) {

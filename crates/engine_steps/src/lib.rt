@@ -7,4 +7,4 @@ mod tokens;
 
 pub use asking::{named_after, whole};
 pub use given::token_given;
-pub use tokens::{Target, prepared};
+pub use tokens::{Target, authorized, prepared};

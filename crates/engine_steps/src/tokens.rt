@@ -198,9 +198,10 @@ fn goes_to(alloc: Global, url: &Url, registry: &Url) -> Result<bool, AllocError>
     }
 }
 
-// The token of a request to this URL, where it goes to the registry.
+/// The token of a request to this URL, which may be asked for; none where it does not go to the image's registry, or
+/// where no credentials are stored for that.
 #[tactic(none)]
-fn authorized<T: Transport>(
+pub fn authorized<T: Transport>(
     alloc: Global,
     transport: &mut T,
     memory: &mut Memory,

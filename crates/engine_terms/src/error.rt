@@ -19,8 +19,12 @@ pub enum GenericCause {
     HeaderText,
     /// Referrers of a reference without a digest.
     NoDigest,
+    /// A stream that is pushed whole, without its count of bytes.
+    NoSize,
     /// A range of bytes whose end passes 2^64 - 1.
     RangeOverflow,
+    /// A stream that is pushed whole, with another count of bytes than was given.
+    SizeDiffers,
 }
 
 /// How an answer departs from the OCI distribution specification.
@@ -47,6 +51,8 @@ pub enum OciDistributionError {
     /// A digest in a header, a reference or a descriptor that is none, or that does not name the body.
     DigestError(DigestError),
     GenericError(GenericCause),
+    /// An answer of the status that was expected whose header `location` is no text.
+    HeaderValueError(Blob),
     /// An index was read, and the client has no resolver of platforms.
     ImageIndexParsingNoPlatformResolverError,
     /// An index was read in which the image is not found: the resolver answered a digest of no entry, or of an index
@@ -58,14 +64,20 @@ pub enum OciDistributionError {
     ManifestParsingError(Blob),
     /// A manifest without layers.
     PullNoLayersError,
+    /// Nothing was given to be pushed.
+    PushNoDataError,
     /// A status from 400 to 499 other than 401, with the registry's own list of errors.
     RegistryError { envelope: OciEnvelope, url: Text },
+    /// An answer of the status that was expected without a header `location`.
+    RegistryNoLocationError,
     /// A body in which the realm names no token.
     RegistryTokenDecodeError(TokenBody),
     /// A status of an error without such a list.
     ServerError { code: u16, url: Text, message: Blob },
     /// The sink failed: the count of its faults rose.
     SinkFault,
+    /// The source of what is pushed failed: the count of its faults rose.
+    SourceFault,
     SpecViolationError(SpecViolation),
     /// A piece was asked of a stream that had refused one.
     StreamFailed,
@@ -101,6 +113,7 @@ impl OciDistributionError {
             Self::ConfigConversionError(_) => "ConfigConversionError",
             Self::DigestError(_) => "DigestError",
             Self::GenericError(_) => "GenericError",
+            Self::HeaderValueError(_) => "HeaderValueError",
             Self::ImageIndexParsingNoPlatformResolverError => {
                 "ImageIndexParsingNoPlatformResolverError"
             }
@@ -108,10 +121,13 @@ impl OciDistributionError {
             Self::IncompatibleLayerMediaTypeError(_) => "IncompatibleLayerMediaTypeError",
             Self::ManifestParsingError(_) => "ManifestParsingError",
             Self::PullNoLayersError => "PullNoLayersError",
+            Self::PushNoDataError => "PushNoDataError",
             Self::RegistryError { .. } => "RegistryError",
+            Self::RegistryNoLocationError => "RegistryNoLocationError",
             Self::RegistryTokenDecodeError(_) => "RegistryTokenDecodeError",
             Self::ServerError { .. } => "ServerError",
             Self::SinkFault => "SinkFault",
+            Self::SourceFault => "SourceFault",
             Self::SpecViolationError(_) => "SpecViolationError",
             Self::StreamFailed => "StreamFailed",
             Self::TransportFault => "TransportFault",
@@ -173,6 +189,7 @@ impl Copied for OciDistributionError {
             ConfigConversionError,
             DigestError,
             GenericError,
+            HeaderValueError,
             ImageManifestNotFoundError,
             IncompatibleLayerMediaTypeError,
             ManifestParsingError,
@@ -190,7 +207,10 @@ impl Copied for OciDistributionError {
             BodyTooLong,
             ImageIndexParsingNoPlatformResolverError,
             PullNoLayersError,
+            PushNoDataError,
+            RegistryNoLocationError,
             SinkFault,
+            SourceFault,
             StreamFailed,
             TransportFault,
             WantOfMemory,

@@ -24,6 +24,8 @@ pub struct Settings {
     pub user_agent: Text,
     /// How many bytes one body may have.
     pub max_body_bytes: u64,
+    /// Whether a blob is pushed by one request, and not in chunks.
+    pub use_monolithic_push: bool,
     /// Which image of an index is meant. Where nothing is said of it, an index is refused.
     pub platform_resolver: Option<PlatformResolver>,
 }

@@ -6,4 +6,6 @@ mod calls;
 #[cfg(test)]
 mod clients;
 #[cfg(test)]
+mod pushes;
+#[cfg(test)]
 mod referrers;

@@ -9,6 +9,7 @@ settings_of config = record {
   protocol = config.protocol;
   user_agent = config.user_agent;
   max_body_bytes = config.max_body_bytes;
+  use_monolithic_push = config.use_monolithic_push;
   platform_resolver = config.platform_resolver;
 }
 

@@ -79,6 +79,7 @@ impl Client {
     {
         let ClientConfig {
             protocol,
+            use_monolithic_push,
             platform_resolver,
             default_token_expiration_secs,
             user_agent,
@@ -94,6 +95,7 @@ impl Client {
                 protocol,
                 user_agent,
                 max_body_bytes,
+                use_monolithic_push,
                 platform_resolver,
             },
             credentials,

@@ -20,7 +20,7 @@ pub const DEFAULT_TOKEN_EXPIRATION_SECS: u64 = 60;
 #[derive(Debug, Drop)]
 pub struct ClientConfig {
     pub protocol: ClientProtocol,
-    /// For pushes alone.
+    /// Whether a blob is pushed by one request, and not in chunks.
     pub use_monolithic_push: bool,
     /// Which image of an index is meant. Where nothing is said of it, an index is refused.
     pub platform_resolver: Option<PlatformResolver>,

@@ -33,6 +33,7 @@ generated_settings = record {
   protocol = Http;
   user_agent = codes "oci-client/0.18.0";
   max_body_bytes = 4294967295;
+  use_monolithic_push = false;
   platform_resolver = None;
 }
 

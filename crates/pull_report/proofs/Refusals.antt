@@ -17,9 +17,11 @@ module _ (error : OciDistributionError) (name bytes : List ℕ) (named : name �
       ap (λ n. spaced (n ∷ bytes_print bytes ∷ [])) named ∙ subst (λ x. Counts bytes (name_of x) x) (sym e) counts
 
   pub with_document : (error ≡ refusal.AmbiguousManifest bytes) ⊎ ((error ≡ refusal.ConfigConversionError bytes)
-      ⊎ ((error ≡ refusal.ManifestParsingError bytes) ⊎ (error ≡ refusal.VersionedParsingError bytes)))
+      ⊎ ((error ≡ refusal.HeaderValueError bytes)
+      ⊎ ((error ≡ refusal.ManifestParsingError bytes) ⊎ (error ≡ refusal.VersionedParsingError bytes))))
       → Counts bytes name error
-  with_document is = ⊎_elim (same _ refl) (⊎_elim (same _ refl) (⊎_elim (same _ refl) (same _ refl))) is
+  with_document is =
+      ⊎_elim (same _ refl) (⊎_elim (same _ refl) (⊎_elim (same _ refl) (⊎_elim (same _ refl) (same _ refl)))) is
 
   pub with_body : (error ≡ refusal.AuthenticationFailure bytes) ⊎ (error ≡ refusal.RegistryTokenDecodeError bytes)
       → Counts bytes name error

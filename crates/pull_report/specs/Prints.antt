@@ -47,7 +47,9 @@ abbrev pub cause_print : GenericCause → List ℕ
 cause_print cause.ConfigNotText = codes "ConfigNotText"
 cause_print cause.HeaderText = codes "HeaderText"
 cause_print cause.NoDigest = codes "NoDigest"
+cause_print cause.NoSize = codes "NoSize"
 cause_print cause.RangeOverflow = codes "RangeOverflow"
+cause_print cause.SizeDiffers = codes "SizeDiffers"
 
 abbrev pub violation_print : SpecViolation → List ℕ
 violation_print (violation.ReferrersTag tag) = spaced (codes "ReferrersTag" ∷ quoted_text tag ∷ [])
@@ -64,6 +66,7 @@ distribution_print (distribution.ConfigConversionError content) =
     spaced (codes "ConfigConversionError" ∷ bytes_print content ∷ [])
 distribution_print (distribution.DigestError error) = spaced (codes "DigestError" ∷ digest_print error ∷ [])
 distribution_print (distribution.GenericError cause) = spaced (codes "GenericError" ∷ cause_print cause ∷ [])
+distribution_print (distribution.HeaderValueError value) = spaced (codes "HeaderValueError" ∷ bytes_print value ∷ [])
 distribution_print distribution.ImageIndexParsingNoPlatformResolverError =
     codes "ImageIndexParsingNoPlatformResolverError"
 distribution_print (distribution.ImageManifestNotFoundError digest) =
@@ -73,13 +76,16 @@ distribution_print (distribution.IncompatibleLayerMediaTypeError media_type) =
 distribution_print (distribution.ManifestParsingError document) =
     spaced (codes "ManifestParsingError" ∷ bytes_print document ∷ [])
 distribution_print distribution.PullNoLayersError = codes "PullNoLayersError"
+distribution_print distribution.PushNoDataError = codes "PushNoDataError"
 distribution_print (distribution.RegistryError envelope url) =
     spaced (codes "RegistryError" ∷ envelope_print envelope ∷ quoted_text url ∷ [])
+distribution_print distribution.RegistryNoLocationError = codes "RegistryNoLocationError"
 distribution_print (distribution.RegistryTokenDecodeError body) =
     spaced (codes "RegistryTokenDecodeError" ∷ bytes_print body ∷ [])
 distribution_print (distribution.ServerError code url message) =
     spaced (codes "ServerError" ∷ decimal code ∷ quoted_text url ∷ bytes_print message ∷ [])
 distribution_print distribution.SinkFault = codes "SinkFault"
+distribution_print distribution.SourceFault = codes "SourceFault"
 distribution_print (distribution.SpecViolationError violation) =
     spaced (codes "SpecViolationError" ∷ violation_print violation ∷ [])
 distribution_print distribution.StreamFailed = codes "StreamFailed"

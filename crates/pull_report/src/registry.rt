@@ -36,7 +36,9 @@ impl Printed for GenericCause {
             Self::ConfigNotText => word(out, "ConfigNotText"),
             Self::HeaderText => word(out, "HeaderText"),
             Self::NoDigest => word(out, "NoDigest"),
+            Self::NoSize => word(out, "NoSize"),
             Self::RangeOverflow => word(out, "RangeOverflow"),
+            Self::SizeDiffers => word(out, "SizeDiffers"),
         }
     }
 }
@@ -79,6 +81,7 @@ impl Printed for OciDistributionError {
         match self {
             Self::AmbiguousManifest(bytes)
             | Self::ConfigConversionError(bytes)
+            | Self::HeaderValueError(bytes)
             | Self::ManifestParsingError(bytes)
             | Self::VersionedParsingError(bytes) => print_row(alloc, out, name, row![bytes]),
             Self::AuthenticationFailure(body) | Self::RegistryTokenDecodeError(body) => {
@@ -104,7 +107,10 @@ impl Printed for OciDistributionError {
             Self::BodyTooLong
             | Self::ImageIndexParsingNoPlatformResolverError
             | Self::PullNoLayersError
+            | Self::PushNoDataError
+            | Self::RegistryNoLocationError
             | Self::SinkFault
+            | Self::SourceFault
             | Self::StreamFailed
             | Self::TransportFault
             | Self::WantOfMemory => word(out, name),

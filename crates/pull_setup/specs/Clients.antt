@@ -1,5 +1,5 @@
 -- The client of a program's pulls, whoever says it: a recorded case, or a host by its settings.
-use Rattle.std.specs.Prelude.{ℕ, Bool, Option, Some, None, codes, unwrap_or}
+use Rattle.std.specs.Prelude.{ℕ, Bool, false, Option, Some, None, codes, unwrap_or}
 use Rattle.oci_auth.specs.Memory.{fresh as nothing_kept}
 use Rattle.oci_engine.specs.declared.config.ClientConfig.{ClientConfig}
 use Rattle.oci_platforms.specs.declared.promise.ResolverPromise.{ResolverPromise}
@@ -18,6 +18,7 @@ settings_by protocol limit platform = record {
   protocol = protocol;
   user_agent = codes "oci-client/0.18.0";
   max_body_bytes = limit_by limit;
+  use_monolithic_push = false;
   platform_resolver = platform;
 }
 

@@ -55,6 +55,7 @@ fn settings(alloc: Global, limit: u64) -> Result<Settings, AllocError> {
         protocol: ClientProtocol::Http,
         user_agent,
         max_body_bytes: limit,
+        use_monolithic_push: false,
         platform_resolver: None,
     })
 }

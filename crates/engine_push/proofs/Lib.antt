@@ -1,0 +1,9 @@
+pub mod CallTree
+pub mod Carried
+pub mod Endings
+pub mod Leads
+pub mod LocationTree
+pub mod PieceTree
+pub mod Quiet
+pub mod Refusals
+pub mod StreamTree

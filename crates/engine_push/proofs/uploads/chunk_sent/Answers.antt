@@ -1,0 +1,32 @@
+use Rattle.std.proofs.Common.{refl}
+use Rattle.engine_rows.proofs.Exits.{refused, and_then, said, passed_on}
+use Rattle.engine_push.specs.Uploads.{chunk_sent}
+use Rattle.engine_push.proofs.Carried.{carries_none, sends_nothing, sends_as}
+use Rattle.engine_push.proofs.uploads.chunk_sent.Goals as goal
+
+pub returns-in_err-url-clause-run : goal.returns-in_err-url-clause-run
+unfolding chunk_sent
+returns-in_err-url-clause-run g c = refused _ (said _ c.in_err-url.ensures) c.from_residual.ensures.1
+
+pub returns-in_err-url-clause-sends : goal.returns-in_err-url-clause-sends
+returns-in_err-url-clause-sends g c = sends_nothing _ _ _ c.from_residual.ensures.1 (carries_none _)
+
+pub sent-requires : goal.sent-requires
+sent-requires g c = c.requires
+
+pub returns-in_err-location-clause-run : goal.returns-in_err-location-clause-run
+unfolding chunk_sent
+returns-in_err-location-clause-run g c = and_then _ (said _ c.in_ok-url.ensures) (passed_on c.in_err-location.ensures.run c.from_residual-in_err-location.ensures.1)
+
+pub returns-in_err-location-clause-sends : goal.returns-in_err-location-clause-sends
+returns-in_err-location-clause-sends g c = sends_as _ _ _ c.from_residual-in_err-location.ensures.1 c.in_err-location.ensures.sends
+
+pub returns-clause-run : goal.returns-clause-run
+unfolding chunk_sent
+returns-clause-run g c = and_then _ (said _ c.in_ok-url.ensures) c.in_ok-location.ensures.run
+
+pub returns-clause-sends : goal.returns-clause-sends
+returns-clause-sends g c = c.in_ok-location.ensures.sends
+
+pub same-bytes : goal.same-bytes
+same-bytes g c = refl

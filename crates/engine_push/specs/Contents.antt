@@ -1,0 +1,44 @@
+-- What a request of a push carries (OCI distribution specification, "Pushing blobs").
+use Rattle.std.specs.Prelude.{ℕ, ◌+◌, ◌-◌, ◌<◌, ◌^◌, List, [], ◌++◌, length, Result, Ok, codes, decimal}
+use Rattle.oci_transport.specs.Headers.{Fields}
+use Rattle.oci_transport.specs.declared.message.Request.{Request}
+use Rattle.engine_terms.specs.declared.error.OciDistributionError.{OciDistributionError}
+use Rattle.engine_terms.specs.Error.{◌>>=◌}
+use Rattle.engine_requests.specs.Requests.{with_header}
+use Rattle.engine_push.specs.declared.content.Content.{Content}
+use Rattle.engine_push.specs.declared.content.Content.TheVariants.{Nothing, Whole, Chunk}
+
+-- the bytes
+abbrev pub bytes_of : Content → List ℕ
+bytes_of Nothing = []
+bytes_of (Whole bytes) = bytes
+bytes_of (Chunk start bytes) = bytes
+
+-- the end of a chunk is a place
+abbrev pub IsWithin : Content → Type 0
+IsWithin (Chunk start bytes) = start + length bytes < 2 ^ 64
+IsWithin content = Unit {0}
+
+-- the places of the first and of the last byte of a chunk
+abbrev pub range_text : ℕ → List ℕ → List ℕ
+range_text start bytes = decimal start ++ codes "-" ++ decimal (start + length bytes - 1)
+
+abbrev pub with_length : List ℕ → Fields → Result Fields OciDistributionError
+with_length bytes headers = with_header headers (codes "content-length") (decimal (length bytes))
+
+abbrev pub with_type : Fields → Result Fields OciDistributionError
+with_type headers = with_header headers (codes "content-type") (codes "application/octet-stream")
+
+-- how many bytes there are, of which type where there are some, and of a chunk where it stands in the blob
+abbrev pub with_fields : Content → Fields → Result Fields OciDistributionError
+with_fields Nothing headers = with_length [] headers
+with_fields (Whole bytes) headers = with_length bytes headers >>= with_type
+with_fields (Chunk start bytes) headers =
+    with_header headers (codes "content-range") (range_text start bytes) >>= with_length bytes >>= with_type
+
+-- the request with it
+unfoldable pub with_content : Content → Request → Result Request OciDistributionError
+with_content content request = with_fields content request.headers >>= λ headers. Ok (record request {
+  headers = headers;
+  body = bytes_of content;
+})

@@ -1,0 +1,111 @@
+// What a request of a push carries.
+ghost use Rattle.std.specs.Prelude.{◌≡◌, ◌+◌, ◌<◌, ◌^◌, length, IfOk};
+ghost use Rattle.engine_terms.specs.Error.{Says};
+ghost use Rattle.engine_push.specs.Contents.{IsWithin, bytes_of, range_text, with_length, with_type, with_fields, with_content};
+
+use engine_requests::with_header;
+use engine_terms::OciDistributionError;
+use json_values::{Blob, Text, write_decimal};
+use oci_transport::{Headers, Request};
+use std::alloc::{AllocError, Global};
+
+/// What a request of a push carries: no bytes, a whole blob, or a chunk of one, whose first byte has this place.
+#[derive(Drop)]
+pub enum Content {
+    Nothing,
+    Whole(Blob),
+    Chunk { start: u64, bytes: Blob },
+}
+
+fn range_text(alloc: Global, start: u64, bytes: &[u8]) -> Result<Text, AllocError>
+    requires { start + length bytes.now < 2 ^ 64 }
+    ensures { IfOk result (λ text. text ≡ range_text start bytes.now) }
+{
+    let mut text = write_decimal(alloc, start)?;
+    let end = write_decimal(alloc, (start + bytes.len() as u64).saturating_sub(1))?;
+    text.push_str("-")?;
+    text.push_str(end.as_str())?;
+    Ok(text)
+}
+
+fn with_length(
+    alloc: Global,
+    headers: Headers,
+    bytes: &[u8],
+) -> Result<Headers, OciDistributionError>
+    ensures { Says result (with_length bytes.now headers) }
+{
+    let digits = write_decimal(alloc, bytes.len() as u64)?;
+    let sized = with_header(headers, "content-length", digits.as_str())?;
+    Ok(sized)
+}
+
+fn with_type(headers: Headers) -> Result<Headers, OciDistributionError>
+    ensures { Says result (with_type headers) }
+{
+    with_header(headers, "content-type", "application/octet-stream")
+}
+
+fn with_fields(
+    alloc: Global,
+    headers: Headers,
+    content: &Content,
+) -> Result<Headers, OciDistributionError>
+    requires { IsWithin content.now }
+    ensures { Says result (with_fields content.now headers) }
+{
+    match content {
+        Content::Nothing => {
+            let sized = with_length(alloc, headers, &[])?;
+            Ok(sized)
+        }
+        Content::Whole(bytes) => {
+            let sized = with_length(alloc, headers, bytes.as_slice())?;
+            let typed = with_type(sized)?;
+            Ok(typed)
+        }
+        Content::Chunk { start, bytes } => {
+            let range = range_text(alloc, *start, bytes.as_slice())?;
+            let ranged = with_header(headers, "content-range", range.as_str())?;
+            let sized = with_length(alloc, ranged, bytes.as_slice())?;
+            let typed = with_type(sized)?;
+            Ok(typed)
+        }
+    }
+}
+
+fn into_bytes(alloc: Global, content: Content) -> Blob
+    ensures { result ≡ bytes_of content }
+{
+    match content {
+        Content::Nothing => Blob::empty(alloc),
+        Content::Whole(bytes) => bytes,
+        Content::Chunk { bytes, .. } => bytes,
+    }
+}
+
+/// The request with this content, and the header fields that speak of it.
+#[tactic(auto, unfolding(crate::specs::Contents::with_content))]
+pub(crate) fn with_content(
+    alloc: Global,
+    request: Request,
+    content: Content,
+) -> Result<Request, OciDistributionError>
+    requires { IsWithin content }
+    ensures { Says result (with_content content request) }
+{
+    let Request {
+        method,
+        url,
+        headers,
+        ..
+    } = request;
+    let headers = with_fields(alloc, headers, &content)?;
+    let body = into_bytes(alloc, content);
+    Ok(Request {
+        method,
+        url,
+        headers,
+        body,
+    })
+}

@@ -1,0 +1,15 @@
+//! Pushes of blobs: uploads in chunks or whole, of bytes that are at hand or that a source gives piece by piece.
+#![tactic(auto)]
+
+mod bytes;
+mod content;
+mod locations;
+mod mounting;
+mod pieces;
+mod stream;
+mod uploads;
+
+pub use bytes::push_blob;
+pub use content::Content;
+pub use mounting::mount_blob;
+pub use stream::{PushBlobStreamChunkedResponse, push_blob_stream, push_blob_stream_chunked};

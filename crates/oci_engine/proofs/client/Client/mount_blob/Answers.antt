@@ -1,0 +1,16 @@
+use Rattle.engine_terms.specs.Contexts.{within}
+use Rattle.push_laws.proofs.CallCauses.{mount_reason, mount_fault}
+use Rattle.push_laws.proofs.Confinement.{mount_confined}
+use Rattle.oci_engine.proofs.client.Client.mount_blob.Goals as goal
+
+pub returns-clause-confined : goal.returns-clause-confined
+returns-clause-confined g c = mount_confined (within c.args.self.now.settings c.args.moment) c.args.image.now _ _ (rw c.lend-memory.ensures at c.mount_blob-answer.ensures)
+
+pub returns-clause-causes : goal.returns-clause-causes
+returns-clause-causes g c = mount_reason (within c.args.self.now.settings c.args.moment) c.args.image.now _ _ _ (rw c.lend-memory.ensures at c.mount_blob-answer.ensures)
+
+pub returns-clause-fault : goal.returns-clause-fault
+returns-clause-fault g c = mount_fault (within c.args.self.now.settings c.args.moment) c.args.image.now _ _ _ (rw c.lend-memory.ensures at c.mount_blob-answer.ensures)
+
+pub returns-clause-run : goal.returns-clause-run
+returns-clause-run g c = rw c.lend-memory.ensures at c.mount_blob-answer.ensures

@@ -1,0 +1,16 @@
+use Rattle.engine_terms.specs.Contexts.{within}
+use Rattle.push_laws.proofs.CallCauses.{named_reason, named_fault}
+use Rattle.push_laws.proofs.Confinement.{named_confined}
+use Rattle.oci_engine.proofs.client.Client.push_blob_stream_chunked.Goals as goal
+
+pub returns-clause-confined : goal.returns-clause-confined
+returns-clause-confined g c = named_confined (within c.args.self.now.settings c.args.moment) c.args.image.now (rw c.lend-memory.ensures at c.push_blob_stream_chunked-answer.ensures.run)
+
+pub returns-clause-causes : goal.returns-clause-causes
+returns-clause-causes g c = named_reason (within c.args.self.now.settings c.args.moment) c.args.image.now _ (rw c.lend-memory.ensures at c.push_blob_stream_chunked-answer.ensures.run)
+
+pub returns-clause-fault : goal.returns-clause-fault
+returns-clause-fault g c = named_fault (within c.args.self.now.settings c.args.moment) c.args.image.now _ (rw c.lend-memory.ensures at c.push_blob_stream_chunked-answer.ensures.run)
+
+pub returns-clause-run : goal.returns-clause-run
+returns-clause-run g c = rw c.lend-memory.ensures at c.push_blob_stream_chunked-answer.ensures.run

@@ -1,0 +1,173 @@
+// The calls that push blobs.
+ghost use Rattle.std.specs.Prelude.{◌≡◌, None, IfErr};
+ghost use Rattle.oci_auth.specs.declared.token_type.RegistryOperation.TheVariants.{Push};
+ghost use Rattle.oci_protocol.specs.Runs.{Meets};
+ghost use Rattle.engine_terms.specs.Error.{is_memory};
+ghost use Rattle.engine_push.specs.Calls.{push_blob, push_blob_stream, push_blob_stream_chunked, mount_blob};
+ghost use Rattle.engine_push.specs.Sources.{Pushes, SourceCause};
+ghost use Rattle.push_laws.specs.Causes.{OfBytes, OfStream, OfNamedStream, OfNothing};
+ghost use Rattle.oci_engine.specs.Confinement.{StaysFor};
+ghost use Rattle.oci_engine.specs.Kept.{memory_of};
+ghost use Rattle.oci_engine.specs.PushRefusals.{PushRefused};
+ghost use Rattle.oci_engine.specs.Refusals.{RefusedFor, FaultCounted, at_moment};
+
+use crate::client::{Client, lent};
+use engine_push::PushBlobStreamChunkedResponse;
+use engine_terms::{Call, OciDistributionError};
+use json_values::Text;
+use oci_names::Reference;
+use oci_pieces::PieceSource;
+use oci_transport::Transport;
+use std::alloc::Global;
+
+impl Client {
+    /// Pushes bytes to the image's repository as the blob of this digest, which is not compared with them: the URL at
+    /// which it stands then. They go in chunks, and by one request where `use_monolithic_push` is set or the registry
+    /// answers a chunk with another success than was expected. `moment` is in seconds since 1970.
+    ///
+    /// `PushNoDataError` where there are none and they go by one request.
+    pub fn push_blob<T: Transport>(
+        &mut self,
+        alloc: Global,
+        transport: &mut T,
+        moment: u64,
+        image_ref: &Reference,
+        content: &[u8],
+        digest: &str,
+    ) -> Result<Text, OciDistributionError>
+        ensures run { Meets is_memory (push_blob (at_moment self.old moment) image_ref.now content.now digest.now)
+            (T.state transport.old) (T.state transport.new) (memory_of self.old) (memory_of self.new) result }
+        ensures settings { self.new.settings ≡ self.old.settings }
+        ensures confined { StaysFor Push self.old self.new moment image_ref.now None
+            (T.state transport.old) (T.state transport.new) }
+        ensures causes { RefusedFor (PushRefused (OfBytes content.now) self.old image_ref.now)
+            (T.state transport.old) (T.state transport.new) result }
+        ensures fault { FaultCounted (T.state transport.old) (T.state transport.new) result }
+    {
+        let call = Call {
+            settings: &self.settings,
+            image: image_ref,
+            moment,
+        };
+        lent!(
+            self,
+            memory,
+            engine_push::push_blob(alloc, transport, &mut memory, &call, content, digest)
+        )
+    }
+
+    /// Pushes what a source gives as the blob of this digest, which is not compared with it: the URL at which it stands
+    /// then. Its pieces go in chunks as they come, or are held and go by one request where `use_monolithic_push` is
+    /// set. That request needs the count of bytes: `NoSize` without it, `SizeDiffers` where the source gives another.
+    ///
+    /// `SourceFault` where the source failed, `BodyTooLong` where it gave more bytes than `max_body_bytes`.
+    pub fn push_blob_stream<T: Transport, P: PieceSource>(
+        &mut self,
+        alloc: Global,
+        transport: &mut T,
+        moment: u64,
+        image: &Reference,
+        pieces: &mut P,
+        blob_digest: &str,
+        size: Option<u64>,
+    ) -> Result<Text, OciDistributionError>
+        ensures run { Meets is_memory (push_blob_stream (at_moment self.old moment) image.now blob_digest.now size)
+            (T.state transport.old) (T.state transport.new) (memory_of self.old) (memory_of self.new) result }
+        ensures settings { self.new.settings ≡ self.old.settings }
+        ensures pushes { Pushes (P.state pieces.old) (P.state pieces.new)
+            (T.state transport.old) (T.state transport.new) result }
+        ensures source { IfErr result (SourceCause self.old.settings.max_body_bytes size
+            (P.state pieces.old) (P.state pieces.new) (T.state transport.old) (T.state transport.new)) }
+        ensures confined { StaysFor Push self.old self.new moment image.now None
+            (T.state transport.old) (T.state transport.new) }
+        ensures causes { RefusedFor (PushRefused (OfStream size) self.old image.now)
+            (T.state transport.old) (T.state transport.new) result }
+        ensures fault { FaultCounted (T.state transport.old) (T.state transport.new) result }
+    {
+        let call = Call {
+            settings: &self.settings,
+            image,
+            moment,
+        };
+        lent!(
+            self,
+            memory,
+            engine_push::push_blob_stream(
+                alloc,
+                transport,
+                &mut memory,
+                &call,
+                pieces,
+                blob_digest,
+                size,
+            )
+        )
+    }
+
+    /// Pushes what a source gives, in chunks as it comes, under the digest by SHA-256 that its bytes turn out to have.
+    ///
+    /// `PushNoDataError` where the source gives nothing; `SourceFault` and `BodyTooLong` as of `push_blob_stream`.
+    pub fn push_blob_stream_chunked<T: Transport, P: PieceSource>(
+        &mut self,
+        alloc: Global,
+        transport: &mut T,
+        moment: u64,
+        image: &Reference,
+        pieces: &mut P,
+    ) -> Result<PushBlobStreamChunkedResponse, OciDistributionError>
+        ensures run { Meets is_memory (push_blob_stream_chunked (at_moment self.old moment) image.now)
+            (T.state transport.old) (T.state transport.new) (memory_of self.old) (memory_of self.new) result }
+        ensures settings { self.new.settings ≡ self.old.settings }
+        ensures pushes { Pushes (P.state pieces.old) (P.state pieces.new)
+            (T.state transport.old) (T.state transport.new) result }
+        ensures source { IfErr result (SourceCause self.old.settings.max_body_bytes None
+            (P.state pieces.old) (P.state pieces.new) (T.state transport.old) (T.state transport.new)) }
+        ensures confined { StaysFor Push self.old self.new moment image.now None
+            (T.state transport.old) (T.state transport.new) }
+        ensures causes { RefusedFor (PushRefused OfNamedStream self.old image.now)
+            (T.state transport.old) (T.state transport.new) result }
+        ensures fault { FaultCounted (T.state transport.old) (T.state transport.new) result }
+    {
+        let call = Call {
+            settings: &self.settings,
+            image,
+            moment,
+        };
+        lent!(
+            self,
+            memory,
+            engine_push::push_blob_stream_chunked(alloc, transport, &mut memory, &call, pieces)
+        )
+    }
+
+    /// Asks the registry to take a blob of another repository of its own into the image's.
+    pub fn mount_blob<T: Transport>(
+        &mut self,
+        alloc: Global,
+        transport: &mut T,
+        moment: u64,
+        image: &Reference,
+        source: &Reference,
+        digest: &str,
+    ) -> Result<(), OciDistributionError>
+        ensures run { Meets is_memory (mount_blob (at_moment self.old moment) image.now source.now digest.now)
+            (T.state transport.old) (T.state transport.new) (memory_of self.old) (memory_of self.new) result }
+        ensures settings { self.new.settings ≡ self.old.settings }
+        ensures confined { StaysFor Push self.old self.new moment image.now None
+            (T.state transport.old) (T.state transport.new) }
+        ensures causes { RefusedFor (PushRefused OfNothing self.old image.now)
+            (T.state transport.old) (T.state transport.new) result }
+        ensures fault { FaultCounted (T.state transport.old) (T.state transport.new) result }
+    {
+        let call = Call {
+            settings: &self.settings,
+            image,
+            moment,
+        };
+        lent!(
+            self,
+            memory,
+            engine_push::mount_blob(alloc, transport, &mut memory, &call, source, digest)
+        )
+    }
+}

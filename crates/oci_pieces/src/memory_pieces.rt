@@ -1,0 +1,84 @@
+// Pieces that stand in memory.
+ghost use Rattle.std.specs.Prelude.{◌≡◌, ◌≤◌, length, [], Some, Contains, IfOk, OnOk, OnErr, IsErrOf};
+ghost use Rattle.std.specs.Io.KnownBytes.{Keeps, IsAtEnd};
+ghost use Rattle.json_values.specs.Counts.{Rose, Stays, raised};
+ghost use Rattle.oci_transport.specs.Pieces.{NoneEmpty, joined};
+
+use crate::piece_source::PieceSource;
+use json_values::{Blob, Copied, List};
+use oci_transport::LinkError;
+use std::alloc::Global;
+
+/// Gives pieces that stand in memory, in order, and fails at the calls whose numbers, counted from 0, it was given.
+#[derive(Drop)]
+pub struct MemoryPieces {
+    pieces: List<Blob>,
+    at: usize,
+    failing: List<u64>,
+    calls: u64,
+    faults: u64,
+    ghost within: { at ≤ length pieces },
+    ghost whole: { NoneEmpty pieces },
+}
+
+impl MemoryPieces {
+    ghost use Rattle.oci_pieces.specs.MemoryPieces.{spring, calls_of, failing_of};
+
+    /// All of the pieces are left, none of which is empty, and nothing was asked yet.
+    pub fn new(_alloc: Global, pieces: List<Blob>, failing: List<u64>) -> MemoryPieces
+        requires { NoneEmpty pieces }
+        ensures left { (spring result).left ≡ Some (joined pieces) }
+        ensures faults { (spring result).faults ≡ 0 }
+        ensures calls { calls_of result ≡ 0 }
+        ensures failing { failing_of result ≡ failing }
+    {
+        MemoryPieces {
+            pieces,
+            at: 0,
+            failing,
+            calls: 0,
+            faults: 0,
+        }
+    }
+}
+
+impl PieceSource for MemoryPieces {
+    ghost use Rattle.pull_edge.specs.Source.{Takes};
+    ghost use Rattle.oci_pieces.specs.MemoryPieces.{spring, calls_of, failing_of};
+
+    ghost state = { spring };
+
+    fn piece(&mut self, alloc: Global) -> Result<Blob, LinkError>
+        ensures count { (spring self.old).faults ≤ (spring self.new).faults }
+        ensures front { IfOk result (λ piece. Takes piece (spring self.old) (spring self.new)) }
+        ensures end { IfOk result (λ piece. piece ≡ [] → IsAtEnd (spring self.new).left) }
+        ensures fault { IsErrOf result LinkError.Failed → Rose (spring self.old).faults (spring self.new).faults }
+        ensures served { OnOk result (Stays (spring self.old).faults (spring self.new).faults) }
+        ensures stays { OnErr result (Keeps (spring self.old).left (spring self.new).left) }
+        ensures quiet { IsErrOf result LinkError.WantOfMemory
+            → Stays (spring self.old).faults (spring self.new).faults }
+        ensures raised { IsErrOf result LinkError.Failed
+            → (spring self.new).faults ≡ raised (spring self.old).faults }
+        ensures calls { calls_of self.new ≡ raised (calls_of self.old) }
+        ensures failing { failing_of self.new ≡ failing_of self.old }
+        ensures fails { IsErrOf result LinkError.Failed → Contains (failing_of self.old) (calls_of self.old) }
+        ensures calm { OnOk result (Contains (failing_of self.old) (calls_of self.old) → ⊥) }
+    {
+        let call = self.calls;
+        self.calls = call.saturating_add(1);
+        if self.failing.as_slice().contains(&call) {
+            self.faults = self.faults.saturating_add(1);
+            return Err(LinkError::Failed);
+        }
+        let Some(piece) = self.pieces.as_slice().get(self.at) else {
+            return Ok(Blob::empty(alloc));
+        };
+        let piece = piece.copy(alloc)?;
+        self.at += 1;
+        Ok(piece)
+    }
+
+    fn faults(&self) -> u64 {
+        self.faults
+    }
+}
