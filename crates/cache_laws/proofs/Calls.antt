@@ -25,7 +25,7 @@ use Rattle.sig_registry.proofs.Facts.{digests_kept, manifests_kept, images_kept,
 use Rattle.cache_laws.specs.Growth.{Grown, Grows}
 use Rattle.cache_laws.proofs.PartsInTurn.{as_it_was, grows_lifted}
 
--- ---- a refusal leaves the kept answers as they were
+-- ---- a refusal leaves the cached responses unchanged
 
 module _ {A : Type 0} (cache : Cache A) (key : List ℕ) (now : ℕ) (p : Plain A) where
   kept_is_ok : (a : A) (k : Kept) (m : ℕ) (c : List Exchange) (n : ℕ) (l : Kept) (r : Result A SigstoreError) → Runs (keeping cache key now a >> Done (Ok a)) k m c n l r → Ok a ≡ r
@@ -57,23 +57,23 @@ module _ {A : Type 0} (cache : Cache A) (key : List ℕ) (now : ℕ) (p : Plain 
   refused_keeps true k l m n c e run = recalled_refused k l m n c e run
   refused_keeps false k l m n c e run = (Runs-unlifted p k l m n c (Err e) run).1
 
--- ---- a whole run is one more place of the log
+-- ---- a complete run is one more entry of the log
 
--- a transport that tells nothing, at this count
+-- a transport that exposes nothing, with this fault count
 abbrev silent : ℕ → Link
 silent faults = record { told = None; rest = None; faults = faults; answers = None }
 
 silent_extends : (m n : ℕ) (c : List Exchange) → Extends (silent m) (silent n) c
 silent_extends m n c = Extends-untold (silent m) (silent n) c refl (record { steady = λ a is. absurd (cc is); quiet = λ a is never. absurd (cc is) })
 
--- a client of these settings that keeps this
+-- a client with these settings and this state
 abbrev client : Settings → Kept → Client
 client s k = record { settings = s; kept = k }
 
 answered_made : {A : Type 0} (s : Settings) (p : Row A) (k l : Kept) (m n : ℕ) (c : List Exchange) (a : A) → Runs p k m c n l (Ok a) → Fulfils is_memory s p (client s k) (client s l) (silent m) (silent n) (Ok a)
 answered_made s p k l m n c a run = record { made = λ at. (at, record { outcome = record { conversation = c; told = silent_extends m n c; runs = run; runs_by = λ t before by. absurd (cc by) } }) }
 
--- one whose answer may be kept
+-- a call whose response may be cached
 grows_call : {A : Type 0} (cache : Cache A) (law : IsCache cache) (call : Call) (now : ℕ) (row : Settings → Plain A) (kind_is : kind_called call ≡ cache.kind) (is_call : (s : Settings) → call_made (within s now) call ≡ answering cache (row s)) (s : Settings) → Grows s (cached (reads_back (image_called call)) cache (key_called call) now (row s))
 grows_call {A} cache law call now row kind_is is_call s = record { grows = by_answer } where
   by_answer : (k l : Kept) (m n : ℕ) (c : List Exchange) (r : Result A SigstoreError) (log : List Place) → Runs (cached (reads_back (image_called call)) cache (key_called call) now (row s)) k m c n l r → IsRun s log → IsBacked s k.1 log → Grown s l.1 log

@@ -15,7 +15,7 @@ use Rattle.cache_laws.specs.Growth.{Grown, Grows}
 use Rattle.cache_laws.proofs.PartsInTurn.{as_it_was}
 use Rattle.cache_laws.proofs.Pulls.{pull_grows}
 
--- pulls in turn
+-- pulls in sequence
 pub grows_in_turn : (s : Settings) (row : ℕ → Whole VerifiedImage) → ((moment : ℕ) → Grows s (row moment))
     → (k : Kept) (m : ℕ) (talks : List Talk) (l : Kept) (n : ℕ) (log : List Place) → Turns row k m talks l n → IsRun s log → IsBacked s k.1 log → Grown s l.1 log
 grows_in_turn s row each k m [] l n log turn run backed = as_it_was s k l log (ap (λ (k : Kept). k.1) turn.0) run backed
@@ -28,6 +28,6 @@ new_backed : (s : Settings) (caching : Bool) → IsBacked s (fresh caching).1 []
 new_backed s true = tt
 new_backed s false = tt
 
--- All answers that the calls of a case's pulls were given are those of calls that were made in full, fresh for each.
+-- All responses to the calls of a case's pulls come from calls that were made in full, and were fresh when returned.
 pub case_grows : {case : Case} {talks : List Talk} (pulled : Pulled case talks) → Grown (settings_of case) pulled.kept.1 []
 case_grows {case} {talks} pulled = grows_in_turn (settings_of case) (row_of case pulled.image) (λ moment. pull_grows (settings_of case) moment case.auth (meaning_of case) pulled.image case.accepted) (fresh case.caching) 0 talks pulled.kept pulled.faults [] (turns (row_of case pulled.image) (answering_by case.registry) 0 (fresh case.caching) pulled.kept 0 pulled.faults talks pulled.in_turn) tt (new_backed (settings_of case) case.caching)

@@ -1,4 +1,4 @@
--- Protocols of several parts, in turn.
+-- Protocols of several parts, in sequence.
 use Rattle.std.proofs.Common.{◌≡◌, ℕ, List, [], ◌++◌, Option, Result, Ok, Err, ap, subst, append_assoc}
 use Rattle.oci_transport.specs.declared.message.Exchange.{Exchange}
 use Rattle.oci_auth.specs.declared.memory.Memory.{Memory}
@@ -34,6 +34,6 @@ grows_next {A} {B} {E} s p f first second = grows_bind s p (unless_refused f) fi
   by_answer (Ok a) = second a
   by_answer (Err e) = grows_done s (Err e)
 
--- a call that is never kept
+-- a call that is never cached
 pub grows_lifted : {A : Type 0} (s : Settings) (p : Proto Memory A) → Grows s (lifted p)
 grows_lifted s p = record { grows = λ k l m n c a log run lawful backed. as_it_was s k l log (Runs-unlifted p k l m n c a run).1 lawful backed }

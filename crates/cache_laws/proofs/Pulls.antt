@@ -1,4 +1,4 @@
--- The whole pull of an image: what the search, the search's sources and the image ask of the client.
+-- The whole pull of an image: what the search, the search's sources and the image request from the client.
 use Rattle.std.proofs.Common.{ℕ, Bool, true, false, List, [], ◌∷◌, ◌++◌, None, Result, Ok, Err}
 use Rattle.oci_names.specs.declared.reference.Reference.{Reference}
 use Rattle.oci_names.specs.Reference.{reads_back}
@@ -31,7 +31,7 @@ use Rattle.cache_laws.specs.Growth.{Grows}
 use Rattle.cache_laws.proofs.PartsInTurn.{grows_done, grows_bind, grows_next}
 use Rattle.cache_laws.proofs.Calls.{digest_grows, manifest_grows, image_grows, referrers_grow, document_grows, blob_grows}
 
--- for each of a type that the property tells
+-- for each value of a type that the property determines
 abbrev Each : {P : Type 0} → (P → Type 0) → Type 0
 Each {P} Q = (p : P) → Q p
 
@@ -128,7 +128,7 @@ module _ (s : Settings) (now : ℕ) (a : RegistryAuth) where
   unfolding image_row
   image_row_grows image source accepted = grows_next s (document_call (within s now) source a manifest_types) _ (document_grows s now source a manifest_types) (λ found. after_document_grows image source accepted found.0)
 
-  -- ---- the whole
+  -- ---- the whole pull
 
   part_grows : {B : Type 0} (p : Row B) → Grows s p → Grows s (part_of p)
   unfolding part_of

@@ -1,3 +1,2 @@
-//! What the pulls of one client show of the answers that it keeps, however many there are. It has definitions and laws
-//! alone.
+//! Properties of the responses that one client caches over any number of pulls. Definitions and laws only.
 #![tactic(auto)]

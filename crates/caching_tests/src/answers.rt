@@ -1,9 +1,9 @@
-// Answers that are kept.
+// Cached responses.
 use json_values::{Blob, Text};
 use sig_answers::{Answer, Answers, Bounds, Entry, Kind};
 use std::alloc::{AllocError, Global};
 
-// A digest that is kept for a key: the key's own text.
+// A digest that is cached under a key: the key's own text.
 fn entry(alloc: Global, key: &str, moment: u64) -> Result<Entry, AllocError> {
     let digest = Text::new(alloc, key)?;
     let key = Blob::new(alloc, key.as_bytes())?;
@@ -33,7 +33,7 @@ fn is_digest(answer: &Option<Answer>, want: &str) -> bool {
     }
 }
 
-// Whether the digest of a key is still given.
+// Whether the digest of a key is still returned.
 fn is_given(
     alloc: Global,
     bounds: Option<Bounds>,

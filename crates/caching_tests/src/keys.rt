@@ -1,4 +1,4 @@
-// The texts that answers are kept under.
+// The keys of cached responses.
 use json_values::{Blob, List, Text};
 use oci_auth::RegistryAuth;
 use oci_names::Reference;

@@ -1,4 +1,4 @@
-//! Tests of what calls are asked with, and of the answers that are kept.
+//! Tests of the arguments of calls as JSON values, and of cached responses.
 #![tactic(auto)]
 
 #[cfg(test)]

@@ -25,7 +25,7 @@ use Rattle.cosign_chain.specs.declared.image.VerifiedImage.{VerifiedImage}
 use Rattle.cosign_chain.proofs.LinkTests.{both}
 use Rattle.cosign_chain.proofs.SameManifests.{manifests, texts}
 
--- ---- what a value reads as
+-- ---- what a value parses as
 
 pub no_table : (d : Data) → manifest_of d ≡ None → index_of d ≡ None → None ≡ document_of d
 unfolding document_of

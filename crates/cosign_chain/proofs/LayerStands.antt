@@ -1,4 +1,4 @@
--- A layer that is read again stands for an image exactly where the test says so.
+-- A layer that is read again stands for an image if and only if the test returns true.
 use Rattle.std.proofs.Common.{◌≡◌, ◌↔◌, ◌<◌, ℕ, Bool, true, false, IsTrue, not, zero, suc, List, [], ◌∷◌, length, Option, Some, None, option_map, option_and_then, if◌then◌else◌, MatchBool, refl, sym, ap, ◌∙◌, arith, codes}
 use Rattle.std.specs.Prelude.{◌==◌}
 use Rattle.std.specs.FinMap.{FinMap}
@@ -26,7 +26,7 @@ use Rattle.cosign_chain.specs.SameLayer.{same_reading}
 use Rattle.cosign_chain.proofs.SameLayers.{IsPlain, Reading, reading_is, reading_same}
 use Rattle.cosign_chain.proofs.Sameness.{get_plain}
 
--- ---- what a payload says beside its texts holds no float
+-- ---- the members of a payload that are not strings contain no float
 
 bound : {A B : Type 0} (o : Option A) (f : A → Option B) (y : B) → (o >>= f) ≡ Some y → (x : A) × (o ≡ Some x) × (f x ≡ Some y)
 bound None f y is = absurd (cc is)
@@ -103,12 +103,12 @@ same_layer again layer from reading =
     let annotations : again.annotations ≡ layer.annotations = ap (λ x. x.annotations) from in
     rw (kind, content, digest, annotations, reading.signing, reading.signature, reading.certificate, reading.entry) refl
 
--- without a constraint, no layer stands
+-- without a constraint, no layer satisfies the policy
 pub unconstrained : {V : Type 0} {H : V → Type 0} (meaning : Meaning V H) (d : List ℕ) (layer : SignatureLayer)
     → length meaning.policy.constraints ≡ 0 → IsTrue false ↔ StandsFor meaning d layer
 unconstrained meaning d layer none = (λ h. absurd (cc h), λ s. absurd (omega (arith, none, s.constrained)))
 
--- a layer that says something else than its bytes does not stand
+-- a layer whose fields differ from what its bytes state does not stand for the image
 pub another : {V : Type 0} {H : V → Type 0} (meaning : Meaning V H) (d : List ℕ) (again layer : SignatureLayer)
     → Gives meaning.trust d (input_of layer) again → HasOneOutcome meaning.trust d (input_of layer)
     → same_reading again layer ≡ false → IsTrue false ↔ StandsFor meaning d layer
@@ -120,7 +120,7 @@ another meaning d again layer gives law differs = (
       absurd (cc (sym differs ∙ passes)),
 )
 
--- one that says what its bytes say stands exactly where it is signed and accepted
+-- a layer whose fields are what its bytes state stands for the image if and only if it is signed and accepted
 pub supported : {V : Type 0} {H : V → Type 0} (meaning : Meaning V H) (d : List ℕ) (again layer : SignatureLayer) (b : Bool)
     → Gives meaning.trust d (input_of layer) again → same_reading again layer ≡ true
     → {X : Type 0} (xs : List X) → length xs ≡ length meaning.policy.constraints → false ≡ (length xs == 0)
@@ -139,7 +139,7 @@ supported meaning d again layer b gives passes xs long not_none exact = (
   some zero is = absurd (cc is)
   some (suc n) is = omega arith
 
--- a layer that is rejected does not stand
+-- a layer that is rejected does not stand for the image
 pub rejected : {V : Type 0} {H : V → Type 0} (meaning : Meaning V H) (d : List ℕ) (layer : SignatureLayer) (x : LayerRejection)
     → RejectedUnlessMemory meaning.trust d (input_of layer) x → is_memory x ≡ false
     → HasOneOutcome meaning.trust d (input_of layer) → IsTrue false ↔ StandsFor meaning d layer

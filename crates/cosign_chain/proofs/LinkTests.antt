@@ -77,7 +77,7 @@ layer accepted x l = more (λ h. record { named = h.0.0.0; media_type = h.0.0.1;
     (both (names x.digest l.content && bytes_eq l.media_type x.media_type) (same_annotations l.annotations x.annotations) (both (names x.digest l.content) (bytes_eq l.media_type x.media_type) (named x.digest l.content) (bytes_eq-Decides l.media_type x.media_type)) (annotations l.annotations x.annotations))
     (accepted_in accepted l.media_type))
 
--- the test of a descriptor beside its layer
+-- the test of a descriptor and the layer at its index
 abbrev at_place : List (List ℕ) → OciDescriptor × ImageLayer → Bool
 at_place accepted p = is_layer_of accepted p.0 p.1
 

@@ -1,4 +1,4 @@
--- What the tests of sameness say of signature layers.
+-- What the tests of sameness establish about signature layers.
 use Rattle.std.proofs.Common.{◌≡◌, ◌&&◌, true, false, bytes_eq, Option, Some, None, refl, ap}
 use Rattle.std.specs.Bool.{Decides}
 use Rattle.std.proofs.lemmas.Slice.Eq.{bytes_eq-Decides}
@@ -61,7 +61,7 @@ signings_are None (Some b) h = absurd (cc h)
 signings_are (Some a) None h = absurd (cc h)
 signings_are (Some a) (Some b) h = ap Some (signing_is a b h)
 
--- what is read of a layer's bytes and annotations
+-- the fields that are read from a layer's bytes and annotations
 pub record Reading (a b : SignatureLayer) : Type 0 where
   pub signing : a.simple_signing ≡ b.simple_signing
   pub signature : a.signature ≡ b.signature
@@ -92,7 +92,7 @@ signing_same a plain = joined (bytes_eq a.docker_reference a.docker_reference
     ((bytes_eq-Decides a.docker_reference a.docker_reference).1 refl)
     ((bytes_eq-Decides a.docker_manifest_digest a.docker_manifest_digest).1 refl)) (data_same a.optional plain)
 
--- no float stands in what a payload says beside its texts
+-- the members of a payload that are not strings contain no float
 abbrev pub IsPlain : Option SimpleSigning → Type 0
 IsPlain None = Unit {0}
 IsPlain (Some signing) = has_float signing.optional ≡ false

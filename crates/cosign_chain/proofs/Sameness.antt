@@ -1,4 +1,4 @@
--- What the tests of sameness say: values that pass are equal, and a value without floats is the same as itself.
+-- The tests of sameness: values that pass are equal, and a value without floats is the same as itself.
 use Rattle.std.proofs.Common.{◌≡◌, ◌&&◌, ◌||◌, ℕ, Bool, true, false, List, bytes_eq, Option, Some, refl, ap, nat_cmp, Ordering, Less, Equal, Greater}
 use Rattle.std.specs.Ordering.{match_ordering}
 use Rattle.std.specs.Cmp.Lexicographic.{slice_cmp}

@@ -1,4 +1,4 @@
--- A chain of hashes that can be checked again with nothing else: no request stands in it.
+-- A chain of digests that can be checked again on its own: its definition mentions no request.
 use Rattle.std.specs.Prelude.{◌≡◌, ◌<◌, ◌⊎◌, ℕ, List, [], ◌∷◌, length, Option, Some, None, Contains}
 use Rattle.serde_json.specs.Data.{Data}
 use Rattle.json_values.specs.JsonText.{json_of}
@@ -19,7 +19,7 @@ use Rattle.oci_platforms.specs.declared.promise.ResolverPromise.{ResolverPromise
 use Rattle.cosign_layers.specs.Standing.{Meaning, StandsFor}
 use Rattle.cosign_chain.specs.declared.image.VerifiedImage.{VerifiedImage}
 
--- the bytes are JSON of the supported version, and read as this document and as nothing else
+-- the bytes are JSON of the supported version, and parse as this document and as no other
 pub record IsDocument (bytes : List ℕ) (document : OciManifest) : Type 0 where
   pub value : Data
   pub json : json_of bytes ≡ Some value
@@ -45,7 +45,7 @@ pub record FirstIsIndex (promise : ResolverPromise) (v : VerifiedImage) : Type 0
   pub reads : ReadsAs v.manifest_bytes v.manifest
   pub list : v.list_digest ≡ Some v.digest
 
--- the first document leads to the manifest; one that is an index only under a promise
+-- the first document leads to the manifest; an index does so only with a promise
 abbrev pub LeadsToManifest : Option ResolverPromise → VerifiedImage → Type 0
 LeadsToManifest None v = FirstIsManifest v
 LeadsToManifest (Some promise) v = FirstIsManifest v ⊎ FirstIsIndex promise v
@@ -56,7 +56,7 @@ pub record ConfigLinks (manifest : OciImageManifest) (config : Config) : Type 0 
   pub media_type : config.media_type ≡ manifest.config.media_type
   pub annotations : config.annotations ≡ manifest.annotations
 
--- the layer is the one that the descriptor names, and of an accepted type
+-- the layer is the one that the descriptor names, and its media type is accepted
 pub record LayerLinks (accepted : List (List ℕ)) (x : OciDescriptor) (layer : ImageLayer) : Type 0 where
   pub named : Names x.digest layer.content
   pub media_type : layer.media_type ≡ x.media_type
@@ -70,9 +70,9 @@ LayersLink accepted [] (layer ∷ layers) = ⊥
 LayersLink accepted (x ∷ xs) [] = ⊥
 LayersLink accepted (x ∷ xs) (layer ∷ layers) = LayerLinks accepted x layer × LayersLink accepted xs layers
 
--- The digest names the first document, as the digest that was asked for does where there is one. The document is
--- the manifest or leads to it, and the manifest's digests name the configuration and the layers, of which there is
--- one; and a signature layer stands for the digest.
+-- The digest names the first document, as the requested digest does if there is one. The document is the manifest or
+-- leads to it, and the manifest's digests name the configuration and the layers, of which there is at least one; and a
+-- signature layer stands for the digest.
 pub record Chain {V : Type 0} {H : V → Type 0} (meaning : Meaning V H) (image : Reference) (accepted : List (List ℕ))
     (promise : Option ResolverPromise) (v : VerifiedImage) : Type 0 where
   pub named : Names v.digest v.first

@@ -1,4 +1,4 @@
--- What leads from the first document of an image to its manifest, as tests.
+-- Tests of what leads from the first document of an image to its manifest.
 use Rattle.std.specs.Prelude.{ℕ, Bool, false, ◌&&◌, List, bytes_eq, Option, Some, None, option_and_then, if◌then◌else◌}
 use Rattle.json_values.specs.JsonText.{json_of}
 use Rattle.oci_digests.specs.Names.{names}
@@ -13,11 +13,11 @@ use Rattle.oci_platforms.specs.declared.promise.ResolverPromise.{ResolverPromise
 use Rattle.cosign_chain.specs.SameManifest.{same_manifest, same_option}
 use Rattle.cosign_chain.specs.declared.image.VerifiedImage.{VerifiedImage}
 
--- the one document of a value of the supported version
+-- the document of a value of the supported version
 abbrev pub document_by : Bool → Option OciManifest → Option OciManifest
 document_by versioned document = if versioned then document else None
 
--- the one document that the bytes are, if they are one of the supported version
+-- the document that the bytes are, if they are one of the supported version
 abbrev pub document_in : List ℕ → Option OciManifest
 document_in bytes = option_and_then (λ d. document_by (is_versioned d) (document_of d)) (json_of bytes)
 
@@ -27,13 +27,13 @@ is_manifest manifest None = false
 is_manifest manifest (Some (Image own)) = same_manifest own manifest
 is_manifest manifest (Some (ImageIndex index)) = false
 
--- whether the first document, read as this manifest, is the image's
+-- whether the first document, parsed as this manifest, is the image's
 abbrev pub is_first : VerifiedImage → OciImageManifest → Bool
 is_first v manifest =
     same_manifest manifest v.manifest && bytes_eq v.manifest_bytes v.first
     && bytes_eq v.manifest_digest v.digest && same_option bytes_eq v.list_digest None
 
--- whether the first document, read as this index, leads to the manifest under the promise
+-- whether the first document, parsed as this index, leads to the manifest under the promise
 abbrev pub is_led : Option ResolverPromise → VerifiedImage → OciImageIndex → Bool
 is_led None v index = false
 is_led (Some promise) v index =

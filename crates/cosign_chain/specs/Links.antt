@@ -1,4 +1,4 @@
--- The links of a chain that show on documents and blobs alone: no JSON is read, and no signature is checked.
+-- The links of a chain that depend on documents and blobs alone: no JSON is parsed, and no signature is checked.
 use Rattle.std.specs.Prelude.{◌≡◌, ◌<◌, ℕ, Bool, true, false, ◌&&◌, List, bytes_eq, ◌==◌, nat_lt, length, Option, Some}
 use Rattle.std.specs.Prelude.{None}
 use Rattle.std.specs.List.{list_any, list_all, zip}
@@ -15,13 +15,13 @@ use Rattle.oci_manifests.specs.declared.blob.Config.{Config}
 use Rattle.cosign_chain.specs.Chain.{ConfigLinks, LayersLink}
 use Rattle.cosign_chain.specs.declared.image.VerifiedImage.{VerifiedImage}
 
--- without an index the first document is the manifest, and with one the digest is the index's
+-- without an index the first document is the manifest; with one the digest is the index's
 abbrev pub ManifestLinks : VerifiedImage → Option (List ℕ) → Type 0
 ManifestLinks v None = (v.manifest_bytes ≡ v.first) × (v.manifest_digest ≡ v.digest)
 ManifestLinks v (Some digest) = (digest ≡ v.digest) × Names v.manifest_digest v.manifest_bytes
 
--- The digest names the first document, as the digest that was asked for does where there is one. The manifest's
--- digest names its bytes, and the manifest's descriptors name the configuration and the layers, of which there is one.
+-- The digest names the first document, as the requested digest does if there is one. The manifest's digest names its
+-- bytes, and the manifest's descriptors name the configuration and the layers, of which there is at least one.
 pub record Links (image : Reference) (accepted : List (List ℕ)) (v : VerifiedImage) : Type 0 where
   pub named : Names v.digest v.first
   pub asked : (digest : List ℕ) → digest_of image ≡ Some digest → Names digest v.first
@@ -32,12 +32,12 @@ pub record Links (image : Reference) (accepted : List (List ℕ)) (v : VerifiedI
 
 -- ---- the links as tests
 
--- a digest, where there is one, names the bytes
+-- a digest, if there is one, names the bytes
 abbrev pub named_by : Option (List ℕ) → List ℕ → Bool
 named_by None bytes = true
 named_by (Some digest) bytes = names digest bytes
 
--- the same names with the same texts, or none
+-- the same names with the same strings, or no annotations in both
 abbrev pub same_annotations : Option (FinMap by_bytes (List ℕ)) → Option (FinMap by_bytes (List ℕ)) → Bool
 same_annotations None None = true
 same_annotations None (Some b) = false

@@ -1,4 +1,4 @@
--- Whether two values are the same, asked part by part. A float is the same as nothing.
+-- Whether two values are the same, compared part by part. A float is the same as nothing.
 use Rattle.std.specs.Prelude.{Bool, true, false, ◌&&◌, ◌==◌, bytes_eq, not}
 use Rattle.std.specs.Ordering.{int_eq}
 use Rattle.serde_json.specs.Data.{Num, unsigned, negative, Data, null, boolean, number, string, array, object}

@@ -1,4 +1,4 @@
--- Whether two signature layers say the same beside their bytes and annotations, asked field by field.
+-- Whether two signature layers with equal bytes and annotations have the same other fields, compared one by one.
 use Rattle.std.specs.Prelude.{Bool, ◌&&◌, bytes_eq}
 use Rattle.std.specs.Ordering.{int_eq}
 use Rattle.cosign_layers.specs.declared.certificate.CertificateSignature.{CertificateSignature}
@@ -27,7 +27,7 @@ same_entry a b =
     bytes_eq a.signed_entry_timestamp b.signed_entry_timestamp && bytes_eq a.body b.body
     && int_eq a.integrated_time b.integrated_time && int_eq a.log_index b.log_index && bytes_eq a.log_id b.log_id
 
--- what is read of a layer's bytes and annotations
+-- the fields that are read from a layer's bytes and annotations
 abbrev pub same_reading : SignatureLayer → SignatureLayer → Bool
 same_reading a b =
     same_option same_signing a.simple_signing b.simple_signing && bytes_eq a.signature b.signature

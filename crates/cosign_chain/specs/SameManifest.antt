@@ -1,4 +1,4 @@
--- Whether two manifests are the same, asked field by field.
+-- Whether two manifests are the same, compared field by field.
 use Rattle.std.specs.Prelude.{Bool, true, false, ◌&&◌, ◌==◌, bytes_eq, Option, Some, None}
 use Rattle.std.specs.Cmp.Lexicographic.{pointwise}
 use Rattle.std.specs.Ordering.{int_eq}
@@ -6,7 +6,7 @@ use Rattle.oci_descriptors.specs.declared.descriptor.OciDescriptor.{OciDescripto
 use Rattle.oci_manifests.specs.declared.manifest.OciImageManifest.{OciImageManifest}
 use Rattle.cosign_chain.specs.Links.{same_annotations}
 
--- both none, or both some that pass
+-- both are `None`, or both are `Some` and pass
 abbrev pub same_option : {X : Type 0} → (X → X → Bool) → Option X → Option X → Bool
 same_option same None None = true
 same_option same None (Some y) = false

@@ -1,4 +1,4 @@
-//! The whole chain, checked again.
+//! Checks the whole chain again.
 ghost use Rattle.std.specs.Prelude.{◌≡◌, ◌↔◌, IfOk, IfErr, IsTrue, option_copied};
 ghost use Rattle.cosign_layers.specs.Read.{Gives, HasOneOutcome, RejectedUnlessMemory, input_of};
 ghost use Rattle.cosign_layers.specs.Standing.{StandsFor, meaning};
@@ -18,12 +18,12 @@ use oci_names::Reference;
 use oci_platforms::ResolverPromise;
 use std::alloc::{AllocError, Global};
 
-/// Whether the whole chain of an image holds, with no client and no request in sight.
+/// Returns whether the whole chain of an image holds, without a client and without requests.
 ///
-/// The links hold (`check_links`). The first document reads as the manifest, or under a promise as an index of which
-/// the promise picks the manifest's digest. The signature layer is what its bytes and annotations say, is about the
+/// The links hold (`check_links`). The first document parses as the manifest, or under a promise as an index of which
+/// the promise picks the manifest's digest. The signature layer is what its bytes and annotations state, is about the
 /// digest, is signed under its certificate's key or one of the policy's, and is accepted by each constraint of a policy
-/// that has one.
+/// that has at least one.
 pub fn check_chain<V: SignatureVerifier, O: Offline>(
     alloc: Global,
     image: &Reference,
@@ -86,7 +86,7 @@ fn stands_for<V: SignatureVerifier, O: Offline>(
     }
 }
 
-// What the layer's bytes and annotations say.
+// Reads the layer again from its bytes and annotations.
 fn read_again<V: SignatureVerifier, O: Offline>(
     alloc: Global,
     log_keys: &LogKeys,

@@ -1,4 +1,4 @@
-//! What leads from the first document of an image to its manifest.
+//! Checks what leads from the first document of an image to its manifest.
 ghost use Rattle.std.specs.Prelude.{◌≡◌, ◌↔◌, IfOk, IsTrue, Some, true, bytes_eq, option_copied, option_map, unwrap_or};
 ghost use Rattle.serde_json.specs.View.{view};
 ghost use Rattle.oci_manifests.specs.Document.{document_of};
@@ -98,7 +98,7 @@ fn is_manifest(manifest: &OciImageManifest, document: &Option<OciManifest>) -> b
     }
 }
 
-// The one document that the bytes are, if they are one of the supported version.
+// Returns the document that the bytes are, if they are one of the supported version.
 fn document_in(alloc: Global, bytes: &Blob) -> Result<Option<OciManifest>, AllocError>
     ensures { IfOk result (λ document. document ≡ document_in bytes.now) }
 {
@@ -134,7 +134,7 @@ fn is_known(media_type: &Option<Text>) -> bool
     }
 }
 
-// What a value without floats reads as.
+// Parses a value without floats.
 #[tactic(auto, using(crate::proofs::DocumentTests::no_table, crate::proofs::DocumentTests::two_tables))]
 fn document_of(alloc: Global, value: &Value) -> Result<Option<OciManifest>, AllocError>
     requires { is_versioned (view value.now) ≡ true }

@@ -5,18 +5,18 @@ use oci_manifests::blob::Config;
 use oci_manifests::{ImageLayer, OciImageManifest};
 use std::alloc::{AllocError, Global};
 
-/// An image, and the one signature layer that stands for it: a chain that can be checked again with nothing else.
+/// An image, and the one signature layer that stands for it: a chain that can be checked again on its own.
 #[derive(Drop)]
 pub struct VerifiedImage {
-    /// The digest that was answered for the reference. It names `first`.
+    /// The digest that the registry returned for the reference. It names `first`.
     pub digest: Text,
     /// The document that was pulled for `digest`.
     pub first: Blob,
-    /// The document that `manifest` is read from.
+    /// The document that `manifest` is parsed from.
     pub manifest_bytes: Blob,
     pub manifest: OciImageManifest,
     pub manifest_digest: Text,
-    /// The digest of the index that led to the manifest, where one did.
+    /// The digest of the index that led to the manifest, if one did.
     pub list_digest: Option<Text>,
     pub config: Config,
     /// In the manifest's order.

@@ -1,5 +1,5 @@
-//! A chain of digests from a reference to an image with the signature that stands for it, and its check: with nothing
-//! else, since no client and no request is known here.
+//! A chain of digests from a reference to an image with the signature that stands for it, and its check, which knows of
+//! no client and no request.
 #![tactic(auto)]
 
 mod chain;

@@ -1,4 +1,4 @@
-//! The links of a chain that show on documents and blobs alone.
+//! Checks the links of a chain that depend on documents and blobs alone.
 ghost use Rattle.std.specs.Prelude.{◌≡◌, ◌↔◌, IsTrue, bytes_eq, option_copied};
 ghost use Rattle.std.specs.List.{list_all, list_any, zip};
 ghost use Rattle.oci_names.specs.Reference.{digest_of};
@@ -13,11 +13,11 @@ use oci_manifests::blob::Config;
 use oci_manifests::{ImageLayer, OciImageManifest};
 use oci_names::Reference;
 
-/// Whether the parts of an image hang together by their digests, without a look into any document: no JSON is read, no
-/// signature is checked, and no memory is taken.
+/// Returns whether the parts of an image are linked by their digests, without parsing any document, checking any
+/// signature or allocating memory.
 ///
-/// The digest names the first document, as the reference's digest does where it has one. Without an index, the manifest
-/// is that document; with one, the manifest's digest names its bytes, and the digest is the index's. The manifest's
+/// The digest names the first document, as the reference's digest does if it has one. Without an index, the manifest is
+/// that document; with one, the manifest's digest names its bytes, and the digest is the index's. The manifest's
 /// descriptors name the configuration and the layers, of which there is at least one, in their order. Media types and
 /// annotations are the descriptors' (the configuration has the manifest's annotations), and each layer's media type is
 /// accepted.
@@ -41,7 +41,7 @@ fn is_linked(image: &Reference, accepted: &[Text], found: &VerifiedImage) -> boo
         && has_layers(accepted, descriptors, layers)
 }
 
-// A digest, where there is one, names the bytes.
+// A digest, if there is one, names the bytes.
 fn named_by(digest: Option<&str>, bytes: &[u8]) -> bool
     ensures { result ≡ named_by (option_copied digest.entry) bytes.now }
 {
@@ -86,7 +86,7 @@ fn has_layers(accepted: &[Text], descriptors: &[OciDescriptor], layers: &[ImageL
     descriptors.len() == layers.len() && are_layers_of(accepted, descriptors, layers)
 }
 
-// Each descriptor names the layer at its place.
+// Each descriptor names the layer at its index.
 fn are_layers_of(accepted: &[Text], descriptors: &[OciDescriptor], layers: &[ImageLayer]) -> bool
     ensures { result ≡ list_all (λ p. is_layer_of accepted.now p.0 p.1) (zip descriptors.now layers.now) }
 {

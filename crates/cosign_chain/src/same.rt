@@ -1,4 +1,4 @@
-//! Whether two values are the same, asked part by part.
+//! Whether two values are the same, compared part by part.
 ghost use Rattle.std.specs.Prelude.{◌≡◌};
 ghost use Rattle.serde_json.specs.View.{view, number_view, items_view, members_view};
 ghost use Rattle.cosign_chain.specs.Same.{same_data, same_items, same_members, same_number};

@@ -1,4 +1,4 @@
-//! Whether two signature layers say the same beside their bytes and annotations, asked field by field.
+//! Whether two signature layers with equal bytes and annotations have the same other fields, compared one by one.
 ghost use Rattle.std.specs.Prelude.{◌≡◌};
 ghost use Rattle.cosign_chain.specs.SameLayer.{same_certificate, same_entry, same_reading, same_signing, same_vouched};
 ghost use Rattle.cosign_chain.specs.SameManifest.{same_option};

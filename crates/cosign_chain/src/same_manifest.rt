@@ -1,4 +1,4 @@
-//! Whether two manifests are the same, asked field by field.
+//! Whether two manifests are the same, compared field by field.
 ghost use Rattle.std.specs.Prelude.{◌≡◌, bytes_eq};
 ghost use Rattle.std.specs.Cmp.Lexicographic.{pointwise};
 ghost use Rattle.cosign_chain.specs.SameManifest.{same_descriptor, same_manifest, same_option};

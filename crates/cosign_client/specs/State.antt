@@ -1,4 +1,4 @@
--- What a client shows: its settings, what it keeps between its calls, and whom it trusts.
+-- The state of a client: its settings, what it keeps between its calls, and whom it trusts.
 use Rattle.sig_calls.specs.Clients.{Client as Shown}
 use Rattle.sig_registry.specs.States.{state_of}
 use Rattle.cosign_layers.specs.Trust.{Trust, Valid, Vouching, trust}
@@ -7,6 +7,6 @@ use Rattle.cosign_client.specs.declared.client.Client.{Client}
 abbrev pub client_state : Client → Shown
 client_state c = state_of c.registry_client
 
--- trust in the logs that the client has keys of, where verifiers and judges answer so
+-- trust in the logs whose keys the client has, for these meanings of verifiers and judges
 abbrev pub trusts : Valid → Vouching → Client → Trust
 trusts valid vouched c = trust valid vouched c.rekor_pub_keys

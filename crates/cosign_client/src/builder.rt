@@ -1,4 +1,4 @@
-//! What a client is built of.
+//! The builder of a client.
 ghost use Rattle.std.specs.Prelude.{◌≡◌, true, false, IfOk};
 ghost use Rattle.std.specs.FinMap as map;
 ghost use Rattle.sig_registry.specs.States.{state_of};
@@ -13,7 +13,7 @@ use oci_engine::ClientConfig as OciConfig;
 use sig_registry::{ClientConfig, OciCachingClient, OciClient, RegistryClient};
 use std::alloc::{AllocError, Global};
 
-// The client of a configuration, which keeps nothing yet.
+// The new client of a configuration.
 fn registry_client(alloc: Global, config: OciConfig, caching: bool) -> RegistryClient
     ensures { state_of result ≡ fresh_state config caching }
 {
@@ -24,8 +24,8 @@ fn registry_client(alloc: Global, config: OciConfig, caching: bool) -> RegistryC
     RegistryClient::Plain(OciClient::new(client))
 }
 
-/// What a client is built of: the configuration of its registry's client, whether that keeps answers, and the keys of
-/// transparency logs.
+/// The parts of a client: the configuration of its registry's client, whether that caches, and the keys of transparency
+/// logs.
 #[derive(Drop)]
 pub struct ClientBuilder {
     oci_client_config: ClientConfig,
@@ -34,7 +34,7 @@ pub struct ClientBuilder {
 }
 
 impl ClientBuilder {
-    /// The default configuration, no kept answers, and no keys.
+    /// Returns a builder with the default configuration, without a cache and without keys.
     pub fn new() -> ClientBuilder
         ensures config { config_of result ≡ default_config }
         ensures caches { caches result ≡ false }
@@ -47,7 +47,7 @@ impl ClientBuilder {
         }
     }
 
-    /// The client will keep answers and give them again for less than 60 seconds.
+    /// Returns a builder whose client will cache responses and return them again for less than 60 seconds.
     pub fn enable_registry_caching(self) -> ClientBuilder
         ensures config { config_of result ≡ config_of self }
         ensures caches { caches result ≡ true }
@@ -65,7 +65,7 @@ impl ClientBuilder {
         }
     }
 
-    /// Takes the keys that the repository knows, where it knows any; else those stay that are there.
+    /// Takes the keys that the repository knows, if it knows any; otherwise keeps the present ones.
     pub fn with_trust_repository<R: TrustRoot>(
         self,
         alloc: Global,
@@ -91,7 +91,7 @@ impl ClientBuilder {
         })
     }
 
-    /// Takes this configuration in the place of the one that is there.
+    /// Replaces the configuration.
     pub fn with_oci_client_config(self, config: ClientConfig) -> ClientBuilder
         ensures config { config_of result ≡ config }
         ensures caches { caches result ≡ caches self }
@@ -109,7 +109,7 @@ impl ClientBuilder {
         }
     }
 
-    /// The client of what is there. It keeps no credentials, no tokens and no answers yet.
+    /// Builds the client. It keeps no credentials, no tokens and no cached responses yet.
     pub fn build(self, alloc: Global) -> Result<Client, AllocError>
         ensures client { IfOk result (λ client. client_state client ≡ fresh_client (config_of self) (caches self)) }
         ensures keys { IfOk result (λ client. client.rekor_pub_keys ≡ keys_of self) }

@@ -35,10 +35,10 @@ use oci_transport::Transport;
 use sig_registry::{Auth, ClientCapabilities, OciReference, RegistryClient, SigstoreError};
 use std::alloc::Global;
 
-/// Pulls images only where a trusted signature stands for them.
+/// Pulls images only if a trusted signature stands for them.
 #[derive(Drop)]
 pub struct Client {
-    /// One that keeps answers or one that does not.
+    /// The registry's client, with or without a cache.
     pub registry_client: RegistryClient,
     /// The keys of transparency logs by their ids.
     pub rekor_pub_keys: LogKeys,
@@ -47,10 +47,10 @@ pub struct Client {
 impl Client {
     ghost use Rattle.cosign_client.specs.State.{client_state, trusts};
 
-    /// The reference of the image's signature tag, and the digest that was answered for the image. Nothing is asked
-    /// for under the tag, and its reference need not read back. `moment` is in seconds since 1970.
+    /// Returns the reference of the image's signature tag, and the digest that was returned for the image. The tag
+    /// itself is not requested, and its reference need not round-trip. `moment` is in seconds since 1970.
     ///
-    /// The call is refused where the digest is not answered (`RegistryFetchManifestError`).
+    /// Returns `RegistryFetchManifestError` if the digest is not returned.
     pub fn triangulate<T: Transport>(
         &mut self,
         alloc: Global,
@@ -79,13 +79,13 @@ impl Client {
         Ok((tag, digest))
     }
 
-    /// The digest of an image, the signature layers that stand in its repository, and why others do not. The digest's
-    /// signature tag is searched first, and then, for bundles, the images that refer to the digest (OCI distribution
-    /// specification, "Listing Referrers"). `moment` is in seconds since 1970. Where no log's key is known, a layer has
+    /// Returns the digest of an image, the signature layers in its repository, and why others were skipped. Searches
+    /// the digest's signature tag first, then, for bundles, the images that refer to the digest (OCI distribution
+    /// specification, "Listing Referrers"). `moment` is in seconds since 1970. If no log's key is known, a layer has
     /// no log entry.
     ///
-    /// The call is refused where the digest is not answered (`RegistryFetchManifestError`) or the reference by it does
-    /// not read back (`OciReferenceNotValidError`). Whatever else is refused is a cause in `skipped`.
+    /// Returns `RegistryFetchManifestError` if the digest is not returned, and `OciReferenceNotValidError` if the
+    /// reference by it does not round-trip. All other errors are causes in `skipped`.
     pub fn trusted_signature_layers<T: Transport, V: SignatureVerifier, O: Offline>(
         &mut self,
         alloc: Global,
@@ -144,14 +144,13 @@ impl Client {
         )
     }
 
-    /// Pulls an image only where a trusted signature stands for it. `moment` is in seconds since 1970. Where no log's
-    /// key is known, a layer has no log entry.
+    /// Pulls an image only if a trusted signature stands for it. `moment` is in seconds since 1970. If no log's key is
+    /// known, a layer has no log entry.
     ///
-    /// The answer is a chain that checks by itself: it starts at the digest that was answered for the image, which
-    /// names the manifest, whose digests name the configuration and the layers, and one signature layer stands for the
-    /// digest under the policy. A client that keeps answers may still give the digest and the signatures of less than
-    /// 60 seconds ago; the image's documents and blobs are always asked for. See `PullRefusal` for when the call is
-    /// refused.
+    /// The result is a chain that can be checked on its own: it starts at the digest that was returned for the image,
+    /// which names the manifest, whose digests name the configuration and the layers, and one signature layer stands
+    /// for it under the policy. A caching client may use a digest and signatures that are less than 60 seconds old; the
+    /// image's documents and blobs are always requested. `PullRefusal` lists the errors.
     pub fn verified_pull<'a, T: Transport, V: SignatureVerifier, O: Offline>(
         &mut self,
         alloc: Global,

@@ -1,4 +1,4 @@
-//! Pulls an image only where a trusted signature stands for it.
+//! Pulls an image only if a trusted signature stands for it.
 #![tactic(auto)]
 
 mod builder;

@@ -1,4 +1,4 @@
-//! Whose transparency logs are trusted.
+//! Trusted transparency logs.
 ghost use Rattle.std.specs.Prelude.{◌≡◌, ℕ, List, IfOk};
 ghost use Rattle.std.specs.FinMap.{FinMap};
 ghost use Rattle.json_values.specs.Places.{by_bytes};
@@ -8,7 +8,7 @@ use std::alloc::{AllocError, Global};
 
 /// Knows the keys of transparency logs.
 pub trait TrustRoot {
-    /// The keys that it knows, by the logs' ids.
+    /// The known keys, by the logs' ids.
     ghost known: { Self → FinMap by_bytes (List ℕ) };
 
     fn rekor_keys(&self, alloc: Global) -> Result<LogKeys, AllocError>

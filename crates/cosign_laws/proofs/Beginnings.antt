@@ -1,4 +1,4 @@
--- What is so of each whole run that begins with what the client keeps here.
+-- Properties of all complete runs that begin with this client state.
 use Rattle.std.proofs.Common.{◌≡◌, ℕ, Bool, List, [], ◌++◌, Result, Ok, Err, IfOk, refl, sym, subst, append-nil}
 use Rattle.oci_transport.specs.Link.{Link}
 use Rattle.oci_transport.specs.declared.message.Exchange.{Exchange}
@@ -14,7 +14,7 @@ use Rattle.cosign_laws.proofs.Images.{Seen}
 pub record SeenFrom {A E : Type 0} (k : Kept) (P : List Exchange → A → Type 0) (p : Proto Kept (Result A E)) : Type 0 where
   pub seen : (l : Kept) (m n : ℕ) (c : List Exchange) (r : Result A E) → Runs p k m c n l r → Seen P m c n r
 
--- a part that was done
+-- a part that is complete
 seen_done : {A E : Type 0} (P : List Exchange → A → Type 0) (x r : Result A E) (k l : Kept) (m n o : ℕ) (c d : List Exchange) → Seen P m c n x → Runs (Done x) k n d o l r → Seen P m (c ++ d) o r
 seen_done {A} {E} P x r k l m n o c d h run = let parts = Runs-done x k n d o l r run in subst (λ r. Seen P m (c ++ d) o r) parts.2 (subst (λ d. Seen P m (c ++ d) o x) (sym parts.0) (later x h)) where
   later : (x : Result A E) → Seen P m c n x → Seen P m (c ++ []) o x
@@ -40,13 +40,13 @@ next_from k P Q p f h each = record {
 refused_from : {A E : Type 0} (k : Kept) (P : List Exchange → A → Type 0) (e : E) → SeenFrom k P (Done (Err e))
 refused_from k P e = record { seen = λ l m n c r run. seen_done P (Err e) r k l m m n [] c tt run }
 
--- a step with no request
+-- a step without a request
 pub step_from : {A B E : Type 0} (k : Kept) (Q : List Exchange → B → Type 0) (r : Result A E) (f : A → Proto Kept (Result B E)) → ((a : A) → r ≡ Ok a → SeenFrom k Q (f a)) → SeenFrom k Q (Done r >>= f)
 unfolding bind
 step_from k Q (Ok a) f each = each a refl
 step_from k Q (Err e) f each = refused_from k Q e
 
--- as a part of the whole
+-- as a part of the whole pull
 pub part_from : {A : Type 0} (k : Kept) (P : List Exchange → A → Type 0) (p : Row A) → SeenFrom k P p → SeenFrom k P (part_of p)
 unfolding part_of
 part_from {A} k P p h = record {
@@ -58,7 +58,7 @@ part_from {A} k P p h = record {
   whole (Ok a) m n c h = h
   whole (Err e) m n c h = tt
 
--- so it is of a call's answer
+-- the same for the result of a call
 pub told_from : {A E : Type 0} {of_memory : E → Bool} (P : List Exchange → A → Type 0) {p : Proto Kept (Result A E)} {old new : Link} {k l : Kept} (r : Result A E) → SeenFrom k P p → Meets of_memory p old new k l r → IfOk r (λ a. Told (λ c. P c a) old new)
 told_from P {old = old} {new = new} {l = l} (Ok a) h met = let run = met.outcome in record { conversation = run.conversation; told = run.told; holds = h.seen l old.faults new.faults run.conversation (Ok a) run.runs }
 told_from P (Err e) h met = tt

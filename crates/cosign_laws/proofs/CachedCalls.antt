@@ -1,4 +1,4 @@
--- A call whose answers may be kept is one of two: its answer was known, or it is the plain call.
+-- A call whose response may be cached is one of two: its response was known, or it is the uncached call.
 use Rattle.std.proofs.Common.{◌≡◌, ◌⊎◌, inl, inr, ℕ, Bool, true, false, List, [], ◌∷◌, ◌++◌, Option, Some, None, Result, Ok, Err, refl, sym, ap, subst, ◌∙◌, append-nil}
 use Rattle.std.specs.Prelude.{option_map}
 use Rattle.oci_transport.specs.declared.message.Exchange.{Exchange}
@@ -20,7 +20,7 @@ use Rattle.sig_calls.specs.Clients.{Kept, Plain, Row}
 use Rattle.cosign_laws.proofs.Counts.{Counts}
 
 module _ {A : Type 0} (cache : Cache A) (key : List ℕ) (now : ℕ) where
-  -- an answer is kept, and given
+  -- a response is cached and returned
   abbrev given : A → Row A
   given answer = keeping cache key now answer >> Done (Ok answer)
 
@@ -40,7 +40,7 @@ module _ {A : Type 0} (cache : Cache A) (key : List ℕ) (now : ℕ) where
   known_ends Q p each h (Some a) = each a
   known_ends Q p each h None = Ends-bind Q Q (lifted p) (unless_refused given) (Ends-lifted (Option Answers) Q p h) (given_ends Q each)
 
-  -- where each answer is so, and each end of the plain call, each end is
+  -- if the property holds for each response and for each end of the uncached call, it holds for each end
   pub cached_ends : (Q : Result A SigstoreError → Type 0) (b : Bool) (p : Plain A) → ((a : A) → Q (Ok a)) → Ends Q p → Ends Q (cached b cache key now p)
   unfolding recalled Ends
   cached_ends Q false p each h = Ends-lifted (Option Answers) Q p h
@@ -48,7 +48,7 @@ module _ {A : Type 0} (cache : Cache A) (key : List ℕ) (now : ℕ) where
 
   -- ---- its runs
 
-  -- its answer was known, and nothing was asked and nothing changed
+  -- its response was known, no request was sent, and nothing changed
   pub record IsKnown (k : Kept) (m : ℕ) (c : List Exchange) (n : ℕ) (l : Kept) (r : Result A SigstoreError) : Type 0 where
     pub answer : A
     pub known_is : known cache key now k.1 ≡ Some answer
@@ -57,13 +57,13 @@ module _ {A : Type 0} (cache : Cache A) (key : List ℕ) (now : ℕ) where
     pub same : k ≡ l
     pub result : Ok answer ≡ r
 
-  -- the answers that are kept after the plain call: its own, where the reference reads back
+  -- the cache after the uncached call: with its response, if the reference round-trips
   abbrev pub kept_after : Bool → Option Answers → Result A SigstoreError → Option Answers
   kept_after true answers (Ok a) = option_map (keep (entry key now (cache.kept_as a))) answers
   kept_after true answers (Err e) = answers
   kept_after false answers r = answers
 
-  -- it is the plain call, whose answer was not known
+  -- it is the uncached call, whose response was not known
   pub record IsMade (b : Bool) (p : Plain A) (k : Kept) (m : ℕ) (c : List Exchange) (n : ℕ) (l : Kept) (r : Result A SigstoreError) : Type 0 where
     pub runs : Runs p k.0 m c n l.0 r
     pub kept : l.1 ≡ kept_after b k.1 r
@@ -74,7 +74,7 @@ module _ {A : Type 0} (cache : Cache A) (key : List ℕ) (now : ℕ) where
   done_parts x k l m n [] r run = (refl, run.0, run.1, run.2)
   done_parts x k l m n (e ∷ c) r run = absurd run
 
-  -- what an answer leaves
+  -- the client state after a response
   given_parts : (a : A) (k l : Kept) (m n : ℕ) (c : List Exchange) (r : Result A SigstoreError) → Runs (given a) k m c n l r → (c ≡ []) × (m ≡ n) × ((let after : Kept = (k.0, kept_after true k.1 (Ok a)) in after) ≡ l) × (Ok a ≡ r)
   unfolding Runs bind keeping
   given_parts a k l m n [] r run = (refl, run.0, run.1, run.2)
@@ -108,31 +108,31 @@ module _ {A : Type 0} (cache : Cache A) (key : List ℕ) (now : ℕ) where
     by_known (Some a) is run = let parts = done_parts (Ok a) k l m n c r run in inl (record { answer = a; known_is = is; silent = parts.0; count = parts.1; same = parts.2; result = parts.3 })
     by_known None is run = inr (made_run p k l m n c r is run)
 
-  -- a refusal is that of the plain call, whose answer was not known
+  -- a refusal is that of the uncached call, whose response was not known
   pub cached_refusal : (b : Bool) (p : Plain A) (k l : Kept) (m n : ℕ) (c : List Exchange) (e : SigstoreError) → Runs (cached b cache key now p) k m c n l (Err e) → IsMade b p k m c n l (Err e)
   cached_refusal b p k l m n c e run = by_run (cached_run b p k l m n c (Err e) run) where
     by_run : IsKnown k m c n l (Err e) ⊎ IsMade b p k m c n l (Err e) → IsMade b p k m c n l (Err e)
     by_run (inl h) = absurd (cc h.result)
     by_run (inr h) = h
 
-  -- it leaves the answers that are kept as they are
+  -- it leaves the cached responses unchanged
   pub refusal_stays : (b : Bool) (answers : Option Answers) (e : SigstoreError) → kept_after b answers (Err e) ≡ answers
   refusal_stays true answers e = refl
   refusal_stays false answers e = refl
 
-  -- ---- the counts of faults
+  -- ---- the fault counts
 
   known_counts : (Q : ℕ → ℕ → Result A SigstoreError → Type 0) (k l : Kept) (m n : ℕ) (c : List Exchange) (r : Result A SigstoreError) → ((m : ℕ) (a : A) → Q m m (Ok a)) → IsKnown k m c n l r → Q m n r
   known_counts Q k l m n c r each h = subst (Q m n) h.result (subst (λ o. Q m o (Ok h.answer)) h.count (each m h.answer))
 
-  -- what is so of each answer that needs no request, and of the plain call, is so of the call
+  -- a property of each response that needs no request, and of the uncached call, holds for the call
   pub cached_counts : (Q : ℕ → ℕ → Result A SigstoreError → Type 0) (b : Bool) (p : Plain A) → ((m : ℕ) (a : A) → Q m m (Ok a)) → Counts Q p → Counts Q (cached b cache key now p)
   cached_counts Q b p each h = record { counts = λ k l m n c r run. by_run k l m n c r (cached_run b p k l m n c r run) } where
     by_run : (k l : Kept) (m n : ℕ) (c : List Exchange) (r : Result A SigstoreError) → IsKnown k m c n l r ⊎ IsMade b p k m c n l r → Q m n r
     by_run k l m n c r (inl g) = known_counts Q k l m n c r each g
     by_run k l m n c r (inr g) = h.counts k.0 l.0 m n c r g.runs
 
-  -- ---- where credentials go
+  -- ---- where credentials are sent
 
   pub cached_confines : (x : Entry) (s : Settings) (b : Bool) (p : Plain A) → ConfinesBy Alone x s p → ConfinesBy Beside x s (cached b cache key now p)
   unfolding recalled keeping bind

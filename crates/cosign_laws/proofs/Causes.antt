@@ -65,14 +65,14 @@ use Rattle.cosign_rows.specs.declared.refusal.PullRefusal.TheVariants as refusal
 use Rattle.cosign_rows.specs.declared.standing.Standing.{Standing}
 use Rattle.cosign_laws.proofs.CachedCalls.{cached_ends}
 
--- ---- which refusals a part can answer
+-- ---- which errors a part can return
 
--- this is so of the refusal, if there is one
+-- the property holds for the error, if there is one
 abbrev OnRefusal : {A E : Type 0} → (E → Type 0) → Result A E → Type 0
 OnRefusal Q (Ok a) = Unit {0}
 OnRefusal Q (Err e) = Q e
 
--- the refusal is the call's own, or want of memory
+-- the error is the call's own, or out of memory
 abbrev IsOwn : Called → SigstoreError → Type 0
 IsOwn FetchManifest (sigstore.RegistryFetchManifestError name e) = Unit {0}
 IsOwn Pull (sigstore.RegistryPullError name e) = Unit {0}
@@ -178,7 +178,7 @@ image_own s image source a accepted =
     next_own (IsOwn Pull) (blobs_row s source accepted chosen.manifest) _ (blobs_own s source accepted chosen.manifest) (λ blobs.
     done_own (IsOwn Pull) (Ok _) tt))))
 
--- ---- a source is skipped, unless memory was wanting
+-- ---- a source is skipped, unless memory ran out
 
 abbrev IsMemory : SigstoreError → Type 0
 IsMemory e = of_memory e ≡ true
@@ -225,7 +225,7 @@ source_memory_only : (trust : Trust) (d : List ℕ) (s : Context) (source : Refe
 unfolding referrers_source
 source_memory_only trust d s source a = Ends-bind (λ r. Unit {0}) (OnRefusal IsMemory) (referrers_call s source a None) (listed_row trust d s source a) (any_ends (referrers_call s source a None)) (λ r u. listed_memory trust d s source a r)
 
--- what comes after a digest that was answered
+-- what follows a returned digest
 abbrev pub rest_of : Trust → Context → Reference → RegistryAuth → List ℕ → Row TrustedLayers
 rest_of trust s image a digest = do
   tag ← tag_source trust s image a digest
@@ -240,11 +240,11 @@ rest_memory trust s image a digest =
 
 -- ---- the search
 
--- of both ends of a run, its exchanges and its answer
+-- a property of both ends of a run, its exchanges and its result
 abbrev pub Between : {A : Type 0} → (Point → List Exchange → Point → A → Type 0) → Kept → ℕ → List Exchange → ℕ → Kept → A → Type 0
 Between Q k m c n l a = Q (point k m) c (point l n) a
 
--- what is so at the end of a first part is so where the second one begins, and asks nothing
+-- a property at the end of the first part holds where the second begins and sends no request
 pub at_same : {A : Type 0} (Q : Point → List Exchange → Point → A → Type 0) (k j : Kept) (m n : ℕ) (c : List Exchange) (a : A) → Q (point k m) c (point j n) a
     → (j' : Kept) (n' : ℕ) → j' ≡ j → n' ≡ n → Between Q k m (c ++ []) n' j' a
 at_same Q k j m n c a h j' n' kept count = subst (λ d. Q (point k m) d (point j' n') a) (sym (append-nil c)) (subst (λ i. Q (point k m) c (point i n') a) (sym kept) (subst (λ o. Q (point k m) c (point j o) a) (sym count) h))
@@ -253,7 +253,7 @@ pub at_once : {A : Type 0} (Q : Point → List Exchange → Point → A → Type
     → ShowsKept (λ j' n' d o l b. (j' ≡ j) → (n' ≡ n) → Between Q k m (c ++ d) o l b) (Done a)
 at_once Q k j m n c a h = ShowsKept-done (λ j' n' d o l b. (j' ≡ j) → (n' ≡ n) → Between Q k m (c ++ d) o l b) a (at_same Q k j m n c a h)
 
--- what each answer is, each run shows
+-- a property of each end holds for each run
 ends_shown : {K A : Type 0} (Q : A → Type 0) (p : Proto K A) → Ends Q p → ShowsKept (λ k m c n l a. Q a) p
 ends_shown Q p h = record { shows = λ k l m n c a run. Runs-ends Q p k l m n c a h run }
 
@@ -284,7 +284,7 @@ unread_cause s image a start c end digest e ran is = by_back (reads_back (digest
   by_back true back is = absurd (cc is)
   by_back false back is = let same : sigstore.OciReferenceNotValidError (whole_text (digest_reference image digest)) ≡ e = cc is in subst (SearchCause s image a start c end) same (record { digest = digest; answered = ran; unread = back; text_is = refl })
 
--- the digest was answered, and what came of it
+-- the digest was returned, and what followed
 after_digest : (trust : Trust) (s : Context) (image : Reference) (a : RegistryAuth) (k j : Kept) (m n : ℕ) (c : List Exchange) (digest : List ℕ) → Runs (digest_call s image a) k m c n j (Ok digest)
     → ShowsKept (λ j' n' d o l b. (j' ≡ j) → (n' ≡ n) → Between (BySearch s image a) k m (c ++ d) o l b) (Done (reading_back (digest_reference image digest)) >>= (λ u. rest_of trust s image a digest))
 after_digest trust s image a k j m n c digest run = ShowsKept-step (λ j' n' d o l b. (j' ≡ j) → (n' ≡ n) → Between (BySearch s image a) k m (c ++ d) o l b) (reading_back (digest_reference image digest)) (λ u. rest_of trust s image a digest)
@@ -303,7 +303,7 @@ search_causes trust s image a = ShowsKept-bind (λ k m c n l r. Runs (digest_cal
     (ShowsKept-both (λ k m c n l r. Runs (digest_call s image a) k m c n l r) (λ k m c n l r. OnRefusal (IsOwn FetchManifest) r) (digest_call s image a) (ShowsKept-run (digest_call s image a)) (ends_shown (OnRefusal (IsOwn FetchManifest)) (digest_call s image a) (digest_own s image a)))
     (λ k j m n c r h. digest_then trust s image a k j m n c r h.0 h.1)
 
--- the refusal of a call has its cause in what was told, also where memory cut it off
+-- the error of a call has its cause in the exposed exchanges, also if memory ran out
 told_cause : {A E : Type 0} (of : E → Bool) (Q : Point → List Exchange → Point → E → Type 0) (p : Proto Kept (Result A E)) → ShowsKept (Between (λ start c end r. OnRefusal (Q start c end) r)) p → ((start : Point) (c : List Exchange) (end : Point) (e : E) → of e ≡ true → Q start c end e)
     → {old new : Link} {k l : Kept} (r : Result A E) → Meets of p old new k l r → IfErr r (λ e. Told (λ c. Q (point k old.faults) c (point l new.faults) e) old new)
 told_cause of Q p h free (Ok a) met = tt
@@ -325,7 +325,7 @@ module _ {V : Type 0} {H : V → Type 0} (meaning : Meaning V H) (s : Context) (
   abbrev ByPull : {A : Type 0} → Point → List Exchange → Point → Result A PullRefusal → Type 0
   ByPull start c end r = OnRefusal (Cause start c end) r
 
-  -- the search as a part of the whole
+  -- the search as a part of the whole pull
   abbrev AfterSearch : Point → List Exchange → Point → Result TrustedLayers PullRefusal → Type 0
   AfterSearch start c end (Ok found) = Found meaning s image a start c end found
   AfterSearch start c end (Err e) = Cause start c end e
@@ -347,7 +347,7 @@ module _ {V : Type 0} {H : V → Type 0} (meaning : Meaning V H) (s : Context) (
       (ShowsKept-both (λ k m c n l r. Runs (searched meaning.trust s image a) k m c n l r) (Between (BySearch s image a)) (searched meaning.trust s image a) (ShowsKept-run (searched meaning.trust s image a)) (search_causes meaning.trust s image a))
       (λ k j m n c r h. at_once AfterSearch k j m n c (as_whole r) (search_part (point k m) c (point j n) r h.0 h.1))
 
-  -- a layer of what was found stands
+  -- a layer of those found satisfies the policy
   record Stood (found : TrustedLayers) (stood : Standing) : Type 0 where
     digest : found.digest ≡ stood.digest
     first : find (stands_by meaning) found.collected ≡ Some stood.signature
@@ -367,7 +367,7 @@ module _ {V : Type 0} {H : V → Type 0} (meaning : Meaning V H) (s : Context) (
   abbrev row : Standing → Row Pulled
   row stood = image_row s image (digest_reference image stood.digest) a accepted
 
-  -- the image as a part of the whole
+  -- the image as a part of the whole pull
   image_part : (start between end : Point) (c d : List Exchange) (found : TrustedLayers) (stood : Standing) (r : Result Pulled SigstoreError) → Found meaning s image a start c between found → Stood found stood → Ran (row stood) between d end r → OnRefusal (IsOwn Pull) r → ByPull start (c ++ d) end (as_whole r)
   image_part start between end c d found stood (Ok pulled) h stands ran own = tt
   image_part start between end c d found stood (Err (sigstore.OciReferenceNotValidError text)) h stands ran own = absurd own
@@ -386,7 +386,7 @@ module _ {V : Type 0} {H : V → Type 0} (meaning : Meaning V H) (s : Context) (
   image_part start between end c d found stood (Err (sigstore.RegistryPullManifestError name e)) h stands ran own = absurd own
   image_part start between end c d found stood (Err sigstore.WantOfMemory) h stands ran own = tt
 
-  -- what the image is refused for, after a search that ended there
+  -- why the image is refused, after a search that ended there
   abbrev AfterFound : {A : Type 0} → Kept → ℕ → List Exchange → ℕ → Kept → Kept → ℕ → List Exchange → ℕ → Kept → Result A PullRefusal → Type 0
   AfterFound k m c n j j' n' d o l b = (j' ≡ j) → (n' ≡ n) → ByPull (point k m) (c ++ d) (point l o) b
 

@@ -1,4 +1,4 @@
--- What each whole run of the search and of the pull shows: a chain, that comes of the conversation.
+-- Properties of each complete run of the search and of the pull: a chain that comes from the conversation.
 use Rattle.std.proofs.Common.{◌≡◌, ◌<◌, ◌⊎◌, inl, inr, ℕ, Bool, true, false, cond, List, [], ◌∷◌, ◌++◌, Option, Some, None, Result, Ok, Err, IfOk, length, refl, sym, ap, ◌∙◌, subst, arith, append-nil}
 use Rattle.std.specs.Prelude.{if◌then◌else◌, find, unwrap_or}
 use Rattle.std.specs.FinMap as map_of
@@ -71,7 +71,7 @@ use Rattle.cosign_laws.proofs.Beginnings.{SeenFrom, next_from, step_from, part_f
 use Rattle.cosign_laws.proofs.CachedCalls.{IsKnown, IsMade, cached_run}
 use Rattle.cosign_laws.proofs.Images.{Seen, digest_made_shows, next_seen, step_seen, done_seen, bodies_after, IsFirst, IsEntry, Leads, Links, image_shows}
 
--- ---- an answered digest stays one as more is asked
+-- ---- a returned digest stays one in a longer conversation
 
 given_before : (kept : Kept) (s : Context) (image : Reference) (a : RegistryAuth) (c d : List Exchange) (digest : List ℕ) → AnsweredOrFresh kept s image a c digest → AnsweredOrFresh kept s image a (c ++ d) digest
 given_before kept s image a c d digest (inl answered) = inl (answered_before s.settings image c d digest answered)
@@ -200,12 +200,12 @@ referrers_source_ends trust d s source a = Ends-bind (λ r. Unit {0}) (OnAnswer 
 
 -- ---- the search
 
--- the digest was answered, now or before, and what was found fits it
+-- the digest was returned, now or before, and the layers found fit it
 record Found (kept : Kept) (trust : Trust) (s : Context) (image : Reference) (a : RegistryAuth) (c : List Exchange) (found : TrustedLayers) : Type 0 where
   answered : AnsweredOrFresh kept s image a c found.digest
   fit : AllFit trust found.digest found.collected
 
--- a client that keeps no answers gives none of them
+-- a client without a cache returns none from it
 pub none_fresh : (kept : Kept) (s : Context) (image : Reference) (a : RegistryAuth) (digest : List ℕ) → kept.1 ≡ None → Fresh kept s image a digest → ⊥
 none_fresh kept s image a digest none fresh = never (ap (λ answers. known digests (manifest_key image a) s.moment answers) (sym none) ∙ fresh) where
   never : (let o : Option (List ℕ) = None in o) ≡ Some digest → ⊥
@@ -256,7 +256,7 @@ first_fits trust p d (l ∷ layers) layer fit is = by_test (p l) refl is (λ lat
   by_test true so is later = let same : l ≡ layer = cc is in rw (← same) (fit.0, so)
   by_test false so is later = later is
 
--- what a part shows, it shows as a part of the whole
+-- a property of a part, as a part of the whole pull
 whole_seen : {A : Type 0} (P : List Exchange → A → Type 0) (m n o : ℕ) (c : List Exchange) (r : Result A SigstoreError) → Seen P m c n r → Seen P m (c ++ []) o (as_whole r)
 whole_seen P m n o c (Ok a) h = rw append-nil h
 whole_seen P m n o c (Err e) h = tt
@@ -309,7 +309,7 @@ module _ {V : Type 0} {H : V → Type 0} (kept : Kept) (s : Context) (meaning : 
     };
   }
 
-  -- what stands does so for the digest that was answered
+  -- the selected layer stands for the returned digest
   record Stood (c : List Exchange) (stood : Standing) : Type 0 where
     answered : AnsweredOrFresh kept s image a c stood.digest
     stands : StandsFor meaning stood.digest stood.signature
@@ -330,7 +330,7 @@ module _ {V : Type 0} {H : V → Type 0} (kept : Kept) (s : Context) (meaning : 
       (part_seen (Links s.settings.platform_resolver image stood.digest accepted) (image_row s image (digest_reference image stood.digest) a accepted) (image_shows s image (digest_reference image stood.digest) stood.digest a accepted refl)) (λ d pulled links.
       done_seen (λ e v. IsSound (c ++ (d ++ e)) v) (verified_image stood pulled) (rw append-nil (sound_of c d stood pulled stands.answered stands.stands links))))
 
-  -- what a pull answers has a chain, and comes of its conversation
+  -- the result of a pull has a chain, and comes from its conversation
   pub verified_seen : SeenFrom kept IsSound (verified meaning s image a accepted)
   unfolding verified after_search
   verified_seen =
@@ -342,17 +342,17 @@ module _ {V : Type 0} {H : V → Type 0} (kept : Kept) (s : Context) (meaning : 
   told_sound : {old new : Link} {l : Kept} (r : Result VerifiedImage PullRefusal) → Meets of_refusal (verified meaning s image a accepted) old new kept l r → IfOk r (λ v. Told (λ c. IsSound c v) old new)
   told_sound r met = told_from IsSound r verified_seen met
 
-  -- the chain of what a pull answers
+  -- the chain of the result of a pull
   pub chain_of : {old new : Link} {l : Kept} (r : Result VerifiedImage PullRefusal) → Meets of_refusal (verified meaning s image a accepted) old new kept l r → IfOk r (λ v. Chain meaning image accepted s.settings.platform_resolver v)
   chain_of (Ok v) met = (told_sound (Ok v) met).holds.chain
   chain_of (Err e) met = tt
 
-  -- its links
+  -- the links of the result
   pub links_of : {old new : Link} {l : Kept} (r : Result VerifiedImage PullRefusal) → Meets of_refusal (verified meaning s image a accepted) old new kept l r → IfOk r (λ v. HasLinks image accepted v)
   links_of (Ok v) met = chain_links (told_sound (Ok v) met).holds.chain
   links_of (Err e) met = tt
 
-  -- and where it comes from
+  -- where the result comes from
   pub backed_of : {old new : Link} {l : Kept} (r : Result VerifiedImage PullRefusal) → Meets of_refusal (verified meaning s image a accepted) old new kept l r → IfOk r (λ v. Told (λ c. Backed kept s image a c v) old new)
   backed_of (Ok v) met = let told = told_sound (Ok v) met in record { conversation = told.conversation; told = told.told; holds = told.holds.backed }
   backed_of (Err e) met = tt

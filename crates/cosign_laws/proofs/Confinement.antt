@@ -1,5 +1,5 @@
--- The calls show credentials and tokens to the image's registry and to the realm that it names, and to nobody else, in
--- each of their parts.
+-- The calls send credentials and tokens only to the image's registry and to the realm that it names, in each of their
+-- parts.
 use Rattle.std.proofs.Common.{◌≡◌, ℕ, Bool, true, false, List, [], ◌∷◌, ◌++◌, Option, Some, None, Result, Ok, Err, codes, refl, sym, ap}
 use Rattle.std.specs.Prelude.{if◌then◌else◌, bytes_eq, unwrap_or}
 use Rattle.oci_protocol.specs.Proto.{Proto, Done}
@@ -58,7 +58,7 @@ use Rattle.cosign_rows.specs.declared.found.TrustedLayers.{TrustedLayers}
 
 -- ---- calls
 
--- a part confines, whatever answers are kept
+-- a part is confined, whatever the cache holds
 abbrev Confines : {A : Type 0} → Entry → Settings → Proto Kept A → Type 0
 Confines x t p = ConfinesBy Beside x t p
 
@@ -143,13 +143,13 @@ image_row_confines k s image source a accepted = let x = pulling k s source (Som
 
 -- ---- the search
 
--- references by a tag or by a digest have no mirror, and neither has the image
+-- references by a tag or by a digest have no mirror, nor has the image
 plain_registry : (image : Reference) → mirror_of image ≡ None → (if bytes_eq image.registry (codes "docker.io") then codes "index.docker.io" else image.registry) ≡ resolved_registry image
 plain_registry image direct = sym (ap (λ m. unwrap_or m (if bytes_eq image.registry (codes "docker.io") then codes "index.docker.io" else image.registry)) direct)
 
 -- ---- the list of referrers
 
--- a reference without a mirror: the tag that stands for the list is at the same registry
+-- without a mirror, the tag that replaces the list is at the same registry
 referrers_made_confines : (k : Memory) (s : Context) (source : Reference) (a : RegistryAuth) (kind : Option (List ℕ)) → mirror_of source ≡ None → ConfinesBy Alone (pulling k s source (Some a)) s.settings (referrers_made s source a kind)
 unfolding referrers_made
 referrers_made_confines k s source a kind direct = let x = pulling k s source (Some a) in
@@ -248,7 +248,7 @@ module _ (k : Memory) (s : Context) (image : Reference) (a : RegistryAuth) (dire
         confines_next Beside x s.settings (part_of (searched meaning.trust s image a)) _ (part_confines (searched meaning.trust s image a) (searched_confines meaning.trust)) (λ found.
         after_confines found)))
 
--- ---- so it is of a call
+-- ---- the same for a call
 
 pub search_confined : (trust : Trust) (s : Context) (image : Reference) (a : RegistryAuth) {old new : Link} {k l : Kept} (r : Result TrustedLayers SigstoreError) → mirror_of image ≡ None → Meets is_memory (searched trust s image a) old new k l r → Told (Within (pulling k.0 s image (Some a)) s.settings l.0) old new
 search_confined trust s image a {k = k} r direct met = confines_call Beside (pulling k.0 s image (Some a)) s.settings refl (searched_confines k.0 s image a direct trust) met

@@ -1,4 +1,4 @@
--- The counts of faults that a run begins and ends at.
+-- The fault counts at the beginning and the end of a run.
 use Rattle.std.proofs.Common.{◌≡◌, ◌≤◌, ℕ, Bool, true, false, List, [], ◌∷◌, Option, Some, None, Result, Ok, Err, refl}
 use Rattle.std.specs.Prelude.{MatchBool}
 use Rattle.oci_transport.specs.Link.{Link, Steady, Extends}
@@ -11,11 +11,11 @@ use Rattle.oci_protocol.proofs.Laws.{Runs-count}
 use Rattle.oci_protocol.proofs.WiderMemory.{Runs-unlifted}
 use Rattle.oci_protocol.proofs.Parts.{Runs-parts}
 
--- of each whole run this is so: of the counts before and after it, and of its answer
+-- the property holds for the counts before and after each complete run, and for its result
 pub record Counts {K A : Type 0} (Q : ℕ → ℕ → A → Type 0) (p : Proto K A) : Type 0 where
   pub counts : (k l : K) (m n : ℕ) (c : List Exchange) (a : A) → Runs p k m c n l a → Q m n a
 
--- the count never falls
+-- the fault count never decreases
 pub Counts-any : {K A : Type 0} (p : Proto K A) → Counts (λ m n a. m ≤ n) p
 Counts-any p = record { counts = λ k l m n c a run. Runs-count p k l m n c a run }
 
@@ -30,7 +30,7 @@ Counts-done Q x h = record { counts = λ k l m n c a r. done_run Q x k l m n c a
 pub Counts-more : {K A : Type 0} (P Q : ℕ → ℕ → A → Type 0) (p : Proto K A) → Counts P p → ((m n : ℕ) (a : A) → P m n a → Q m n a) → Counts Q p
 Counts-more P Q p h more = record { counts = λ k l m n c a r. more m n a (h.counts k l m n c a r) }
 
--- two parts, of which the second begins at the count at which the first ends
+-- two parts: the second begins at the count at which the first ends
 pub Counts-bind : {K A B : Type 0} (P : ℕ → ℕ → A → Type 0) (Q : ℕ → ℕ → B → Type 0) (p : Proto K A) (f : A → Proto K B) → Counts P p → ((m n : ℕ) (a : A) → P m n a → Counts (λ start o b. start ≡ n → Q m o b) (f a)) → Counts Q (bind p f)
 Counts-bind P Q p f h each = record {
   counts = λ k l m n c b r.
@@ -38,11 +38,11 @@ Counts-bind P Q p f h each = record {
       (each m t.count t.answer (h.counts k t.between m t.count t.first t.answer t.runs_first)).counts t.between l t.count n t.second b t.runs_second refl;
 }
 
--- beside something that stays as it is
+-- with an unchanged second component
 pub Counts-lifted : {K C A : Type 0} (Q : ℕ → ℕ → A → Type 0) (p : Proto K A) → Counts Q p → Counts {K = K × C} Q (lifted p)
 Counts-lifted Q p h = record { counts = λ k l m n c a r. h.counts k.0 l.0 m n c a (Runs-unlifted p k l m n c a r).0 }
 
--- so it is of a call, unless memory was wanting
+-- the same for a call, unless memory ran out
 pub Meets-counts : {K A E : Type 0} {of_memory : E → Bool} (Q : ℕ → ℕ → Result A E → Type 0) {p : Proto K (Result A E)} {old new : Link} {k l : K} {r : Result A E} → Counts Q p → Meets of_memory p old new k l r → UnlessMemory of_memory (λ r. Q old.faults new.faults r) r
 Meets-counts {K} {A} {E} {of_memory} Q {p} {old} {new} {k} {l} {r} h met = by_result r met.outcome where
   performed : (r : Result A E) → Performs p old new k l r → Q old.faults new.faults r
@@ -56,7 +56,7 @@ Meets-counts {K} {A} {E} {of_memory} Q {p} {old} {new} {k} {l} {r} h met = by_re
   by_result (Ok a) run = performed (Ok a) run
   by_result (Err e) run = by_memory (of_memory e) e run
 
--- ---- a run, as over a transport that tells nothing
+-- ---- a run, as over a transport that exposes nothing
 
 abbrev pub silent : ℕ → Link
 silent faults = record { told = None; rest = None; faults = faults; answers = None }
@@ -70,6 +70,6 @@ steady m n = record { steady = λ a is. none_some a is; quiet = λ a is never. n
 untold : (m n : ℕ) (c : List Exchange) → Extends (silent m) (silent n) c
 untold m n c = record { told = λ before is. none_some before is; table = λ a before is told. none_some a is; stays = steady m n }
 
--- a run is what a call does over a transport that tells nothing
+-- a run is what a call does over a transport that exposes nothing
 pub Runs-meets : {K A E : Type 0} (of_memory : E → Bool) (p : Proto K (Result A E)) (k l : K) (m n : ℕ) (c : List Exchange) (e : E) → of_memory e ≡ false → Runs p k m c n l (Err e) → Meets of_memory p (silent m) (silent n) k l (Err e)
 Runs-meets of_memory p k l m n c e other run = record { outcome = rw other (record { conversation = c; told = untold m n c; runs = run; runs_by = λ t before by. none_some t by }) }

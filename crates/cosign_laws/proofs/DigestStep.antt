@@ -34,22 +34,22 @@ use Rattle.cosign_laws.proofs.Causes.{Between, at_same, at_once, rest_of}
 
 -- ---- the search
 
--- whatever came after an answer that decides nothing
+-- anything may follow a result that decides nothing
 free : {A E : Type 0} (refused : SigstoreError → E) (s : Context) (image : Reference) (a : RegistryAuth) (start between end : Point) (c d : List Exchange) (digest : List ℕ) (r : Result A E) → Ran (digest_call s image a) start c between (Ok digest) → reads_back (digest_reference image digest) ≡ true → BeginsWithDigest refused s image a start (c ++ d) end r
 free refused s image a start between end c d digest r ran reads = record { step = c; rest = d; split = refl; between = between; answer = Ok digest; ran = ran; decides = λ unread. absurd (cc (sym reads ∙ unread)) }
 
--- nothing came after an answer that decides all
+-- nothing followed a result that decides everything
 decided_at : {A E : Type 0} (refused : SigstoreError → E) (s : Context) (image : Reference) (a : RegistryAuth) (start end : Point) (c : List Exchange) (o : Result (List ℕ) SigstoreError) (r : Result A E) → Ran (digest_call s image a) start c end o → Decides refused image o end [] end r → BeginsWithDigest refused s image a start c end r
 decided_at refused s image a start end c o r ran decides = record { step = c; rest = []; split = sym (append-nil c); between = end; answer = o; ran = ran; decides = decides }
 
--- a reference that is read back
+-- a reference that round-trips
 reads : (image : Reference) (u : Unit {0}) → reading_back image ≡ Ok u → reads_back image ≡ true
 reads image u is = by_test (reads_back image) is where
   by_test : (b : Bool) → or_not_valid image b ≡ Ok u → b ≡ true
   by_test true h = refl
   by_test false h = absurd (cc h)
 
--- and one that is not
+-- a reference that does not
 unread : (image : Reference) (e : SigstoreError) → reading_back image ≡ Err e → e ≡ sigstore.OciReferenceNotValidError (whole_text image)
 unread image e is = by_test (reads_back image) is where
   by_test : (b : Bool) → or_not_valid image b ≡ Err e → e ≡ sigstore.OciReferenceNotValidError (whole_text image)
@@ -77,7 +77,7 @@ search_decided trust s image a r met = Meets-shows-kept (Between (Begins s image
 
 -- ---- the pull
 
--- what the digest step decides of the search it decides of the pull
+-- what the digest step decides of the search, it decides of the pull
 lifted_refusal : {s : Context} {image : Reference} {a : RegistryAuth} {start end : Point} {c : List Exchange} {e : SigstoreError} → BeginsWithDigest {A = TrustedLayers} unchanged s image a start c end (Err e) → BeginsWithDigest {A = VerifiedImage} refused_as s image a start c end (Err (refused_as e))
 lifted_refusal {s} {image} {a} {start} {end} {c} {e} h = record { step = h.step; rest = h.rest; split = h.split; between = h.between; answer = h.answer; ran = h.ran; decides = decided h.answer h.decides } where
   same : (x : SigstoreError) → (let r : Result TrustedLayers SigstoreError = Err e in r) ≡ Err x → (let r : Result VerifiedImage PullRefusal = Err (refused_as e) in r) ≡ Err (refused_as x)
@@ -93,7 +93,7 @@ lifted_answer {s} {image} {a} {start} {between} {c} d end {found} {r} h = record
   decided (Err x) is = absurd (cc is.0)
   decided (Ok digest) is = λ not_read. absurd (cc (is not_read).0)
 
--- a step with no request ends as its answer does
+-- a step without a request ends with its result
 ends_step : {A B E : Type 0} (Q : Result B E → Type 0) (r : Result A E) (f : A → Proto Kept (Result B E)) → ((a : A) → r ≡ Ok a → Ends Q (f a)) → ((e : E) → r ≡ Err e → Q (Err e)) → Ends Q (Done r >>= f)
 unfolding Ends bind
 ends_step Q (Ok a) f each wrong = each a refl
@@ -123,12 +123,12 @@ module _ {V : Type 0} {H : V → Type 0} (meaning : Meaning V H) (s : Context) (
       (λ u is. ends_step (λ r. r ≡ Err (refusal.OciReferenceNotValidError (whole_text image))) (readable image) _ (λ v is. readable_not image (reads_back image) v unread is) (λ e is. unread_so image (reads_back image) e is))
       (λ e is. constrained_not (is_unconstrained meaning.policy) e some is)
 
-  -- an image that does not read back is refused so
+  -- an image whose reference does not round-trip is refused with its text
   pub unread_refused : {old new : Link} {k l : Kept} {r : Result VerifiedImage PullRefusal} → is_unconstrained meaning.policy ≡ false → reads_back image ≡ false
       → Meets is_memory (verified meaning s image a accepted) old new k l r → IsRefusedAs (refusal.OciReferenceNotValidError (whole_text image)) r
   unread_refused some unread met = Meets-ends (λ r. r ≡ Err (refusal.OciReferenceNotValidError (whole_text image))) (unread_ends some unread) met
 
-  -- what the search as a part of the whole begins with
+  -- how the search as a part of the whole pull begins
   abbrev PartBegins : Point → List Exchange → Point → Result TrustedLayers PullRefusal → Type 0
   PartBegins start c end (Ok found) = BeginsWithDigest unchanged s image a start c end (let r : Result TrustedLayers SigstoreError = Ok found in r)
   PartBegins start c end (Err e) = BeginsWithDigest refused_as s image a start c end (let r : Result VerifiedImage PullRefusal = Err e in r)

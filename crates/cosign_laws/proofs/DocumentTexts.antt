@@ -1,4 +1,4 @@
--- What a document says that was read.
+-- The contents of a document that was read.
 use Rattle.std.proofs.Common.{◌≡◌, ℕ, Bool, true, false, List, Option, Some, None, Result, Ok, Err, refl, ap, ◌∙◌}
 use Rattle.std.specs.Prelude.{if◌then◌else◌, option_map, option_and_then, unwrap_or, pos}
 use Rattle.std.specs.Ordering.{int_eq}
@@ -18,7 +18,7 @@ use Rattle.engine_answers.specs.Documents.{plain_of, type_checked, version_check
 use Rattle.engine_answers.specs.Index.{entry_manifest}
 use Rattle.cosign_chain.specs.Chain.{IsDocument}
 
--- both steps were answered
+-- both steps succeeded
 pub both : {A B : Type 0} (r : Result A OciDistributionError) (f : A → Result B OciDistributionError) (b : B) → (r >>= f) ≡ Ok b → (a : A) × (r ≡ Ok a) × (f a ≡ Ok b)
 both (Ok a) f b is = (a, refl, is)
 both (Err e) f b is = absurd (cc is)
@@ -37,7 +37,7 @@ version_known body (Some v) u is = by_test (int_eq v.schema_version (pos 2)) ref
   by_test true same h = rw (same, type_known v.media_type u h) refl
   by_test false same h = absurd (cc h)
 
--- what the data is, where its version was checked
+-- the data of a text whose version was checked
 versioned : (body : List ℕ) (o : Option Data) (u : Unit) → version_checked body (versioned_in o) ≡ Ok u → (d : Data) × (o ≡ Some d) × (is_plain d ≡ true) × IsVersioned d
 versioned body None u is = absurd (cc (version_known body None u is))
 versioned body (Some d) u is = by_test (is_plain d) refl is where
@@ -58,7 +58,7 @@ table body d document plain is = by_plain (rw plain at is) where
   by_plain : tables_read body (Some d) ≡ Ok document → document_of d ≡ Some document
   by_plain h = by_test (reads_twice d) h
 
--- the document that the bytes are
+-- the document in the bytes
 pub document_is : (body : List ℕ) (document : OciManifest) → document_read body ≡ Ok document → IsDocument body document
 document_is body document read =
     let parts = both (version_checked body (versioned_in (json_of body))) (λ u. tables_read body (plain_of (json_of body))) document read in
@@ -70,7 +70,7 @@ document_is body document read =
       reads = table body v.0 document v.2 (rw v.1 at parts.2);
     }
 
--- the manifest that an entry's document is
+-- the manifest in an entry's document
 pub entry_is : (entry : List ℕ) (document : OciManifest) (manifest : OciImageManifest) → entry_manifest entry document ≡ Ok manifest → document ≡ Image manifest
 entry_is entry (Image found) manifest is = let same : found ≡ manifest = cc is in ap Image same
 entry_is entry (ImageIndex index) manifest is = absurd (cc is)

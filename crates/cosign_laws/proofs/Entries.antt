@@ -19,7 +19,7 @@ some_same a b is = cc is
 none_some : {A P : Type 0} (a : A) → (let o : Option A = None in o) ≡ Some a → P
 none_some a is = absurd (cc is)
 
--- a digest that was answered, and that an entry has
+-- a returned digest that an entry has
 named : (entries : List ImageIndexEntry) (o : Option (List ℕ)) (entry : List ℕ) → entry_named entries o ≡ Ok entry → (o ≡ Some entry) × (lists entry entries ≡ true)
 named entries None entry is = absurd (cc is)
 named entries (Some digest) entry is = by_test (lists digest entries) refl is where

@@ -1,4 +1,4 @@
--- What is skipped holds no want of memory and no fault of a sink, and no more faults than the transport had.
+-- What is skipped holds no out-of-memory error and no fault of a sink, and no more faults than the transport had.
 use Rattle.std.proofs.Common.{◌≡◌, ◌≤◌, ◌+◌, ◌-◌, ◌^◌, min, inl, inr, ℕ, Bool, true, false, cond, List, [], ◌∷◌, ◌++◌, Option, Some, None, Result, Ok, Err, IfOk, IfErr, refl, sym, ap, ◌∙◌, subst, arith, zero-add}
 use Rattle.std.specs.Prelude.{if◌then◌else◌, find, MatchBool, count_by, unwrap_or}
 use Rattle.std.specs.FinMap as map_of
@@ -91,9 +91,9 @@ use Rattle.cosign_laws.proofs.CachedCalls.{cached_counts}
 use Rattle.cosign_laws.proofs.Causes.{rest_of}
 use Rattle.cosign_laws.proofs.Counts.{Counts, Counts-any, Counts-done, Counts-more, Counts-bind, Meets-counts, silent, Runs-meets}
 
--- ---- refusals of the engine
+-- ---- errors of the engine
 
--- a refusal other than want of memory holds none and no fault of a sink, and it is a fault only where the count rose
+-- other than out of memory, an error holds none and no fault of a sink; it is a fault only if the count increased
 pub record Sincere (m n : ℕ) (e : OciDistributionError) : Type 0 where
   pub falls : m ≤ n
   pub no_memory : engine_is_memory e ≡ false → in_engine e ≡ false
@@ -119,7 +119,7 @@ only_fault : (e : OciDistributionError) → is_engine_fault e ≡ true → e ≡
 only_fault engine_refusal.TransportFault is = refl
 only_fault _ is = absurd (cc is)
 
--- a refusal that is a fault, over a run
+-- an error that is a fault, over a run
 pub fault_of : {A : Type 0} (p : Engine A) (k l : Memory) (m n : ℕ) (c : List Exchange) (e : OciDistributionError) → Runs p k m c n l (Err e)
     → ((old new : Link) → Meets engine_is_memory p old new k l (Err engine_refusal.TransportFault) → Rose old.faults new.faults) → is_engine_fault e ≡ true → Rose m n
 fault_of {A} p k l m n c e run rose is = rose (silent m) (silent n) (Runs-meets engine_is_memory p k l m n c engine_refusal.TransportFault refl (subst (λ x. Runs p k m c n l (let r : Result A OciDistributionError = Err x in r)) (only_fault e is) run))
@@ -144,7 +144,7 @@ image_counts s image a accepted = record { counts = λ k l m n c r run. by_resul
     fault = fault_of (pull s image a accepted) k l m n c e run (λ old new met. image_fault s image a accepted met refl);
   }
 
--- ---- refusals in words
+-- ---- errors with context
 
 pub record SincereWords (m n : ℕ) (e : SigstoreError) : Type 0 where
   pub falls : m ≤ n
@@ -177,7 +177,7 @@ unfolding in_words
 words_count called image p h = Counts-bind EngineCounts CallCounts p (λ r. Done (worded called (whole_text image) r)) h
     (λ m n r at. Counts-done (λ start o b. start ≡ n → CallCounts m o b) (worded called (whole_text image) r) (λ o same. rw same (worded_counts called (whole_text image) m n r at)))
 
--- a call that may be given from what is kept
+-- a call that may return a cached response
 pub kept_counts : {A : Type 0} (cache : Cache A) (key : List ℕ) (now : ℕ) (b : Bool) (p : Plain A) → Counts CallCounts p → Counts CallCounts (cached b cache key now p)
 kept_counts cache key now b p h = cached_counts cache key now CallCounts b p (λ m a. omega arith) h
 
@@ -211,7 +211,7 @@ call_next {K} {A} {B} p f h each = Counts-bind CallCounts CallCounts p (unless_r
   leads m n (Ok a) at = Counts-more CallCounts (λ t q b. t ≡ n → CallCounts m q b) (f a) (each a) (λ t q b h same. call_later m t q b (rw same at) h)
   leads m n (Err e) at = Counts-done (λ t q b. t ≡ n → CallCounts m q b) (Err e) (λ q same. rw same at)
 
--- ---- the referrers are listed, with a token that is got first
+-- ---- the referrers are listed, with a token that is obtained first
 
 token_memory : (s : Settings) (image : Reference) (a : RegistryAuth) (c : List Exchange) (n : ℕ) (e : OciDistributionError) → TokenCause s image a c n e → engine_is_memory e ≡ false → in_engine e ≡ false
 token_memory s image a c n engine_refusal.WantOfMemory h other = absurd (cc other)
@@ -229,7 +229,7 @@ token_counts s image a op = record { counts = λ k l m n c r run. by_result k l 
     fault = fault_of (token_given s image a op) k l m n c e run (λ old new met. token_fault s image a op met refl);
   }
 
--- the refusals of the list hold no want of memory and no fault of a sink
+-- the errors of the list hold no out-of-memory error and no fault of a sink
 listing_memory : (x : Entry) (s : Settings) (c : List Exchange) (n : ℕ) (e : OciDistributionError) → ReferrersCause x s c n e → engine_is_memory e ≡ false → in_engine e ≡ false
 listing_memory x s c n engine_refusal.WantOfMemory h other = absurd (cc other)
 listing_memory x s c n engine_refusal.SinkFault h other = absurd (referrers_no_sink x s c n h)
@@ -257,7 +257,7 @@ referrers_call_counts s image a kind = kept_counts referrers (referrers_key imag
 
 -- ---- what is skipped
 
--- from this count to that one
+-- between these fault counts
 record Counted (m n : ℕ) (skipped : List Skipped) : Type 0 where
   no_memory : HoldsNoMemoryNorSink skipped
   faults : CountsFaults m n skipped
@@ -268,7 +268,7 @@ none_skipped m n le = record { no_memory = λ k d lt. absurd (omega arith); faul
 count_one : (x : Skipped) (xs : List Skipped) → count_by is_fault (xs ++ x ∷ []) ≡ count_by is_fault xs + cond (is_fault x) 1 0
 count_one x xs = sum_by-append (λ x. cond (is_fault x) 1 0) xs (x ∷ []) ∙ ap (λ n. count_by is_fault xs + n) (zero-add (cond (is_fault x) 1 0))
 
--- one more cause, which is a fault only where the count rose
+-- one more cause, which is a fault only if the count increased
 one_more : (m n o : ℕ) (xs : List Skipped) (x : Skipped) → n ≤ o → Counted m n xs → holds_memory_or_sink x ≡ false → (is_fault x ≡ true → Rose n o) → Counted m o (xs ++ x ∷ [])
 one_more m n o xs x le h memory fault = record { no_memory = All-push (λ cause. holds_memory_or_sink cause ≡ false) xs x h.no_memory memory; faults = by_fault (is_fault x) refl } where
   by_fault : (b : Bool) → is_fault x ≡ b → CountsFaults m o (xs ++ x ∷ [])
@@ -302,7 +302,7 @@ one_before x xs fault =
     ∙ ap (λ b. 0 + cond b 1 0 + count_by is_fault xs) fault
     ∙ zero-add (count_by is_fault xs)
 
--- a quiet cause before others
+-- a cause without a fault before others
 quiet_cons : (x : Skipped) (xs : List Skipped) → holds_memory_or_sink x ≡ false → is_fault x ≡ false → Quiet xs → Quiet (x ∷ xs)
 quiet_cons x xs memory fault h m n le = record {
   no_memory = both_memory x xs memory (h m n le).no_memory;
@@ -335,7 +335,7 @@ bundles_quiet trust d (x ∷ xs) = let text = digest_text Sha256 x.content in la
 
 -- ---- the tag as a source
 
--- of a source whose refusal is not yet skipped
+-- the result of a source before its error is skipped
 abbrev UnskippedCounts : ℕ → ℕ → Result Part SigstoreError → Type 0
 UnskippedCounts m n (Ok part) = Counted m n part.skipped
 UnskippedCounts m n (Err e) = SincereWords m n e
@@ -356,7 +356,7 @@ tag_layers_counts trust d s tag a = Counts-bind CallCounts UnskippedCounts (mani
 abbrev SourceCounts : ℕ → ℕ → Result Part SigstoreError → Type 0
 SourceCounts m n r = OnAnswer (λ part. Counted m n part.skipped) r
 
--- a refusal is skipped at a place that is what the refusal is
+-- an error is skipped at a place that holds the error itself
 skipped_counts : (place : SkipCause → Skipped) (m n : ℕ) (r : Result Part SigstoreError) → ((e : SigstoreError) → holds_memory_or_sink (place (Refused e)) ≡ in_refusal e) → ((e : SigstoreError) → is_fault (place (Refused e)) ≡ is_refused_fault e) → UnskippedCounts m n r → SourceCounts m n (or_skipped place r)
 skipped_counts place m n (Ok part) memory fault h = h
 skipped_counts place m n (Err e) memory fault h = by_memory (is_memory e) refl where
@@ -375,19 +375,19 @@ source_counts trust s image a d = by_counts trust d s (tag_reference image d) a 
 
 -- ---- the referrers as a source
 
--- what was skipped before, and then more of it
+-- what was skipped before, followed by more
 both : (m n o : ℕ) (xs ys : List Skipped) → Counted m n xs → Counted n o ys → Counted m o (xs ++ ys)
 both m n o xs ys h k = record {
   no_memory = All-append (λ cause. holds_memory_or_sink cause ≡ false) xs ys h.no_memory k.no_memory;
   faults = subst (λ t. min (m + t) (2 ^ 64 - 1) ≤ o) (sym (sum_by-append (λ x. cond (is_fault x) 1 0) xs ys)) (omega (arith, h.faults, k.faults));
 }
 
--- so it is of what was answered
+-- the property holds for the result
 from_earlier : {A : Type 0} (skips : A → List Skipped) (m n o : ℕ) (r : Result A SigstoreError) → m ≤ n → OnAnswer (λ a. Counted n o (skips a)) r → OnAnswer (λ a. Counted m o (skips a)) r
 from_earlier skips m n o (Ok a) le h = earlier m n o (skips a) le h
 from_earlier skips m n o (Err e) le h = tt
 
--- two sources in turn, and what is made of both
+-- two sources in turn, and the result of both
 module _ {A : Type 0} (skips : A → List Skipped) (f : Part → Part → A) (is : (one rest : Part) → skips (f one rest) ≡ one.skipped ++ rest.skipped) where
   abbrev BothCount : ℕ → ℕ → Result A SigstoreError → Type 0
   BothCount m n r = OnAnswer (λ a. Counted m n (skips a)) r
@@ -480,7 +480,7 @@ unfolding part_of
 search_part_counts trust s image a = Counts-bind SearchCounts PartCounts (searched trust s image a) (λ r. Done (as_whole r)) (search_counts trust s image a)
     (λ m n r at. Counts-done (λ t p b. t ≡ n → PartCounts m p b) (as_whole r) (λ p same. rw same (whole_counts m n r at)))
 
--- the image's refusal has nothing that was skipped
+-- the image's error holds nothing that was skipped
 abbrev SkipsNone : {A : Type 0} → ℕ → Result A PullRefusal → Type 0
 SkipsNone m (Ok a) = Unit {0}
 SkipsNone m (Err e) = (q : ℕ) → OnSkipped (Counted m q) e
@@ -536,7 +536,7 @@ module _ {V : Type 0} {H : V → Type 0} (meaning : Meaning V H) (s : Context) (
   unfolding verified after_search bind
   pull_counts = constrained_then (constrained (is_unconstrained meaning.policy)) (λ P e is. empty_quiet P (is_unconstrained meaning.policy) e is)
 
--- ---- so it is of a call
+-- ---- the same for a call
 
 search_counted : (trust : Trust) (s : Context) (image : Reference) (a : RegistryAuth) {old new : Link} {k l : Kept} (r : Result TrustedLayers SigstoreError) → Meets is_memory (searched trust s image a) old new k l r → IfOk r (λ found. Counted old.faults new.faults found.skipped)
 search_counted trust s image a (Ok found) met = Meets-counts SearchCounts (search_counts trust s image a) met

@@ -1,4 +1,4 @@
--- What each whole run of the pull's parts shows.
+-- Properties of each complete run of the pull's parts.
 use Rattle.std.proofs.Common.{◌≡◌, ◌<◌, ◌⊎◌, inl, inr, ℕ, Bool, true, false, List, [], ◌∷◌, ◌++◌, Option, Some, None, Result, Ok, Err, Contains, length, refl, sym, ap, subst, ◌∙◌, arith, append_assoc, append-nil}
 use Rattle.std.specs.Prelude.{if◌then◌else◌, bytes_eq}
 use Rattle.std.proofs.lemmas.Slice.Eq.{bytes_eq-Decides}
@@ -59,9 +59,9 @@ use Rattle.cosign_chain.specs.Chain.{IsDocument as Reads, ReadsAs, ConfigLinks, 
 use Rattle.cosign_rows.specs.Sound.{EachBody}
 use Rattle.cosign_laws.proofs.DocumentTexts.{both, document_is, entry_is}
 
--- ---- calls in words
+-- ---- calls with context
 
--- what is so of the exchanges and the answer, where there is one
+-- the property holds for the exchanges and the result, if there is one
 abbrev pub Seen : {A E : Type 0} → (List Exchange → A → Type 0) → ℕ → List Exchange → ℕ → Result A E → Type 0
 Seen P = WhereOk (λ m c n a. P c a)
 
@@ -72,7 +72,7 @@ worded_seen {A} P called text m n o c (Err e) h = by_memory (engine_is_memory e)
   by_memory true = tt
   by_memory false = tt
 
--- a call in words shows what the engine's shows
+-- a call with context has the properties of the engine's call
 words_show : {A : Type 0} (P : List Exchange → A → Type 0) (called : Called) (image : Reference) (p : Engine A) → Shows (Seen P) p → Shows (Seen P) (in_words called image p)
 unfolding in_words
 words_show P called image p h = Shows-bind (Seen P) (Seen P) p (λ r. Done (worded called (whole_text image) r)) h
@@ -105,7 +105,7 @@ next_seen {B = B} {E = E} P Q p f h each = Shows-next (λ m c n a. P c a) (λ m 
   moved c m s o d (Ok b) h = h
   moved c m s o d (Err e) h = tt
 
--- a step with no request
+-- a step without a request
 pub step_seen : {A B E : Type 0} (Q : List Exchange → B → Type 0) (r : Result A E) (f : A → Proto Kept (Result B E)) → ((a : A) → r ≡ Ok a → Shows (Seen Q) (f a)) → Shows (Seen Q) (Done r >>= f)
 step_seen Q r f each = Shows-step (Seen Q) r f each (λ e is m. tt)
 
@@ -118,7 +118,7 @@ more_seen {A} P Q p h more = Shows-more (Seen P) (Seen Q) p h each where
   each m n c (Ok a) h = more c a h
   each m n c (Err e) h = tt
 
--- a step in words was answered
+-- a step with context that succeeded
 worded_ok : {A : Type 0} (called : Called) (text : List ℕ) (r : Result A OciDistributionError) (a : A) → worded called text r ≡ Ok a → r ≡ Ok a
 worded_ok called text (Ok x) a is = let same : x ≡ a = cc is in ap Ok same
 worded_ok {A} called text (Err e) a is = by_memory (engine_is_memory e) is where
@@ -128,7 +128,7 @@ worded_ok {A} called text (Err e) a is = by_memory (engine_is_memory e) is where
 
 -- ---- the layers of an image
 
--- a descriptor's layer is an answer's body, which the digest names
+-- a descriptor's layer is the body of an answer, and the digest names it
 record IsLayer (c : List Exchange) (x : OciDescriptor) (layer : ImageLayer) : Type 0 where
   body : Body c layer.content
   named : Names x.digest layer.content
@@ -142,14 +142,14 @@ AreLayers c [] (layer ∷ layers) = ⊥
 AreLayers c (x ∷ xs) [] = ⊥
 AreLayers c (x ∷ xs) (layer ∷ layers) = IsLayer c x layer × AreLayers c xs layers
 
--- in a longer conversation, too
+-- also in a longer conversation
 layers_after : (c d : List Exchange) (xs : List OciDescriptor) (layers : List ImageLayer) → AreLayers d xs layers → AreLayers (c ++ d) xs layers
 layers_after c d [] [] h = tt
 layers_after c d [] (layer ∷ layers) h = h
 layers_after c d (x ∷ xs) [] h = h
 layers_after c d (x ∷ xs) (layer ∷ layers) h = (record { body = body_after c (h.0).body; named = (h.0).named; media_type = (h.0).media_type; annotations = (h.0).annotations }, layers_after c d xs layers h.1)
 
--- behind those that were there
+-- after the layers that were already present
 record Behind (xs : List OciDescriptor) (got : List ImageLayer) (c : List Exchange) (all : List ImageLayer) : Type 0 where
   more : List ImageLayer
   is : all ≡ got ++ more
@@ -200,7 +200,7 @@ bodies_of c [] (layer ∷ layers) h = absurd h
 bodies_of c (x ∷ xs) [] h = absurd h
 bodies_of c (x ∷ xs) (layer ∷ layers) h = ((h.0).body, bodies_of c xs layers h.1)
 
--- the digest of the reference that was asked for names the document
+-- the digest of the requested reference names the document
 digest_ok : {A : Type 0} (r : Result A DigestError) (a : A) → or_digest_error r ≡ Ok a → r ≡ Ok a
 digest_ok (Ok x) a h = let same : x ≡ a = cc h in ap Ok same
 digest_ok (Err e) a h = absurd (cc h)
@@ -249,14 +249,14 @@ blobs_show s source accepted manifest =
     done_seen (λ e b. HasBlobs accepted manifest (c ++ (d ++ e)) b) (config_of manifest content, layers)
     (has_blobs accepted manifest c d content layers u blob (worded_ok Pull (whole_text source) (layers_accepted accepted manifest.layers) u allowed) behind))))
 
--- in a longer conversation, too
+-- also in a longer conversation
 pub bodies_after : (c d : List Exchange) (layers : List ImageLayer) → EachBody d layers → EachBody (c ++ d) layers
 bodies_after c d [] h = tt
 bodies_after c d (layer ∷ layers) h = (body_after c h.0, bodies_after c d layers h.1)
 
 -- ---- the manifest, which may be an entry's
 
--- a refused pull with another image's text shows the same
+-- a refused pull with another image's text has the same properties
 with_seen : {A : Type 0} (P : List Exchange → A → Type 0) (text : List ℕ) (m n o : ℕ) (c : List Exchange) (r : Result A SigstoreError) → Seen P m c n r → Seen P m (c ++ []) o (with_image text r)
 with_seen P text m n o c (Ok a) h = rw append-nil h
 with_seen P text m n o c (Err (sigstore.OciReferenceNotValidError t)) h = tt
@@ -300,7 +300,7 @@ entry_shows s source a entries =
     done_seen (λ d p. SeenEntry s.settings.platform_resolver entries (c ++ d) p) (record { bytes = document.0; manifest = manifest; entry = Some entry })
     (entry_seen s.settings.platform_resolver entries source entry c [] document manifest (worded_ok Pull (whole_text source) (entry_found s.settings.platform_resolver entries) entry found) at (worded_ok Pull (whole_text source) (entry_in entry document.0) manifest read)))))
 
--- the manifest is the first document, or that of an entry which the promise picks
+-- the manifest is the first document, or that of an entry that the promise picks
 pub record IsFirst (first : List ℕ) (p : PulledManifest) : Type 0 where
   pub reads : ReadsAs first p.manifest
   pub bytes : p.bytes ≡ first
@@ -329,7 +329,7 @@ entry_leads None first index p indexed h = absurd (unresolved h.found) where
   unresolved is = cc is
 entry_leads (Some promise) first index p indexed h = inr (record { index = index; indexed = indexed; entry = h.entry; is = h.is; picked = found_picked promise index.manifests h.entry h.found; named = h.named; reads = h.reads })
 
--- of a first document that was an answer's body
+-- from a first document that was the body of an answer
 record HasManifest (promise : Option ResolverPromise) (first : List ℕ) (c : List Exchange) (p : PulledManifest) : Type 0 where
   leads : Leads promise first p
   bytes : (p.bytes ≡ first) ⊎ Body c p.bytes
@@ -340,7 +340,7 @@ manifest_shows s source a first (Image manifest) is = done_seen (HasManifest s.s
 manifest_shows s source a first (ImageIndex index) is = more_seen (SeenEntry s.settings.platform_resolver index.manifests) (HasManifest s.settings.platform_resolver first) (entry_row s source a index.manifests) (entry_shows s source a index.manifests)
     (λ c p h. record { leads = entry_leads s.settings.platform_resolver first index p (document_is first (ImageIndex index) is) h.of_entry; bytes = inr h.body })
 
--- an image whose parts hang together
+-- an image whose parts are linked
 pub record Links (promise : Option ResolverPromise) (image : Reference) (digest : List ℕ) (accepted : List (List ℕ)) (c : List Exchange) (p : Pulled) : Type 0 where
   pub named : Names digest p.first
   pub asked : (own : List ℕ) → digest_of image ≡ Some own → Names own p.first

@@ -1,4 +1,4 @@
--- A pull under another meaning, which has the same trust and by which the same layers stand, is the same pull.
+-- A pull under another meaning with the same trust, by which the same layers satisfy the policy, is the same pull.
 use Rattle.std.proofs.Common.{◌≡◌, ℕ, Bool, List, Ok, refl, sym, ap, ◌∙◌}
 use mathlib.Core.Path.{fun_ext}
 use Rattle.std.specs.Prelude.{find}
@@ -16,7 +16,7 @@ use Rattle.cosign_rows.specs.Search.{searched}
 use Rattle.cosign_rows.specs.Verified.{Whole, constrained, is_unconstrained, readable, part_of, stands_by}
 use Rattle.cosign_rows.specs.Verified.{standing_by, verified_image, verified}
 
--- a pull by whether there is no constraint, by what stands, and by who is trusted
+-- the pull as a function of whether there is no constraint, which layers satisfy the policy, and who is trusted
 by_parts : Context → Reference → RegistryAuth → List (List ℕ) → Bool → (SignatureLayer → Bool) → Trust → Whole VerifiedImage
 by_parts s image a accepted none fits trusted = do
   Done (constrained none)

@@ -1,4 +1,4 @@
--- What the refusals of the calls hold: a fault of the transport only where its count rose, and no fault of a sink.
+-- What the calls' errors hold: a fault of the transport only if its count increased, and no fault of a sink.
 use Rattle.std.proofs.Common.{◌≡◌, ◌≤◌, ℕ, Bool, true, false, List, [], ◌∷◌, ◌++◌, Option, Some, None, Result, Ok, Err, refl, sym, ap, ◌∙◌, subst, arith}
 use Rattle.std.specs.Prelude.{if◌then◌else◌, bytes_eq, ok_or, find, MatchBool, pos}
 use Rattle.std.specs.Ordering.{int_eq}
@@ -98,7 +98,7 @@ blob_memory T s digest c n engine_refusal.SinkFault h other = absurd h
 blob_memory T s digest c n (engine_refusal.DigestError digest_refusal.WantOfMemory) h other = absurd h.holds
 blob_memory T s digest c n _ h other = refl
 
--- a call whose refusals have their causes
+-- a call whose errors have their causes
 engine_counts : {A : Type 0} (P : ℕ → List Exchange → ℕ → A → Type 0) (Why : ℕ → List Exchange → ℕ → OciDistributionError → Type 0) (p : Engine A) → Shows (ByAnswer P Why) p
     → ((m n : ℕ) (c : List Exchange) (e : OciDistributionError) → Why m c n e → engine_is_memory e ≡ false → in_engine e ≡ false)
     → ((old new : Link) (k l : Memory) → Meets engine_is_memory p old new k l (Err engine_refusal.TransportFault) → Rose old.faults new.faults)
@@ -137,9 +137,9 @@ blob_call_counts s image layer = Counts-lifted CallCounts (blob_made s image lay
     (λ m n c e h other. blob_memory (BlobUrl s.settings image layer) s.settings layer.digest c n e h other)
     (λ old new k l met. blob_fault IntoMemory s image layer met refl)))
 
--- ---- steps of the engine with no request
+-- ---- steps of the engine without a request
 
--- the refusal is of what was read: no fault, and no want of memory
+-- the error is about what was read: no fault, and not out of memory
 abbrev IsOfBytes : OciDistributionError → Type 0
 IsOfBytes engine_refusal.TransportFault = ⊥
 IsOfBytes engine_refusal.SinkFault = ⊥
@@ -252,7 +252,7 @@ layers_bytes types (x ∷ xs) = types_bytes types (x ∷ xs)
 answered : {A : Type 0} (a : A) → Counts {K = Kept} {A = Result A SigstoreError} CallCounts (Done (Ok a))
 answered a = Counts-done CallCounts (Ok a) (λ m. omega arith)
 
--- a step of the engine with no request, in words
+-- a step of the engine without a request, with context
 said : {A : Type 0} (text : List ℕ) (r : Result A OciDistributionError) → OfBytes r → Counts {K = Kept} CallCounts (Done (worded Pull text r))
 said text r h = Counts-done CallCounts (worded Pull text r) (λ m. worded_counts Pull text m m r (still_counts m r h))
 
@@ -386,7 +386,7 @@ words_sink m n (sigstore.RegistryPullError image e) h is = sink_held e (h.no_mem
 words_sink m n (sigstore.RegistryPullManifestError image e) h is = sink_held e (h.no_memory refl) is
 words_sink m n sigstore.WantOfMemory h is = absurd (cc is)
 
--- memory was wanting, or this is so of the refusal
+-- memory ran out, or the property holds for the error
 abbrev Unless : Bool → Type 0 → Type 0
 Unless b P = MatchBool b (Unit {0}) P
 
@@ -441,7 +441,7 @@ whole_next {A} {B} p f h each = Counts-bind WholeCounts WholeCounts p (unless_re
   leads m n (Ok a) at = Counts-more WholeCounts (λ t q b. t ≡ n → WholeCounts m q b) (f a) (each a) (λ t q b h same. whole_later m t q b (rw same at) h)
   leads m n (Err e) at = Counts-done (λ t q b. t ≡ n → WholeCounts m q b) (Err e) (λ q same. rw same at)
 
--- the refusal holds no answer of the registry's client
+-- the error holds no error of the registry's client
 unheld : (m : ℕ) (e : PullRefusal) → client_refusal e ≡ None → SincereWhole m m e
 unheld m e none = record { falls = omega arith; fault = λ is. absurd (cc (sym none ∙ is)); no_sink = λ is. cc (sym none ∙ is) }
 

@@ -1,4 +1,4 @@
--- Calls whose answers may be kept, over a shelf: what was kept before is what the shelf gives, and so is what is kept then.
+-- Cached calls over a shelf: if the cache holds only what the shelf returns before, it does so after.
 use Rattle.std.specs.Prelude.{bytes_eq, not, find, filter, option_map, option_and_then, if◌then◌else◌}
 use Rattle.std.proofs.Common.{◌≡◌, ℕ, Bool, true, false, cond, ◌&&◌, List, [], ◌∷◌, ◌++◌, All, Option, Some, None, Result, Ok, Err, refl, sym, ap, subst, ◌∙◌}
 use Rattle.std.proofs.lemmas.Bool.{cond_both}
@@ -45,7 +45,7 @@ use Rattle.cosign_rows.specs.Settled.{IsGiven, IsOf, IsAnswer, IsRight, AreRight
 read_same : (x y : Reference) → ◌≡◌ {A = Result Reference ParseError} (Ok x) (Ok y) → x ≡ y
 read_same x y is = cc
 
--- references that read back are known by their texts
+-- references that round-trip are determined by their texts
 same_image : (x y : Reference) → reads_back x ≡ true → reads_back y ≡ true → whole_text x ≡ whole_text y → x ≡ y
 same_image x y is also same = read_same x y (sym (reads_back-means x is) ∙ ap reference_of same ∙ reads_back-means y also)
 
@@ -85,13 +85,13 @@ module _ (s : Settings) (registry : List ℕ) (a : RegistryAuth) (shelf : Shelf)
       let others : List Entry = filter (λ other. not (is_of (kind_of e.answer) e.key other)) k.entries in
       bounded_all (IsRight s registry a shelf) k.bounds (others ++ e ∷ []) (All-push (IsRight s registry a shelf) others e (All-filter (λ other. not (is_of (kind_of e.answer) e.key other)) (IsRight s registry a shelf) k.entries are) is)
 
-  -- how the answers that are kept for a call are its answers
+  -- the cached responses of a call are its responses
   record Caches {A : Type 0} (cache : Cache A) (key : List ℕ) (call : ℕ → Plain A) : Type 0 where
     knows : (o : Answer) (x : A) → IsAnswer s registry a shelf key o → cache.read o ≡ Some x → Given call x
     keeps : (x : A) → Given call x → IsAnswer s registry a shelf key (cache.kept_as x)
 
   module _ {A : Type 0} {cache : Cache A} {key : List ℕ} {call : ℕ → Plain A} (caches : Caches cache key call) (now : ℕ) where
-    -- what is known is what the shelf gives
+    -- a known response is what the shelf returns
     known_given : (answers : Option Answers) (x : A) → R answers → known cache key now answers ≡ Some x → Given call x
     known_given None x are is = cc
     known_given (Some k) x are is = by_found (find (is_of cache.kind key) k.entries) refl is where
@@ -106,7 +106,7 @@ module _ (s : Settings) (registry : List ℕ) (a : RegistryAuth) (shelf : Shelf)
       by_found None there read = cc read
       by_found (Some e) there read = by_moment e (is_fresh now e.moment) there read
 
-    -- the plain call, whose answer is kept then
+    -- the uncached call, whose response is then cached
     asked_comes : (Q : Result A SigstoreError → Type 0) (k : Kept) → I k → Comes (answer shelf) (λ l r. J l × Q r) (call now) k.0 → Comes (answer shelf) (λ l r. I l × Q r) (known_or cache key now (call now) None) k
     unfolding Comes bind keeping
     asked_comes Q k is h =
@@ -202,7 +202,7 @@ module _ (s : Settings) (registry : List ℕ) (a : RegistryAuth) (shelf : Shelf)
       knows (Manifest document digest) x is read = cc read
       knows (Image given) x is read = cc read
 
-    -- a call that gives this at each moment does so by what is kept too
+    -- a call that returns this at each moment does so with a cache too
     pub digest_given : {P : List ℕ → Type 0} (now : ℕ) → ((m : ℕ) → Gives J (answer shelf) P (digest_made (within s m) image a)) → Gives I (answer shelf) P (digest_call (within s now) image a)
     unfolding digest_call
     digest_given now h = cached_gives (reads_back image) digest_caches now h

@@ -1,4 +1,4 @@
--- A search and a pull over a shelf find what stands there.
+-- A search and a pull over a shelf find what the shelf has.
 use Rattle.std.specs.Prelude.{find, slice_index_or, MatchBool, if◌then◌else◌}
 use Rattle.std.specs.Option.{option_or}
 use Rattle.std.specs.List.{All}
@@ -94,7 +94,7 @@ use Rattle.cosign_rows.specs.Shelves.{IsAsked, SignedByTag, SignedByReferrer, Im
 use Rattle.cosign_laws.proofs.ShelfCalls.{digest_given, manifest_given, image_given, referrers_given}
 use Rattle.cosign_laws.proofs.ShelfStays.{home_of, image_at, tag_at, digest_at, referrer_at, entry_at, tag_stays, listing_stays, referrer_stays, verified_stays}
 
--- ---- some layer stands
+-- ---- some layer passes
 
 -- one of these passes
 Has : (SignatureLayer → Bool) → List SignatureLayer → Type 0
@@ -135,14 +135,14 @@ bundle_stood p trust d x layer reads passes (y ∷ xs) zero lt is =
 bundle_stood p trust d x layer reads passes (y ∷ xs) (suc k) lt is =
     has_right p (bundle_part trust d y).collected (bundles_part trust d xs).collected (bundle_stood p trust d x layer reads passes xs k (omega (arith, lt)) is)
 
--- ---- calls in words
+-- ---- calls with context
 
 words_give : {J : Memory → Type 0} {table : Request → Answer} {A : Type 0} {P : A → Type 0} {p : Engine A} (called : Called) (image : Reference) → Gives J table P p → Gives J table P (in_words called image p)
 unfolding in_words
 words_give called image h = Gives-caught (λ r. Done (worded called (whole_text image) r)) h (λ a is. Gives-done (Ok a) is)
 
 module _ {I : Kept → Type 0} {table : Request → Answer} where
-  -- a step with no request, which is not refused
+  -- a step without a request that is not refused
   said : {A : Type 0} (called : Called) (text : List ℕ) (r : Result A OciDistributionError) (a : A) → r ≡ Ok a → Gives I table (λ (x : A). x ≡ a) (let p : Row A = Done (worded called text r) in p)
   said called text r a is = Gives-done (worded called text r) (yields_ok (λ x. x ≡ a) (worded called text r) a (ap (λ (x : Result _ OciDistributionError). worded called text x) is) refl)
 
@@ -212,7 +212,7 @@ module _ {V : Type 0} {H : V → Type 0} (meaning : Meaning V H) (s : Settings) 
   abbrev source : Reference
   source = digest_reference image digest
 
-  -- a part in which a layer stands
+  -- a part with a layer that satisfies the policy
   abbrev Stood : Part → Type 0
   Stood part = Has (stands_by meaning) part.collected
 
@@ -231,7 +231,7 @@ module _ {V : Type 0} {H : V → Type 0} (meaning : Meaning V H) (s : Settings) 
     abbrev signatures_on : ImageOn s shelf signed.signatures (payload_type ∷ [])
     signatures_on = record { first = signed.there.0; there = signed.there.1; document = Image signed.manifest; reads = signed.there.2; manifest = signed.manifest; leads = refl; blobs = signed.payloads }
 
-    -- a layer that stands is under the tag
+    -- a layer that satisfies the policy is under the tag
     stood_here : Has (stands_by meaning) (descriptors_part meaning.trust digest (layers_on shelf signed.manifest.layers) signed.manifest.layers).collected
     stood_here = stood (stands_by meaning) meaning.trust digest (layers_on shelf signed.manifest.layers) signed.standing.descriptor signed.standing.layer signed.standing.reads (stands_is signed.standing.layer signed.standing.stands_for) signed.manifest.layers signed.standing.listed.0 signed.standing.listed.1 signed.standing.listed.2
 
@@ -257,7 +257,7 @@ module _ {V : Type 0} {H : V → Type 0} (meaning : Meaning V H) (s : Settings) 
     unfolding tag_source
     source_gives = subst (λ b. Gives I (answer shelf) Stood (tag_by meaning.trust digest ctx (tag_reference image digest) a b)) (sym tag_reads) (Gives-caught (λ r. Done (or_skipped (Source ByTag) r)) tag_gives (λ part is. Gives-done (Ok part) is))
 
-  -- what a part is of which nothing is known
+  -- a part of which nothing is known
   abbrev AnyPart : Part → Type 0
   AnyPart part = Unit {0}
 
@@ -303,7 +303,7 @@ module _ {V : Type 0} {H : V → Type 0} (meaning : Meaning V H) (s : Settings) 
   unfolding referrers_source
   referrers_reach = Reaches-bind _ (Reaches-stays (listing_stays meaning s image a accepted shelf valid.asked moment digest)) (λ r u. listed_reaches r)
 
-  -- ---- a referrer that stands
+  -- ---- a referrer whose bundle satisfies the policy
 
   module _ (signed : SignedByReferrer meaning s image digest shelf) where
     abbrev x : List ℕ
@@ -329,7 +329,7 @@ module _ {V : Type 0} {H : V → Type 0} (meaning : Meaning V H) (s : Settings) 
     unfolding referrer_row
     row_gives = subst (λ b. Gives I (answer shelf) Stood (referrer_by meaning.trust digest ctx (digest_reference source x) a x b)) (sym signed.entry_reads) entry_gives
 
-    -- as far as that entry, and then on
+    -- up to that entry, and then the rest
     each_stands : (xs : List ImageIndexEntry) (k : ℕ) → k < length xs → slice_index_or xs k signed.entry ≡ signed.entry → Reaches I (answer shelf) (OrMemory of_memory Stood) (referrers_row meaning.trust digest ctx source a xs)
     unfolding referrers_row
     each_stands [] k lt is = absurd (omega (arith, lt))
@@ -357,7 +357,7 @@ module _ {V : Type 0} {H : V → Type 0} (meaning : Meaning V H) (s : Settings) 
 
   -- ---- the search
 
-  -- the digest, and a layer that stands
+  -- the digest, and a layer that satisfies the policy
   abbrev Found : TrustedLayers → Type 0
   Found found = (found.digest ≡ digest) × Has (stands_by meaning) found.collected
 
@@ -405,7 +405,7 @@ module _ {V : Type 0} {H : V → Type 0} (meaning : Meaning V H) (s : Settings) 
       Gives-next _ (layers_row_give valid.image_on.manifest.layers [] has.layers) (λ layers u.
       Gives-done (Ok (config_of valid.image_on.manifest content, layers)) tt)))
 
-  -- the row comes to an answer of which this is so
+  -- the row evaluates to a result with this property
   abbrev From : {A E : Type 0} → Proto Kept (Result A E) → (A → Type 0) → Type 0
   From p P = Gives I (answer shelf) P p
 
@@ -432,13 +432,13 @@ module _ {V : Type 0} {H : V → Type 0} (meaning : Meaning V H) (s : Settings) 
       Gives-next _ (subst (λ (m : OciImageManifest). Gives I (answer shelf) (λ p. Unit {0}) (blobs_row ctx source accepted m)) (sym is) blobs_row_gives) (λ blobs u.
       Gives-done (Ok (record { first = first; chosen = chosen; config = blobs.0; layers = blobs.1 })) tt)))))
 
-  -- ---- the whole
+  -- ---- the whole pull
 
   part_gives : {A : Type 0} {P : A → Type 0} {p : Row A} → Gives I (answer shelf) P p → Gives I (answer shelf) P (part_of p)
   unfolding part_of
   part_gives h = Gives-caught (λ r. Done (as_whole r)) h (λ a is. Gives-done (Ok a) is)
 
-  -- want of memory in a part is that of the whole
+  -- out of memory in a part is out of memory of the whole pull
   refused_memory : (e : SigstoreError) → of_memory e ≡ true → is_memory (refused_as e) ≡ true
   refused_memory sigstore.WantOfMemory is = refl
   refused_memory (sigstore.OciReferenceNotValidError r) is = absurd (cc is)
@@ -501,13 +501,13 @@ module _ {V : Type 0} {H : V → Type 0} (meaning : Meaning V H) (s : Settings) 
   settled_in : (k : Kept) → IsSettled s image a shelf k → I k
   settled_in k settled = (subst (λ (t : List ℕ). Settled registry t a k.0) valid.asked.repository_is settled.memory, settled.answers)
 
-  -- over a wide shelf a client that is settled gets the image, or memory is wanting
+  -- over a wide shelf a settled client gets the image, or memory runs out
   pub completed_wide : Signed → {old new : Link} {k l : Kept} (r : Result VerifiedImage PullRefusal) → AnswersFrom shelf old → IsSettled s image a shelf k → Meets is_memory (verified meaning ctx image a accepted) old new k l r → OkOrMemory r
   completed_wide signed {old} {new} {k} {l} r from settled met =
       answered l r (Meets-comes (answer shelf) (λ l r. I l × OrMemory is_memory (λ (v : VerifiedImage). Unit {0}) r) (answering shelf) (verified meaning ctx image a accepted) from.before old new k l r (shelf_table shelf) from.answers from.told from.faults
       ((verified_reaches signed).reaches k (settled_in k settled)) met)
 
-  -- the same of a whole run without faults
+  -- the same for a complete run without faults
   pub run_wide : Signed → (k l : Kept) (place m n : ℕ) (c : List Exchange) (r : Result VerifiedImage PullRefusal) → IsSettled s image a shelf k → AnsweredBy (answering shelf) place c → n ≤ m → m < 2 ^ 64 - 1 → Runs (verified meaning ctx image a accepted) k m c n l r → OrMemory is_memory (λ (v : VerifiedImage). Unit {0}) r
   run_wide signed k l place m n c r settled answered_is le lt run =
       (Runs-over (answer shelf) (λ l r. I l × OrMemory is_memory (λ (v : VerifiedImage). Unit {0}) r) (answering shelf) (verified meaning ctx image a accepted) place k l m n c r (shelf_table shelf)
@@ -538,13 +538,13 @@ module _ {V : Type 0} {H : V → Type 0} (meaning : Meaning V H) (s : Settings) 
   settled_unless l (Ok v) h = settled_again l h
   settled_unless l (Err e) h = settled_by l (is_memory e) e h
 
-  -- after a pull over a shelf that is asked for the image a client that was settled is settled, whatever was answered
+  -- after a pull over a shelf that the image is requested from, a settled client is settled, whatever the result
   pub settled_after : {old new : Link} {k l : Kept} (r : Result VerifiedImage PullRefusal) → AnswersFrom shelf old → IsSettled s image a shelf k → Meets is_memory (verified meaning (record { settings = s; moment = moment }) image a accepted) old new k l r → UnlessMemory is_memory (λ r. IsSettled s image a shelf l) r
   settled_after {old} {new} {k} {l} r from settled met =
       settled_unless l r (Meets-comes (answer shelf) (λ l r. Before l) (answering shelf) (verified meaning (record { settings = s; moment = moment }) image a accepted) from.before old new k l r (shelf_table shelf) from.answers from.told from.faults
       ((verified_stays meaning s image a accepted shelf asked moment).stays k (subst (λ (t : List ℕ). Settled (resolved_registry image) t a k.0) asked.repository_is settled.memory, settled.answers)) met)
 
-  -- so it is after a whole run without faults
+  -- the same after a complete run without faults
   pub run_settled : (k l : Kept) (place m n : ℕ) (c : List Exchange) (r : Result VerifiedImage PullRefusal) → IsSettled s image a shelf k → AnsweredBy (answering shelf) place c → n ≤ m → m < 2 ^ 64 - 1 → Runs (verified meaning (record { settings = s; moment = moment }) image a accepted) k m c n l r → IsSettled s image a shelf l
   run_settled k l place m n c r settled answered_is le lt run =
       settled_again l (Runs-over (answer shelf) (λ l r. Before l) (answering shelf) (verified meaning (record { settings = s; moment = moment }) image a accepted) place k l m n c r (shelf_table shelf)

@@ -1,4 +1,4 @@
--- Whatever a pull over a shelf answers, the client is settled afterwards.
+-- Whatever the result of a pull over a shelf, the client is settled afterwards.
 use Rattle.std.specs.Prelude.{codes, bytes_eq, unwrap_or, if◌then◌else◌}
 use Rattle.std.proofs.Common.{◌≡◌, ℕ, Bool, true, false, List, [], ◌∷◌, ◌++◌, is_some, Option, Some, None, Result, Ok, Err, refl, sym, ap, subst}
 use Rattle.oci_names.specs.Words.{Path}
@@ -217,7 +217,7 @@ module _ {V : Type 0} {H : V → Type 0} (meaning : Meaning V H) (s : Settings) 
         Stays-next _ (manifest_row_stays found.0 document) (λ chosen.
         Stays-next _ (blobs_row_stays chosen.manifest) (λ blobs. Stays-done _))))
 
-  -- ---- the whole
+  -- ---- the whole pull
 
   part_stays : {A : Type 0} {p : Row A} → Settles p → Settles (part_of p)
   unfolding part_of

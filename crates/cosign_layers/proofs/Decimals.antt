@@ -39,11 +39,11 @@ pub not_decimal : (text : List ℕ) → is_decimal text ≡ false → None ≡ d
 unfolding decimal_of
 not_decimal text e = sym (ap (λ b. if b then in_log (pos (digits_value 10 text)) else None) e)
 
--- one to sixteen bytes
+-- 1 to 16 bytes
 pub decimal_length : (text : List ℕ) (b : Bool) → 0 < length text → length text ≤ 16 → b ≡ list_all is_digit text → b ≡ is_decimal text
 decimal_length text b some short is = is ∙ sym (ap (λ c. c && list_all is_digit text) (joined (nat_le 1 (length text)) (nat_le (length text) 16) (le-leb 1 (length text) some) (le-leb (length text) 16 short)))
 
--- and no other number of them
+-- any other number of bytes
 pub not_length : (text : List ℕ) → (length text ≡ 0) ⊎ (16 < length text) → false ≡ is_decimal text
 not_length text h = elim h [
   | inl none ↦ sym (ap (λ c. c && nat_le (length text) 16 && list_all is_digit text) (lt-leb 1 (length text) (omega (arith, none))))

@@ -1,4 +1,4 @@
--- A layer that is read is what its bytes say, and a rejection is of the first check that fails.
+-- A layer that is returned is what its bytes state, and a rejection names the first check that fails.
 use Rattle.std.proofs.Common.{◌≡◌, ◌⊎◌, inl, inr, ℕ, Bool, true, false, List, Option, Some, None, ok_or, if◌then◌else◌, Result, Ok, Err, refl, sym, ap, ◌∙◌, subst}
 use Rattle.std.specs.FinMap.{get}
 use Rattle.base64.specs.Engines.{standard}
@@ -29,7 +29,7 @@ untrue : (b : Bool) → (b ≡ true → ⊥) → b ≡ false
 untrue true h = absurd (h refl)
 untrue false h = refl
 
--- ---- what is found is one of three
+-- ---- what is found has one of three forms
 
 unread_absent : {X P : Type 0} → (let f : Found X = founds.Absent in f) ≡ founds.Unreadable → P
 unread_absent e = cc

@@ -1,4 +1,4 @@
--- Each input gives one layer or fails one check first.
+-- Each input results in one layer, or in one check that fails first.
 use Rattle.std.proofs.Common.{◌≡◌, ◌⊎◌, inl, inr, ℕ, Bool, true, false, IsTrue, List, Option, IsSomeAnd, Result, Ok, Err, IfOk, IfErr, refl, sym, ap, ◌∙◌, subst}
 use Rattle.std.specs.Prelude.{MatchBool}
 use Rattle.cosign_layers.specs.Checks.{Input, Spelled, content_checked, signature_checked, entry_checked, certificate_checked, layer_with, layer_read}
@@ -26,7 +26,7 @@ module _ (trust : Trust) (d : List ℕ) where
       × ((e : Option LogEntryBundle) × IsEntry trust input.kind input.content p.1 s.log_entry e
       × ((c : Option CertificateSignature) × IsCertificate trust e s.certificate c × (layer_with input s p.0 e c ≡ layer))))
 
-  -- why there is none
+  -- why there is no layer
   abbrev Fails : Input → LayerRejection → Type 0
   Fails input x =
       ContentRejected d input x ⊎ ((s : Shown) × IsAbout d input s
@@ -163,7 +163,7 @@ module _ (trust : Trust) (d : List ℕ) where
     by_memory true h = tt
     by_memory false h = (decided input).rejected x h
 
-  -- want of memory is no check
+  -- running out of memory is not a check
   pub never_memory : (input : Input) → layer_read trust d input ≡ Err WantOfMemory → ⊥
   never_memory input e = no_check input ((decided input).rejected WantOfMemory e) where
     no_check : (input : Input) → Rejected trust d input WantOfMemory → ⊥

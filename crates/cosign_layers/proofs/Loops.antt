@@ -1,4 +1,4 @@
--- What loops over a list know of its tests.
+-- What loops over a list establish about its tests.
 use Rattle.std.proofs.Common.{◌≡◌, ℕ, ◌<◌, suc, ◌&&◌, Bool, true, false, List, [], ◌∷◌, length, get_or, Some, None, cond, arith, refl, ap, ◌∙◌, nat_lt}
 use Rattle.std.specs.List.{list_all, list_any, position, position_or_len}
 use Rattle.std.proofs.lemmas.List.Folds.{list_any_at, list_any_none}

@@ -1,4 +1,4 @@
--- Each check passes or rejects, and never both; so does a list of checks.
+-- Each check either passes or rejects; so does a list of checks.
 use Rattle.std.proofs.Common.{◌≡◌, ◌⊎◌, inl, inr, Bool, true, false, Option, Some, None, ok_or, Result, Ok, Err, refl, sym, ap, ◌∙◌, subst}
 use Rattle.cosign_layers.specs.Checks.{unless}
 use Rattle.std.specs.Prelude.{MatchBool}
@@ -7,19 +7,19 @@ use Rattle.cosign_layers.specs.Rejection.{◌>>=◌, Says, is_memory}
 use Rattle.cosign_layers.specs.declared.rejection.LayerRejection.{LayerRejection}
 use Rattle.cosign_layers.specs.declared.rejection.LayerRejection.TheVariants.{WantOfMemory}
 
--- what a check answers where it passes, and why it rejects
+-- what a check returns if it passes, and why it rejects
 pub record Decides {A : Type 0} (r : Result A LayerRejection) (Is : A → Type 0) (Rejects : LayerRejection → Type 0) : Type 0 where
   pub passes : (a : A) → Is a → r ≡ Ok a
   pub passed : (a : A) → r ≡ Ok a → Is a
   pub rejects : (x : LayerRejection) → Rejects x → r ≡ Err x
   pub rejected : (x : LayerRejection) → r ≡ Err x → Rejects x
 
--- a step before an answer had an answer
+-- a step before a result returned `Ok`
 pub ok_before : {A B : Type 0} (r : Result A LayerRejection) (f : A → Result B LayerRejection) (b : B) → (r >>= f) ≡ Ok b → (a : A) × (r ≡ Ok a) × (f a ≡ Ok b)
 ok_before (Ok a) f b e = (a, refl, e)
 ok_before (Err x) f b e = cc
 
--- a rejection is of a step, or of what comes after it
+-- a rejection is that of a step, or of what comes after it
 pub err_before : {A B : Type 0} (r : Result A LayerRejection) (f : A → Result B LayerRejection) (x : LayerRejection) → (r >>= f) ≡ Err x → (r ≡ Err x) ⊎ ((a : A) × (r ≡ Ok a) × (f a ≡ Err x))
 err_before (Ok a) f x e = inr (a, refl, e)
 err_before {A} (Err y) f x e = let same : y ≡ x = cc e in inl (ap (λ z. let r : Result A LayerRejection = Err z in r) same)
@@ -55,7 +55,7 @@ both r f Is Rejects Next RejectsNext first next = record {
   ];
 }
 
--- the same in other words
+-- the same, with equivalent conditions
 pub reworded : {A : Type 0} (r : Result A LayerRejection) (Is Is' : A → Type 0) (Rejects Rejects' : LayerRejection → Type 0)
     → ((a : A) → Is a → Is' a) → ((a : A) → Is' a → Is a)
     → ((x : LayerRejection) → Rejects x → Rejects' x) → ((x : LayerRejection) → Rejects' x → Rejects x)
@@ -82,7 +82,7 @@ tested x false = record {
   rejected = λ y e. (refl, err_same x y e);
 }
 
--- something that has to be there
+-- a value that must be present
 pub needed : {A : Type 0} (o : Option A) (x : LayerRejection) → Decides (ok_or o x) (λ a. o ≡ Some a) (λ y. (o ≡ None) × (x ≡ y))
 needed None x = record {
   passes = λ a h. cc;
@@ -97,7 +97,7 @@ needed (Some b) x = record {
   rejected = λ y e. cc;
 }
 
--- an answer
+-- a returned value
 pub answered : {A : Type 0} (b : A) → Decides (let r : Result A LayerRejection = Ok b in r) (λ a. b ≡ a) (λ y. ⊥)
 answered b = record {
   passes = λ a h. ap Ok h;
@@ -117,7 +117,7 @@ refused x = record {
 
 -- ---- steps of a function
 
--- a step that was answered, and what comes after it
+-- a step that returned `Ok`, and what comes after it
 pub after : {A B : Type 0} (step : Result A LayerRejection) (f : A → Result B LayerRejection) (a : A) (r : Result B LayerRejection) → step ≡ Ok a → Says r (f a) → Says r (step >>= f)
 after step f a r is says = subst (λ s. Says r (s >>= f)) (sym is) says
 
@@ -125,12 +125,12 @@ refused_later : {A B : Type 0} (step : Result A LayerRejection) (f : A → Resul
 refused_later step f x true h = tt
 refused_later step f x false h = ap (λ s. s >>= f) h
 
--- a step that was refused, at the exit of a `?`
+-- a step that returned an error, at the exit of a `?`
 pub stopped : {A B : Type 0} (step : Result A LayerRejection) (f : A → Result B LayerRejection) (x : LayerRejection) (r : Result B LayerRejection) → MatchBool (is_memory x) (Unit {0}) (step ≡ Err x) → IsErrAnd r (λ y. y ≡ x) → Says r (step >>= f)
 stopped step f x (Ok b) h is = absurd is
 stopped step f x (Err y) h is = subst (λ z. MatchBool (is_memory z) (Unit {0}) ((step >>= f) ≡ Err z)) (sym is) (refused_later step f x (is_memory x) h)
 
--- memory was wanting between two steps
+-- memory ran out between two steps
 pub wanting : {A : Type 0} (said r : Result A LayerRejection) → IsErrAnd r (λ y. y ≡ WantOfMemory) → Says r said
 wanting said (Ok a) is = absurd is
 wanting said (Err y) is = subst (λ z. MatchBool (is_memory z) (Unit {0}) (said ≡ Err z)) (sym is) tt

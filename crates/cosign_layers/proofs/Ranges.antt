@@ -1,4 +1,4 @@
--- The time and the index of an entry that is read are in the log's range.
+-- The time and the index of an entry that is parsed are in the log's range.
 use Rattle.std.proofs.Common.{◌≡◌, inl, inr, ℕ, ℤ, pos, List, Bool, true, false, Option, Some, None, refl, sym, subst, codes}
 use Rattle.std.specs.Prelude.{if◌then◌else◌, int_lt}
 use Rattle.std.specs.Str.Parse.{digits_value}
@@ -18,7 +18,7 @@ before (Some a) f b e = (a, refl, e)
 some_same : {A : Type 0} (a b : A) → (let o : Option A = Some a in o) ≡ Some b → a ≡ b
 some_same a b e = cc e
 
--- what was read in the range is what was there
+-- a number in the range is returned unchanged
 in_range : (z y : ℤ) → in_log z ≡ Some y → IsInLog y
 in_range z y e = by_tests (int_lt z (pos 0)) (int_lt (pos 9007199254740991) z) e where
   by_tests : (a b : Bool) → (if a then None else (if b then None else Some z)) ≡ Some y → IsInLog y
@@ -47,7 +47,7 @@ text_in_range (object ms) y e = whole_in_range (object ms) y e
 member_in_range : (f : Data → Option ℤ) (name : List ℕ) (d : Data) (y : ℤ) → ((d : Data) (y : ℤ) → f d ≡ Some y → IsInLog y) → required f name d ≡ Some y → IsInLog y
 member_in_range f name d y each e = let found = before (get name d) f y e in each found.0 y found.2
 
--- what is so of each entry that comes of what was found is so of the whole
+-- what holds for each entry that `f` returns holds for the whole
 along : {A : Type 0} (o : Option A) (f : A → Option LogEntryBundle) → ((a : A) → o ≡ Some a → (e : LogEntryBundle) → f a ≡ Some e → InLog e) → (e : LogEntryBundle) → (o >>= f) ≡ Some e → InLog e
 along o f each e h = let found = before o f e h in each found.0 found.1 e found.2
 

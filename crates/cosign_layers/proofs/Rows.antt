@@ -15,7 +15,7 @@ use Rattle.cosign_layers.specs.declared.verifier.SignedRow.{SignedRow}
 pub as_decided : (b : Bool) (xs ys : List ℕ) → (IsTrue b ↔ (xs ≡ ys)) → b ≡ bytes_eq xs ys
 as_decided b xs ys h = same_from_decides b (bytes_eq xs ys) h (bytes_eq-Decides xs ys)
 
--- each way of four truth values to be joined
+-- reorders a disjunction of four `Bool`s
 joined : (a b x y : Bool) → ((a || b) || (x || y)) ≡ ((a || x) || (b || y))
 joined true b x y = refl
 joined false true true y = refl
@@ -26,7 +26,7 @@ shared : (k a b : Bool) → (k && (a || b)) ≡ ((k && a) || (k && b))
 shared true a b = refl
 shared false a b = refl
 
--- a list passes one of two tests exactly where it passes the first or the second
+-- a list passes a disjunction of two tests if and only if it passes the first or the second
 either : {X : Type 0} (f g h : X → Bool) (xs : List X) → ((x : X) → f x ≡ (g x || h x))
     → list_any f xs ≡ (list_any g xs || list_any h xs)
 either f g h [] each = refl
@@ -38,7 +38,7 @@ neither : (a b : Bool) → (a || b) ≡ false → (a ≡ false) × (b ≡ false)
 neither true b e = cc
 neither false b e = (refl, e)
 
--- a list that passes no test passes none that is narrower
+-- a list that passes no test passes no narrower one
 none_within : {X : Type 0} (f g : X → Bool) (xs : List X) → ((x : X) → g x ≡ false → f x ≡ false)
     → list_any g xs ≡ false → list_any f xs ≡ false
 none_within f g [] each none = refl
@@ -47,7 +47,7 @@ none_within f g (x ∷ xs) each none =
     ap (λ b. b || list_any f xs) (each x two.0) ∙ none_within f g xs each two.1
 
 module _ (key message signature : List ℕ) where
-  -- where no row has the key and the signature, none makes the signature valid
+  -- if no row has the key and the signature, none makes the signature valid
   pub no_row : (rows : List SignedRow) → list_any (is_of key signature) rows ≡ false
       → list_any (is_valid_by key message signature) rows ≡ false
   no_row rows none =
@@ -100,7 +100,7 @@ module _ (key message signature : List ℕ) where
     one false true c e = refl
     one false false c e = cc
 
-  -- where no row has the text by the two other algorithms
+  -- if no row has the text by the two other algorithms
   pub by_sha512 : (rows : List SignedRow) (h i j : List ℕ) (b : Bool)
       → h ≡ sha256 message → false ≡ list_any (has_text key signature (codes "sha256:" ++ encode_lower h)) rows
       → i ≡ sha384 message → false ≡ list_any (has_text key signature (codes "sha384:" ++ encode_lower i)) rows

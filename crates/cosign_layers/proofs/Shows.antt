@@ -1,4 +1,4 @@
--- What a payload shows.
+-- What is found in a payload.
 use Rattle.std.proofs.Common.{◌≡◌, ℕ, List, Option, Some, None, ap, ◌∙◌}
 use Rattle.std.specs.Prelude.{option_map}
 use Rattle.cosign_layers.specs.Payload.{content_of}

@@ -1,4 +1,4 @@
--- What a reader answers after each of its steps.
+-- What a reader returns after each of its steps.
 use Rattle.std.proofs.Common.{◌≡◌, ℕ, List, Option, Result, Ok, Err, ap}
 use Rattle.std.specs.Prelude.{MatchBool}
 use Rattle.std.specs.Result.{IsErrAnd}
@@ -12,7 +12,7 @@ use Rattle.cosign_layers.specs.declared.rejection.LayerRejection.{LayerRejection
 use Rattle.cosign_layers.specs.declared.shown.Shown.{Shown}
 use Rattle.cosign_layers.proofs.Outcomes.{after, stopped}
 
--- the step's answer is this one, unless memory was wanting
+-- the step returned this rejection, unless memory ran out
 abbrev Refused : {A : Type 0} → Result A LayerRejection → LayerRejection → Type 0
 Refused step x = MatchBool (is_memory x) (Unit {0}) (step ≡ Err x)
 

@@ -1,4 +1,4 @@
--- A layer stands exactly where it is signed and each constraint accepts it.
+-- A layer satisfies the policy if and only if it is signed and each constraint accepts it.
 use Rattle.std.proofs.Common.{◌≡◌, ◌↔◌, ◌&&◌, ◌<◌, ℕ, Bool, true, false, IsTrue, List, Option, Some, None, refl, sym, ap, ◌∙◌, Result, Ok, Err, IfOk, length}
 use Rattle.std.proofs.lemmas.List.Folds.{Any-from_list_any, list_any-from_Any}
 use Rattle.std.proofs.lemmas.List.Sums.{AllPass-from_list_all, list_all-from_AllPass}
@@ -55,7 +55,7 @@ module _ {V : Type 0} {H : V → Type 0} (valid : Valid) (policy : PullPolicy V 
   answered (Ok b) e = (λ t. supports (sym e ∙ t), λ s. e ∙ stands_by s)
   answered (Err x) e = tt
 
--- where the rest is given, the test answers whether the layer stands for an image
+-- if the other conditions are given, the test decides whether the layer stands for an image
 pub stands_for : {V : Type 0} {H : V → Type 0} (meaning : Meaning V H) (layer : SignatureLayer) (d : List ℕ)
     → LayerOf meaning.trust layer → IsAboutImage layer d → 0 < length meaning.policy.constraints
     → IsTrue (stands meaning.trust.valid meaning.policy meaning.own layer) ↔ StandsFor meaning d layer

@@ -66,7 +66,7 @@ right v1 s2 v2 s3 v3 s4 v4 z =
     ∙ ap (λ t. s3 ++ t) (append_assoc v3 (s4 ++ v4) z
     ∙ ap (λ t. v3 ++ t) (append_assoc s4 v4 z)))))
 
--- the pieces of the text, put behind one another
+-- the pieces of the text, concatenated
 pub text_is : (body time id index : List ℕ)
     → codes "{\"body\":" ++ body ++ codes ",\"integratedTime\":" ++ time ++ codes ",\"logID\":" ++ id ++ codes ",\"logIndex\":" ++ index ++ codes "}"
     ≡ object_text ((codes "body", body) ∷ (codes "integratedTime", time) ∷ (codes "logID", id) ∷ (codes "logIndex", index) ∷ [])

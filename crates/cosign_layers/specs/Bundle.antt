@@ -1,4 +1,4 @@
--- What a bundle says (sigstore bundle v0.3, in this project's profile).
+-- The contents of a bundle (sigstore bundle v0.3, in this project's profile).
 use Rattle.std.specs.Prelude.{ℕ, List, [], ◌∷◌, Bool, false, Option, Some, None, is_some, codes}
 use Rattle.std.specs.FinMap.{get as digits_by}
 use Rattle.json_tables.specs.Bytes.{base64_of}
@@ -22,15 +22,15 @@ use Rattle.cosign_layers.specs.declared.shown.Subject.{Subject}
 abbrev pub subject_of : Data → Option Subject
 subject_of d = required (map_of text_of) (codes "digest") d >>= λ digest. Some (record { digest = digest })
 
--- the subjects of the statement that the bytes spell in JSON without floats
+-- the subjects of the statement that the bytes encode in JSON without floats
 abbrev pub subjects_of : List ℕ → Option (List Subject)
 subjects_of payload = plain_json_of payload >>= required (list_of subject_of) (codes "subject")
 
--- the value, where it is an object
+-- the value, if it is an object
 abbrev pub object_only : Data → Option Data
 object_only d = an_object d >>= λ known. Some d
 
--- the one item, where it is an object
+-- the one item, if it is an object
 abbrev pub only_object : Items → Option Data
 only_object no_items = None
 only_object (item d no_items) = object_only d
@@ -44,7 +44,7 @@ one_object d = as_array d >>= only_object
 abbrev pub signature_object : Data → Option Data
 signature_object d = get (codes "dsseEnvelope") d >>= get (codes "signatures") >>= one_object
 
--- an object whose certificate is an object and whose log entries are a list, where they are there and not null
+-- an object whose `certificate` is an object and whose `tlogEntries` is a list, if they are present and not null
 abbrev pub material_of : Data → Option Data
 material_of d = do
   material ← get (codes "verificationMaterial") d
@@ -65,7 +65,7 @@ envelope_of d = do
   payload ← required base64_of (codes "payload") encoded
   Some (record { payload_type = payload_type; payload = payload })
 
--- the envelope of the bundle that the bytes spell in JSON without floats
+-- the envelope of the bundle that the bytes encode in JSON without floats
 abbrev pub envelope_in : List ℕ → Option Envelope
 envelope_in bytes = plain_json_of bytes >>= envelope_of
 
@@ -73,16 +73,16 @@ envelope_in bytes = plain_json_of bytes >>= envelope_of
 abbrev pub statement_of : Data → Option (List Subject)
 statement_of d = envelope_of d >>= λ envelope. subjects_of envelope.payload
 
--- the text of the one signature
+-- the string of the one signature
 abbrev pub signature_at : Data → Option (List ℕ)
 signature_at d = signature_object d >>= get (codes "sig") >>= text_of
 
--- what was read where something stands
+-- what was parsed, if something is present
 abbrev pub read_or_not : {X : Type 0} → Option X → Found X
 read_or_not None = Unreadable
 read_or_not (Some x) = Read x
 
--- the certificate's bytes, where there is one
+-- the certificate's bytes, if there is one
 abbrev pub certificate_in : Option Data → Found (List ℕ)
 certificate_in None = Absent
 certificate_in (Some null) = Absent
@@ -96,7 +96,7 @@ abbrev pub first_item : Data → Option Data
 first_item (array (item d ds)) = Some d
 first_item d = None
 
--- the first log entry, where there is one with a promise of the log
+-- the first log entry, if it has a promise of the log
 abbrev pub promised_entry : Data → Option Data
 promised_entry d = do
   entry ← get (codes "verificationMaterial") d >>= get (codes "tlogEntries") >>= first_item
@@ -110,11 +110,11 @@ entry_in (Some d) = read_or_not (bundle_entry_of d)
 abbrev pub entry_at : Data → Found LogEntryBundle
 entry_at d = entry_in (promised_entry d)
 
--- whether the subject has these digits by this algorithm
+-- whether the subject has these digits for this algorithm
 abbrev pub has_digits : Option (List ℕ × List ℕ) → Subject → Bool
 has_digits None subject = false
 has_digits (Some parts) subject = is_some (digits_by subject.digest parts.0 >>= equal_to parts.1)
 
--- whether the subject's digests have the digits of the digest text by its algorithm
+-- whether the subject's digests have the digits of the digest text for its algorithm
 abbrev pub has_digest : List ℕ → Subject → Bool
 has_digest d subject = has_digits (parts_of d) subject

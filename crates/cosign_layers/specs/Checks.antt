@@ -1,4 +1,4 @@
--- The checks of a layer in their order, each with the rejection that it gives.
+-- The checks of a layer in their order, each with the rejection that it returns.
 use Rattle.std.specs.Prelude.{ℕ, List, Bool, true, false, Option, Some, None, ok_or, Result}
 use Rattle.std.specs.Prelude.{Ok, Err, if◌then◌else◌}
 use Rattle.std.specs.FinMap.{get}
@@ -24,7 +24,7 @@ use Rattle.cosign_layers.specs.declared.shown.Found.{Found}
 use Rattle.cosign_layers.specs.declared.shown.Found.TheVariants as founds
 use Rattle.cosign_layers.specs.declared.shown.Shown.{Shown}
 
--- what is read: the kind of the layer, its content, the digest by which it came, and its annotations
+-- what is read: the kind of the layer, its content, the digest by which it was pulled, and its annotations
 pub record Input : Type 0 where
   pub kind : LayerKind
   pub content : List ℕ
@@ -39,7 +39,7 @@ input kind content oci_digest annotations = record {
   annotations = annotations;
 }
 
--- the same, as it is lent
+-- the same, as it is borrowed
 abbrev pub input_from : Pulled → Input
 input_from p = input p.kind p.content.now p.oci_digest.now p.annotations.now
 
@@ -47,7 +47,7 @@ input_from p = input p.kind p.content.now p.oci_digest.now p.annotations.now
 abbrev pub came_from : Pulled → Came
 came_from p = record { content = p.content.now; oci_digest = p.oci_digest.now; annotations = p.annotations.now }
 
--- go on where this is so
+-- continue if `ok` is true, else reject
 abbrev pub unless : LayerRejection → Bool → Result (Unit {0}) LayerRejection
 unless rejection true = Ok tt
 unless rejection false = Err rejection
@@ -60,11 +60,11 @@ content_checked d input = do
   about ← unless rejections.OtherDigest (is_about d shows)
   Ok shows
 
--- a signature with the bytes that it spells
+-- a signature with the bytes that it decodes to (RFC 4648)
 abbrev pub Spelled : Type 0
 Spelled = List ℕ × List ℕ
 
--- there is a signature, which spells bytes
+-- the signature is present and decodes to bytes
 abbrev pub signature_checked : Option (List ℕ) → Result Spelled LayerRejection
 signature_checked found = do
   signature ← ok_or found rejections.NoSignature
@@ -86,7 +86,7 @@ entry_found trust kind content bytes founds.Absent = Ok None
 entry_found trust kind content bytes founds.Unreadable = Err (rejections.Unreadable LogEntry)
 entry_found trust kind content bytes (founds.Read e) = entry_verified trust kind content bytes e
 
--- the log entry, where a log is known
+-- the log entry, if a log is known
 abbrev pub entry_checked : Trust → LayerKind → List ℕ → List ℕ → Found LogEntryBundle
     → Result (Option LogEntryBundle) LayerRejection
 entry_checked trust kind content bytes found =
@@ -109,7 +109,7 @@ certificate_checked vouching entry founds.Absent = Ok None
 certificate_checked vouching entry founds.Unreadable = Err (rejections.Unreadable Certificate)
 certificate_checked vouching entry (founds.Read certificate) = certificate_vouched vouching entry certificate
 
--- the layer of these parts
+-- the layer with these parts
 abbrev pub layer_with : Input → Shown → List ℕ → Option LogEntryBundle → Option CertificateSignature → SignatureLayer
 layer_with input shows signature entry certificate = record {
   kind = input.kind;
@@ -122,7 +122,7 @@ layer_with input shows signature entry certificate = record {
   bundle = entry;
 }
 
--- the layer that the input gives for this image, or the first check that it fails
+-- the layer that the input results in for this image, or the first check that fails
 abbrev pub layer_read : Trust → List ℕ → Input → Result SignatureLayer LayerRejection
 layer_read trust d input = do
   shows ← content_checked d input

@@ -1,4 +1,4 @@
--- What the written constraints accept.
+-- What the built-in constraints accept.
 use Rattle.std.specs.Prelude.{ℕ, List, [], ◌∷◌, Bool, true, false, ◌&&◌, Option, Some, None, option_and_then}
 use Rattle.std.specs.FinMap.{FinMap, entries}
 use Rattle.std.specs.List.{list_all}
@@ -16,7 +16,7 @@ use Rattle.cosign_layers.specs.declared.subject.CertSubjectEmailVerifier.{CertSu
 use Rattle.cosign_layers.specs.declared.subject.CertSubjectUrlVerifier.{CertSubjectUrlVerifier}
 use Rattle.cosign_layers.specs.Subject.{is_text, has_issuer}
 
--- the data has a member of this name with this text
+-- the data has a member of this name with this string
 abbrev pub has_text_member : Data → List ℕ × List ℕ → Bool
 has_text_member d pair = is_text pair.1 (option_and_then as_str (get pair.0 d))
 
@@ -24,22 +24,22 @@ abbrev pub has_no_item : {A : Type 0} → List A → Bool
 has_no_item [] = true
 has_no_item (x ∷ xs) = false
 
--- each pair stands as a text member in the optional part; without a payload there is no pair
+-- each pair is a string member of `optional`; without a payload no pair is
 abbrev pub has_annotations : FinMap by_bytes (List ℕ) → Option SimpleSigning → Bool
 has_annotations pairs None = has_no_item (entries pairs)
 has_annotations pairs (Some signing) = list_all (has_text_member signing.optional) (entries pairs)
 
--- the layer has a certificate that is vouched to be of this email, by this issuer
+-- the layer has a certificate that is vouched for with this email and issuer
 abbrev pub has_email : CertSubjectEmailVerifier → Option CertificateSignature → Bool
 has_email asked None = false
 has_email asked (Some c) = is_text asked.email c.vouched.email && has_issuer asked.issuer c.vouched.issuer
 
--- the layer has a certificate that is vouched to be of this URL, by this issuer
+-- the layer has a certificate that is vouched for with this URL and issuer
 abbrev pub has_url : CertSubjectUrlVerifier → Option CertificateSignature → Bool
 has_url asked None = false
 has_url asked (Some c) = is_text asked.url c.vouched.url && is_text asked.issuer c.vouched.issuer
 
--- a constraint accepts what the value that it holds accepts; `own` says what a box accepts
+-- a constraint accepts what the value that it holds accepts; `own` is the verdict of a custom constraint
 abbrev pub accepts : {V : Type 0} {H : V → Type 0} → (DynBox V Global H → SignatureLayer → Bool) → Constraint V H
     → SignatureLayer → Bool
 accepts own (Annotations a) layer = has_annotations a.annotations layer.simple_signing

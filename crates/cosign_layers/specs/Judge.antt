@@ -10,7 +10,7 @@ use Rattle.cosign_layers.specs.declared.judge.VouchedRow.{VouchedRow}
 abbrev pub is_for : List ℕ → VouchedRow → Bool
 is_for certificate row = bytes_eq row.certificate certificate
 
--- what the row of the certificate holds, at any time
+-- what the row of the certificate contains, at any time
 abbrev pub vouched_in : TableJudge → Evidence → Option Vouched
 vouched_in table evidence = option_map (λ row. row.vouched) (find (is_for evidence.certificate) table.rows)
 

@@ -1,4 +1,4 @@
--- Entries of a transparency log: how they are read, what the log signs of them, and which signature they log.
+-- Entries of a transparency log: how they are parsed, what the log signs of them, and which signature they log.
 use Rattle.std.specs.Prelude.{◌≡◌, ◌⊎◌, ℕ, ℤ, pos, List, [], ◌∷◌, Bool, ◌&&◌, IsTrue, nat_le, length, Option}
 use Rattle.std.specs.Prelude.{Some, None, is_some, Result, Ok, Err, codes, if◌then◌else◌}
 use Rattle.std.specs.Fmt.{signed_decimal}
@@ -22,36 +22,36 @@ use Rattle.cosign_layers.specs.Payload.{equal_to}
 use Rattle.cosign_layers.specs.Trust.{Trust}
 use Rattle.cosign_layers.specs.declared.log_entry.LogEntryBundle.{LogEntryBundle}
 
--- from 0 to the greatest whole number that every reader of JSON keeps
+-- from 0 to 2^53 - 1, the greatest integer that every JSON parser preserves
 abbrev pub in_log : ℤ → Option ℤ
 in_log z = within (pos 0) (pos 9007199254740991) z
 
--- a time or an index, as a whole number
+-- a time or an index, as an integer
 abbrev pub whole_of : Data → Option ℤ
 whole_of d = i64_of d >>= in_log
 
 abbrev pub is_digit : ℕ → Bool
 is_digit b = nat_le 48 b && nat_le b 57
 
--- one to sixteen decimal digits
+-- 1 to 16 decimal digits
 abbrev pub is_decimal : List ℕ → Bool
 is_decimal text = nat_le 1 (length text) && nat_le (length text) 16 && list_all is_digit text
 
--- the number that one to sixteen decimal digits write
+-- the number that 1 to 16 decimal digits denote
 unfoldable pub decimal_of : List ℕ → Option ℤ
 decimal_of text = if is_decimal text then in_log (pos (digits_value 10 text)) else None
 
--- what was read in a log's range, where a number was
+-- the number that was parsed, if it is in the log's range
 abbrev pub in_log_read : {E : Type 0} → Result ℕ E → Option ℤ
 in_log_read (Ok n) = in_log (pos n)
 in_log_read (Err e) = None
 
--- a time or an index of a bundle: a whole number, or its decimal text
+-- a time or an index of a bundle: an integer, or a string with its decimal digits
 abbrev pub whole_or_text_of : Data → Option ℤ
 whole_or_text_of (string text) = decimal_of text
 whole_or_text_of d = whole_of d
 
--- the entry beside a payload
+-- the log entry of a payload
 unfoldable pub payload_entry_of : Data → Option LogEntryBundle
 payload_entry_of d = do
   payload ← get (codes "Payload") d
@@ -68,7 +68,7 @@ payload_entry_of d = do
     log_id = log_id;
   })
 
--- the entry in the text of a payload's annotation
+-- the entry in the annotation of a payload
 abbrev pub annotated_entry : List ℕ → Option LogEntryBundle
 annotated_entry text = json_of text >>= payload_entry_of
 
@@ -90,7 +90,7 @@ bundle_entry_of d = do
     log_id = encode_lower key_id;
   })
 
--- a whole number as JSON data
+-- an integer as JSON data
 abbrev pub whole : ℤ → Data
 whole (pos n) = number (unsigned n)
 whole z = number (negative z)
@@ -118,11 +118,11 @@ pub record LogSigned (trust : Trust) (e : LogEntryBundle) : Type 0 where
   pub known : key_of trust.log_keys e.log_id ≡ Some key
   pub signed : IsTrue (trust.valid key (log_text e) e.signed_entry_timestamp)
 
--- this text stands at the end of the path
+-- this string is at the end of the path
 abbrev pub text_is : List (List ℕ) → List ℕ → Data → Option (List ℕ)
 text_is path text d = text_at path d >>= equal_to text
 
--- what a `hashedrekord` entry says, where it logs this text with this signature
+-- the kind of a `hashedrekord` entry, if it logs this text with this signature
 unfoldable pub logged : List ℕ → List ℕ → Data → Option (List ℕ)
 logged text signature d = do
   kind ← text_is (codes "kind" ∷ []) (codes "hashedrekord") d
@@ -132,7 +132,7 @@ logged text signature d = do
   bytes ← decoded_of standard content
   equal_to signature bytes
 
--- whether the body of an entry says that it logs this text with this signature
+-- whether the body of an entry states that it logs this text with this signature
 abbrev pub logs : List ℕ → List ℕ → List ℕ → Bool
 logs body text signature = is_some (decoded_of standard body >>= plain_json_of >>= logged text signature)
 
@@ -149,7 +149,7 @@ pub record InLog (e : LogEntryBundle) : Type 0 where
 abbrev pub TextsAreCanonical : Type 0
 TextsAreCanonical = (e : LogEntryBundle) → InLog e → Canonical (log_object e) (log_text e)
 
--- the time and the index of each entry that is read are in the log's range
+-- the time and the index of each entry that is parsed are in the log's range
 abbrev pub EntriesAreInLog : Type 0
 EntriesAreInLog =
     (d : Data) (e : LogEntryBundle) → (payload_entry_of d ≡ Some e) ⊎ (bundle_entry_of d ≡ Some e) → InLog e

@@ -1,4 +1,4 @@
--- What a simple signing payload says.
+-- The contents of a simple signing payload.
 use Rattle.std.specs.Prelude.{ℕ, List, [], ◌∷◌, bytes_eq, Option, Some, None, codes, if◌then◌else◌}
 use Rattle.json_values.specs.JsonText.{plain_json_of}
 use Rattle.json_tables.specs.Reading.{◌>>=◌}
@@ -8,7 +8,7 @@ use Rattle.serde_json.specs.Data.{Data}
 use Rattle.serde_json.specs.Find.{get}
 use Rattle.cosign_layers.specs.declared.layer.SimpleSigning.{SimpleSigning}
 
--- the text, where it is this one
+-- the string, if it is this one
 abbrev pub equal_to : List ℕ → List ℕ → Option (List ℕ)
 equal_to expected text = if bytes_eq text expected then Some text else None
 
@@ -26,6 +26,6 @@ payload_of d = do
     optional = optional;
   })
 
--- the payload that the bytes spell in JSON without floats
+-- the payload that the bytes encode in JSON without floats
 abbrev pub content_of : List ℕ → Option SimpleSigning
 content_of bytes = plain_json_of bytes >>= payload_of

@@ -1,4 +1,4 @@
--- What a reader of layers answers: the one layer that an input gives for an image, or the first check that it fails.
+-- What a reader of layers returns: the one layer that an input results in for an image, or the first check that fails.
 use Rattle.std.specs.Prelude.{◌≡◌, ◌⊎◌, ℕ, List, true, false, MatchBool, Option, Some, None}
 use Rattle.std.specs.FinMap.{get}
 use Rattle.base64.specs.Engines.{standard}
@@ -24,7 +24,7 @@ pub record HasContent (input : Input) (shows : Shown) : Type 0 where
   pub named : Names input.oci_digest input.content
   pub content : shown input.kind input.content input.annotations ≡ Some shows
 
--- and is about this image
+-- the content is also about this image
 pub record IsAbout (d : List ℕ) (input : Input) (shows : Shown) : Type 0 where
   pub has : HasContent input shows
   pub about : is_about d shows ≡ true
@@ -93,7 +93,7 @@ abbrev pub Rejected : Trust → List ℕ → Input → LayerRejection → Type 0
 Rejected trust d input x =
     ContentRejected d input x ⊎ ((shows : Shown) × IsAbout d input shows × AfterContent trust input shows x)
 
--- a rejection other than want of memory is of the first check that fails
+-- a rejection other than out of memory is that of the first check that fails
 abbrev pub RejectedUnlessMemory : Trust → List ℕ → Input → LayerRejection → Type 0
 RejectedUnlessMemory trust d input x = MatchBool (is_memory x) (Unit {0}) (Rejected trust d input x)
 
@@ -106,13 +106,13 @@ input_of layer = record {
   annotations = layer.annotations;
 }
 
--- the layer is what this input says, and is about this image
+-- the layer is what this input results in, and is about this image
 pub record Gives (trust : Trust) (d : List ℕ) (input : Input) (layer : SignatureLayer) : Type 0 where
   pub from : input_of layer ≡ input
   pub layer_of : LayerOf trust layer
   pub is_named : IsAboutImage layer d
 
--- the input gives one layer for the image, or fails one check first, and never both
+-- the input results in exactly one of: a layer for the image, or one check that fails first
 pub record HasOneOutcome (trust : Trust) (d : List ℕ) (input : Input) : Type 0 where
   pub one_of :
       ((layer : SignatureLayer) × Gives trust d input layer) ⊎ ((x : LayerRejection) × Rejected trust d input x)

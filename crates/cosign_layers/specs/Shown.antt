@@ -1,4 +1,4 @@
--- What the content and annotations of a layer show, before any signature is looked at.
+-- What is found in the content and annotations of a layer, before any signature is verified.
 use Rattle.std.specs.Prelude.{ℕ, List, [], Bool, bytes_eq, codes, Option, Some, None, option_map}
 use Rattle.std.specs.FinMap.{FinMap, get}
 use Rattle.std.specs.List.{list_any}
@@ -31,7 +31,7 @@ abbrev pub noted_certificate : Option (List ℕ) → Found (List ℕ)
 noted_certificate None = Absent
 noted_certificate (Some text) = Read text
 
--- a payload, with its annotations
+-- the findings in a payload and its annotations
 abbrev pub payload_shown : Notes → SimpleSigning → Shown
 payload_shown notes signing = record {
   signing = Some signing;
@@ -41,7 +41,7 @@ payload_shown notes signing = record {
   certificate = noted_certificate (get notes (codes "dev.sigstore.cosign/certificate"));
 }
 
--- a bundle about these subjects, read from this value
+-- the findings in a bundle about these subjects
 abbrev pub bundle_shown : Data → List Subject → Shown
 bundle_shown d subjects = record {
   signing = None;
@@ -51,24 +51,24 @@ bundle_shown d subjects = record {
   certificate = certificate_at d;
 }
 
--- what a value shows as a bundle
+-- the findings in a value as a bundle
 abbrev pub shown_by_bundle : Data → Option Shown
 shown_by_bundle d = option_map (bundle_shown d) (statement_of d)
 
--- what bytes show as a bundle
+-- the findings in bytes as a bundle
 abbrev pub shown_in_bundle : List ℕ → Option Shown
 shown_in_bundle content = plain_json_of content >>= shown_by_bundle
 
--- what a layer shows, where its content has the form of its kind
+-- the findings in a layer, if its content has the form of its kind
 abbrev pub shown : LayerKind → List ℕ → Notes → Option Shown
 shown kinds.Payload content notes = option_map (payload_shown notes) (content_of content)
 shown kinds.Bundle content notes = shown_in_bundle content
 
--- whether a payload has this digest, or else one of the subjects
+-- whether a payload has this digest, or else one of the subjects has it
 abbrev pub is_about_by : List ℕ → Option SimpleSigning → List Subject → Bool
 is_about_by d (Some signing) subjects = bytes_eq signing.docker_manifest_digest d
 is_about_by d None subjects = list_any (has_digest d) subjects
 
--- whether what a layer shows is about the image of this digest
+-- whether the layer with these findings is about the image of this digest
 abbrev pub is_about : List ℕ → Shown → Bool
 is_about d s = is_about_by d s.signing s.subjects

@@ -14,7 +14,7 @@ use Rattle.cosign_layers.specs.declared.certificate.CertificateSignature.{Certif
 use Rattle.cosign_layers.specs.declared.layer.SignatureLayer.{SignatureLayer}
 use Rattle.cosign_layers.specs.declared.policy.PullPolicy.{PullPolicy}
 
--- what is handed in: the policy, what a box of the caller accepts, and whom the reader of layers trusts
+-- what the caller passes in: the policy, the verdicts of custom constraints, and whom the reader of layers trusts
 pub record Meaning (V : Type 0) (H : V → Type 0) : Type 0 where
   pub policy : PullPolicy V H
   pub own : DynBox V Global H → SignatureLayer → Bool
@@ -24,12 +24,12 @@ abbrev pub meaning : {V : Type 0} {H : V → Type 0} → PullPolicy V H → (Dyn
     → Trust → Meaning V H
 meaning policy own trust = record { policy = policy; own = own; trust = trust }
 
--- whether these bytes sign the text under the certificate's key, or without a certificate under one of the keys
+-- whether these bytes sign the text under the certificate's key or, without a certificate, under one of the keys
 abbrev pub signs : Valid → List (List ℕ) → Option CertificateSignature → List ℕ → List ℕ → Bool
 signs valid keys None text bytes = list_any (λ key. valid key text bytes) keys
 signs valid keys (Some c) text bytes = valid c.vouched.key text bytes
 
--- the same as a fact
+-- the same as a proposition
 abbrev pub SignedUnder : Valid → List (List ℕ) → Option CertificateSignature → List ℕ → List ℕ → Type 0
 SignedUnder valid keys None text bytes = Any (λ key. IsTrue (valid key text bytes)) keys
 SignedUnder valid keys (Some c) text bytes = IsTrue (valid c.vouched.key text bytes)
@@ -38,7 +38,7 @@ SignedUnder valid keys (Some c) text bytes = IsTrue (valid c.vouched.key text by
 abbrev pub text_of : SignatureLayer → List ℕ
 text_of layer = signed_text layer.kind layer.content
 
--- whether the layer's signature spells bytes that sign its text under the certificate's key, or one of these
+-- whether the layer's signature decodes to bytes that sign its text under the certificate's key, or one of these
 abbrev pub is_signed_by : Valid → List (List ℕ) → SignatureLayer → Bool
 is_signed_by valid keys layer =
     option_map_or (signs valid keys layer.certificate_signature (text_of layer))
@@ -48,14 +48,14 @@ is_signed_by valid keys layer =
 abbrev pub is_signed : {V : Type 0} {H : V → Type 0} → Valid → PullPolicy V H → SignatureLayer → Bool
 is_signed valid policy layer = is_signed_by valid policy.keys layer
 
--- the layer's signature spells bytes that sign its text, under the certificate's key or under one of the policy's
+-- the layer's signature decodes to bytes that sign its text, under the certificate's key or one of the policy's
 pub record Signed {V : Type 0} {H : V → Type 0} (valid : Valid) (policy : PullPolicy V H) (layer : SignatureLayer)
     : Type 0 where
   pub bytes : List ℕ
   pub spells : decoded_of standard layer.signature ≡ Some bytes
   pub under : SignedUnder valid policy.keys layer.certificate_signature (text_of layer) bytes
 
--- what a box of the caller accepts
+-- the verdicts of custom constraints
 abbrev pub Owns : (V : Type 0) → (V → Type 0) → Type 0
 Owns V H = DynBox V Global H → SignatureLayer → Bool
 
@@ -73,8 +73,8 @@ pub record Supports {V : Type 0} {H : V → Type 0} (valid : Valid) (policy : Pu
   pub signed : Signed valid policy layer
   pub accepted : All (λ c. IsTrue (accepts own c layer)) policy.constraints
 
--- the layer stands for the image: it is what its bytes say, is about the image, is signed, and is accepted by each
--- constraint of a policy that has one
+-- the layer stands for the image: it is what its bytes state, is about the image, is signed, and is accepted by each
+-- constraint of a policy that has at least one
 pub record StandsFor {V : Type 0} {H : V → Type 0} (meaning : Meaning V H) (d : List ℕ)
     (layer : SignatureLayer) : Type 0 where
   pub layer_of : LayerOf meaning.trust layer

@@ -11,11 +11,11 @@ use Rattle.cosign_layers.specs.declared.trust.Trusted.{Trusted}
 abbrev pub Valid : Type 0
 Valid = List ℕ → List ℕ → List ℕ → Bool
 
--- what is vouched of a certificate
+-- what is vouched for a certificate
 abbrev pub Vouching : Type 0
 Vouching = Evidence → Option Vouched
 
--- which signatures are valid, what is vouched of certificates, and the keys of transparency logs by their ids
+-- which signatures are valid, what is vouched for certificates, and the keys of transparency logs by their ids
 pub record Trust : Type 0 where
   pub valid : Valid
   pub vouched : Vouching
@@ -24,10 +24,10 @@ pub record Trust : Type 0 where
 abbrev pub trust : Valid → Vouching → FinMap by_bytes (List ℕ) → Trust
 trust valid vouched log_keys = record { valid = valid; vouched = vouched; log_keys = log_keys }
 
--- what is lent to a reader, where verifiers and judges answer so
+-- what a reader borrows, given what its verifier and judge decide
 abbrev pub trust_of : {V O : Type 0} → (V → Valid) → (O → Vouching) → Trusted V O → Trust
 trust_of valid vouched t = trust (valid t.verifier.now) (vouched t.judge.now) t.log_keys.now
 
--- whether no log's key is known
+-- whether there are no log keys
 abbrev pub knows_no_log : Trust → Bool
 knows_no_log trust = has_no_item (entries trust.log_keys)

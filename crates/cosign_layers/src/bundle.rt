@@ -25,7 +25,7 @@ pub(crate) struct Envelope {
     pub payload: Blob,
 }
 
-/// The envelope of a value that has the form of a bundle.
+/// Returns the envelope of a value that has the form of a bundle.
 #[tactic(auto, unfolding(crate::specs::Bundle::envelope_of))]
 pub(crate) fn read_envelope(alloc: Global, value: &Value) -> Result<Option<Envelope>, AllocError>
     ensures { IfOk result (λ found. found ≡ envelope_of (view value.now)) }
@@ -58,7 +58,7 @@ pub(crate) fn read_envelope(alloc: Global, value: &Value) -> Result<Option<Envel
     }))
 }
 
-/// The subjects of the statement in a bundle's envelope.
+/// Returns the subjects of the statement in a bundle's envelope.
 pub(crate) fn read_statement(
     alloc: Global,
     value: &Value,
@@ -72,7 +72,7 @@ pub(crate) fn read_statement(
     Ok(subjects)
 }
 
-// The subjects of the statement that the bytes spell.
+// Parses the subjects of the statement from the bytes.
 fn subjects(alloc: Global, payload: &[u8]) -> Result<Option<List<Subject>>, AllocError>
     ensures { IfOk result (λ found. found ≡ subjects_of payload.now) }
 {
@@ -97,7 +97,7 @@ impl Reads for Subject {
     }
 }
 
-// The one object of the envelope's signatures.
+// Returns the one object of the envelope's signatures.
 fn signature_object<'a>(value: &'a Value) -> Option<&'a Value>
     ensures { option_map (λ v. view v.now) result ≡ signature_object (view value.now) }
 {
@@ -128,7 +128,7 @@ fn object_only<'a>(value: &'a Value) -> Option<&'a Value>
     if value.is_object() { Some(value) } else { None }
 }
 
-// What verifies the envelope, where it has its form.
+// Returns the verification material, if it has its form.
 fn material<'a>(value: &'a Value) -> Option<&'a Value>
     ensures { option_map (λ v. view v.now) result ≡ material_of (view value.now) }
 {
@@ -147,14 +147,14 @@ fn material<'a>(value: &'a Value) -> Option<&'a Value>
     Some(material)
 }
 
-/// The text of the one signature of a bundle.
+/// Returns the string of the one signature of a bundle.
 pub(crate) fn signature_at<'a>(value: &'a Value) -> Option<&'a str>
     ensures { option_map (λ text. text.now) result ≡ signature_at (view value.now) }
 {
     signature_object(value)?.get("sig")?.as_str()
 }
 
-/// The bytes of the certificate of a bundle.
+/// Returns the bytes of the certificate of a bundle.
 pub(crate) fn certificate_at(alloc: Global, value: &Value) -> Result<Found<Blob>, AllocError>
     ensures { IfOk result (λ found. found ≡ certificate_at (view value.now)) }
 {
@@ -183,7 +183,7 @@ fn certificate_in(alloc: Global, value: &Value) -> Result<Found<Blob>, AllocErro
     }
 }
 
-/// The first log entry of a bundle, where it has a promise of the log.
+/// Returns the first log entry of a bundle, if it has a promise of the log.
 pub(crate) fn entry_at(alloc: Global, value: &Value) -> Result<Found<LogEntryBundle>, AllocError>
     ensures { IfOk result (λ found. found ≡ entry_at (view value.now)) }
 {

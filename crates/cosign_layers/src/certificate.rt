@@ -1,8 +1,8 @@
-//! Certificates, and what is vouched of them.
+//! Certificates, and what is vouched for them.
 use json_values::{Blob, Copied, Text, copied};
 use std::alloc::{AllocError, Global};
 
-/// What a certificate stands for.
+/// The key and identity of a certificate.
 #[derive(Drop)]
 pub struct Vouched {
     pub key: Blob,
@@ -11,18 +11,18 @@ pub struct Vouched {
     pub issuer: Option<Text>,
 }
 
-/// A certificate and what was vouched of it.
+/// A certificate and what was vouched for it.
 #[derive(Drop)]
 pub struct CertificateSignature {
     pub certificate: Blob,
     pub vouched: Vouched,
 }
 
-/// What is to be judged.
+/// What a judge is asked about.
 #[derive(Drop)]
 pub struct Evidence {
     pub certificate: Blob,
-    /// When the log took the entry, in seconds since 1970.
+    /// When the log accepted the entry, in seconds since 1970.
     pub integrated_time: i64,
 }
 

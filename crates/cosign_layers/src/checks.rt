@@ -20,7 +20,7 @@ use json_values::{Annotations, Blob, Copied, Text};
 use oci_digests::names_digest;
 use std::alloc::{AllocError, Global};
 
-/// What is read: the kind of a layer, its content, the digest by which it came, and its annotations.
+/// What is read: the kind of a layer, its content, the digest by which it was pulled, and its annotations.
 #[derive(Drop)]
 pub(crate) struct Pulled<'a> {
     pub kind: LayerKind,
@@ -29,7 +29,7 @@ pub(crate) struct Pulled<'a> {
     pub annotations: &'a Annotations,
 }
 
-/// The layer that was pulled, where it is about the image of this digest and passes each check.
+/// Returns the layer that was pulled, if it is about the image of this digest and passes each check.
 pub(crate) fn read_layer<V: SignatureVerifier, O: Offline>(
     alloc: Global,
     pulled: &Pulled<'_>,
@@ -74,7 +74,7 @@ fn copied_from(alloc: Global, pulled: &Pulled<'_>) -> Result<Came, AllocError>
     })
 }
 
-// The layer of these parts.
+// Returns the layer with these parts.
 fn layer_with(
     alloc: Global,
     pulled: &Pulled<'_>,
@@ -124,7 +124,7 @@ fn check_content(
     Ok(shown)
 }
 
-// The signature and the bytes that it spells.
+// Returns the signature and the bytes that it decodes to.
 fn check_signature(alloc: Global, signature: &Option<Text>) -> Result<(Text, Blob), LayerRejection>
     ensures { Says result (signature_checked signature.now) }
 {
@@ -161,7 +161,7 @@ fn check_entry<V: SignatureVerifier, O: Offline>(
     }
 }
 
-// A log with a known key signed the entry, which names this signature of the content.
+// Checks that a log with a known key signed the entry, and that it names this signature of the content.
 fn verify_entry<V: SignatureVerifier, O: Offline>(
     alloc: Global,
     pulled: &Pulled<'_>,
@@ -193,7 +193,7 @@ fn verify_entry<V: SignatureVerifier, O: Offline>(
     Ok(Some(entry))
 }
 
-// Whether the body names the signature of a payload; beside a bundle it need not.
+// Whether the body names the signature of a payload; that of a bundle's entry need not.
 fn is_logged(
     alloc: Global,
     pulled: &Pulled<'_>,
@@ -230,7 +230,7 @@ fn check_certificate<O: Offline>(
     }
 }
 
-// The certificate is vouched for at the time of the log entry.
+// Checks that the certificate is vouched for at the time of the log entry.
 fn vouch<O: Offline>(
     alloc: Global,
     judge: &O,

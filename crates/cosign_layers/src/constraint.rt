@@ -20,8 +20,8 @@ pub trait VerificationConstraint: Drop {
         ensures { IfOk result (λ b. b ≡ accepts self.now layer.now) };
 }
 
-/// Accepts a payload in whose `optional` each of these pairs stands as a member with this text. A layer without a
-/// payload it accepts only where there are no pairs.
+/// Accepts a payload whose `optional` has each of these pairs as a string member. Accepts a layer without a payload
+/// only if there are no pairs.
 #[derive(Drop)]
 pub struct AnnotationVerifier {
     pub annotations: Annotations,
@@ -33,7 +33,7 @@ pub enum Constraint {
     Annotations(AnnotationVerifier),
     Email(CertSubjectEmailVerifier),
     Url(CertSubjectUrlVerifier),
-    /// A constraint of the caller's own.
+    /// A custom constraint, supplied by the caller.
     Own(Box<dyn VerificationConstraint>),
 }
 
@@ -63,14 +63,14 @@ impl VerificationConstraint for AnnotationVerifier {
     }
 }
 
-// Whether the value has a member with its text for each of these names.
+// Whether the value has a member with its string for each of these names.
 fn has_text_members(value: &Value, pairs: &[(Text, Text)]) -> bool
     ensures { result ≡ list_all (has_text_member (view value.now)) pairs.now }
 {
     pairs.iter().all(|pair| has_text_member(value, pair.0.as_str(), pair.1.as_str()))
 }
 
-// Whether the value has a member of this name with this text.
+// Whether the value has a member of this name with this string.
 fn has_text_member(value: &Value, name: &str, text: &str) -> bool
     ensures { result ≡ has_text_member (view value.now) (name.now, text.now) }
 {

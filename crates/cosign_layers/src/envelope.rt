@@ -10,8 +10,8 @@ use json_tables::read_plain_json;
 use json_values::{Blob, Copied};
 use std::alloc::{AllocError, Global};
 
-/// The text that a layer's signature signs: the content of a payload, and of a bundle the pre-authentication encoding
-/// of its envelope (DSSE v1), whatever its payload is. Of content that has not the form of a bundle it is empty.
+/// Returns the text that a layer's signature signs: the content of a payload, or the pre-authentication encoding of a
+/// bundle's envelope (DSSE v1), whatever its payload is. It is empty if the content does not have the form of a bundle.
 pub fn signed_text(alloc: Global, layer: &SignatureLayer) -> Result<Blob, AllocError>
     ensures text { IfOk result (λ text. text ≡ signed_text layer.now.kind layer.now.content) }
 {
@@ -21,7 +21,7 @@ pub fn signed_text(alloc: Global, layer: &SignatureLayer) -> Result<Blob, AllocE
     }
 }
 
-/// The text that the signature of a bundle signs.
+/// Returns the text that the signature of a bundle signs.
 pub(crate) fn enveloped_text(alloc: Global, content: &[u8]) -> Result<Blob, AllocError>
     ensures { IfOk result (λ text. text ≡ enveloped (envelope_in content.now)) }
 {
@@ -51,7 +51,7 @@ fn pre_authentication(alloc: Global, envelope: &Envelope) -> Result<Blob, AllocE
     Ok(text)
 }
 
-// Puts the length of the bytes and the bytes, each behind a space.
+// Appends the length of the bytes and the bytes, each after a space.
 fn append_counted(text: &mut Blob, bytes: &[u8]) -> Result<(), AllocError>
     ensures { OnOk result (text.new ≡ text.old ++ counted bytes.now) }
 {

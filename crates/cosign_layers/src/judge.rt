@@ -1,4 +1,4 @@
-//! Who vouches for certificates.
+//! Judges of certificates.
 ghost use Rattle.std.specs.Prelude.{◌≡◌, true, false, option_map, IfOk, MatchOption, Option};
 ghost use Rattle.std.specs.List.{list_any, find};
 ghost use Rattle.cosign_layers.specs.Judge.{has_two_equal, is_for, vouched_in};
@@ -9,9 +9,9 @@ use crate::certificate::{Evidence, Vouched};
 use json_values::{Blob, Copied, List, copied};
 use std::alloc::{AllocError, Global};
 
-/// Judges certificates, with nothing asked of a network.
+/// Judges certificates without sending a request.
 pub trait Offline {
-    /// What it vouches of this evidence.
+    /// What it vouches for on this evidence.
     ghost vouched: { Self → Evidence → Option Vouched };
 
     fn judge(&self, alloc: Global, evidence: &Evidence) -> Result<Option<Vouched>, AllocError>
@@ -32,7 +32,7 @@ impl Offline for NoCertificates {
     }
 }
 
-/// What is vouched of one certificate.
+/// What is vouched for one certificate.
 #[derive(Drop)]
 pub struct VouchedRow {
     pub certificate: Blob,
@@ -46,7 +46,7 @@ pub struct TableJudge {
 }
 
 impl TableJudge {
-    /// None exactly where two rows have one certificate.
+    /// Returns a judge with these rows, or `None` if and only if two rows have the same certificate.
     pub fn new(rows: List<VouchedRow>) -> Option<TableJudge>
         ensures { MatchOption result (has_two_equal rows ≡ true)
             (λ table. (table.rows ≡ rows) × (has_two_equal rows ≡ false)) }
@@ -71,7 +71,7 @@ impl Offline for TableJudge {
     }
 }
 
-// Whether two rows have one certificate.
+// Whether two rows have the same certificate.
 fn has_two_equal(rows: &[VouchedRow]) -> bool
     ensures { result ≡ has_two_equal rows.now }
 {

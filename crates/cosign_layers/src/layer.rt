@@ -23,7 +23,7 @@ pub struct SignatureLayer {
     /// The digest text of the content.
     pub oci_digest: Text,
     pub annotations: Annotations,
-    /// What a payload says; a bundle has none.
+    /// The contents of a payload; `None` for a bundle.
     pub simple_signing: Option<SimpleSigning>,
     /// The signature in padded standard base64.
     pub signature: Text,
@@ -31,13 +31,13 @@ pub struct SignatureLayer {
     pub bundle: Option<LogEntryBundle>,
 }
 
-/// What a simple signing payload says.
+/// The contents of a simple signing payload.
 #[derive(Drop)]
 pub struct SimpleSigning {
     pub docker_reference: Text,
     /// The digest text of the image that was signed.
     pub docker_manifest_digest: Text,
-    /// Null where the payload has none.
+    /// Null if the payload has none.
     pub optional: Json,
 }
 

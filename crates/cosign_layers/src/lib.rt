@@ -1,4 +1,4 @@
-//! Signature layers and the policy that they have to meet.
+//! Signature layers and the policy that they must satisfy.
 #![tactic(auto)]
 
 mod bundle;

@@ -30,7 +30,7 @@ pub struct LogEntryBundle {
     pub log_id: Text,
 }
 
-/// The entry in the text of a payload's annotation.
+/// Parses the entry in the annotation of a payload.
 pub(crate) fn annotated_entry(
     alloc: Global,
     text: &str,
@@ -77,7 +77,7 @@ fn payload_entry(alloc: Global, value: &Value) -> Result<Option<LogEntryBundle>,
     }))
 }
 
-/// The entry in a bundle.
+/// Parses the entry in a bundle.
 #[tactic(auto, unfolding(crate::specs::LogEntry::bundle_entry_of))]
 pub(crate) fn bundle_entry(
     alloc: Global,
@@ -117,8 +117,8 @@ pub(crate) fn bundle_entry(
     }))
 }
 
-/// The canonical text of what a log signs of an entry (RFC 8785): an object with its body, its time, its log's id and
-/// its index.
+/// Returns the canonical text of what a log signs of an entry (RFC 8785): an object with its body, its time, its log's
+/// id and its index.
 pub fn log_text(alloc: Global, entry: &LogEntryBundle) -> Result<Text, AllocError>
     ensures { IfOk result (λ text. text ≡ log_text entry.now) }
 {
@@ -134,8 +134,8 @@ pub fn log_text(alloc: Global, entry: &LogEntryBundle) -> Result<Text, AllocErro
     Ok(text)
 }
 
-/// Whether the body of an entry says that it logs this text with this signature: a `hashedrekord` with the text's
-/// SHA-256 in lower-case hexadecimal and the signature in padded standard base64.
+/// Returns whether the body of an entry states that it logs this text with this signature: a `hashedrekord` with the
+/// text's SHA-256 in lower-case hexadecimal and the signature in padded standard base64.
 pub(crate) fn logs(
     alloc: Global,
     body: &str,
@@ -182,7 +182,7 @@ fn is_logged(
     Ok(content.as_slice() == signature)
 }
 
-// Whether this text stands at the end of the path.
+// Whether this string is at the end of the path.
 fn has_text(value: &Value, path: &[&str], text: &str) -> bool
     ensures { result ≡ is_some (text_is (map (λ name. name.now) path.now) text.now (view value.now)) }
 {
@@ -192,7 +192,7 @@ fn has_text(value: &Value, path: &[&str], text: &str) -> bool
     }
 }
 
-// A member in padded standard base64.
+// Returns a member in padded standard base64, decoded.
 fn base64_at(alloc: Global, value: &Value, name: &str) -> Result<Option<Blob>, AllocError>
     ensures { IfOk result (λ found. found ≡ required base64_of name.now (view value.now)) }
 {
@@ -203,7 +203,7 @@ fn base64_at(alloc: Global, value: &Value, name: &str) -> Result<Option<Blob>, A
     Ok(bytes)
 }
 
-// A member that is a whole number in the log's range.
+// Returns a member that is an integer in the log's range.
 fn whole_at(value: &Value, name: &str) -> Option<i64>
     ensures { result ≡ required whole_of name.now (view value.now) }
 {
@@ -220,7 +220,7 @@ fn whole(value: &Value) -> Option<i64>
     Some(whole)
 }
 
-// The same, which may be a decimal text.
+// The same, for an integer or a string of decimal digits.
 fn whole_or_text_at(value: &Value, name: &str) -> Option<i64>
     ensures { result ≡ required whole_or_text_of name.now (view value.now) }
 {
@@ -236,7 +236,7 @@ fn whole_or_text(value: &Value) -> Option<i64>
     }
 }
 
-// The number that one to sixteen decimal digits write.
+// Returns the number that 1 to 16 decimal digits denote.
 #[tactic(auto, using(crate::proofs::Decimals::decimal_read, crate::proofs::Decimals::not_decimal))]
 fn decimal(text: &str) -> Option<i64>
     ensures { result ≡ decimal_of text.now }
@@ -250,7 +250,7 @@ fn decimal(text: &str) -> Option<i64>
     number
 }
 
-// What was read in a log's range, where a number was.
+// Returns the number that was parsed, if it is in the log's range.
 fn in_log(read: Result<u64, ParseIntError>) -> Option<i64>
     ensures { result ≡ in_log_read read }
 {

@@ -11,7 +11,7 @@ use std::alloc::{AllocError, Global};
 
 const PAYLOAD_TYPE: &str = "cosign container image signature";
 
-/// What bytes say as a payload.
+/// Parses a payload.
 pub(crate) fn read_payload(
     alloc: Global,
     content: &[u8],

@@ -2,7 +2,7 @@
 use crate::constraint::Constraint;
 use json_values::{Blob, List, TextMap};
 
-/// Under which keys an image has to be signed, and what its signature layer has to say.
+/// Under which keys an image must be signed, and which constraints its signature layer must satisfy.
 #[derive(Drop)]
 pub struct PullPolicy {
     pub keys: List<Blob>,

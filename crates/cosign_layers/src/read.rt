@@ -16,25 +16,25 @@ use crate::verifier::SignatureVerifier;
 use json_values::{Annotations, Blob};
 use std::alloc::Global;
 
-/// Reads a payload layer that is about the image of `source_digest`, or says which check fails first. Each input has
-/// exactly one of these two outcomes, and the call answers it, or want of memory.
+/// Reads a payload layer that is about the image of `source_digest`, or returns the first check that fails. Each input
+/// has exactly one of these two outcomes; the call returns it, or is out of memory.
 ///
-/// The checks come in this order.
+/// The checks are done in this order.
 ///
 /// 1. `DigestMismatch`: `oci_digest` does not name the content.
-/// 2. `Unreadable(Content)`: the content is not a JSON object without floats whose `critical` has the texts
-///    `identity.docker-reference` and `image.docker-manifest-digest`, and a `type` that is `cosign container image
-///    signature`.
+/// 2. `Unreadable(Content)`: the content is not a JSON object without floats whose `critical` has the strings
+/// `identity.docker-reference` and `image.docker-manifest-digest`, and a `type` that is `cosign container image
+/// signature`.
 /// 3. `OtherDigest`: the payload's digest is not `source_digest`.
 /// 4. `NoSignature`: there is no annotation `dev.cosignproject.cosign/signature`. `Unreadable(Signature)`: it is not
 ///    padded standard base64 (RFC 4648, 4).
-/// 5. Where there are log keys and an annotation `dev.sigstore.cosign/bundle`: `Unreadable(LogEntry)`: it is not an
-///    object with `SignedEntryTimestamp` in base64 and a `Payload` with the texts `body` and `logID` and the whole
-///    numbers `integratedTime` and `logIndex` from 0 to 9007199254740991. `UnknownLogKey`: no key has that log id.
-///    `BadLogSignature`: the timestamp is not valid over the canonical text (RFC 8785) of these four members.
-///    `OtherLogEntry`: the body is no `hashedrekord` of the content's SHA-256 and of this signature.
-/// 6. Where there is an annotation `dev.sigstore.cosign/certificate`: `NoLogEntry`: no log entry says when the
-///    certificate was used. `NotVouched`: the judge does not vouch for it at that time.
+/// 5. If there are log keys and an annotation `dev.sigstore.cosign/bundle`: `Unreadable(LogEntry)`: it is not an object
+/// with `SignedEntryTimestamp` in base64 and a `Payload` with the strings `body` and `logID` and the integers
+/// `integratedTime` and `logIndex` from 0 to 9007199254740991. `UnknownLogKey`: no key has that log id.
+/// `BadLogSignature`: the timestamp is not valid over the canonical text (RFC 8785) of these four members.
+/// `OtherLogEntry`: the body is not a `hashedrekord` of the content's SHA-256 and of this signature.
+/// 6. If there is an annotation `dev.sigstore.cosign/certificate`: `NoLogEntry`: no log entry states when the
+/// certificate was used. `NotVouched`: the judge does not vouch for it at that time.
 pub fn read_payload_layer<V: SignatureVerifier, O: Offline>(
     alloc: Global,
     content: &Blob,
@@ -73,20 +73,20 @@ pub fn read_payload_layer<V: SignatureVerifier, O: Offline>(
 }
 
 /// Reads a bundle layer (sigstore bundle v0.3, in this project's profile) as `read_payload_layer` reads a payload
-/// layer. What differs in the checks:
+/// layer, with these differences in the checks:
 ///
 /// 2. `Unreadable(Content)`: the content is not a JSON object without floats whose `mediaType` is that of the bundle,
-///    whose `dsseEnvelope` has a `payload` in base64, a text `payloadType` and a list `signatures` of one object, and
-///    whose `verificationMaterial` is an object, in which `certificate` is an object and `tlogEntries` a list where
-///    they are there and not null; or the payload is not a JSON object without floats whose `subject` is a list of
-///    objects with a `digest` map of texts.
-/// 3. `OtherDigest`: no subject has the digits of `source_digest` by its algorithm.
-/// 4. The signature is the text `sig` of the one object of `signatures`.
-/// 5. The log entry is the first of `tlogEntries`, where it has `inclusionPromise.signedEntryTimestamp`; its log id is
-///    the lower-case hexadecimal of the bytes of `logId.keyId`, its body is `canonicalizedBody`, and its time and index
-///    may be decimal texts of 1 to 16 digits. It need not name the signature.
-/// 6. The certificate is what `rawBytes` spells. `Unreadable(Certificate)` comes first: it is no text of padded
-///    standard base64.
+/// whose `dsseEnvelope` has a `payload` in base64, a string `payloadType` and a list `signatures` of one object, and
+/// whose `verificationMaterial` is an object, in which `certificate` is an object and `tlogEntries` a list if they are
+/// present and not null; or the payload is not a JSON object without floats whose `subject` is a list of objects with a
+/// `digest` map of strings.
+/// 3. `OtherDigest`: no subject has the digits of `source_digest` for its algorithm.
+/// 4. The signature is the string `sig` of the one object of `signatures`.
+/// 5. The log entry is the first of `tlogEntries`, if it has `inclusionPromise.signedEntryTimestamp`; its log id is the
+/// lower-case hexadecimal of the bytes of `logId.keyId`, its body is `canonicalizedBody`, and its time and index may be
+/// strings of 1 to 16 decimal digits. It need not name the signature.
+/// 6. The certificate is what `rawBytes` decodes to. `Unreadable(Certificate)` is checked first: it is not a string of
+/// padded standard base64.
 pub fn read_bundle_layer<V: SignatureVerifier, O: Offline>(
     alloc: Global,
     content: &Blob,

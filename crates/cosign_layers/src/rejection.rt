@@ -1,4 +1,4 @@
-//! Why a signature layer is refused.
+//! Why a signature layer is rejected.
 ghost use Rattle.std.specs.Prelude.{◌≡◌};
 ghost use Rattle.cosign_layers.specs.Rejection.{is_memory};
 
@@ -21,7 +21,7 @@ pub enum LayerRejection {
     /// The layer's digest does not name the content.
     #[error("the digest does not name the content: the layer was changed, so pull it again or sign the image anew")]
     DigestMismatch,
-    /// The part does not have its form.
+    /// The part is malformed.
     #[error("{0:?} is unreadable: sign the image anew with cosign")]
     Unreadable(LayerPart),
     /// The content is about another image.
@@ -38,13 +38,13 @@ pub enum LayerRejection {
     /// The entry with this body logs another signature.
     #[error("the log entry is of another signature: sign the image anew with cosign")]
     OtherLogEntry(Text),
-    /// There is a certificate, and no log entry that says when it was used.
+    /// There is a certificate, and no log entry that states when it was used.
     #[error("the certificate has no log entry: sign the image with an upload to the log")]
     NoLogEntry,
-    /// The judge vouches for no such certificate at the time of the log entry.
+    /// The judge does not vouch for this certificate at the time of the log entry.
     #[error("nobody vouches for the certificate: give the root that issued it where it is to be trusted")]
     NotVouched,
-    /// The layer is described and was not among those that came.
+    /// The layer is described, but was not among those that were received.
     #[error("the layer was not pulled: pull again, since the signature tag may have moved")]
     LayerNotPulled,
     #[error("out of memory: free some and try again")]
@@ -52,7 +52,7 @@ pub enum LayerRejection {
 }
 
 impl LayerRejection {
-    /// Whether memory was wanting.
+    /// Returns whether memory ran out.
     pub fn is_memory(&self) -> bool
         ensures { result ≡ is_memory self.now }
     {

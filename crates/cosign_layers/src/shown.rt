@@ -1,4 +1,4 @@
-//! What a layer's content and annotations show, before any signature is looked at.
+//! Finds the parts of a layer in its content and annotations, before any signature is verified.
 ghost use Rattle.std.specs.Prelude.{◌≡◌, IfOk, codes, option_map};
 ghost use Rattle.std.specs.FinMap.{get};
 ghost use Rattle.std.specs.List.{list_any};
@@ -18,7 +18,7 @@ use oci_digests::Digest;
 use serde_json::Value;
 use std::alloc::{AllocError, Global};
 
-/// What is found where something may stand.
+/// What is found of a part that may be absent.
 #[derive(Drop)]
 pub(crate) enum Found<T> {
     Absent,
@@ -29,23 +29,23 @@ pub(crate) enum Found<T> {
 /// A subject of an in-toto statement.
 #[derive(Drop)]
 pub(crate) struct Subject {
-    /// The digits by their algorithm.
+    /// The digits, by algorithm.
     pub digest: Annotations,
 }
 
-/// What a layer shows.
+/// What is found in a layer.
 #[derive(Drop)]
 pub(crate) struct Shown {
-    /// What a payload says; a bundle has none.
+    /// The contents of a payload; `None` for a bundle.
     pub signing: Option<SimpleSigning>,
-    /// The subjects of a bundle's statement; a payload has none.
+    /// The subjects of a bundle's statement; empty for a payload.
     pub subjects: List<Subject>,
     pub signature: Option<Text>,
     pub log_entry: Found<LogEntryBundle>,
     pub certificate: Found<Blob>,
 }
 
-/// What a layer shows, where its content has the form of its kind.
+/// Returns what is found in a layer, if its content has the form of its kind.
 pub(crate) fn show(
     alloc: Global,
     kind: LayerKind,
@@ -100,7 +100,7 @@ fn payload_shown(
     })
 }
 
-// The signature in the annotations of a payload.
+// Returns the signature in the annotations of a payload.
 fn noted_signature(alloc: Global, annotations: &Annotations) -> Result<Option<Text>, AllocError>
     ensures { IfOk result (λ found. found ≡ get annotations.now (codes "dev.cosignproject.cosign/signature")) }
 {
@@ -110,7 +110,7 @@ fn noted_signature(alloc: Global, annotations: &Annotations) -> Result<Option<Te
     }
 }
 
-// The log entry in the annotations of a payload.
+// Returns the log entry in the annotations of a payload.
 fn noted_entry(
     alloc: Global,
     annotations: &Annotations,
@@ -136,7 +136,7 @@ fn read_entry(alloc: Global, text: &str) -> Result<Found<LogEntryBundle>, AllocE
     }
 }
 
-// The certificate in the annotations of a payload.
+// Returns the certificate in the annotations of a payload.
 fn noted_certificate(alloc: Global, annotations: &Annotations) -> Result<Found<Blob>, AllocError>
     ensures { IfOk result (λ found. found ≡ noted_certificate
         (get annotations.now (codes "dev.sigstore.cosign/certificate"))) }
@@ -184,7 +184,7 @@ fn shown_by_bundle(alloc: Global, value: &Value) -> Result<Option<Shown>, AllocE
     }))
 }
 
-/// Whether what a layer shows is about the image of this digest.
+/// Returns whether the layer with these findings is about the image of this digest.
 pub(crate) fn is_about(shown: &Shown, source_digest: &str) -> bool
     ensures { result ≡ is_about source_digest.now shown.now }
 {

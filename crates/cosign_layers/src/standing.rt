@@ -1,4 +1,4 @@
-//! Which layers stand under a policy.
+//! Which layers satisfy a policy.
 ghost use Rattle.std.specs.Prelude.{◌≡◌, ◌↔◌, IsTrue, false, IfOk};
 ghost use Rattle.std.specs.Option.{option_map_or};
 ghost use Rattle.std.specs.List.{list_all, list_any, position};
@@ -17,8 +17,8 @@ use json_tables::decode_base64;
 use json_values::Blob;
 use std::alloc::{AllocError, Global};
 
-/// Whether a layer stands under a policy: its signature is valid for its signed text, under the key of its certificate
-/// or, where it has none, under one of the policy's keys, and each constraint of the policy accepts it.
+/// Returns whether a layer satisfies a policy: its signature is valid for its signed text, under the key of its
+/// certificate or, if it has none, under one of the policy's keys, and each constraint of the policy accepts it.
 #[tactic(auto, using(crate::proofs::Supports::answered))]
 pub fn stands<V: SignatureVerifier>(
     alloc: Global,
@@ -33,7 +33,7 @@ pub fn stands<V: SignatureVerifier>(
     is_signed_and_accepted(alloc, verifier, policy, layer)
 }
 
-/// The place of the first layer that stands.
+/// Returns the index of the first layer that satisfies the policy.
 #[tactic(auto, using(crate::proofs::Loops::first_place, crate::proofs::Loops::no_place))]
 pub fn first_standing<V: SignatureVerifier>(
     alloc: Global,
@@ -107,7 +107,7 @@ fn is_signed<V: SignatureVerifier>(
     }
 }
 
-// Whether the certificate's key, or without a certificate one of these, makes the signature valid.
+// Whether the certificate's key or, without a certificate, one of these makes the signature valid.
 fn signs<V: SignatureVerifier>(
     verifier: &V,
     keys: &[Blob],

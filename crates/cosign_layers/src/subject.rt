@@ -1,4 +1,4 @@
-//! Constraints on whom a certificate was given to.
+//! Constraints on the subject of a certificate.
 ghost use Rattle.std.specs.Prelude.{◌≡◌};
 ghost use Rattle.cosign_layers.specs.Constraint.{has_email, has_url};
 ghost use Rattle.cosign_layers.specs.Subject.{has_issuer, is_text};
@@ -8,15 +8,15 @@ use crate::layer::SignatureLayer;
 use json_values::{Copied, Text, copied};
 use std::alloc::{AllocError, Global};
 
-/// Accepts a layer with a certificate that is vouched to be of this email.
+/// Accepts a layer with a certificate that is vouched for with this email.
 #[derive(Drop)]
 pub struct CertSubjectEmailVerifier {
     pub email: Text,
-    /// Who has to have issued it; none is anyone.
+    /// The required issuer; `None` accepts any.
     pub issuer: Option<Text>,
 }
 
-/// Accepts a layer with a certificate that is vouched to be of this URL, by this issuer.
+/// Accepts a layer with a certificate that is vouched for with this URL and issuer.
 #[derive(Drop)]
 pub struct CertSubjectUrlVerifier {
     pub url: Text,
@@ -51,7 +51,7 @@ impl VerificationConstraint for CertSubjectUrlVerifier {
     }
 }
 
-// Whether there is a text, and it is this one.
+// Whether there is a string, and it is this one.
 fn is_text(text: &Text, found: &Option<Text>) -> bool
     ensures { result ≡ is_text text.now found.now }
 {
@@ -61,7 +61,7 @@ fn is_text(text: &Text, found: &Option<Text>) -> bool
     }
 }
 
-// Whether the issuer is the one that is asked for, where one is.
+// Whether the issuer is the required one, if one is required.
 fn has_issuer(issuer: &Option<Text>, found: &Option<Text>) -> bool
     ensures { result ≡ has_issuer issuer.now found.now }
 {

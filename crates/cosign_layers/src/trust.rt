@@ -1,7 +1,7 @@
 //! Whom a reader of layers trusts.
 use crate::policy::LogKeys;
 
-/// Who says which signatures are valid, who vouches for certificates, and the keys of transparency logs.
+/// Decides which signatures are valid, vouches for certificates, and holds the keys of transparency logs.
 #[derive(Drop)]
 pub struct Trusted<'a, V, O> {
     pub log_keys: &'a LogKeys,

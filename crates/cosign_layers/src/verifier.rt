@@ -1,4 +1,4 @@
-//! Who says which signatures are valid.
+//! Verifiers of signatures.
 ghost use Rattle.std.specs.Prelude.{◌≡◌, ◌↔◌, ◌++◌, ◌≤◌, ◌*◌, ℕ, List, Bool, IsTrue, IfOk, bytes_eq, length};
 ghost use Rattle.std.specs.List.{list_any};
 ghost use Rattle.hex.specs.Hex.{encode_lower};
@@ -17,7 +17,7 @@ pub trait SignatureVerifier {
         ensures { IfOk result (λ b. b ≡ valid self.now key.now message.now signature.now) };
 }
 
-/// A signature that is valid for the messages that a digest text names. Where the text is no digest, there are none.
+/// A signature that is valid for the messages that a digest text names; for none if the text is not a digest.
 #[derive(Drop)]
 pub struct SignedRow {
     pub key: Blob,
@@ -25,7 +25,7 @@ pub struct SignedRow {
     pub signature: Blob,
 }
 
-/// Takes the signatures of its rows as valid, and no others.
+/// Accepts the signatures of its rows as valid, and no others.
 #[derive(Drop)]
 pub struct TableVerifier {
     pub rows: List<SignedRow>,
@@ -43,8 +43,8 @@ impl SignatureVerifier for TableVerifier {
     }
 }
 
-// Whether a row makes the signature valid. The message is hashed once an algorithm, and not at all where no row has
-// this key and this signature.
+// Whether a row makes the signature valid. The message is hashed once per algorithm, and not at all if no row has this
+// key and this signature.
 #[tactic(auto, using(crate::proofs::Rows::no_row))]
 fn is_valid_in(rows: &[SignedRow], key: &[u8], message: &[u8], signature: &[u8]) -> bool
     ensures { result ≡ list_any (is_valid_by key.now message.now signature.now) rows.now }

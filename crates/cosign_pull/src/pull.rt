@@ -1,4 +1,4 @@
-//! The image of a digest for which a signature stands.
+//! The image of a digest that a signature stands for.
 ghost use Rattle.std.specs.Prelude.{◌≡◌, IfOk};
 ghost use Rattle.engine_terms.specs.Contexts.{within};
 ghost use Rattle.oci_names.specs.Reference.{digest_of, whole_text};
@@ -44,7 +44,7 @@ fn manifest_types(alloc: Global) -> Result<List<Text>, AllocError>
     Ok(types)
 }
 
-// The digest of the reference that was asked for, where it has one, names the document.
+// If the requested reference has a digest, it names the document.
 fn named_by_reference(
     alloc: Global,
     image: &Reference,
@@ -62,7 +62,7 @@ fn named_by_reference(
     }
 }
 
-// The document for this reference.
+// The document of this reference.
 fn document_in(
     alloc: Global,
     image: &Reference,
@@ -75,7 +75,7 @@ fn document_in(
     Ok(document)
 }
 
-// The manifest in an entry's document, which may not be an index again.
+// The manifest in an entry's document, which must not be an index itself.
 fn entry_in(
     alloc: Global,
     entry: &str,
@@ -141,7 +141,7 @@ fn pull_blobs<C: ClientCapabilities, T: Transport>(
     Ok((config, layers))
 }
 
-// Which image of an index the client's configuration means.
+// The platform resolver of the client's configuration.
 fn platform_resolver<C: ClientCapabilities>(
     alloc: Global,
     client: &C,
@@ -154,7 +154,7 @@ fn platform_resolver<C: ClientCapabilities>(
     }
 }
 
-// The digest of the entry that the client's configuration means.
+// The digest of the entry that the client's configuration selects.
 fn entry_of<C: ClientCapabilities>(
     alloc: Global,
     client: &C,
@@ -169,7 +169,7 @@ fn entry_of<C: ClientCapabilities>(
     worded(alloc, Called::Pull, source, found)
 }
 
-// A refused pull speaks of the source.
+// Converts the error of a pull to one that names the source.
 fn with_image(
     alloc: Global,
     source: &Reference,
@@ -222,7 +222,7 @@ fn pull_entry_document<C: ClientCapabilities, T: Transport>(
     with_image(alloc, source, found)
 }
 
-// The manifest of the entry that the client's configuration means.
+// The manifest of the entry that the client's configuration selects.
 fn pull_entry<C: ClientCapabilities, T: Transport>(
     alloc: Global,
     client: &mut C,
@@ -247,7 +247,7 @@ fn pull_entry<C: ClientCapabilities, T: Transport>(
     })
 }
 
-// The manifest that a document is, or that of an index's entry.
+// The document's manifest, or that of an index's entry.
 fn pull_chosen<C: ClientCapabilities, T: Transport>(
     alloc: Global,
     client: &mut C,
@@ -307,8 +307,8 @@ fn after_document<C: ClientCapabilities, T: Transport>(
     })
 }
 
-/// The document of the source's digest, its manifest, and the blobs of that. `asked` has the reference that was asked
-/// for.
+/// Returns the document of the source's digest, its manifest, and that manifest's blobs. `asked` holds the requested
+/// reference.
 pub fn pull_image<C: ClientCapabilities, T: Transport>(
     alloc: Global,
     client: &mut C,

@@ -1,4 +1,4 @@
--- The layers of an image, one after another.
+-- The descriptors of an image, one after another.
 use Rattle.std.proofs.Common.{◌≡◌, ◌<◌, ℕ, ◌+◌, suc, List, [], ◌∷◌, ◌++◌, Result, Ok, length, drop, get_or, sym, ap, ◌∙◌, add-one, append_assoc, append-nil}
 use Rattle.std.proofs.Math.Seq.{drop-cons}
 use Rattle.oci_transport.specs.Link.{Link}
@@ -32,7 +32,7 @@ pub layers_next : {s : Settings} (moment : ℕ) (source : Reference) (xs : List 
 unfolding layers_row
 layers_next moment source xs i x layers lt is rest = rw (at_next xs i x lt is) rest
 
--- ---- what the descriptors give
+-- ---- the parts of the descriptors
 
 pub joined_part : (p q r : Part) → appended (appended p q) r ≡ appended p (appended q r)
 joined_part p q r = λ i. record { collected = append_assoc p.collected q.collected r.collected i; skipped = append_assoc p.skipped q.skipped r.skipped i }
@@ -40,7 +40,7 @@ joined_part p q r = λ i. record { collected = append_assoc p.collected q.collec
 pub alone : (p : Part) → appended p nothing ≡ p
 alone p = λ i. record { collected = append-nil p.collected i; skipped = append-nil p.skipped i }
 
--- one descriptor more
+-- one more descriptor
 pub descriptors_next : (trust : Trust) (d : List ℕ) (layers : List ImageLayer) (xs : List OciDescriptor) (i : ℕ) (x : OciDescriptor) (p q all : Part) → i < length xs → x ≡ get_or xs i x
     → q ≡ appended p (descriptor_part trust d layers x) → appended p (descriptors_part trust d layers (drop i xs)) ≡ all → appended q (descriptors_part trust d layers (drop (i + 1) xs)) ≡ all
 descriptors_next trust d layers xs i x p q all lt is more rest =
@@ -49,7 +49,7 @@ descriptors_next trust d layers xs i x p q all lt is more rest =
     ∙ ap (λ ys. appended p (descriptors_part trust d layers ys)) (sym (at_next xs i x lt is))
     ∙ rest
 
--- and none more
+-- no descriptors left
 pub descriptors_end : (trust : Trust) (d : List ℕ) (layers : List ImageLayer) (xs : List OciDescriptor) (p all : Part) → xs ≡ [] → appended p (descriptors_part trust d layers xs) ≡ all → p ≡ all
 descriptors_end trust d layers xs p all none rest = sym (alone p) ∙ ap (λ ys. appended p (descriptors_part trust d layers ys)) (sym none) ∙ rest
 

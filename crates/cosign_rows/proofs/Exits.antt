@@ -1,4 +1,4 @@
--- The exits of a call that is a row of other calls.
+-- The exits of a call whose row is made of other calls.
 use Rattle.std.proofs.Common.{◌≡◌, Bool, true, false, ℕ, List, Some, None, Result, Ok, Err, refl, sym, ap, subst, ◌∙◌}
 use Rattle.std.specs.Prelude.{MatchBool}
 use Rattle.std.specs.Result.{IsErrAnd}
@@ -33,7 +33,7 @@ use Rattle.sig_calls.specs.Error.{is_memory, Says}
 use Rattle.sig_calls.specs.Wording.{worded}
 use Rattle.sig_calls.specs.Clients.{Kept, Client, Fulfils}
 
--- a step that answered, and then what its answer leads to
+-- a step that succeeded, followed by the row that its result leads to
 pub and_then : {A B E : Type 0} {om : E → Bool} {s : Settings} {p : Proto Kept (Result A E)} (f : A → Proto Kept (Result B E)) {c d e : Client} {old mid new : Link} {a : A} {r : Result B E}
     → Fulfils om s p c d old mid (Ok a) → Fulfils om s (f a) d e mid new r → Fulfils om s (p >>= f) c e old new r
 and_then f first second = record { made = λ at. let one = first.made at in let two = second.made one.0 in (two.0, Meets-next f one.1 two.1) }
@@ -43,7 +43,7 @@ pub refused : {A B E : Type 0} {om : E → Bool} {s : Settings} {p : Proto Kept 
     → Fulfils om s p c d old new (Err x) → IsErrAnd r (λ y. y ≡ x) → Fulfils om s (p >>= f) c d old new r
 refused f {r = r} first is = let at = err_from_is_err_and r is in rw (at.1, at.2) (record { made = λ h. let one = first.made h in (one.0, Meets-refused f one.1) })
 
--- memory was wanting between two calls
+-- memory ran out between two calls
 pub wanting : {A E : Type 0} {om : E → Bool} {s : Settings} {p : Proto Kept (Result A E)} {c : Client} {link : Link} (x : E) {r : Result A E} → om x ≡ true → IsErrAnd r (λ y. y ≡ x) → Fulfils om s p c c link link r
 wanting {om = om} {p = p} {c = c} {link = link} x {r = r} memory is = let at = err_from_is_err_and r is in rw (at.1, at.2) (record { made = λ h. (h, Meets-memory om p link c.kept x memory) })
 
@@ -57,7 +57,7 @@ done {om = om} {c = c} {link = link} {a = a} = record { made = λ h. (h, Meets-o
 pub failed : {A E : Type 0} {om : E → Bool} {s : Settings} {c : Client} {link : Link} {x : E} → om x ≡ false → Fulfils {A = A} om s (Done (Err x)) c c link link (Err x)
 failed {om = om} {c = c} {link = link} {x = x} h = record { made = λ at. (at, Meets-err om link c.kept x h) }
 
--- a step with no call
+-- a step without a call
 pub said : {A : Type 0} {s : Settings} (r : Result A SigstoreError) {w : Result A SigstoreError} {c : Client} {link : Link} → Says r w → Fulfils is_memory s (Done w) c c link link r
 said (Ok a) h = rw h done
 said {A} (Err e) {w = w} {c = c} {link = link} h = record { made = λ at. (at, record { outcome = refusing (is_memory e) h }) } where
@@ -65,7 +65,7 @@ said {A} (Err e) {w = w} {c = c} {link = link} h = record { made = λ at. (at, r
   refusing true h = Breaks-start (Done w) link c.kept
   refusing false h = rw h (Performs-done link c.kept (Err e))
 
--- a call that answered, and what the row makes of it
+-- a call that succeeded, and what the row computes from its result
 pub caught : {A B E F : Type 0} {ox : E → Bool} {om : F → Bool} {s : Settings} {p : Proto Kept (Result A E)} (f : Result A E → Proto Kept (Result B F)) {c d e : Client} {old mid new : Link} {a : A} {r : Result B F}
     → Fulfils ox s p c d old mid (Ok a) → Fulfils om s (f (Ok a)) d e mid new r → Fulfils om s (bind p f) c e old new r
 caught f first second = record { made = λ at. let one = first.made at in let two = second.made one.0 in (two.0, Meets-caught f (one.1).outcome two.1) }
@@ -74,7 +74,7 @@ performed : {A E : Type 0} (ox : E → Bool) {p : Proto Kept (Result A E)} {old 
 performed ox x false is other h = h
 performed ox x true is other h = absurd (cc other)
 
--- a call that was refused, and what the row makes of that
+-- a call that was refused, and what the row computes from the error
 pub caught_refusal : {A B E F : Type 0} {ox : E → Bool} {om : F → Bool} {s : Settings} {p : Proto Kept (Result A E)} (f : Result A E → Proto Kept (Result B F)) {c d e : Client} {old mid new : Link} {x : E} {r : Result B F}
     → Fulfils ox s p c d old mid (Err x) → ox x ≡ false → Fulfils om s (f (Err x)) d e mid new r → Fulfils om s (bind p f) c e old new r
 caught_refusal {ox = ox} f {x = x} first other second = record { made = λ at. let one = first.made at in let two = second.made one.0 in (two.0, Meets-caught f (performed ox x (ox x) refl other (one.1).outcome) two.1) }
@@ -83,7 +83,7 @@ broken : {A E : Type 0} {p : Proto Kept (Result A E)} {old new : Link} {k l : Ke
 broken x true is h = h
 broken x false is h = absurd (cc is)
 
--- a call that memory cut off
+-- a call that was cut short because memory ran out
 pub cut_off : {A B E F : Type 0} {ox : E → Bool} {om : F → Bool} {s : Settings} {p : Proto Kept (Result A E)} (f : Result A E → Proto Kept (Result B F)) {c d : Client} {old new : Link} {x : E} {y : F}
     → Fulfils ox s p c d old new (Err x) → ox x ≡ true → om y ≡ true → Fulfils om s (bind p f) c d old new (Err y)
 cut_off {ox = ox} f {x = x} first is memory = record { made = λ at. let one = first.made at in (one.0, record { outcome = rw memory (Breaks-first f (broken x (ox x) is (one.1).outcome)) }) }
@@ -95,7 +95,7 @@ abbrev wants : {A : Type 0} → Result A SigstoreError → Bool
 wants (Ok a) = false
 wants (Err e) = is_memory e
 
--- a call that was refused, and a step with no call that the row makes of it, where want of memory stays what it is
+-- a call that was refused, and a step without a call on its error; out of memory stays out of memory
 pub said_refusal : {A B : Type 0} {s : Settings} {p : Proto Kept (Result A SigstoreError)} (f : Result A SigstoreError → Proto Kept (Result B SigstoreError)) {c d : Client} {old new : Link} {e : SigstoreError} {w t : Result B SigstoreError}
     → f (Err e) ≡ Done w → (is_memory e ≡ true → w ≡ Err e) → Fulfils is_memory s p c d old new (Err e) → Says t w → Fulfils is_memory s (bind p f) c d old new t
 said_refusal {A} {B} {s} {p} f {c} {d} {old} {new} {e} {w} {t} is stays first says = by_memory (is_memory e) refl where
@@ -110,17 +110,17 @@ said_refusal {A} {B} {s} {p} f {c} {d} {old} {new} {e} {w} {t} is stays first sa
   by_memory true memory = wanted t memory (rw (stays memory) at says)
   by_memory false other = caught_refusal f first other (rw is (said t says))
 
--- an answer or a refusal, and what a step with no call makes of it, where want of memory stays what it is
+-- a result or an error, and a step without a call on it; out of memory stays out of memory
 pub said_of : {A B : Type 0} {s : Settings} {p : Proto Kept (Result A SigstoreError)} (f : Result A SigstoreError → Result B SigstoreError) {c d : Client} {old new : Link} (r : Result A SigstoreError) {t : Result B SigstoreError}
     → ((e : SigstoreError) → is_memory e ≡ true → f (Err e) ≡ Err e) → Fulfils is_memory s p c d old new r → Says t (f r) → Fulfils is_memory s (bind p (λ x. Done (f x))) c d old new t
 said_of f (Ok a) {t = t} stays first says = caught (λ x. Done (f x)) first (said t says)
 said_of f (Err e) stays first says = said_refusal (λ x. Done (f x)) refl (stays e) first says
 
--- a step with no call, which asks what the client's settings are
+-- a step without a call that depends on the client's settings
 pub said_at : {A : Type 0} {s : Settings} (w : Settings → Result A SigstoreError) (r : Result A SigstoreError) {c : Client} {link : Link} → Says r (w c.settings) → Fulfils is_memory s (Done (w s)) c c link link r
 said_at {s = s} w r {c = c} {link = link} h = record { made = λ at. (said r (subst (λ t. Says r (w t)) at h)).made at }
 
--- want of memory speaks of no image
+-- an out-of-memory error holds no image
 pub with_stays : {A : Type 0} (text : List ℕ) (e : SigstoreError) → is_memory e ≡ true → (let r : Result A SigstoreError = Err e in with_image text r) ≡ Err e
 with_stays text (sigstore.OciReferenceNotValidError t) h = absurd (cc h)
 with_stays text (sigstore.RegistryFetchManifestError t e) h = absurd (cc h)
@@ -128,13 +128,13 @@ with_stays text (sigstore.RegistryPullError t e) h = absurd (cc h)
 with_stays text (sigstore.RegistryPullManifestError t e) h = absurd (cc h)
 with_stays text sigstore.WantOfMemory h = refl
 
--- the same, where the row goes on with an answer alone
+-- the same, if the row continues with a result only
 pub said_next : {A B : Type 0} {s : Settings} {p : Proto Kept (Result A SigstoreError)} (f : A → B) (g : Result A SigstoreError → Result B SigstoreError) {c d : Client} {old new : Link} (r : Result A SigstoreError) {t : Result B SigstoreError}
     → ((a : A) → g (Ok a) ≡ Ok (f a)) → ((e : SigstoreError) → g (Err e) ≡ Err e) → Fulfils is_memory s p c d old new r → Says t (g r) → Fulfils is_memory s (p >>= (λ a. Done (Ok (f a)))) c d old new t
 said_next f g (Ok a) {t = t} works stays first says = caught (unless_refused (λ a. Done (Ok (f a)))) first (said t (subst (Says t) (works a) says))
 said_next f g (Err e) {t = t} works stays first says = said_refusal (unless_refused (λ a. Done (Ok (f a)))) refl (λ is. refl) first (subst (Says t) (stays e) says)
 
--- a step of the whole with no call
+-- a step of the whole pull without a call
 pub said_whole : {A : Type 0} {s : Settings} (r : Result A PullRefusal) {w : Result A PullRefusal} {c : Client} {link : Link} → SaysWhole r w → Fulfils of_refusal s (Done w) c c link link r
 said_whole (Ok a) h = rw h done
 said_whole {A} (Err e) {w = w} {c = c} {link = link} h = record { made = λ at. (at, record { outcome = refusing (of_refusal e) h }) } where
@@ -156,7 +156,7 @@ other_as (sigstore.RegistryFetchManifestError image error) h = refl
 other_as (sigstore.RegistryPullError image error) h = refl
 other_as (sigstore.RegistryPullManifestError image error) h = refl
 
--- a part that was refused, as the refusal of the whole
+-- a part that was refused, with its error converted to the pull's
 pub refused_whole : {A B : Type 0} {s : Settings} {p : Proto Kept (Result A SigstoreError)} (f : Result A SigstoreError → Proto Kept (Result B PullRefusal)) {c d : Client} {old new : Link} {x : SigstoreError}
     → f (Err x) ≡ Done (Err (refused_as x)) → Fulfils is_memory s p c d old new (Err x) → Fulfils of_refusal s (bind p f) c d old new (Err (refused_as x))
 refused_whole {A} {B} {s} {p} f {c} {d} {old} {new} {x} is first = by_memory (is_memory x) refl where
@@ -164,7 +164,7 @@ refused_whole {A} {B} {s} {p} f {c} {d} {old} {new} {x} is first = by_memory (is
   by_memory true memory = cut_off f first memory (memory_as x memory)
   by_memory false other = caught_refusal f first other (rw is (failed (other_as x other)))
 
--- a step of the engine with no request, in words
+-- a step of the engine without a request, with context
 pub in_words_said : {A : Type 0} (called : Called) (text : List ℕ) (r w : Result A OciDistributionError) (t : Result A SigstoreError) → SaysEngine r w → Says t (worded called text r) → Says t (worded called text w)
 in_words_said called text (Ok a) w t h says = rw h says
 in_words_said {A} called text (Err e) w t h says = by_memory (engine_is_memory e) refl h where
@@ -182,27 +182,27 @@ in_words_said {A} called text (Err e) w t h says = by_memory (engine_is_memory e
 pub worded_said : {A : Type 0} {s : Settings} (called : Called) (text : List ℕ) (r w : Result A OciDistributionError) (t : Result A SigstoreError) {c : Client} {link : Link} → SaysEngine r w → Says t (worded called text r) → Fulfils is_memory s (Done (worded called text w)) c c link link t
 worded_said called text r w t h says = said t (in_words_said called text r w t h says)
 
--- memory was wanting before anything was asked
+-- memory ran out before any request was sent
 pub meets_wanting : {A E : Type 0} {om : E → Bool} {p : Proto Kept (Result A E)} {k : Kept} {link : Link} (x : E) {r : Result A E} → om x ≡ true → IsErrAnd r (λ y. y ≡ x) → Meets om p link link k k r
 meets_wanting {om = om} {p = p} {k = k} {link = link} x {r = r} memory is = let at = err_from_is_err_and r is in rw (at.1, at.2) (Meets-memory om p link k x memory)
 
--- a part that was answered, as a part of the whole
+-- a part that succeeded, as a part of the whole pull
 pub part_answered : {A : Type 0} {s : Settings} {p : Proto Kept (Result A SigstoreError)} {c d : Client} {old new : Link} {a : A} → Fulfils is_memory s p c d old new (Ok a) → Fulfils of_refusal s (part_of p) c d old new (Ok a)
 unfolding part_of
 part_answered first = caught (λ r. Done (as_whole r)) first done
 
--- and one that was refused
+-- a part that was refused, as a part of the whole pull
 pub part_refused : {A : Type 0} {s : Settings} {p : Proto Kept (Result A SigstoreError)} {c d : Client} {old new : Link} {x : SigstoreError} → Fulfils is_memory s p c d old new (Err x) → Fulfils of_refusal s (part_of p) c d old new (Err (refused_as x))
 unfolding part_of
 part_refused first = refused_whole (λ r. Done (as_whole r)) refl first
 
--- the image that was pulled, or its refusal, as the answer of the whole
+-- the pulled image or its error, as the result of the whole pull
 pub stood_then : {s : Settings} {p : Proto Kept (Result Pulled SigstoreError)} (stood : Standing) {c d : Client} {old new : Link} (r : Result Pulled SigstoreError) {t : Result VerifiedImage PullRefusal}
     → Fulfils is_memory s p c d old new r → t ≡ stood_image stood r → Fulfils of_refusal s (part_of p >>= (λ pulled. Done (Ok (verified_image stood pulled)))) c d old new t
 stood_then stood (Ok pulled) first is = rw is (and_then _ (part_answered first) done)
 stood_then stood (Err e) first is = rw is (record { made = λ at. let one = (part_refused first).made at in (one.0, Meets-refused _ one.1) })
 
--- a step that answers just so
+-- a step that returns exactly this result
 pub says_same : {A : Type 0} (r w : Result A PullRefusal) → r ≡ w → SaysWhole r w
 says_same (Ok a) w is = sym is
 says_same (Err e) w is = by_memory (of_refusal e) where
@@ -215,28 +215,28 @@ pub empty_policy : {A : Type 0} (b : Bool) (x : PullRefusal) {r : Result A PullR
 empty_policy false x is so at = absurd (cc so)
 empty_policy true x {r} is so at = let e = err_from_is_err_and r at in let same : x ≡ refusal.EmptyPolicy = cc is in rw (e.1, e.2, same) refl
 
--- a policy that has one
+-- a policy with a constraint
 pub not_empty : {P : Type 0} (b : Bool) (u : Unit {0}) → (let w : Result (Unit {0}) PullRefusal = Ok u in w) ≡ constrained b → b ≡ true → P
 not_empty false u is so = absurd (cc so)
 not_empty true u is so = absurd (cc is)
 
--- a reference that was read back
+-- a reference that round-trips
 pub readable_not : {P : Type 0} (image : Reference) (b : Bool) (u : Unit {0}) → readable_by image b ≡ Ok u → b ≡ false → P
 readable_not image true u is so = absurd (cc so)
 readable_not image false u is so = absurd (cc is)
 
 -- ---- references for users
 
--- a reference with these parts is that of the signature tag
+-- a reference with these parts is the one of the signature tag
 pub tag_same : (image tag : Reference) (digest : List ℕ) → registry_of tag ≡ registry_of image → mirror_of tag ≡ None → repository_of tag ≡ repository_of image → tag_of tag ≡ Some (signature_tag digest) → digest_of tag ≡ None → tag ≡ tag_reference image digest
 tag_same image tag digest registry mirror repository name none = λ i. record { registry = registry i; mirror = mirror i; repository = repository i; tag = name i; digest = none i }
 
--- a refusal is shown as it is, at the exit of a `?`
+-- an error is passed on unchanged, at the exit of a `?`
 pub shown_refusal : (x : SigstoreError) (r : Result (OciReference × List ℕ) SigstoreError) → IsErrAnd r (λ y. y ≡ x) → IsErrAnd (tag_shown r) (λ y. y ≡ x)
 shown_refusal x (Ok found) h = absurd h
 shown_refusal x (Err e) h = h
 
--- the reference of the tag of the digest that was answered
+-- the reference of the tag of the returned digest
 pub tag_made : {t : Settings} (s : Context) (image : Reference) (a : RegistryAuth) {c d : Client} {old new : Link} (digest : List ℕ) (tag : Reference) → Fulfils is_memory t (digest_call s image a) c d old new (Ok digest) → tag ≡ tag_reference image digest → Fulfils is_memory t (triangulated s image a) c d old new (Ok (tag, digest))
 unfolding triangulated
 tag_made s image a digest tag first is = and_then _ first (rw is done)

@@ -1,4 +1,4 @@
--- References of parts, and the first layer that stands.
+-- References as records of parts, and the first layer that satisfies the policy.
 use Rattle.std.proofs.Common.{◌≡◌, ◌≤◌, ◌<◌, ◌+◌, arith, get_or, not, ℕ, Bool, true, false, cond, nat_lt, length, List, [], ◌∷◌, Option, Some, None, refl, sym, ap, ◌∙◌}
 use Rattle.std.specs.Prelude.{find, position}
 use Rattle.std.specs.List.{position_or_len, slice_get}
@@ -9,7 +9,7 @@ use Rattle.std.proofs.lemmas.Option.{slice_get_past}
 use Rattle.oci_names.specs.declared.reference.Reference.{Reference}
 use Rattle.oci_names.specs.Reference.{registry_of, mirror_of, repository_of, tag_of, digest_of}
 
--- a reference is its parts
+-- a reference is determined by its parts
 pub of_parts : (r : Reference) {registry repository : List ℕ} {mirror tag digest : Option (List ℕ)} → registry_of r ≡ registry → mirror_of r ≡ mirror → repository_of r ≡ repository → tag_of r ≡ tag → digest_of r ≡ digest
     → r ≡ record { registry = registry; mirror = mirror; repository = repository; tag = tag; digest = digest }
 of_parts r a b c d e = rw (← a, ← b, ← c, ← d, ← e) refl
@@ -20,7 +20,7 @@ at_place n m i xs is = by_test (nat_lt n m) is where
   by_test true h = let same : n ≡ i = cc h in ap (λ k. slice_get xs k) same
   by_test false h = absurd (cc h)
 
--- what stands at the place of the first one
+-- the item at the first index
 pub first_at : {X : Type 0} (p : X → Bool) (xs : List X) (i : ℕ) → position p xs ≡ Some i → find p xs ≡ slice_get xs i
 first_at p xs i is = find_at p xs ∙ at_place (position_or_len p xs) (length xs) i xs is
 
@@ -30,11 +30,11 @@ past n m is = by_test (nat_lt n m) refl is where
   by_test true so h = absurd (cc h)
   by_test false so h = ltb-false n m so
 
--- there is none where there is no place
+-- if there is no index, there is no item
 pub none_at : {X : Type 0} (p : X → Bool) (xs : List X) → position p xs ≡ None → find p xs ≡ None
 none_at {X} p xs is = find_at p xs ∙ slice_get_past xs (position_or_len p xs) (past (position_or_len p xs) (length xs) is)
 
--- what a loop that looks for a place knows of it
+-- what a loop that searches for an index has established
 module _ {X : Type 0} (p : X → Bool) where
   pub first_place : (xs : List X) (i : ℕ) (d : X) → i < length xs → ((k : ℕ) (d : X) → k < i → p (get_or xs k d) ≡ false) → p (get_or xs i d) ≡ true → position p xs ≡ Some i
   first_place xs i d inside before here =

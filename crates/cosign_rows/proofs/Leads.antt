@@ -1,4 +1,4 @@
--- What a loop over calls knows of its row.
+-- What a loop over calls has established about its row.
 use Rattle.std.proofs.Common.{Result}
 use Rattle.oci_transport.specs.Link.{Link}
 use Rattle.engine_terms.specs.declared.settings.Settings.{Settings}
@@ -6,6 +6,6 @@ use Rattle.sig_calls.specs.declared.error.SigstoreError.{SigstoreError}
 use Rattle.sig_calls.specs.Error.{is_memory}
 use Rattle.sig_calls.specs.Clients.{Client, Row, Fulfils}
 
--- what was done from one client to another leads from one row to another
+-- from the first client to the second, the run of `p` continues as a run of `q`
 pub record Leads {A : Type 0} (s : Settings) (p q : Row A) (c d : Client) (old mid : Link) : Type 0 where
   pub made : (e : Client) (new : Link) (r : Result A SigstoreError) → Fulfils is_memory s q d e mid new r → Fulfils is_memory s p c e old new r

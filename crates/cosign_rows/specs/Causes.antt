@@ -1,4 +1,4 @@
--- Why a search or a pull was refused: which of its parts was, and what the parts before it answered.
+-- Why a search or a pull was refused: which part was refused, and what the parts before it returned.
 use Rattle.std.specs.Prelude.{◌≡◌, ◌⊎◌, ℕ, true, false, List, ◌++◌, Some, None, Ok, Err, find}
 use Rattle.oci_names.specs.declared.reference.Reference.{Reference}
 use Rattle.oci_names.specs.Reference.{whole_text, reads_back}
@@ -19,7 +19,7 @@ use Rattle.cosign_rows.specs.References.{digest_reference}
 use Rattle.cosign_rows.specs.Search.{searched}
 use Rattle.cosign_rows.specs.Verified.{is_unconstrained, stands_by}
 
--- a digest was answered, by which the image's reference, whose text is this, does not read back
+-- a digest was returned, but the image's reference by it, whose text is `text`, does not round-trip
 pub record NoReference (s : Context) (image : Reference) (a : RegistryAuth)
     (start : Point) (c : List Exchange) (end : Point) (text : List ℕ) : Type 0 where
   pub digest : List ℕ
@@ -36,19 +36,19 @@ SearchCause s image a start c end (sigstore.RegistryPullError name e) = ⊥
 SearchCause s image a start c end (sigstore.RegistryPullManifestError name e) = ⊥
 SearchCause s image a start c end sigstore.WantOfMemory = Unit {0}
 
--- the image itself does not read back, and nothing was asked
+-- the image's own reference does not round-trip, and no request was sent
 pub record UnreadReference (image : Reference) (start : Point) (c : List Exchange) (end : Point) (text : List ℕ)
     : Type 0 where
   pub unread : reads_back image ≡ false
   pub text_is : text ≡ whole_text image
   pub silent : Silent start c end
 
--- the search ran and found this
+-- the search ran and returned `found`
 abbrev pub Found : {V : Type 0} {H : V → Type 0} → Meaning V H → Context → Reference → RegistryAuth
     → Point → List Exchange → Point → TrustedLayers → Type 0
 Found meaning s image a start c end found = Ran (searched meaning.trust s image a) start c end (Ok found)
 
--- a layer that the search found stands, and then the image was refused to the client as the search left it
+-- a found layer satisfies the policy, and then the image was refused to the client as the search left it
 pub record ImageRefused {V : Type 0} {H : V → Type 0} (meaning : Meaning V H) (s : Context) (image : Reference)
     (a : RegistryAuth) (accepted : List (List ℕ))
     (start : Point) (c : List Exchange) (end : Point) (e : SigstoreError) : Type 0 where
@@ -62,7 +62,7 @@ pub record ImageRefused {V : Type 0} {H : V → Type 0} (meaning : Meaning V H) 
   pub stands_is : find (stands_by meaning) found.collected ≡ Some signature
   pub refused : Ran (image_row s image (digest_reference image found.digest) a accepted) between pull end (Err e)
 
--- no layer that the search found stands
+-- no layer that the search found satisfies the policy
 pub record NoneStands {V : Type 0} {H : V → Type 0} (meaning : Meaning V H) (s : Context) (image : Reference)
     (a : RegistryAuth) (start : Point) (c : List Exchange) (end : Point) (found : TrustedLayers) : Type 0 where
   pub searched_is : Found meaning s image a start c end found

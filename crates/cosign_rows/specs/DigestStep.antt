@@ -1,4 +1,4 @@
--- Which refusals have to come.
+-- Which refusals the policy, the reference and the digest step force.
 use Rattle.std.specs.Prelude.{◌≡◌, ℕ, false, List, ◌++◌, Result, Ok, Err}
 use Rattle.oci_names.specs.declared.reference.Reference.{Reference}
 use Rattle.oci_names.specs.Reference.{whole_text, reads_back}
@@ -14,16 +14,16 @@ use Rattle.cosign_rows.specs.Refusal.{is_memory}
 use Rattle.cosign_rows.specs.Points.{Point, Ran, Silent}
 use Rattle.cosign_rows.specs.References.{digest_reference}
 
--- the pull was refused so, unless memory was wanting
+-- the pull was refused with `e`, or memory ran out
 abbrev pub IsRefusedAs : {A : Type 0} → PullRefusal → Result A PullRefusal → Type 0
 IsRefusedAs e r = UnlessMemory is_memory (λ r. r ≡ Err e) r
 
--- a refusal of the search, which is the whole's
+-- an error of the search, unchanged
 abbrev pub unchanged : SigstoreError → SigstoreError
 unchanged e = e
 
--- What the answer of the digest step decides of the whole: a refusal is the whole's, and so is, with that
--- reference's text, a digest by which the image's reference does not read back. Nothing more is asked then.
+-- What the result of the digest step decides: its error is the error of the whole call; and if it is a digest by which
+-- the image's reference does not round-trip, so is that reference's text. No more requests are sent then.
 abbrev pub Decides : {A E : Type 0} → (SigstoreError → E) → Reference → Result (List ℕ) SigstoreError
     → Point → List Exchange → Point → Result A E → Type 0
 Decides refused image (Err e) between rest end r = (r ≡ Err (refused e)) × Silent between rest end
@@ -32,7 +32,7 @@ Decides refused image (Ok digest) between rest end r =
     → (r ≡ Err (refused (sigstore.OciReferenceNotValidError (whole_text (digest_reference image digest)))))
     × Silent between rest end
 
--- the exchanges begin with those of the digest step, whose answer decides so
+-- the exchanges begin with those of the digest step, and its result decides the rest
 pub record BeginsWithDigest {A E : Type 0} (refused : SigstoreError → E) (s : Context) (image : Reference)
     (a : RegistryAuth) (start : Point) (c : List Exchange) (end : Point) (r : Result A E) : Type 0 where
   pub step : List Exchange

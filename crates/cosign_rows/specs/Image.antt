@@ -1,4 +1,4 @@
--- The image of a digest for which a signature stands.
+-- The image of a digest that a signature stands for.
 use Rattle.std.specs.Prelude.{ℕ, List, [], ◌∷◌, ◌++◌, Option, Some, None, Result, Ok, Err}
 use Rattle.oci_names.specs.declared.reference.Reference.{Reference}
 use Rattle.oci_names.specs.Reference.{digest_of, whole_text}
@@ -30,16 +30,16 @@ use Rattle.sig_calls.specs.Calls.{document_call, blob_call}
 use Rattle.cosign_rows.specs.declared.pulled.Pulled.{Pulled}
 use Rattle.cosign_rows.specs.declared.pulled.PulledManifest.{PulledManifest}
 
--- the digest of the reference that was asked for, where it has one, names the document
+-- if the requested reference has a digest, it names the document
 abbrev pub named_by_reference : Option (List ℕ) → List ℕ → Result Unit OciDistributionError
 named_by_reference None bytes = Ok tt
 named_by_reference (Some digest) bytes = or_digest_error (checked bytes digest) and Ok tt
 
--- the document for this reference
+-- the document of this reference
 abbrev pub document_in : Reference → List ℕ → Result OciManifest OciDistributionError
 document_in image bytes = named_by_reference (digest_of image) bytes and document_read bytes
 
--- the manifest in an entry's document, which may not be an index again
+-- the manifest in an entry's document, which must not be an index itself
 abbrev pub entry_in : List ℕ → List ℕ → Result OciImageManifest OciDistributionError
 entry_in entry bytes = document_read bytes before entry_manifest entry
 
@@ -50,7 +50,7 @@ layers_row s source (x ∷ xs) layers = do
   content ← blob_call s source (described x)
   layers_row s source xs (layers ++ layer_of x content ∷ [])
 
--- the configuration and the layers that a manifest names, where the layers' types are accepted
+-- the configuration and the layers that a manifest names, if the layers' media types are accepted
 unfoldable pub blobs_row : Context → Reference → List (List ℕ) → OciImageManifest → Row (Config × List ImageLayer)
 blobs_row s source accepted manifest = do
   content ← blob_call s source (described manifest.config)
@@ -58,18 +58,18 @@ blobs_row s source accepted manifest = do
   layers ← layers_row s source manifest.layers []
   Done (Ok (config_of manifest content, layers))
 
--- a refused pull, with the text of this image
+-- a refused pull, with the text of this image instead
 abbrev pub with_image : List ℕ → {A : Type 0} → Result A SigstoreError → Result A SigstoreError
 with_image text (Err (sigstore.RegistryPullError image e)) = Err (sigstore.RegistryPullError text e)
 with_image text answer = answer
 
--- the document of an entry, in the source's repository; a refusal speaks of the source
+-- the document of an entry, in the source's repository; an error names the source
 unfoldable pub entry_call : Context → Reference → RegistryAuth → List ℕ → Row (List ℕ × List ℕ)
 entry_call s source a entry =
     bind (document_call s (entry_reference source entry) a manifest_types)
     (λ r. Done (with_image (whole_text source) r))
 
--- the manifest of the entry that the settings mean
+-- the manifest of the entry that the settings select
 unfoldable pub entry_row : Context → Reference → RegistryAuth → List ImageIndexEntry → Row PulledManifest
 entry_row s source a entries = do
   entry ← Done (worded Pull (whole_text source) (entry_found s.settings.platform_resolver entries))
@@ -77,7 +77,7 @@ entry_row s source a entries = do
   manifest ← Done (worded Pull (whole_text source) (entry_in entry found.0))
   Done (Ok (record { bytes = found.0; manifest = manifest; entry = Some entry }))
 
--- the manifest that a document is, or that of an index's entry
+-- the document's manifest, or that of an index's entry
 abbrev pub manifest_row : Context → Reference → RegistryAuth → List ℕ → OciManifest → Row PulledManifest
 manifest_row s source a first (Image manifest) =
     Done (Ok (record { bytes = first; manifest = manifest; entry = None }))
@@ -91,7 +91,7 @@ after_document s image source a accepted first = do
   blobs ← blobs_row s source accepted chosen.manifest
   Done (Ok (record { first = first; chosen = chosen; config = blobs.0; layers = blobs.1 }))
 
--- the document of the source's digest, its manifest, and the blobs of that
+-- the document of the source's digest, its manifest, and that manifest's blobs
 unfoldable pub image_row : Context → Reference → Reference → RegistryAuth → List (List ℕ) → Row Pulled
 image_row s image source a accepted = do
   found ← document_call s source a manifest_types

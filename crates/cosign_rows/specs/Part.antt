@@ -1,4 +1,4 @@
--- What a source of signatures gives: layers that were read, and why others were not.
+-- The result of a source of signatures: layers that were read, and why others were not.
 use Rattle.std.specs.Prelude.{ℕ, List, [], ◌∷◌, ◌++◌, find, Option, Some, None, Result, Ok, Err, unwrap_or}
 use Rattle.std.specs.FinMap as map_of
 use Rattle.oci_digests.specs.Names.{names, digest_text}
@@ -23,7 +23,7 @@ nothing = record { collected = []; skipped = [] }
 abbrev pub skipping : Skipped → Part
 skipping cause = record { collected = []; skipped = cause ∷ [] }
 
--- one part, and then another one
+-- one part followed by another
 abbrev pub appended : Part → Part → Part
 appended p q = record { collected = p.collected ++ q.collected; skipped = p.skipped ++ q.skipped }
 
@@ -42,28 +42,28 @@ read_layer trust d x None = Err LayerNotPulled
 read_layer trust d x (Some layer) =
     layer_read trust d (input kinds.Payload layer.content x.digest (unwrap_or x.annotations map_of.empty))
 
--- what a descriptor under the signature tag gives for the image of digest d
+-- the part of a descriptor under the signature tag, for the image of digest d
 abbrev pub descriptor_part : Trust → List ℕ → List ImageLayer → OciDescriptor → Part
 descriptor_part trust d layers x = layer_part Tag x.digest (read_layer trust d x (named_layer x.digest layers))
 
--- what each descriptor gives, in order
+-- the parts of the descriptors, in order
 abbrev pub descriptors_part : Trust → List ℕ → List ImageLayer → List OciDescriptor → Part
 descriptors_part trust d layers [] = nothing
 descriptors_part trust d layers (x ∷ xs) =
     appended (descriptor_part trust d layers x) (descriptors_part trust d layers xs)
 
--- the signature layer of a bundle that a referrer has, by its SHA-256 text and with its annotations
+-- the signature layer of a referrer's bundle, by its SHA-256 text and with its annotations
 abbrev pub read_bundle : Trust → List ℕ → List ℕ → ImageLayer → Result SignatureLayer LayerRejection
 read_bundle trust d text layer =
     layer_read trust d (input kinds.Bundle layer.content text (unwrap_or layer.annotations map_of.empty))
 
--- what a bundle gives for the image of digest d
+-- the part of a bundle, for the image of digest d
 abbrev pub bundle_part : Trust → List ℕ → ImageLayer → Part
 bundle_part trust d layer =
     let text = digest_text Sha256 layer.content in
     layer_part Referrers text (read_bundle trust d text layer)
 
--- what each bundle gives, in order
+-- the parts of the bundles, in order
 abbrev pub bundles_part : Trust → List ℕ → List ImageLayer → Part
 bundles_part trust d [] = nothing
 bundles_part trust d (x ∷ xs) = appended (bundle_part trust d x) (bundles_part trust d xs)

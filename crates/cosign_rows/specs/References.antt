@@ -1,4 +1,4 @@
--- The references that the search and the pull ask for, in the image's repository.
+-- The references that the search and the pull request, in the image's repository.
 use Rattle.std.specs.Prelude.{ℕ, Bool, true, false, if◌then◌else◌, List, ◌++◌, ◌==◌, map, Some, None, Result, Ok, Err}
 use Rattle.std.specs.Prelude.{codes, chars, encode_utf8_all}
 use Rattle.oci_names.specs.declared.reference.Reference.{Reference}
@@ -6,18 +6,18 @@ use Rattle.oci_names.specs.Reference.{registry_of, repository_of, whole_text, re
 use Rattle.sig_calls.specs.declared.error.SigstoreError.{SigstoreError}
 use Rattle.sig_calls.specs.declared.error.SigstoreError.TheVariants as sigstore
 
--- a dash in the place of each colon
+-- a dash replaces each colon
 abbrev pub dashed : ℕ → ℕ
 dashed c = if c == 58 then 45 else c
 
 abbrev pub with_dashes : List ℕ → List ℕ
 with_dashes text = encode_utf8_all (map dashed (chars text))
 
--- the tag under which the signatures of a digest stand: dashes for its colons, and `.sig` behind
+-- the signature tag of a digest: dashes for its colons, followed by `.sig`
 abbrev pub signature_tag : List ℕ → List ℕ
 signature_tag digest = with_dashes digest ++ codes ".sig"
 
--- the signatures' manifest, in the image's repository
+-- the reference of the signatures' manifest, in the image's repository
 abbrev pub tag_reference : Reference → List ℕ → Reference
 tag_reference image digest = record {
   registry = registry_of image;
@@ -41,6 +41,6 @@ abbrev pub or_not_valid : Reference → Bool → Result (Unit {0}) SigstoreError
 or_not_valid image true = Ok tt
 or_not_valid image false = Err (sigstore.OciReferenceNotValidError (whole_text image))
 
--- a reference that is read back from its text
+-- a reference that round-trips
 abbrev pub reading_back : Reference → Result (Unit {0}) SigstoreError
 reading_back image = or_not_valid image (reads_back image)

@@ -14,34 +14,34 @@ abbrev pub is_memory : PullRefusal → Bool
 is_memory refusal.WantOfMemory = true
 is_memory _ = false
 
--- the refusal of a part, as the refusal of the whole
+-- the error of a part, as the error of the whole pull
 abbrev pub refused_as : SigstoreError → PullRefusal
 refused_as (sigstore.OciReferenceNotValidError reference) = refusal.OciReferenceNotValidError reference
 refused_as (sigstore.RegistryFetchManifestError image error) = refusal.RegistryFetchManifestError image error
 refused_as (sigstore.RegistryPullError image error) = refusal.RegistryPullError image error
--- never: no part whose refusal ends the whole answers it
+-- never occurs: no part whose error ends the whole pull returns it
 refused_as (sigstore.RegistryPullManifestError image error) = refusal.RegistryPullError image error
 refused_as sigstore.WantOfMemory = refusal.WantOfMemory
 
--- the answer is this one, unless memory was wanting
+-- the result is `said`, or memory ran out
 abbrev pub Says : {A : Type 0} → Result A PullRefusal → Result A PullRefusal → Type 0
 Says answer said = Refusals.Says is_memory answer said
 
--- what the registry's client answered, where the refusal holds that
+-- the registry client's error that a refusal holds
 abbrev pub client_refusal : PullRefusal → Option OciDistributionError
 client_refusal (refusal.RegistryFetchManifestError image error) = Some error
 client_refusal (refusal.RegistryPullError image error) = Some error
 client_refusal _ = None
 
--- the pull was refused, and that is what the registry's client answered
+-- the pull was refused because of this error of the registry's client
 abbrev pub IsRefusedBy : OciDistributionError → {A : Type 0} → Result A PullRefusal → Type 0
 IsRefusedBy e (Ok a) = ⊥
 IsRefusedBy e (Err refused) = client_refusal refused ≡ Some e
 
--- a fault of the transport is answered only where its count of faults rose
+-- a fault of the transport is returned only if its fault count increased
 abbrev pub FaultCounted : {A : Type 0} → Link → Link → Result A PullRefusal → Type 0
 FaultCounted old new r = IsRefusedBy TransportFault r → Rose old.faults new.faults
 
--- no sink takes part, so none can fail
+-- no sink takes part, so no sink can fail
 abbrev pub NoSinkFault : {A : Type 0} → Result A PullRefusal → Type 0
 NoSinkFault r = IsRefusedBy SinkFault r → ⊥

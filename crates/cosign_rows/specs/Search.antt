@@ -33,29 +33,29 @@ use Rattle.cosign_rows.specs.declared.found.TrustedLayers.{TrustedLayers}
 abbrev pub payload_type : List ℕ
 payload_type = codes "application/vnd.dev.cosign.simplesigning.v1+json"
 
--- what the document under the tag and its layers give for the image of digest d
+-- the part of the document under the tag with its layers, for the image of digest d
 abbrev pub document_part : Trust → List ℕ → OciManifest → ImageData → Part
 document_part trust d (ImageIndex index) image = skipping (Source Tag FoundIndex)
 document_part trust d (Image manifest) image = descriptors_part trust d image.layers manifest.layers
 
--- the same, where the image was pulled
+-- the same, if the image was pulled
 abbrev pub pulled_part : Trust → List ℕ → OciManifest → Result ImageData SigstoreError → Result Part SigstoreError
 pulled_part trust d document (Ok image) = Ok (document_part trust d document image)
 pulled_part trust d document (Err e) = Err e
 
--- the manifest under the tag is asked for, and then the image that it is
+-- requests the manifest under the tag, and then the image that it is
 unfoldable pub tag_layers : Trust → List ℕ → Context → Reference → RegistryAuth → Row Part
 tag_layers trust d s tag a = do
   document ← manifest_call s tag a
   image ← image_call s tag a (payload_type ∷ [])
   Done (Ok (document_part trust d document.0 image))
 
--- what was refused is skipped at its place; want of memory is not
+-- an error is recorded as skipped at `place`; out of memory is not
 abbrev pub or_skipped : (SkipCause → Skipped) → Result Part SigstoreError → Result Part SigstoreError
 or_skipped place (Ok part) = Ok part
 or_skipped place (Err e) = if is_memory e then Err e else Ok (skipping (place (Refused e)))
 
--- the signature tag as a source, where its reference reads back
+-- the signature tag as a source, if its reference round-trips
 abbrev pub tag_by : Trust → List ℕ → Context → Reference → RegistryAuth → Bool → Row Part
 tag_by trust d s tag a false = Done (Ok (skipping (Source Tag (NotAReference (whole_text tag)))))
 tag_by trust d s tag a true = bind (tag_layers trust d s tag a) (λ r. Done (or_skipped (Source Tag) r))
@@ -75,7 +75,7 @@ abbrev pub referrer_part : Trust → List ℕ → Result ImageData SigstoreError
 referrer_part trust d (Ok image) = Ok (bundles_part trust d image.layers)
 referrer_part trust d (Err e) = Err e
 
--- the referrer of this digest, where its reference reads back
+-- the referrer of this digest, if its reference round-trips
 abbrev pub referrer_by : Trust → List ℕ → Context → Reference → RegistryAuth → List ℕ → Bool → Row Part
 referrer_by trust d s referrer a digest false =
     Done (Ok (skipping (Referrer digest (NotAReference (whole_text referrer)))))
@@ -88,7 +88,7 @@ unfoldable pub referrer_row : Trust → List ℕ → Context → Reference → R
 referrer_row trust d s source a digest =
     let referrer = digest_reference source digest in referrer_by trust d s referrer a digest (reads_back referrer)
 
--- what each referrer gives, in order
+-- the parts of the referrers, in order
 unfoldable pub referrers_row : Trust → List ℕ → Context → Reference → RegistryAuth → List ImageIndexEntry → Row Part
 referrers_row trust d s source a [] = Done (Ok nothing)
 referrers_row trust d s source a (x ∷ xs) = do
@@ -102,7 +102,7 @@ abbrev pub listed_row : Trust → List ℕ → Context → Reference → Registr
 listed_row trust d s source a (Ok index) = referrers_row trust d s source a index.manifests
 listed_row trust d s source a (Err e) = Done (or_skipped (Source Referrers) (Err e))
 
--- what refers to digest d, by which this reference is, as a source
+-- the referrers of digest d, of which `source` is the reference, as a source
 unfoldable pub referrers_source : Trust → List ℕ → Context → Reference → RegistryAuth → Row Part
 referrers_source trust d s source a = bind (referrers_call s source a None) (listed_row trust d s source a)
 
@@ -111,7 +111,7 @@ referrers_source trust d s source a = bind (referrers_call s source a None) (lis
 abbrev pub trusted_layers : List ℕ → Part → TrustedLayers
 trusted_layers digest part = record { digest = digest; collected = part.collected; skipped = part.skipped }
 
--- the digest of the image, and what the search for its signatures found: under the tag, and then in the referrers
+-- the digest of the image, and what the search for its signatures found: under the tag, then among the referrers
 unfoldable pub searched : Trust → Context → Reference → RegistryAuth → Row TrustedLayers
 searched trust s image a = do
   digest ← digest_call s image a

@@ -1,4 +1,4 @@
--- What a client may keep before it asks a shelf, so that it gets what the shelf has.
+-- What a client may hold before it calls a shelf, so that it gets what the shelf has.
 use Rattle.std.specs.Prelude.{◌≡◌, true, ℕ, List, Option, Some, None, Ok, All}
 use Rattle.oci_names.specs.declared.reference.Reference.{Reference}
 use Rattle.oci_names.specs.Reference.{repository_of, resolved_registry, reads_back}
@@ -18,7 +18,7 @@ use Rattle.sig_answers.specs.declared.answers.Entry.{Entry}
 use Rattle.sig_calls.specs.Calls.{digest_made, manifest_made, image_made, referrers_made}
 use Rattle.sig_calls.specs.Clients.{Kept, Plain}
 
--- at some moment the shelf gives this answer to the call, where no other credentials and tokens are kept than these
+-- at some moment the shelf returns this result to the call, if only these credentials and their tokens are kept
 pub record IsGiven {A : Type 0} (registry : List ℕ) (a : RegistryAuth) (shelf : Shelf) (call : ℕ → Plain A) (given : A)
     : Type 0 where
   pub moment : ℕ
@@ -26,12 +26,12 @@ pub record IsGiven {A : Type 0} (registry : List ℕ) (a : RegistryAuth) (shelf 
   pub settled : Settled registry shelf.repository a kept
   pub comes : ComesTo (answer shelf) (call moment) kept (Ok given)
 
--- the image is one of the shelf's at this registry, and its text is read as the image
+-- the image is one of the shelf's at this registry, and its reference round-trips
 pub record IsOf (registry : List ℕ) (shelf : Shelf) (image : Reference) : Type 0 where
   pub reads : reads_back image ≡ true
   pub at : IsAt registry shelf image
 
--- to each call of this key for an image of the shelf's, with these credentials, the shelf gives this answer
+-- to each call of this key for an image of the shelf's, with these credentials, the shelf returns this response
 abbrev pub IsAnswer : Settings → List ℕ → RegistryAuth → Shelf → List ℕ → Answer → Type 0
 IsAnswer s registry a shelf key (Digest digest) =
     (image : Reference) → IsOf registry shelf image → manifest_key image a ≡ key
@@ -46,7 +46,7 @@ IsAnswer s registry a shelf key (Referrers index) =
     (image : Reference) (kind : Option (List ℕ)) → IsOf registry shelf image → referrers_key image a kind ≡ key
     → IsGiven registry a shelf (λ moment. referrers_made (within s moment) image a kind) index
 
--- what is kept is what the shelf gives; where no answers are kept, it is
+-- what is cached is what the shelf returns; a client without a cache satisfies it
 abbrev pub IsRight : Settings → List ℕ → RegistryAuth → Shelf → Entry → Type 0
 IsRight s registry a shelf e = IsAnswer s registry a shelf e.key e.answer
 
@@ -55,8 +55,8 @@ AreRight s registry a shelf None = Unit {0}
 AreRight s registry a shelf (Some kept) = All (IsRight s registry a shelf) kept.entries
 
 -- A client that keeps no other credentials for the image's registry than these, no other token for its repository than
--- theirs, and for calls to this shelf with these credentials no answers but those that the shelf gives. A new client
--- keeps nothing.
+-- theirs, and for calls to this shelf with these credentials caches no responses but those that the shelf returns. A
+-- new client keeps nothing.
 pub record IsSettled (s : Settings) (image : Reference) (a : RegistryAuth) (shelf : Shelf) (k : Kept) : Type 0 where
   pub memory : Settled (resolved_registry image) (repository_of image) a k.0
   pub answers : AreRight s (resolved_registry image) a shelf k.1

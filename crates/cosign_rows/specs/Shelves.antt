@@ -1,4 +1,4 @@
--- Which registries in memory give a verified image: each one of these does.
+-- The registries in memory from which a verified image can be pulled.
 use Rattle.std.specs.Prelude.{◌≡◌, ◌⊎◌, true, ◌<◌, ◌-◌, ◌^◌, ℕ, List, [], ◌∷◌, ◌++◌, Contains}
 use Rattle.std.specs.Prelude.{Option, Some, None, Result, Ok, Err, IsTrue}
 use Rattle.std.specs.FinMap as map
@@ -37,16 +37,16 @@ use Rattle.cosign_rows.specs.declared.refusal.PullRefusal.TheVariants as refusal
 abbrev pub IsSha256 : List ℕ → Type 0
 IsSha256 digest = (digits : List ℕ) × (digest ≡ name_of Sha256 ++ digits)
 
--- the digest of what the image names on the shelf: its own digest, or that of its tag
+-- the digest that the image names on the shelf: its own digest, or that of its tag
 abbrev pub digest_on : Shelf → Reference → Option (List ℕ)
 digest_on shelf image = digest_named shelf (manifest_name (digest_of image) (tag_of image))
 
--- what the search reads for a descriptor of this manifest, by the layers that the shelf has
+-- the search's result for a descriptor of this manifest, from the layers that the shelf has
 abbrev pub read_on : Trust → List ℕ → Shelf → OciImageManifest → OciDescriptor → Result SignatureLayer LayerRejection
 read_on trust d shelf manifest x =
     read_layer trust d x (named_layer x.digest (layers_on shelf manifest.layers))
 
--- for one of the manifest's descriptors a layer is read that stands
+-- for one of the manifest's descriptors, a layer is read that stands for the digest
 pub record ReadsStanding {V : Type 0} {H : V → Type 0} (meaning : Meaning V H) (d : List ℕ) (shelf : Shelf)
     (manifest : OciImageManifest) : Type 0 where
   pub descriptor : OciDescriptor
@@ -55,8 +55,8 @@ pub record ReadsStanding {V : Type 0} {H : V → Type 0} (meaning : Meaning V H)
   pub reads : read_on meaning.trust d shelf manifest descriptor ≡ Ok layer
   pub stands_for : StandsFor meaning d layer
 
--- the tag of the digest's signatures leads to a manifest of payloads, of which the shelf has all, and one of them
--- stands
+-- The tag of the digest's signatures names a manifest of payloads. The shelf has all of them, and one of them stands
+-- for the digest.
 pub record SignedByTag {V : Type 0} {H : V → Type 0} (meaning : Meaning V H) (d : List ℕ) (shelf : Shelf)
     : Type 0 where
   pub signatures : List ℕ
@@ -66,7 +66,7 @@ pub record SignedByTag {V : Type 0} {H : V → Type 0} (meaning : Meaning V H) (
   pub payloads : HasBlobs shelf (payload_type ∷ []) manifest
   pub standing : ReadsStanding meaning d shelf manifest
 
--- the shelf is where these settings and credentials ask for the image, and its redirects lead
+-- these settings and credentials request the image from the shelf, and its redirects all end
 pub record IsAsked (s : Settings) (image : Reference) (a : RegistryAuth) (shelf : Shelf) : Type 0 where
   pub reads_back_is : reads_back image ≡ true
   pub repository_is : repository_of image ≡ shelf.repository
@@ -75,8 +75,8 @@ pub record IsAsked (s : Settings) (image : Reference) (a : RegistryAuth) (shelf 
   pub credentials : CanBeShown a
   pub lead : IsTrue (redirects_lead shelf)
 
--- One of the digest's referrers has a reference that reads back, and the shelf has its image of bundles; of one of
--- them a layer is read that stands.
+-- One of the digest's referrers has a reference that round-trips, and the shelf has its image of bundles; from one of
+-- them a layer is read that stands for the digest.
 pub record SignedByReferrer {V : Type 0} {H : V → Type 0} (meaning : Meaning V H) (s : Settings)
     (image : Reference) (d : List ℕ) (shelf : Shelf) : Type 0 where
   pub index : OciImageIndex
@@ -91,7 +91,7 @@ pub record SignedByReferrer {V : Type 0} {H : V → Type 0} (meaning : Meaning V
   pub reads : read_bundle meaning.trust d (digest_text Sha256 bundle.content) bundle ≡ Ok layer
   pub stands_for : StandsFor meaning d layer
 
--- the shelf is asked for the image and has it, by a digest of any algorithm, and nothing is too long
+-- the image is requested from the shelf, which has it, by a digest of any algorithm, and nothing is too long
 pub record ImageShelf (s : Settings) (image : Reference) (a : RegistryAuth) (accepted : List (List ℕ))
     (shelf : Shelf) : Type 0 where
   pub asked : IsAsked s image a shelf
@@ -100,16 +100,16 @@ pub record ImageShelf (s : Settings) (image : Reference) (a : RegistryAuth) (acc
   pub image_on : ImageOn s shelf digest accepted
   pub short : IsShort s shelf
 
--- it has the image, and a layer stands, under the tag of its signatures, which makes a reference that reads back, or of
--- one of its referrers
+-- The shelf has the image, and a layer stands for its digest: under the tag of its signatures, whose reference
+-- round-trips, or of one of its referrers.
 pub record WideShelf {V : Type 0} {H : V → Type 0} (meaning : Meaning V H) (s : Settings) (image : Reference)
     (a : RegistryAuth) (accepted : List (List ℕ)) (shelf : Shelf) : Type 0 where
   pub has : ImageShelf s image a accepted shelf
   pub signed : ((reads_back (tag_reference image has.digest) ≡ true) × SignedByTag meaning has.digest shelf)
       ⊎ SignedByReferrer meaning s image has.digest shelf
 
--- The shelf is asked for the image and has it, by a SHA-256 digest, for which a layer under its tag stands that has
--- no log entry and no certificate. Nothing is too long.
+-- The image is requested from the shelf, which has it, by a SHA-256 digest. A layer under its tag stands for it that
+-- has no log entry and no certificate. Nothing is too long.
 pub record ValidShelf {V : Type 0} {H : V → Type 0} (meaning : Meaning V H) (s : Settings) (image : Reference)
     (a : RegistryAuth) (accepted : List (List ℕ)) (shelf : Shelf) : Type 0 where
   pub asked : IsAsked s image a shelf
@@ -122,14 +122,14 @@ pub record ValidShelf {V : Type 0} {H : V → Type 0} (meaning : Meaning V H) (s
   pub no_certificate : signed.standing.layer.certificate_signature ≡ None
   pub short : IsShort s shelf
 
--- the transport answers from the shelf and tells what was asked; so does a `ShelfTransport`
+-- the transport responds from the shelf and exposes its requests, as a `ShelfTransport` does
 pub record AnswersFrom (shelf : Shelf) (link : Link) : Type 0 where
   pub answers : link.answers ≡ Some (answering shelf)
   pub before : List Exchange
   pub told : link.told ≡ Some before
   pub faults : link.faults < 2 ^ 64 - 1
 
--- an answer, or want of memory
+-- `Ok` or out of memory
 abbrev pub OkOrMemory : {A : Type 0} → Result A PullRefusal → Type 0
 OkOrMemory (Ok a) = Unit {0}
 OkOrMemory (Err e) = e ≡ refusal.WantOfMemory

@@ -1,4 +1,4 @@
--- What is skipped: never for want of memory or a fault of a sink, and never more faults than the transport had.
+-- What is skipped: never because of `WantOfMemory` or a sink's fault, and never for more faults than the transport had.
 use Rattle.std.specs.Prelude.{◌≡◌, ◌≤◌, ◌+◌, ◌-◌, ◌^◌, ℕ, Bool, true, false, List, All, count_by, min}
 use Rattle.oci_digests.specs.declared.error.DigestError.{DigestError}
 use Rattle.oci_digests.specs.declared.error.DigestError.TheVariants as digest_refusal
@@ -14,7 +14,7 @@ use Rattle.cosign_rows.specs.declared.found.SkipCause.TheVariants.{NotAReference
 use Rattle.cosign_rows.specs.declared.refusal.PullRefusal.{PullRefusal}
 use Rattle.cosign_rows.specs.declared.refusal.PullRefusal.TheVariants as refusal
 
--- ---- want of memory, or a fault of a sink, wherever it stands in a refusal
+-- ---- out of memory, or a fault of a sink, anywhere in an error
 
 abbrev pub in_digest : DigestError → Bool
 in_digest digest_refusal.WantOfMemory = true
@@ -43,7 +43,7 @@ holds_memory_or_sink (Source kind cause) = in_cause cause
 holds_memory_or_sink (Referrer digest cause) = in_cause cause
 holds_memory_or_sink (Layer kind digest rejection) = is_layer_memory rejection
 
--- no cause holds want of memory, nor a fault of a sink, since none takes part
+-- no cause holds an out-of-memory error or a fault of a sink: no sink takes part
 abbrev pub HoldsNoMemoryNorSink : List Skipped → Type 0
 HoldsNoMemoryNorSink skipped = All (λ cause. holds_memory_or_sink cause ≡ false) skipped
 
@@ -70,13 +70,13 @@ is_fault (Source kind cause) = is_cause_fault cause
 is_fault (Referrer digest cause) = is_cause_fault cause
 is_fault (Layer kind digest rejection) = false
 
--- the count rose by at least as many as the causes that are faults, or stands at its greatest value
+-- the fault count increased by at least as many as the causes that are faults, saturating
 abbrev pub CountsFaults : ℕ → ℕ → List Skipped → Type 0
 CountsFaults before after skipped = min (before + count_by is_fault skipped) (2 ^ 64 - 1) ≤ after
 
 -- ---- of a refused pull
 
--- this is so of what was skipped, where no layer stands
+-- the property holds for what was skipped, if no layer satisfies the policy
 abbrev pub OnSkipped : (List Skipped → Type 0) → PullRefusal → Type 0
 OnSkipped P (refusal.Unsatisfied digest collected skipped) = P skipped
 OnSkipped P _ = Unit {0}

@@ -1,4 +1,4 @@
--- What an image that was pulled has to do with the policy and with what registries answered.
+-- How a pulled image relates to the policy and to what registries returned.
 use Rattle.std.specs.Prelude.{◌≡◌, ◌⊎◌, ℕ, List, [], ◌∷◌, Some}
 use Rattle.oci_names.specs.declared.reference.Reference.{Reference}
 use Rattle.oci_auth.specs.declared.auth.RegistryAuth.{RegistryAuth}
@@ -19,17 +19,17 @@ abbrev pub EachBody : List Exchange → List ImageLayer → Type 0
 EachBody c [] = Unit {0}
 EachBody c (layer ∷ layers) = Body c layer.content × EachBody c layers
 
--- the client keeps this digest for the image and these credentials, and still gives it at the moment; one that keeps no
--- answers gives none
+-- the client has this digest cached for the image and these credentials, and it is fresh at the moment; without a
+-- cache it has none
 abbrev pub Fresh : Kept → Context → Reference → RegistryAuth → List ℕ → Type 0
 Fresh kept s image a digest = known digests (manifest_key image a) s.moment kept.1 ≡ Some digest
 
--- the digest was answered for the image in this conversation, or the client that began it still gave it
+-- the registry returned the digest for the image in this conversation, or it was fresh in the cache when it began
 abbrev pub AnsweredOrFresh : Kept → Context → Reference → RegistryAuth → List Exchange → List ℕ → Type 0
 AnsweredOrFresh kept s image a c digest = DigestAnswered s.settings image c digest ⊎ Fresh kept s image a digest
 
--- the image's digest was answered for it, in this conversation or still by the client that began it, which kept this,
--- and in this conversation each document and blob is the body of an answer
+-- The image's digest was returned for it in this conversation, or was fresh in the cache of the client that began it
+-- with `kept`; and each document and blob is the body of an answer in this conversation.
 pub record Backed (kept : Kept) (s : Context) (image : Reference) (a : RegistryAuth) (c : List Exchange)
     (v : VerifiedImage) : Type 0 where
   pub answered : AnsweredOrFresh kept s image a c v.digest
@@ -38,7 +38,7 @@ pub record Backed (kept : Kept) (s : Context) (image : Reference) (a : RegistryA
   pub config : Body c v.config.content
   pub layers : EachBody c v.layers
 
--- the chain holds, and comes of this conversation
+-- the chain holds, and comes from this conversation
 pub record Sound {V : Type 0} {H : V → Type 0} (kept : Kept) (s : Context) (meaning : Meaning V H)
     (image : Reference) (a : RegistryAuth) (accepted : List (List ℕ)) (c : List Exchange) (v : VerifiedImage)
     : Type 0 where

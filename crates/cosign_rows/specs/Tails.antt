@@ -1,4 +1,4 @@
--- What `verified` ends with, as parts of their own: private functions meet them, and laws go through them.
+-- The last parts of `verified` as rows of their own: private functions meet them, and laws go through them.
 use Rattle.std.specs.Prelude.{ℕ, List, Ok}
 use Rattle.oci_names.specs.declared.reference.Reference.{Reference}
 use Rattle.oci_auth.specs.declared.auth.RegistryAuth.{RegistryAuth}
@@ -12,13 +12,13 @@ use Rattle.cosign_rows.specs.Verified.{Whole, part_of, standing, verified_image}
 use Rattle.cosign_rows.specs.declared.found.TrustedLayers.{TrustedLayers}
 use Rattle.cosign_rows.specs.declared.standing.Standing.{Standing}
 
--- the image of a digest for which a layer stands
+-- the image of a digest that a layer stands for
 abbrev pub after_standing : Context → Reference → RegistryAuth → List (List ℕ) → Standing → Whole VerifiedImage
 after_standing s image a accepted stood = do
   pulled ← part_of (image_row s image (digest_reference image stood.digest) a accepted)
   Done (Ok (verified_image stood pulled))
 
--- a layer that stands, and only then the image
+-- a layer that satisfies the policy, and only then the image
 unfoldable pub after_search : {V : Type 0} {H : V → Type 0} → Meaning V H → Context → Reference → RegistryAuth
     → List (List ℕ) → TrustedLayers → Whole VerifiedImage
 after_search meaning s image a accepted found = do

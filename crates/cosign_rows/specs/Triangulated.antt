@@ -1,4 +1,4 @@
--- Where the signatures of an image stand: the reference of its digest's signature tag, with the digest.
+-- The location of an image's signatures: the reference of its digest's signature tag, with the digest.
 use Rattle.std.specs.Prelude.{ℕ, List, Result, Ok, Err}
 use Rattle.oci_names.specs.declared.reference.Reference.{Reference}
 use Rattle.oci_auth.specs.declared.auth.RegistryAuth.{RegistryAuth}
@@ -16,7 +16,7 @@ triangulated s image a = do
   digest ← digest_call s image a
   Done (Ok (tag_reference image digest, digest))
 
--- an answer with the reference as it is
+-- a result with the reference itself
 abbrev pub tag_shown : Result (OciReference × List ℕ) SigstoreError → Result (Reference × List ℕ) SigstoreError
 tag_shown (Ok found) = Ok (reference_in found.0, found.1)
 tag_shown (Err e) = Err e

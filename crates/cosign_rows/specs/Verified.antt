@@ -1,4 +1,4 @@
--- The whole pull: the policy, the reference, the search, a layer that stands, and only then the image.
+-- The whole pull: the policy, the reference, the search, a layer that satisfies the policy, and only then the image.
 use Rattle.std.specs.Prelude.{ℕ, Bool, true, false, List, find, Option, Some, None, Result, Ok, Err}
 use Rattle.oci_names.specs.declared.reference.Reference.{Reference}
 use Rattle.oci_names.specs.Reference.{whole_text, reads_back}
@@ -34,7 +34,7 @@ constrained false = Ok tt
 abbrev pub is_unconstrained : {V : Type 0} {H : V → Type 0} → PullPolicy V H → Bool
 is_unconstrained policy = has_no_item policy.constraints
 
--- a reference that does not read back is refused
+-- a reference that does not round-trip is refused
 abbrev pub readable_by : Reference → Bool → Result (Unit {0}) PullRefusal
 readable_by image true = Ok tt
 readable_by image false = Err (refusal.OciReferenceNotValidError (whole_text image))
@@ -42,25 +42,25 @@ readable_by image false = Err (refusal.OciReferenceNotValidError (whole_text ima
 abbrev pub readable : Reference → Result (Unit {0}) PullRefusal
 readable image = readable_by image (reads_back image)
 
--- what a part answers, its refusal as that of the whole
+-- the result of a part, with its error as that of the whole pull
 abbrev pub as_whole : {A : Type 0} → Result A SigstoreError → Result A PullRefusal
 as_whole (Ok a) = Ok a
 as_whole (Err e) = Err (refused_as e)
 
--- a part of the whole
+-- a part of the whole pull
 unfoldable pub part_of : {A : Type 0} → Row A → Whole A
 part_of p = bind p (λ r. Done (as_whole r))
 
--- whether a layer stands under the policy
+-- whether a layer satisfies the policy
 abbrev pub stands_by : {V : Type 0} {H : V → Type 0} → Meaning V H → SignatureLayer → Bool
 stands_by meaning = stands meaning.trust.valid meaning.policy meaning.own
 
--- the digest with the first of the layers that stands for it
+-- the digest with the first layer that stands for it
 abbrev pub standing_by : TrustedLayers → Option SignatureLayer → Result Standing PullRefusal
 standing_by found None = Err (refusal.Unsatisfied found.digest found.collected found.skipped)
 standing_by found (Some signature) = Ok (record { digest = found.digest; signature = signature })
 
--- the digest with the first of the layers that were found that stands
+-- the digest with the first found layer that satisfies the policy
 abbrev pub standing : {V : Type 0} {H : V → Type 0} → Meaning V H → TrustedLayers → Result Standing PullRefusal
 standing meaning found = standing_by found (find (stands_by meaning) found.collected)
 
@@ -82,7 +82,7 @@ verified_image standing pulled = record {
   signature = standing.signature;
 }
 
--- the image of what was pulled, or the refusal of that
+-- the image from what was pulled, or the error
 abbrev pub stood_image : Standing → Result Pulled SigstoreError → Result VerifiedImage PullRefusal
 stood_image standing (Ok pulled) = Ok (verified_image standing pulled)
 stood_image standing (Err e) = Err (refused_as e)

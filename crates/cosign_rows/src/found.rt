@@ -4,7 +4,7 @@ use json_values::{Copied, List, Text, copied, copy_all, row};
 use sig_calls::SigstoreError;
 use std::alloc::{AllocError, Global};
 
-/// Where signatures are looked for.
+/// Where signatures are searched.
 #[derive(Clone, Copy, Debug, PartialEq, Eq)]
 pub enum SourceKind {
     /// The manifest under the digest's signature tag.
@@ -13,18 +13,18 @@ pub enum SourceKind {
     Referrers,
 }
 
-/// Why a source or a referrer gave nothing.
+/// Why a source or a referrer yielded nothing.
 #[derive(Debug, Drop)]
 pub enum SkipCause {
-    /// The reference that would be asked for does not read back. It holds the reference's text.
+    /// The reference that would be requested does not round-trip. Holds the reference's text.
     NotAReference(Text),
-    /// An index stands there, not a manifest.
+    /// The document is an index instead of a manifest.
     FoundIndex,
-    /// A call was refused. Want of memory is never the cause.
+    /// A call was refused. Out of memory is never the cause.
     Refused(SigstoreError),
 }
 
-/// What gave no signature layer, and why.
+/// What yielded no signature layer, and why.
 #[derive(Debug, Drop)]
 pub enum Skipped {
     Source(SourceKind, SkipCause),
@@ -38,12 +38,12 @@ pub enum Skipped {
 #[derive(Drop)]
 pub struct TrustedLayers {
     pub digest: Text,
-    /// Each is about the image of this digest.
+    /// Each layer is about the image of this digest.
     pub collected: List<SignatureLayer>,
     pub skipped: List<Skipped>,
 }
 
-/// What one source of signatures gave.
+/// The result of one source of signatures.
 #[derive(Drop)]
 pub struct Part {
     pub collected: List<SignatureLayer>,

@@ -1,5 +1,5 @@
-//! What the search for signatures and the verified pull ask for and make of the answers, as definitions, with the
-//! values that they name. The code that meets them, and the laws of all their runs, stand on these alone.
+//! Definitions of what the search for signatures and the verified pull request and how they interpret the responses,
+//! with the values that they name. The code that meets them, and the laws of all their runs, depend on these only.
 #![tactic(auto)]
 
 mod found;

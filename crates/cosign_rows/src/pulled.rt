@@ -1,9 +1,9 @@
-//! What a pull gave, before it is said to be whose.
+//! The result of a pull, not yet attributed to a signature.
 use json_values::{Blob, List, Text};
 use oci_manifests::blob::Config;
 use oci_manifests::{ImageLayer, OciImageManifest};
 
-/// The manifest of an image with its bytes, and the entry's digest where an index led to it.
+/// The manifest of an image with its bytes, and the entry's digest if an index led to it.
 #[derive(Drop)]
 pub struct PulledManifest {
     pub bytes: Blob,

@@ -1,4 +1,4 @@
-//! The references that the search and the pull ask for, in the image's repository.
+//! The references that the search and the pull request, in the image's repository.
 ghost use Rattle.std.specs.Prelude.{◌≡◌, IfOk, string_bytes};
 ghost use Rattle.sig_calls.specs.Direct.{reference_in};
 ghost use Rattle.sig_calls.specs.Error.{Says};
@@ -10,7 +10,7 @@ use oci_names::Reference;
 use sig_calls::{OciReference, SigstoreError};
 use std::alloc::{AllocError, Global};
 
-// No tag has a colon, so a dash stands for it.
+// A tag cannot contain a colon, so a dash replaces it.
 fn with_dashes(alloc: Global, text: &str) -> Result<String, AllocError>
     ensures { IfOk result (λ dashes. string_bytes dashes ≡ with_dashes text.now) }
 {
@@ -19,7 +19,7 @@ fn with_dashes(alloc: Global, text: &str) -> Result<String, AllocError>
         .collect(alloc)
 }
 
-// The tag under which a digest's signatures stand.
+// The tag of a digest's signatures.
 fn signature_tag(alloc: Global, digest: &str) -> Result<Text, AllocError>
     ensures { IfOk result (λ tag. tag ≡ signature_tag digest.now) }
 {
@@ -29,7 +29,7 @@ fn signature_tag(alloc: Global, digest: &str) -> Result<Text, AllocError>
     Ok(tag)
 }
 
-/// The reference of that tag, in the image's repository.
+/// Returns the reference of the digest's signature tag, in the image's repository.
 pub fn tag_reference(
     alloc: Global,
     image: &Reference,
@@ -43,7 +43,7 @@ pub fn tag_reference(
     Ok(Reference::with_tag(registry, repository, tag))
 }
 
-/// The same, for users.
+/// Returns the same as an `OciReference`.
 #[tactic(auto, using(crate::proofs::Exits::tag_same))]
 pub fn oci_tag_reference(
     alloc: Global,
@@ -59,7 +59,7 @@ pub fn oci_tag_reference(
     Ok(reference)
 }
 
-/// The reference of a digest in the image's repository.
+/// Returns the reference of a digest in the image's repository.
 pub fn digest_reference(
     alloc: Global,
     image: &Reference,
@@ -73,7 +73,7 @@ pub fn digest_reference(
     Ok(Reference::with_digest(registry, repository, digest))
 }
 
-/// A reference that is read back from its text, or `OciReferenceNotValidError` with that text.
+/// Succeeds if the reference round-trips. Returns `OciReferenceNotValidError` with its text if it does not.
 pub fn reading_back(alloc: Global, image: &Reference) -> Result<(), SigstoreError>
     ensures { Says result (reading_back image.now) }
 {

@@ -11,21 +11,21 @@ use thiserror::Error;
 /// Why an image was not pulled.
 #[derive(Drop, Error)]
 pub enum PullRefusal {
-    /// The policy has no constraint. Nothing was asked.
+    /// The policy has no constraint. No request was sent.
     #[error("the policy has no constraint: say who has to have signed")]
     EmptyPolicy,
-    /// The image does not read back, and nothing was asked; or the reference by the answered digest does not.
+    /// The image's reference does not round-trip, and no request was sent; or the one by the returned digest does not.
     #[error("the reference does not read: write it as [domain/]path[:tag][@digest]")]
     OciReferenceNotValidError {
         reference: Text,
     },
-    /// The digest of the image was not answered.
+    /// The image's digest was not returned.
     #[error("the image's digest was not answered: look at what the registry's client says")]
     RegistryFetchManifestError {
         image: Text,
         error: OciDistributionError,
     },
-    /// A signature layer stands for the digest, and its image was not pulled.
+    /// A signature layer stands for the digest, but its image was not pulled.
     #[error("the image was not pulled: look at what the registry's client says")]
     RegistryPullError {
         image: Text,
@@ -47,7 +47,7 @@ impl PullRefusal {
     ghost use Rattle.std.specs.Prelude.{◌≡◌};
     ghost use Rattle.cosign_rows.specs.Refusal.{is_memory};
 
-    /// Whether memory was wanting, and nothing is said of the image.
+    /// Returns whether memory ran out; the error is not about the image then.
     pub fn is_memory(&self) -> bool
         ensures { result ≡ is_memory self.now }
     {
@@ -91,7 +91,7 @@ impl Copied for PullRefusal {
     }
 }
 
-/// Of the signature layers that were found, it shows how many there are.
+/// Prints the number of signature layers that were found, not the layers.
 impl fmt::Debug for PullRefusal {
     fn fmt<W: fmt::Write>(&self, f: &mut fmt::Formatter<W>) -> fmt::Result {
         match self {

@@ -1,4 +1,4 @@
-//! What stands for a digest.
+//! A digest with the layer that stands for it.
 use cosign_layers::SignatureLayer;
 use json_values::Text;
 

@@ -1,10 +1,10 @@
-//! What a search and a pull are asked.
+//! The arguments of a search and of a pull.
 use cosign_layers::{PullPolicy, Trusted};
 use json_values::Text;
 use oci_auth::RegistryAuth;
 use oci_names::Reference;
 
-/// Which image, with which credentials, and at which moment (in seconds since 1970).
+/// The image, the credentials, and the moment in seconds since 1970.
 #[derive(Drop)]
 pub struct Asked<'a> {
     pub moment: u64,
@@ -12,8 +12,8 @@ pub struct Asked<'a> {
     pub auth: &'a RegistryAuth,
 }
 
-/// Whose referrers are asked for: a digest, the reference by it, and what a call is made with; and whom the reader of
-/// their layers trusts.
+/// The arguments of a referrers search: the digest, the reference by it, the call's arguments, and whom the reader of
+/// the layers trusts.
 #[derive(Drop)]
 pub struct Referred<'a, V, O> {
     pub moment: u64,
@@ -23,7 +23,7 @@ pub struct Referred<'a, V, O> {
     pub trusted: &'a Trusted<'a, V, O>,
 }
 
-/// By which terms an image is pulled: the media types of its layers, the policy, and whom the reader trusts.
+/// The terms of a pull: the media types of its layers, the policy, and whom the reader trusts.
 #[derive(Drop)]
 pub struct Terms<'a, V, O> {
     pub accepted: &'a [Text],

@@ -1,4 +1,4 @@
--- Rows whose answers go behind the part that is there.
+-- Rows whose results are appended to a given part.
 use Rattle.std.proofs.Common.{◌≡◌, Result, Ok, Err, refl, sym, subst, ◌∙◌}
 use Rattle.oci_transport.specs.Link.{Link}
 use Rattle.oci_protocol.specs.Proto.{Proto, Done, Ask, Recall, Keep, Consult, bind, unless_refused, ◌>>=◌}
@@ -11,7 +11,7 @@ use Rattle.cosign_rows.specs.Part.{appended}
 use Rattle.cosign_rows.proofs.Descriptors.{joined_part}
 use Rattle.cosign_search.specs.Gathered.{gathered, put_behind}
 
--- what comes after two parts in turn comes after the second one
+-- what follows two parts in turn follows the second one
 pub bind_joined : {K A B C : Type 0} (p : Proto K A) (f : A → Proto K B) (g : B → Proto K C) → bind (bind p f) g ≡ bind p (λ a. bind (f a) g)
 unfolding bind
 bind_joined (Done a) f g = refl
@@ -20,11 +20,11 @@ bind_joined (Recall next) f g = λ i. Recall (λ kept. bind_joined (next kept) f
 bind_joined (Keep kept rest) f g = λ i. Keep kept (bind_joined rest f g i)
 bind_joined (Consult next) f g = λ i. Consult (λ said. bind_joined (next said) f g i)
 
--- what is the same after each answer is the same after the row
+-- rows that agree after each result agree as a whole
 bind_same : {K A B : Type 0} (p : Proto K A) (f g : A → Proto K B) → ((a : A) → f a ≡ g a) → bind p f ≡ bind p g
 bind_same p f g same = λ i. bind p (λ a. same a i)
 
--- what is made of a row's answer, behind the part that is there
+-- a row's result, converted and appended to the given part
 gathered_done : {A : Type 0} (part : Part) (p : Row A) (f : Result A SigstoreError → Result Part SigstoreError) → gathered part (bind p (λ r. Done (f r))) ≡ bind p (λ r. Done (put_behind part (f r)))
 unfolding bind
 gathered_done part p f = bind_joined p (λ r. Done (f r)) (λ r. Done (put_behind part r))
@@ -46,7 +46,7 @@ pub made_then : {B : Type 0} {s : Settings} (part : Part) (p : Row Part) (f : Pa
     → Fulfils is_memory s (gathered part p >>= f) c d old new r → Fulfils is_memory s (p >>= (λ more. f (appended part more))) c d old new r
 made_then {s = s} part p f {c = c} {d = d} {old = old} {new = new} {r = r} made = subst (λ q. Fulfils is_memory s q c d old new r) (gathered_then part p f) made
 
--- one part, and then what another row gave
+-- one part, followed by the result of another row
 abbrev both_then : Part → Result Part SigstoreError → Row Part
 both_then one r = unless_refused (λ rest. Done (Ok (appended one rest))) r
 
@@ -60,6 +60,6 @@ unfolding bind
 both_each part q (Ok one) = bind_joined q (both_then one) (λ r. Done (put_behind part r)) ∙ bind_same q _ _ (last_each part one)
 both_each part q (Err e) = refl
 
--- two rows behind the part that is there: the first one, and behind what that gives the second one
+-- two rows appended to the given part: the first, then the second
 pub gathered_both : (part : Part) (p q : Row Part) → gathered part (p >>= λ one. q >>= λ rest. Done (Ok (appended one rest))) ≡ gathered part p >>= (λ more. gathered more q)
 gathered_both part p q = bind_joined p _ (λ r. Done (put_behind part r)) ∙ bind_same p _ _ (both_each part q) ∙ sym (gathered_then part p (λ more. gathered more q))

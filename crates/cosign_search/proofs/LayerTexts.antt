@@ -21,7 +21,7 @@ use Rattle.cosign_search.specs.declared.part.Used.{Used}
 use Rattle.cosign_rows.proofs.Descriptors.{at_next}
 use Rattle.cosign_rows.proofs.First.{first_at, none_at}
 
--- ---- digests of the layers' own
+-- ---- the layers' own digests
 
 as_many_own : (own : List OciDescriptor) (layers : List ImageLayer) → IsTrue (names_each own layers) → length own ≡ length layers
 as_many_own [] [] h = refl
@@ -29,11 +29,11 @@ as_many_own [] (layer ∷ layers) h = absurd (cc h)
 as_many_own (x ∷ xs) [] h = absurd (cc h)
 as_many_own (x ∷ xs) (layer ∷ layers) h = ap suc (as_many_own xs layers (and_parts (names x.digest layer.content) (names_each xs layers) h).1)
 
--- a place of a layer is one of its descriptor
+-- an index of a layer is one of its descriptor
 pub own_inside : (own : List OciDescriptor) (layers : List ImageLayer) (i : ℕ) → IsTrue (names_each own layers) → i < length layers → i < length own
 own_inside own layers i h lt = subst (λ n. i < n) (sym (as_many_own own layers h)) lt
 
--- each names the layer at its place
+-- each descriptor's digest names the layer at its index
 named_at : (own : List OciDescriptor) (layers : List ImageLayer) (i : ℕ) (d : OciDescriptor) (l : ImageLayer) → IsTrue (names_each own layers) → i < length layers → Names (get_or own i d).digest (get_or layers i l).content
 named_at [] [] i d l h lt = absurd (omega arith)
 named_at [] (layer ∷ layers) i d l h lt = absurd (cc h)
@@ -47,7 +47,7 @@ own_names own layers i d layer h lt is = subst (λ y. Names (get_or own i d).dig
 same_algorithm : (a b : Algorithm) → ◌≡◌ {A = Result Algorithm DigestError} (Ok a) (Ok b) → a ≡ b
 same_algorithm a b e = cc
 
--- one that begins with an algorithm is the content's text by that one
+-- a digest that begins with an algorithm is the content's text by that algorithm
 pub own_text : (a : Algorithm) (digest content : List ℕ) → Names digest content → Begins (name_of a) digest → digest ≡ digest_text a content
 own_text a digest content it begins =
     let same = same_algorithm it.0 a (sym (ap named_algorithm it.1 ∙ algorithm_named it.0 _) ∙ ap named_algorithm begins.1 ∙ algorithm_named a begins.0) in
@@ -66,12 +66,12 @@ digests_next used xs i x p q all lt is more rest =
 pub digests_end : (used : Used) (xs : List ImageLayer) (p all : List LayerDigests) → xs ≡ [] → p ++ map (layer_digests used) xs ≡ all → p ≡ all
 digests_end used xs p all none rest = sym (append-nil p) ∙ ap (λ ys. p ++ map (layer_digests used) ys) (sym none) ∙ rest
 
--- ---- what they tell
+-- ---- what the texts determine
 
 same_or : {a b c d e f : Bool} → a ≡ d → b ≡ e → c ≡ f → (a || b || c) ≡ (d || e || f)
 same_or p q r = rw (p, q, r) refl
 
--- one algorithm: used, or no text begins so
+-- one algorithm: used, or no text begins with it
 by_one : (a : Algorithm) (b : Bool) (digest : List ℕ) (layer : ImageLayer) → (b ≡ false → BeginsOtherwise (name_of a) digest) → is_text digest (text_by a b layer) ≡ names_by a digest layer.content
 by_one a true digest layer other = refl
 by_one a false digest layer other = by_test (names_by a digest layer.content) refl where
@@ -100,13 +100,13 @@ all_served used xs a b c k d lt = (λ is. a is k d lt, λ is. b is k d lt, λ is
 pub none_begins : (name : List ℕ) (xs : List OciDescriptor) → ((k : ℕ) (d : OciDescriptor) → k < length xs → BeginsOtherwise name (get_or xs k d).digest) → All (λ x. BeginsOtherwise name x.digest) xs
 none_begins name xs none = none
 
--- one descriptor of those whose layers are told
+-- one descriptor of those whose layers are determined
 pub tells_at : (texts : List LayerDigests) (layers : List ImageLayer) (xs : List OciDescriptor) (i : ℕ) (x : OciDescriptor) → All (λ x. Tell texts layers x.digest) xs → i < length xs → x ≡ get_or xs i x → Tell texts layers x.digest
 tells_at texts layers xs i x all lt is = subst (λ y. Tell texts layers y.digest) (sym is) (all i x lt)
 
 -- ---- the layer that a digest names
 
--- the place of the first among truth values
+-- the index of the first true `bool`
 place_in : {X : Type 0} (p : X → Bool) (xs : List X) → position_or_len p xs ≡ position_or_len (λ (b : Bool). b) (map p xs)
 place_in p [] = refl
 place_in p (x ∷ xs) = ap (λ n. cond (not (p x)) (1 + n) 0) (place_in p xs)
@@ -118,11 +118,11 @@ as_many f (x ∷ xs) = ap suc (as_many f xs)
 position_in : {X : Type 0} (p : X → Bool) (xs : List X) → position p xs ≡ position (λ (b : Bool). b) (map p xs)
 position_in p xs = ap (λ n. cond (nat_lt n (length xs)) (Some n) None) (place_in p xs) ∙ ap (λ m. cond (nat_lt (position_or_len (λ (b : Bool). b) (map p xs)) m) (Some (position_or_len (λ (b : Bool). b) (map p xs))) None) (sym (as_many p xs))
 
--- the layer stands where its texts do
+-- the layer is at the index of its texts
 same_place : (digest : List ℕ) (texts : List LayerDigests) (layers : List ImageLayer) → Tell texts layers digest → position (λ layer. names digest layer.content) layers ≡ position (is_among digest) texts
 same_place digest texts layers tell = position_in (λ layer. names digest layer.content) layers ∙ ap (position (λ (b : Bool). b)) (sym tell) ∙ sym (position_in (is_among digest) texts)
 
--- the layer at the first place whose texts have the digest is the first that the digest names
+-- the layer at the first index whose texts have the digest is the first that the digest names
 pub named_there : (digest : List ℕ) (texts : List LayerDigests) (layers : List ImageLayer) (place : ℕ) → Tell texts layers digest → position (is_among digest) texts ≡ Some place → named_layer digest layers ≡ slice_get layers place
 named_there digest texts layers place tell is = first_at (λ layer. names digest layer.content) layers place (same_place digest texts layers tell ∙ is)
 

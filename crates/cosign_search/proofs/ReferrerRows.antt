@@ -1,4 +1,4 @@
--- The referrers of a digest, one after another, behind the part that is there.
+-- The referrers of a digest, one after another, appended to the given part.
 use Rattle.std.proofs.Common.{◌≡◌, ◌<◌, ℕ, ◌+◌, List, [], None, Result, Ok, sym, subst, length, drop, get_or}
 use Rattle.oci_transport.specs.Link.{Link}
 use Rattle.oci_names.specs.declared.reference.Reference.{Reference}
@@ -29,7 +29,7 @@ unfolding referrers_row
 referrers_next {t} trust d s source a xs i x part {c} {e} {old} {new} {r} lt is rest =
     rw (at_next xs i x lt is) (subst (λ p. Fulfils is_memory t p c e old new r) (sym (gathered_both part (referrer_row trust d s source a x.digest) (referrers_row trust d s source a (drop (i + 1) xs)))) rest)
 
--- the listing, and what is then gathered of it
+-- the listing, and what is then gathered from it
 pub referrers_listed : {t : Settings} (trust : Trust) (d : List ℕ) (s : Context) (source : Reference) (a : RegistryAuth) (part : Part) {c e : Client} {old new : Link} {r : Result Part SigstoreError}
     → Fulfils is_memory t (bind (referrers_call s source a None) (λ listed. gathered part (listed_row trust d s source a listed))) c e old new r → Fulfils is_memory t (gathered part (referrers_source trust d s source a)) c e old new r
 unfolding referrers_source

@@ -1,4 +1,4 @@
--- What a source gives, behind the part that is there.
+-- The result of a source, appended to a given part.
 use Rattle.std.specs.Prelude.{Result, Ok, Err}
 use Rattle.oci_protocol.specs.Proto.{Done, bind}
 use Rattle.sig_calls.specs.declared.error.SigstoreError.{SigstoreError}
@@ -6,11 +6,11 @@ use Rattle.sig_calls.specs.Clients.{Row}
 use Rattle.cosign_rows.specs.Part.{appended}
 use Rattle.cosign_rows.specs.declared.found.Part.{Part}
 
--- an answer goes behind the part that is there
+-- a result is appended to the given part
 abbrev pub put_behind : Part → Result Part SigstoreError → Result Part SigstoreError
 put_behind part (Ok more) = Ok (appended part more)
 put_behind part (Err e) = Err e
 
--- so does what a row answers
+-- so is the result of a row
 abbrev pub gathered : Part → Row Part → Row Part
 gathered part row = bind row (λ r. Done (put_behind part r))

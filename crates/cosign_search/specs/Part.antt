@@ -1,5 +1,5 @@
--- How the layer that a digest names is found by texts, so that a layer is hashed once by each algorithm that is used
--- and is not that of its own digest.
+-- How the layer that a digest names is found by texts, so that a layer is hashed once by each algorithm that is used,
+-- and not by the algorithm of its own digest.
 use Rattle.std.specs.Prelude.{◌≡◌, ℕ, Bool, true, false, List, ◌++◌, ◌||◌, bytes_eq, map, Option, Some, None}
 use Rattle.oci_digests.specs.Names.{digest_text, name_of, names}
 use Rattle.oci_digests.specs.declared.digester.Algorithm.{Algorithm}
@@ -8,11 +8,11 @@ use Rattle.oci_manifests.specs.declared.blob.ImageLayer.{ImageLayer}
 use Rattle.cosign_search.specs.declared.part.LayerDigests.{LayerDigests}
 use Rattle.cosign_search.specs.declared.part.Used.{Used}
 
--- the digest begins so
+-- the digest begins with this name
 abbrev pub Begins : List ℕ → List ℕ → Type 0
 Begins name digest = (rest : List ℕ) × (digest ≡ name ++ rest)
 
--- the digest does not begin so
+-- the digest does not begin with this name
 abbrev pub BeginsOtherwise : List ℕ → List ℕ → Type 0
 BeginsOtherwise name digest = (rest : List ℕ) → digest ≡ name ++ rest → ⊥
 
@@ -23,7 +23,7 @@ Serves used digest =
     × (used.sha384 ≡ false → BeginsOtherwise (name_of algorithms.Sha384) digest)
     × (used.sha512 ≡ false → BeginsOtherwise (name_of algorithms.Sha512) digest)
 
--- the digest text of a pulled layer, where the algorithm is used
+-- the digest text of a pulled layer, if the algorithm is used
 abbrev pub text_by : Algorithm → Bool → ImageLayer → Option (List ℕ)
 text_by a true layer = Some (digest_text a layer.content)
 text_by a false layer = None
@@ -45,6 +45,6 @@ is_text digest (Some own) = bytes_eq digest own
 abbrev pub is_among : List ℕ → LayerDigests → Bool
 is_among digest own = is_text digest own.sha256 || is_text digest own.sha384 || is_text digest own.sha512
 
--- the texts of the layers tell which of them the digest names
+-- the texts of the layers determine which of them the digest names
 abbrev pub Tell : List LayerDigests → List ImageLayer → List ℕ → Type 0
 Tell texts layers digest = map (is_among digest) texts ≡ map (λ layer. names digest layer.content) layers

@@ -1,4 +1,4 @@
-//! What the bundles of a referrer give.
+//! The bundles of a referrer as parts.
 ghost use Rattle.std.specs.Prelude.{◌≡◌, IfOk};
 ghost use Rattle.cosign_layers.specs.Checks.{input, layer_read};
 ghost use Rattle.cosign_layers.specs.Trust.{trust_of};
@@ -57,7 +57,7 @@ fn read_bundle<V: SignatureVerifier, O: Offline>(
     }
 }
 
-// A bundle, or why it was not read, behind what is there.
+// Appends a bundle, or why it was not read.
 fn add_bundle<V: SignatureVerifier, O: Offline>(
     alloc: Global,
     trusted: &Trusted<'_, V, O>,
@@ -85,7 +85,7 @@ fn add_bundle<V: SignatureVerifier, O: Offline>(
     }
 }
 
-/// What each bundle gives for the image of this digest, in their order, behind what is there.
+/// Appends the part of each bundle for the image of this digest, in order.
 #[tactic(auto, using(crate::proofs::BundleParts::bundles_next, crate::proofs::BundleParts::bundles_end))]
 pub(crate) fn add_bundles<V: SignatureVerifier, O: Offline>(
     alloc: Global,

@@ -1,4 +1,4 @@
-//! The search for signature layers: the tag, the referrers, and what their layers read as.
+//! The search for signature layers: the tag, the referrers, and how their layers are read.
 #![tactic(auto)]
 
 mod bundles;

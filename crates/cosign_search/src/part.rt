@@ -1,4 +1,4 @@
-//! What a source of signatures gives.
+//! The result of a source of signatures.
 ghost use Rattle.std.specs.Prelude.{◌≡◌, true, false, All, IfOk, IsTrue, map, option_copied};
 ghost use Rattle.std.specs.List.{position};
 ghost use Rattle.oci_digests.specs.Names.{Names, digest_text, name_of};
@@ -30,8 +30,8 @@ pub(crate) struct Used {
     pub sha512: bool,
 }
 
-/// The digest texts of a pulled layer by each algorithm that is used. By the algorithm of its own digest it is not
-/// hashed, and by another one once, however many descriptors there are.
+/// The digest texts of a pulled layer by each algorithm that is used. It is not hashed by the algorithm of its own
+/// digest, and once by any other, however many descriptors there are.
 #[derive(Drop)]
 pub(crate) struct LayerDigests {
     pub sha256: Option<Text>,
@@ -39,7 +39,7 @@ pub(crate) struct LayerDigests {
     pub sha512: Option<Text>,
 }
 
-/// A part that is one cause.
+/// Returns a part that is one cause.
 pub(crate) fn skipping(alloc: Global, cause: Skipped) -> Result<Part, AllocError>
     ensures { IfOk result (λ part. part ≡ skipping cause) }
 {
@@ -51,7 +51,7 @@ pub(crate) fn skipping(alloc: Global, cause: Skipped) -> Result<Part, AllocError
     })
 }
 
-/// What each descriptor under the signature tag gives for the image of this digest, in their order. The layers were
+/// Returns the parts of the descriptors under the signature tag for the image of this digest, in order. The layers were
 /// pulled by descriptors of their own.
 #[tactic(auto, using(cosign_rows::proofs::Descriptors::descriptors_rules))]
 pub(crate) fn descriptors_part<V: SignatureVerifier, O: Offline>(
@@ -78,7 +78,7 @@ pub(crate) fn descriptors_part<V: SignatureVerifier, O: Offline>(
     Ok(part)
 }
 
-// Digest texts of each layer, which tell for each descriptor which layer it names.
+// Digest texts of each layer, which determine for each descriptor which layer it names.
 #[tactic(auto, using(crate::proofs::LayerTexts::all_tell))]
 fn all_digests(
     alloc: Global,
@@ -105,7 +105,7 @@ fn used_algorithms(descriptors: &[OciDescriptor]) -> Used
     }
 }
 
-// Whether the digest of a descriptor begins so.
+// Whether the digest of a descriptor begins with this name.
 #[tactic(auto, using(crate::proofs::LayerTexts::none_begins))]
 fn is_used(name: &str, descriptors: &[OciDescriptor]) -> bool
     ensures { result ≡ false → All (λ x. BeginsOtherwise name.now x.digest) descriptors.now }
@@ -180,7 +180,7 @@ fn text_by(
     Ok(Some(text))
 }
 
-// The digest itself, where it is by this algorithm.
+// The digest itself, if it is by this algorithm.
 #[tactic(auto, using(crate::proofs::LayerTexts::own_text))]
 fn layer_text(
     alloc: Global,
@@ -226,7 +226,7 @@ fn named_layer<'a>(
     Some(layer)
 }
 
-// The place of the first texts that have the digest.
+// The index of the first layer whose texts have the digest.
 #[tactic(auto, using(cosign_rows::proofs::First::first_place, cosign_rows::proofs::First::no_place))]
 fn place_among(digest: &str, digests: &[LayerDigests]) -> Option<usize>
     ensures { result ≡ position (is_among digest.now) digests.now }
@@ -254,7 +254,7 @@ fn is_text(own: &Option<Text>, digest: &str) -> bool
     }
 }
 
-// A descriptor's layer, or why there is none, behind what is there.
+// Appends a descriptor's layer, or why there is none.
 fn add_descriptor<V: SignatureVerifier, O: Offline>(
     alloc: Global,
     trusted: &Trusted<'_, V, O>,

@@ -53,7 +53,7 @@ fn pull_bundles<C: ClientCapabilities, T: Transport>(
     )
 }
 
-// One cause more.
+// Appends one cause.
 fn add_skipped(mut part: Part, cause: Skipped) -> Result<Part, AllocError>
     ensures { IfOk result (λ more. more ≡ appended part (skipping cause)) }
 {
@@ -61,7 +61,7 @@ fn add_skipped(mut part: Part, cause: Skipped) -> Result<Part, AllocError>
     Ok(part)
 }
 
-// The bundles of a referrer that was pulled, behind what is there.
+// Appends the bundles of a referrer that was pulled.
 fn add_pulled<V: SignatureVerifier, O: Offline>(
     alloc: Global,
     trusted: &Trusted<'_, V, O>,
@@ -76,7 +76,7 @@ fn add_pulled<V: SignatureVerifier, O: Offline>(
     add_bundles(alloc, trusted, source, layers, part)
 }
 
-// A referrer that was not pulled is skipped, behind what is there.
+// Records a referrer that was not pulled as skipped.
 fn skip_referrer(
     alloc: Global,
     digest: &str,
@@ -94,7 +94,7 @@ fn skip_referrer(
     Ok(part)
 }
 
-// The bundles of a referrer, or why it was not pulled, behind what is there.
+// Appends the bundles of a referrer, or why it was not pulled.
 fn add_referrer<V: SignatureVerifier, O: Offline>(
     alloc: Global,
     trusted: &Trusted<'_, V, O>,
@@ -115,7 +115,7 @@ fn add_referrer<V: SignatureVerifier, O: Offline>(
     }
 }
 
-// A referrer by its reference, where that reads back, behind what is there.
+// Appends a referrer by its reference, if that round-trips.
 fn referrer_by<C: ClientCapabilities, T: Transport, V: SignatureVerifier, O: Offline>(
     alloc: Global,
     client: &mut C,
@@ -150,7 +150,7 @@ fn referrer_by<C: ClientCapabilities, T: Transport, V: SignatureVerifier, O: Off
     Ok(part)
 }
 
-// A referrer by its digest, in the repository of what it refers to, behind what is there.
+// Appends a referrer by its digest, in the repository of the digest that it refers to.
 fn referrer<C: ClientCapabilities, T: Transport, V: SignatureVerifier, O: Offline>(
     alloc: Global,
     client: &mut C,
@@ -173,7 +173,7 @@ fn referrer<C: ClientCapabilities, T: Transport, V: SignatureVerifier, O: Offlin
     referrer_by(alloc, client, transport, &asked, referred, digest, part)
 }
 
-// Each referrer, in their order, behind what is there.
+// Appends each referrer, in order.
 fn each_referrer<C: ClientCapabilities, T: Transport, V: SignatureVerifier, O: Offline>(
     alloc: Global,
     client: &mut C,
@@ -200,7 +200,7 @@ fn each_referrer<C: ClientCapabilities, T: Transport, V: SignatureVerifier, O: O
     Ok(part)
 }
 
-// A refused listing is skipped, behind what is there.
+// Records a refused listing as skipped.
 fn skip_listing(part: Part, refused: SigstoreError) -> Result<Part, SigstoreError>
     ensures { Says result (put_behind part (or_skipped (Source Referrers) (Err refused))) }
 {
@@ -212,7 +212,7 @@ fn skip_listing(part: Part, refused: SigstoreError) -> Result<Part, SigstoreErro
     Ok(part)
 }
 
-/// What refers to a digest as a source of signatures, behind what is there.
+/// Appends the referrers of a digest as a source of signatures.
 pub(crate) fn referrers_source<
     C: ClientCapabilities,
     T: Transport,

@@ -40,7 +40,7 @@ fn pulled_by(image: &ImageData) -> &[OciDescriptor]
     }
 }
 
-// What the document under the tag and the layers of its image give.
+// The part of the document under the tag with its image's layers.
 fn document_part<V: SignatureVerifier, O: Offline>(
     alloc: Global,
     trusted: &Trusted<'_, V, O>,
@@ -68,7 +68,7 @@ fn document_part<V: SignatureVerifier, O: Offline>(
     }
 }
 
-// The same, where the image was pulled.
+// The same, if the image was pulled.
 fn pulled_part<V: SignatureVerifier, O: Offline>(
     alloc: Global,
     trusted: &Trusted<'_, V, O>,
@@ -140,7 +140,7 @@ fn or_skipped(
     }
 }
 
-// The signature tag of a digest as a source, where its reference reads back.
+// The signature tag of a digest as a source, if its reference round-trips.
 fn tag_by<C: ClientCapabilities, T: Transport, V: SignatureVerifier, O: Offline>(
     alloc: Global,
     client: &mut C,
@@ -186,7 +186,7 @@ fn tag_source<C: ClientCapabilities, T: Transport, V: SignatureVerifier, O: Offl
     tag_by(alloc, client, transport, &of_tag, trusted, digest)
 }
 
-/// The digest of an image, and what the search for its signatures found.
+/// Returns the digest of an image, and what the search for its signatures found.
 pub fn search<C: ClientCapabilities, T: Transport, V: SignatureVerifier, O: Offline>(
     alloc: Global,
     client: &mut C,

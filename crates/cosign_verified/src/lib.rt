@@ -1,4 +1,4 @@
-//! The pull of an image only where a trusted signature stands for it, by any client of registries.
+//! The pull of an image only if a trusted signature stands for it, with any client of registries.
 #![tactic(auto)]
 
 mod verified;

@@ -1,4 +1,4 @@
-//! The whole pull, whatever the client.
+//! The whole pull, with any client.
 ghost use Rattle.std.specs.Prelude.{◌≡◌, true, false, Err, IfOk, IsTrue, find};
 ghost use Rattle.engine_terms.specs.Contexts.{within};
 ghost use Rattle.engine_terms.specs.declared.settings.Settings.{Settings};
@@ -28,7 +28,7 @@ use sig_calls::{ClientCapabilities, SigstoreError};
 use sig_settings::Auth;
 use std::alloc::{AllocError, Global};
 
-// The first layer that stands.
+// The first layer that satisfies the policy.
 #[tactic(auto, using(cosign_rows::proofs::First::first_at, cosign_rows::proofs::First::none_at))]
 fn first_signature<V: SignatureVerifier>(
     alloc: Global,
@@ -48,7 +48,7 @@ fn first_signature<V: SignatureVerifier>(
     }
 }
 
-// The digest with its layer, where one stands.
+// The digest with its layer, if one satisfies the policy.
 fn standing_by(found: TrustedLayers, first: Option<SignatureLayer>) -> Result<Standing, PullRefusal>
     ensures { result ≡ standing_by found first }
 {
@@ -77,7 +77,7 @@ fn manifest_digests(digest: Text, entry: Option<Text>) -> (Text, Option<Text>)
     }
 }
 
-// The image of the digest, with the signature layer that stands for it. The digest's copy was made before.
+// The image of the digest, with the signature layer that stands for it. `digest` is a copy that was made before.
 fn verified_image(standing: Standing, pulled: Pulled, digest: Text) -> VerifiedImage
     requires { digest ≡ standing.digest }
     ensures { result ≡ verified_image standing pulled }
@@ -126,7 +126,7 @@ fn stood_image(
     }
 }
 
-// The reference of the digest in the image's repository, and the digest once more.
+// The reference of the digest in the image's repository, and a copy of the digest.
 fn named_source(
     alloc: Global,
     image: &Reference,
@@ -140,7 +140,7 @@ fn named_source(
     Ok((source, copy))
 }
 
-// The image of a digest for which a layer stands.
+// The image of a digest that a layer stands for.
 fn pull_stood<C: ClientCapabilities, T: Transport>(
     alloc: Global,
     client: &mut C,
@@ -159,7 +159,7 @@ fn pull_stood<C: ClientCapabilities, T: Transport>(
     stood_image(standing, digest, pulled)
 }
 
-// The image for which a layer stands.
+// The image that a layer stands for.
 fn pull_standing<C: ClientCapabilities, T: Transport, V: SignatureVerifier, O: Offline>(
     alloc: Global,
     client: &mut C,
@@ -179,7 +179,7 @@ fn pull_standing<C: ClientCapabilities, T: Transport, V: SignatureVerifier, O: O
     pull_stood(alloc, client, transport, asked, terms.accepted, standing)
 }
 
-// A policy without a constraint is refused.
+// Refuses a policy without a constraint.
 fn constrained(policy: &PullPolicy) -> Result<(), PullRefusal>
     ensures { result ≡ constrained (is_unconstrained policy.now) }
 {
@@ -189,7 +189,7 @@ fn constrained(policy: &PullPolicy) -> Result<(), PullRefusal>
     Ok(())
 }
 
-// A reference that does not read back is refused.
+// Refuses a reference that does not round-trip.
 fn readable(alloc: Global, image: &Reference) -> Result<(), PullRefusal>
     ensures { Says result (readable image.now) }
 {
@@ -201,8 +201,8 @@ fn readable(alloc: Global, image: &Reference) -> Result<(), PullRefusal>
     Err(PullRefusal::OciReferenceNotValidError { reference })
 }
 
-/// Pulls an image only where a layer stands for the digest that is answered for it. A policy without a constraint is
-/// refused before memory is taken.
+/// Pulls an image only if a layer stands for the digest that is returned for it. A policy without a constraint is
+/// refused before memory is allocated.
 pub fn pull_verified<C: ClientCapabilities, T: Transport, V: SignatureVerifier, O: Offline>(
     alloc: Global,
     client: &mut C,

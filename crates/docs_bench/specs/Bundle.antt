@@ -15,7 +15,7 @@ abbrev pub signature_in : Result SignatureLayer LayerRejection → Option (List 
 signature_in (Ok layer) = Some layer.signature
 signature_in (Err rejection) = None
 
--- the signature of the layer that the bytes say, where nobody is trusted
+-- the signature of the layer in the bytes, without any trust
 abbrev pub bundle_signature : List ℕ → Option (List ℕ)
 bundle_signature content =
     signature_in (layer_read (trust (valid_in (record { rows = [] })) (λ evidence. None) empty)

@@ -11,10 +11,10 @@ use json_values::{Annotations, Blob, List};
 use oci_digests::sha256_digest;
 use std::alloc::{AllocError, Global};
 
-/// The image that the bundles which are timed are about: the text `hello world`.
+/// The image that the timed bundles are about: the text `hello world`.
 const SOURCE: &str = "sha256:b94d27b9934d3e08a52e52d7da7dabfac484efe37a5380ee9088f7ace2efcde9";
 
-/// The signature of the bundle that the bytes say; none where they say none about this image.
+/// Returns the signature of the bundle in the bytes; `None` if they are not a bundle about this image.
 pub fn bundle_signature(alloc: Global, content: &Blob) -> Result<Option<Blob>, AllocError>
     ensures { IfOk result (λ found. found ≡ bundle_signature content.now) }
 {
@@ -37,7 +37,7 @@ pub fn bundle_signature(alloc: Global, content: &Blob) -> Result<Option<Blob>, A
     signature_in(alloc, &read)
 }
 
-// The signature of the layer that was read, or of none, unless memory was wanting.
+// The signature of the layer that was read, or `None`, unless memory ran out.
 fn signature_in(
     alloc: Global,
     read: &Result<SignatureLayer, LayerRejection>,

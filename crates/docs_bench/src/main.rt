@@ -1,8 +1,8 @@
-//! Reads a manifest from standard input and writes it back: by its table (`documents`), or as plain JSON (`json`). Or
+//! Reads a manifest from standard input and writes it again: by its table (`documents`), or as plain JSON (`json`). Or
 //! reads a bundle, and writes its signature (`bundle`).
 //!
-//! It ends with 2 for other words, with 3 where the input is no manifest, no JSON or no bundle, with 4 and 5 where it
-//! could not be read or written, and with 6 where memory was wanting.
+//! The exit status is 2 for other arguments, 3 if the input is not a manifest, JSON or a bundle, 4 if it could not be
+//! read, 5 if the output could not be written, and 6 if memory ran out.
 #![tactic(auto)]
 
 mod bundle;
@@ -24,7 +24,7 @@ enum Way {
     Bundle,
 }
 
-// The way that the first word names.
+// The way that the first argument names.
 fn first_word<R: Env + Alloc>(rt: &R) -> io::Result<Option<Way>> {
     let Some(word) = env::args(rt)?.nth(1) else {
         return Ok(None);

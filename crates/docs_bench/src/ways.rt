@@ -10,7 +10,7 @@ use oci_docs::OciImageManifest;
 use serde_json::Value;
 use std::alloc::{AllocError, Global};
 
-/// The text of the JSON that the bytes say; none where they say none.
+/// Returns the text of the JSON in the bytes; `None` if they are not JSON.
 pub fn json_again(alloc: Global, bytes: &[u8]) -> Result<Option<Blob>, AllocError>
     ensures { IfOk result (λ found. PrintsJson bytes.now found) }
 {
@@ -21,7 +21,7 @@ pub fn json_again(alloc: Global, bytes: &[u8]) -> Result<Option<Blob>, AllocErro
     Ok(Some(text))
 }
 
-/// The text of the manifest that they say; none where they say none.
+/// Returns the text of the manifest in the bytes; `None` if they are not a manifest.
 pub fn manifest_again(alloc: Global, bytes: &[u8]) -> Result<Option<Blob>, AllocError>
     ensures { IfOk result (λ found. found ≡ manifest_again bytes.now) }
 {

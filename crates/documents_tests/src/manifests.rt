@@ -1,4 +1,4 @@
-// Manifests, indexes, errors, listings and the text that is pushed.
+// Manifests, indexes, errors, listings and the text of a pushed manifest.
 use json_values::{Blob, Copied, Text, ToValue};
 use oci_docs::blob::Config;
 use oci_docs::{
@@ -9,7 +9,7 @@ use oci_docs::{
 use std::alloc::{AllocError, Global};
 use test_answers::{holds, is_written, json};
 
-// An image of the configuration `{}` and of the one layer `hello world`.
+// An image with the configuration `{}` and with `hello world` as its only layer.
 const IMAGE: &str =
     "{\"schemaVersion\":2,\"mediaType\":\"application/vnd.oci.image.manifest.v1+json\",\
         \"config\":{\"mediaType\":\"application/vnd.oci.image.config.v1+json\",\
@@ -17,7 +17,7 @@ const IMAGE: &str =
         \"layers\":[{\"mediaType\":\"application/vnd.oci.image.layer.v1.tar\",\
         \"digest\":\"sha256:b94d27b9934d3e08a52e52d7da7dabfac484efe37a5380ee9088f7ace2efcde9\",\"size\":11}]}";
 
-// Its text: no white space, and the names in order.
+// Its text: without white space, names in order.
 const IMAGE_TEXT: &str =
     "{\"config\":{\"digest\":\"sha256:44136fa355b3678a1146ad16f7e8649e94fb4fc21fe77e8310c060f61caaff8a\",\
         \"mediaType\":\"application/vnd.oci.image.config.v1+json\",\"size\":2},\
@@ -25,7 +25,7 @@ const IMAGE_TEXT: &str =
         \"mediaType\":\"application/vnd.oci.image.layer.v1.tar\",\"size\":11}],\
         \"mediaType\":\"application/vnd.oci.image.manifest.v1+json\",\"schemaVersion\":2}";
 
-// The example of the OCI image specification, image-index.md, its names in order.
+// The example of the OCI image specification, image-index.md, with its names in order.
 const INDEX: &str =
     "{\"annotations\":{\"com.example.key1\":\"value1\",\"com.example.key2\":\"value2\"},\
         \"manifests\":[{\"digest\":\"sha256:e692418e4cbaf90ca69d05a66403747baa33ee08806650b51fab815ad7fc331f\",\

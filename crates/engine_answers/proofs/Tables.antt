@@ -22,7 +22,7 @@ by_one body None (Some i) document is = cc
 by_one body (Some m) (Some i) document is = cc
 by_one body None None document is = cc
 
--- one table reads it
+-- one table matches it
 pub read_once : (body : List ℕ) (d : Data) (document : OciManifest) → has_float d ≡ false → document_of d ≡ Some document → tables_read body (plain_of (Some d)) ≡ Ok document
 unfolding document_of
 read_once body d document whole is = rw (plain d whole) (by_one body (manifest_of d) (index_of d) document is)
@@ -42,7 +42,7 @@ pub read_by_none : (body : List ℕ) (d : Data) → has_float d ≡ false → ma
 unfolding document_of
 read_by_none body d whole a b = rw (plain d whole, a, b) refl
 
--- a float stands in it
+-- it contains a float
 pub read_with_float : (body : List ℕ) (d : Data) → has_float d ≡ true → tables_read body (plain_of (Some d)) ≡ Err (refusal.ManifestParsingError body)
 read_with_float body d is = rw is refl
 

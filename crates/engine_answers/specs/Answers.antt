@@ -1,4 +1,4 @@
--- What is made of a whole answer (OCI distribution specification, "Error Codes", "Pulling manifests").
+-- How a whole response is interpreted (OCI distribution specification, "Error Codes", "Pulling manifests").
 use Rattle.std.specs.Prelude.{ℕ, Bool, List, Option, Some, None, Result, Ok, Err, if◌then◌else◌, nat_eq}
 use Rattle.std.specs.Prelude.{nat_le, nat_lt, ◌&&◌, not, bytes_eq, option_and_then}
 use Rattle.json_values.specs.JsonText.{plain_json_of}
@@ -20,14 +20,14 @@ use Rattle.engine_terms.specs.Error.{◌>>=◌}
 abbrev pub is_success : ℕ → Bool
 is_success status = nat_le 200 status && nat_lt status 300
 
--- of the client or of the server
+-- an error of the client or of the server
 abbrev pub is_error : ℕ → Bool
 is_error status = nat_le 400 status && nat_lt status 600
 
 abbrev pub is_client_error : ℕ → Bool
 is_client_error status = nat_le 400 status && nat_lt status 500
 
--- the registry's own list of errors, where the body is one
+-- the registry's own list of errors, if the body is one
 abbrev pub envelope_in : List ℕ → Option OciEnvelope
 envelope_in body = option_and_then envelope_of (plain_json_of body)
 
@@ -35,7 +35,7 @@ abbrev pub by_envelope : List ℕ → Answer → Option OciEnvelope → OciDistr
 by_envelope url answer (Some envelope) = refusal.RegistryError envelope url
 by_envelope url answer None = refusal.ServerError answer.status url answer.body
 
--- why an answer is refused that has another status than was expected
+-- why a response is refused that has another status than expected
 abbrev pub refused_answer : ℕ → List ℕ → Answer → OciDistributionError
 refused_answer expected url answer =
     if nat_eq answer.status 401 then refusal.UnauthorizedError url
@@ -43,7 +43,7 @@ refused_answer expected url answer =
     else (if is_client_error answer.status then by_envelope url answer (envelope_in answer.body)
     else refusal.ServerError answer.status url answer.body))
 
--- the answer rule: an answer of the status that was expected, and no other
+-- the response, if it has the expected status
 abbrev pub accepted : ℕ → List ℕ → Answer → Result Answer OciDistributionError
 accepted expected url answer =
     if nat_eq answer.status expected then Ok answer else Err (refused_answer expected url answer)
@@ -52,19 +52,19 @@ abbrev pub or_digest_error : {A : Type 0} → Result A DigestError → Result A 
 or_digest_error (Ok a) = Ok a
 or_digest_error (Err e) = Err (refusal.DigestError e)
 
--- the digest that the header names, where it names one
+-- the digest that the header names, if it names one
 abbrev pub header_digest : Fields → Result (Option (List ℕ)) OciDistributionError
 header_digest headers = or_digest_error (digest_in (first_of digest_header headers))
 
--- the digest of a body, which every digest that is given names
+-- the digest of a body; every given digest must name the body
 abbrev pub body_digest : List ℕ → Option (List ℕ) → Option (List ℕ) → Result (List ℕ) OciDistributionError
 body_digest body header reference = or_digest_error (validated body header reference)
 
--- the digest of an answer's body: the header's, else the reference's, else the one by SHA-256
+-- the digest of a response's body: the header's, else the reference's, else the one by SHA-256
 abbrev pub answer_digest : Reference → Answer → Result (List ℕ) OciDistributionError
 answer_digest image answer = header_digest answer.headers >>= λ header. body_digest answer.body header (digest_of image)
 
--- the document rule: the body of an accepted answer, with its digest
+-- the body of an accepted response, with its digest
 abbrev pub document_in : Reference → Got → Result (List ℕ × List ℕ) OciDistributionError
 document_in image got = accepted 200 got.url got.answer >>= λ answer. answer_digest image answer >>= λ digest. Ok
     (answer.body, digest)
@@ -75,7 +75,7 @@ agreed digest own (Some given) None = Err digest_refusal.MissingAlgorithm
 agreed digest own (Some given) (Some named) = if bytes_eq given.0 named.0 && not
     (bytes_eq digest own) then Err (digest_refusal.VerificationError own digest) else Ok digest
 
--- the digest that was answered, which may not be another one than the reference's of the same algorithm
+-- the digest that the registry returned, which must equal the reference's if that has the same algorithm
 abbrev pub fits_reference : List ℕ → Option (List ℕ) → Result (List ℕ) OciDistributionError
 fits_reference digest None = Ok digest
 fits_reference digest (Some own) = or_digest_error (agreed digest own (parts_of digest) (parts_of own))

@@ -1,4 +1,4 @@
--- How the answer to a blob's request is read (OCI distribution specification, "Pulling blobs").
+-- How the response to a blob's request is read (OCI distribution specification, "Pulling blobs").
 use Rattle.std.specs.Prelude.{ℕ, Bool, true, false, List, Option, Some, None, Result, Ok, Err, if◌then◌else◌, bytes_eq}
 use Rattle.oci_digests.specs.Names.{digest_text}
 use Rattle.oci_digests.specs.Checks.{header_digest as digest_in, and_then, named_algorithm}
@@ -19,7 +19,7 @@ use Rattle.engine_answers.specs.Answers.{is_success}
 abbrev pub digest_expected : List ℕ → Result Expected DigestError
 digest_expected text = and_then (named_algorithm text) (λ a. Ok (record { text = text; algorithm = a }))
 
--- the header's digest, where there is one
+-- the header's digest, if there is one
 abbrev pub given_expected : Option (List ℕ) → Result (Option Expected) DigestError
 given_expected None = Ok None
 given_expected (Some text) = and_then (digest_expected text) (λ x. Ok (Some x))
@@ -36,7 +36,7 @@ abbrev pub planned : Result Plan DigestError → Plan
 planned (Ok plan) = plan
 planned (Err e) = Refuse e
 
--- the header's digest is looked at, then the descriptor's, then the status
+-- the header's digest is checked, then the descriptor's, then the status
 abbrev pub plan_in : List ℕ → AnswerHead → Result Plan DigestError
 plan_in digest head = and_then (digest_in (first_of digest_header head.headers)) (plan_by
     (is_success head.status) digest)
@@ -44,7 +44,7 @@ plan_in digest head = and_then (digest_in (first_of digest_header head.headers))
 unfoldable pub plan_of : List ℕ → AnswerHead → Plan
 plan_of digest head = planned (plan_in digest head)
 
--- the digest has to be that of the body
+-- the digest must be that of the body
 abbrev pub compared : Expected → List ℕ → Result Unit OciDistributionError
 compared x body = if bytes_eq x.text (digest_text x.algorithm body) then Ok tt else Err (refusal.DigestError
     (VerificationError x.text (digest_text x.algorithm body)))
@@ -57,7 +57,7 @@ given_compared (Some x) body = compared x body
 abbrev pub both_compared : Option Expected → Expected → List ℕ → Result Unit OciDistributionError
 both_compared given own body = given_compared given body >> compared own body
 
--- the algorithm of the header's digest, where there is one
+-- the algorithm of the header's digest, if there is one
 abbrev pub given_algorithm : Option Expected → Option Algorithm
 given_algorithm None = None
 given_algorithm (Some x) = Some x.algorithm

@@ -1,4 +1,4 @@
--- How a document is read (OCI image specification, "Image Manifest", "Image Index").
+-- How a document is parsed (OCI image specification, "Image Manifest", "Image Index").
 use Rattle.std.specs.Prelude.{ℕ, pos, Bool, List, Option, Some, None, Result, Ok, Err, is_some, ◌&&◌}
 use Rattle.std.specs.Prelude.{if◌then◌else◌, option_and_then}
 use Rattle.std.specs.Ordering.{int_eq}
@@ -15,7 +15,7 @@ use Rattle.engine_terms.specs.declared.error.OciDistributionError.{OciDistributi
 use Rattle.engine_terms.specs.declared.error.OciDistributionError.TheVariants as refusal
 use Rattle.engine_terms.specs.Error.{◌>>◌}
 
--- data in which no float stands
+-- data without floats
 abbrev pub plain_of : Option Data → Option Data
 plain_of d = option_and_then (λ d. if is_plain d then Some d else None) d
 

@@ -13,13 +13,13 @@ use Rattle.engine_terms.specs.declared.error.OciDistributionError.TheVariants as
 use Rattle.oci_platforms.specs.Promise.{resolved, lists}
 use Rattle.oci_platforms.specs.declared.promise.ResolverPromise.{ResolverPromise}
 
--- the digest that was answered, which has to be an entry's
+-- the digest that the resolver returned, which must be an entry's
 abbrev pub entry_named : List ImageIndexEntry → Option (List ℕ) → Result (List ℕ) OciDistributionError
 entry_named entries None = Err (refusal.ImageManifestNotFoundError [])
 entry_named entries (Some digest) =
     if lists digest entries then Ok digest else Err (refusal.ImageManifestNotFoundError digest)
 
--- the digest of the entry that is meant
+-- the digest of the selected entry
 abbrev pub entry_found : Option ResolverPromise → List ImageIndexEntry → Result (List ℕ) OciDistributionError
 entry_found None entries = Err refusal.ImageIndexParsingNoPlatformResolverError
 entry_found (Some promise) entries = entry_named entries (resolved promise entries)

@@ -24,24 +24,24 @@ abbrev pub index_in : List ℕ → OciManifest → Result OciImageIndex OciDistr
 index_in body (ImageIndex index) = Ok index
 index_in body (Image manifest) = Err (refusal.ManifestParsingError body)
 
--- the index that the bytes are, which are no manifest
+-- the index that the bytes are, if they are not also a manifest
 abbrev pub index_read : List ℕ → Result OciImageIndex OciDistributionError
 index_read body = tables_read body (plain_of (json_of body)) >>= index_in body
 
--- the index in an answer of status 200
+-- the index in a response of status 200
 abbrev pub referrers_in : Got → Result OciImageIndex OciDistributionError
 referrers_in got = accepted 200 got.url got.answer >>= λ answer. index_read answer.body
 
 -- ---- the tag of registries without such a list
 
--- a dash in the place of each colon
+-- a dash replacing each colon
 abbrev pub dashed : ℕ → ℕ
 dashed c = if c == 58 then 45 else c
 
 abbrev pub referrers_tag : List ℕ → List ℕ
 referrers_tag digest = encode_utf8_all (map dashed (chars digest))
 
--- the tag at the registry that is asked for the image
+-- the tag at the registry that the image is requested from
 abbrev pub fallback_reference : Reference → List ℕ → Reference
 fallback_reference image digest = record {
   registry = resolved_registry image;
@@ -61,7 +61,7 @@ no_referrers = record {
   annotations = None;
 }
 
--- the registry says that there is no such tag
+-- the registry states that the tag does not exist
 abbrev pub is_absent : OciDistributionError → Bool
 is_absent (refusal.RegistryError envelope url) = true
 is_absent (refusal.ImageManifestNotFoundError digest) = true
@@ -75,7 +75,7 @@ is_type kind (Some own) = bytes_eq own kind
 abbrev pub is_of_type : List ℕ → ImageIndexEntry → Bool
 is_of_type kind entry = is_type kind entry.artifact_type
 
--- the entries of this type of artifacts, where one is asked for
+-- the entries of this artifact type, if one is requested
 abbrev pub restricted : Option (List ℕ) → OciImageIndex → OciImageIndex
 restricted None index = index
 restricted (Some kind) index = record index { manifests = filter (is_of_type kind) index.manifests }
@@ -84,7 +84,7 @@ abbrev pub tag_index : List ℕ → Option (List ℕ) → OciManifest → Result
 tag_index digest kind (ImageIndex index) = Ok (restricted kind index)
 tag_index digest kind (Image manifest) = Err (refusal.SpecViolationError (ReferrersTag (referrers_tag digest)))
 
--- what the answer to the tag's request comes to
+-- the index that the response to the tag's request results in
 abbrev pub tagged_index : List ℕ → Option (List ℕ) → Result (OciManifest × List ℕ) OciDistributionError
     → Result OciImageIndex OciDistributionError
 tagged_index digest kind (Ok found) = tag_index digest kind found.0

@@ -1,4 +1,4 @@
-// What is made of a whole answer.
+// Interprets a whole response.
 ghost use Rattle.std.specs.Prelude.{◌≡◌, IfOk, Result, Some, option_copied};
 ghost use Rattle.oci_digests.specs.Checks.{header_digest as digest_in};
 ghost use Rattle.oci_digests.specs.Error.{Says as DigestSays};
@@ -21,21 +21,21 @@ use oci_names::Reference;
 use oci_transport::{Answer, DIGEST_HEADER, Headers};
 use std::alloc::{AllocError, Global};
 
-/// A whole answer, and the URL that it came from.
+/// A whole response, and the URL that it came from.
 #[derive(Drop)]
 pub struct Got {
     pub url: Text,
     pub answer: Answer,
 }
 
-/// Whether the status is one of success.
+/// Returns whether the status is 2xx.
 pub fn is_success(status: u16) -> bool
     ensures { result ≡ is_success status }
 {
     200 <= status && status < 300
 }
 
-/// Whether the status is one of an error, the client's or the server's.
+/// Returns whether the status is 4xx or 5xx.
 pub fn is_error(status: u16) -> bool
     ensures { result ≡ is_error status }
 {
@@ -48,7 +48,7 @@ fn is_client_error(status: u16) -> bool
     400 <= status && status < 500
 }
 
-// The registry's own list of errors, where the body is one.
+// Parses the registry's own list of errors, if the body is one.
 fn envelope_in(alloc: Global, body: &Blob) -> Result<Option<OciEnvelope>, AllocError>
     ensures { IfOk result (λ envelope. envelope ≡ envelope_in body.now) }
 {
@@ -77,7 +77,7 @@ fn by_envelope(url: Text, answer: Answer, envelope: Option<OciEnvelope>) -> OciD
     }
 }
 
-/// Why an answer is refused that has another status than was expected.
+/// Returns why a response is refused that has another status than expected.
 pub fn refused_answer(alloc: Global, expected: u16, got: Got) -> OciDistributionError
     ensures { SaysError result (refused_answer expected got.url got.answer) }
 {
@@ -105,7 +105,7 @@ pub fn refused_answer(alloc: Global, expected: u16, got: Got) -> OciDistribution
     }
 }
 
-/// An answer of the status that is expected.
+/// Returns the response, if it has the expected status.
 pub fn accepted(alloc: Global, expected: u16, got: Got) -> Result<Answer, OciDistributionError>
     ensures { Says result (accepted expected got.url got.answer) }
 {
@@ -115,7 +115,7 @@ pub fn accepted(alloc: Global, expected: u16, got: Got) -> Result<Answer, OciDis
     Err(refused_answer(alloc, expected, got))
 }
 
-/// A refused digest, in the words of the client.
+/// Converts a digest error to the client's.
 pub fn of_digest<A: Drop>(checked: Result<A, DigestError>) -> Result<A, OciDistributionError>
     ensures { (said : Result A DigestError) → DigestSays checked said → Says result (or_digest_error said) }
 {
@@ -130,14 +130,14 @@ pub fn of_digest<A: Drop>(checked: Result<A, DigestError>) -> Result<A, OciDistr
     }
 }
 
-// The digest that the header names, where it names one.
+// Returns the digest that the header names, if it names one.
 pub(crate) fn header_in(alloc: Global, headers: &Headers) -> Result<Option<Text>, DigestError>
     ensures { DigestSays result (digest_in (first_of digest_header headers.now)) }
 {
     digest_header_value(alloc, headers.first(DIGEST_HEADER))
 }
 
-/// The digest that the header `docker-content-digest` names, where it names one.
+/// Returns the digest that the header `docker-content-digest` names, if it names one.
 pub fn header_digest(alloc: Global, headers: &Headers) -> Result<Option<Text>, OciDistributionError>
     ensures { Says result (header_digest headers.now) }
 {
@@ -158,7 +158,7 @@ fn body_digest(
     Ok(digest)
 }
 
-// The digest of an answer's body, which each digest that is given names.
+// Returns the digest of a response's body; each given digest must name the body.
 fn answer_digest(
     alloc: Global,
     image: &Reference,
@@ -171,7 +171,7 @@ fn answer_digest(
     body_digest(alloc, &answer.body, header, image.digest())
 }
 
-/// The body of an accepted answer, with its digest: each digest that is given has to name it.
+/// Returns the body of an accepted response, with its digest; each given digest must name the body.
 pub fn document_in(
     alloc: Global,
     image: &Reference,
@@ -199,7 +199,7 @@ fn agreed(alloc: Global, digest: Text, own: &str) -> Result<Text, DigestError>
     Ok(digest)
 }
 
-/// The digest that was answered, unless the reference has another one of the same algorithm.
+/// Returns the digest that the registry returned, unless the reference has another one of the same algorithm.
 pub fn fits_reference(
     alloc: Global,
     digest: Text,

@@ -1,4 +1,4 @@
-// How the answer to a blob's request is read.
+// Decides how the response to a blob's request is read.
 ghost use Rattle.std.specs.Prelude.{◌≡◌, List, ℕ, IfOk, []};
 ghost use Rattle.oci_digests.specs.Error.{Says as DigestSays};
 ghost use Rattle.oci_digests.specs.Names.{digest_text};
@@ -15,25 +15,25 @@ use oci_digests::{Algorithm, DigestError, Digesters, named_algorithm};
 use oci_transport::AnswerHead;
 use std::alloc::{AllocError, Global};
 
-/// A digest text that has to name the bytes, with its algorithm.
+/// A digest text that must name the bytes, with its algorithm.
 #[derive(Drop)]
 pub struct Expected {
     pub text: Text,
     pub algorithm: Algorithm,
 }
 
-/// How a blob's answer is read.
+/// How a blob's response is read.
 #[derive(Drop)]
 pub enum Plan {
     /// Not at all, for this cause.
     Refuse(DigestError),
     /// Whole, for the refusal of its status.
     Judge,
-    /// Piece by piece, against the digest of the header, where it names one, and against the descriptor's.
+    /// Piece by piece, against the digest of the header, if it names one, and against the descriptor's.
     Pour(Option<Expected>, Expected),
 }
 
-/// A digest text with its algorithm. Where it names none that is known, the error says so.
+/// Returns a digest text with its algorithm, or an error if it is malformed or its algorithm is unknown.
 pub fn digest_expected(alloc: Global, text: &str) -> Result<Expected, DigestError>
     ensures { DigestSays result (digest_expected text.now) }
 {
@@ -84,8 +84,8 @@ fn plan_in(alloc: Global, digest: &str, head: &AnswerHead) -> Result<Plan, Diges
     Ok(plan)
 }
 
-/// How the answer to a blob's request is read: the header's digest is looked at, then the descriptor's, then the
-/// status.
+/// Returns how the response to a blob's request is read: the header's digest is checked, then the descriptor's, then
+/// the status.
 #[tactic(auto, unfolding(crate::specs::Blobs::plan_of))]
 pub fn plan_of(alloc: Global, digest: &str, head: &AnswerHead) -> Result<Plan, AllocError>
     ensures { IfOk result (λ plan. plan ≡ plan_of digest.now head.now) }
@@ -110,14 +110,14 @@ fn given_algorithm(given: &Option<Expected>) -> Option<Algorithm>
     }
 }
 
-/// Digesters of the algorithms that are expected, given nothing yet.
+/// Returns digesters of the expected algorithms, with no input yet.
 pub fn digesters(given: &Option<Expected>, own: &Expected) -> Digesters
     ensures { BothHold result (given_algorithm given.now) own.now.algorithm [] }
 {
     Digesters::of(given_algorithm(given), own.algorithm)
 }
 
-// The digest of the bytes is the one that is expected.
+// Checks that the digest of the bytes is the expected one.
 fn compared(alloc: Global, actual: Text, expected: &Expected) -> Result<(), OciDistributionError>
     ensures { (m : List ℕ) → actual ≡ digest_text expected.now.algorithm m
         → Says result (compared expected.now m) }
@@ -149,7 +149,7 @@ fn given_compared(
     }
 }
 
-/// What the digesters were given has both digests.
+/// Checks that the input of the digesters has both digests.
 pub fn both_compared(
     alloc: Global,
     digesters: &mut Digesters,

@@ -1,4 +1,4 @@
-// How a document is read.
+// Parses documents.
 ghost use Rattle.std.specs.Prelude.{◌≡◌, IfOk, Some};
 ghost use Rattle.serde_json.specs.View.{view};
 ghost use Rattle.engine_terms.specs.Error.{Says};
@@ -11,7 +11,7 @@ use json_values::{Blob, Copied, Json, Text, read_json};
 use oci_manifests::{OciManifest, ReadError, Versioned, is_manifest_media_type};
 use std::alloc::{AllocError, Global};
 
-// The schema version and the media type, where the data has them.
+// Returns the schema version and the media type, if the data has them.
 fn versioned_in(alloc: Global, json: &Option<Json>) -> Result<Option<Versioned>, AllocError>
     ensures { IfOk result (λ versioned. versioned ≡ versioned_in json.now) }
 {
@@ -41,7 +41,7 @@ fn type_checked(kind: Option<Text>) -> Result<(), OciDistributionError>
     }
 }
 
-// Schema version 2, and no media type or one of manifests and indexes.
+// Checks for schema version 2, and no media type or one of manifests and indexes.
 fn version_checked(
     alloc: Global,
     body: &Blob,
@@ -63,7 +63,7 @@ fn version_checked(
     }
 }
 
-// A manifest or an index, and not both.
+// Parses a manifest or an index; a document that parses as both is refused.
 #[tactic(auto, using(crate::proofs::Tables::read_outcomes))]
 pub(crate) fn tables_read(
     alloc: Global,
@@ -107,8 +107,8 @@ fn document_from(
     Ok(document)
 }
 
-/// The manifest or index that the bytes are: a document of schema version 2, of no media type or one of the four of
-/// manifests and indexes, which reads as one of the two and not as both.
+/// Parses a manifest or index: a document of schema version 2, of no media type or one of the four of manifests and
+/// indexes, which parses as one of the two and not as both.
 pub fn read_document(alloc: Global, body: &Blob) -> Result<OciManifest, OciDistributionError>
     ensures { Says result (document_read body.now) }
 {

@@ -1,4 +1,4 @@
-// The image of an index.
+// Selects the image of an index.
 ghost use Rattle.std.specs.Prelude.{◌≡◌, IfOk};
 ghost use Rattle.oci_platforms.specs.Promise.{lists};
 ghost use Rattle.engine_terms.specs.Error.{Says};
@@ -21,7 +21,7 @@ fn lists(digest: &str, manifests: &[ImageIndexEntry]) -> bool
         .any(|entry| entry.digest.as_str() == digest)
 }
 
-// The digest that was answered, which has to be an entry's.
+// Returns the digest that the resolver returned, which must be an entry's.
 fn entry_named(
     alloc: Global,
     manifests: &[ImageIndexEntry],
@@ -39,7 +39,7 @@ fn entry_named(
     Err(OciDistributionError::ImageManifestNotFoundError(digest))
 }
 
-/// The digest of the entry that is meant, as the resolver says.
+/// Returns the digest of the entry that the resolver selects.
 pub fn entry_found(
     alloc: Global,
     resolver: &Option<PlatformResolver>,
@@ -57,7 +57,7 @@ pub fn entry_found(
     }
 }
 
-/// The manifest of the entry with this digest, which may not be an index again.
+/// Returns the manifest of the entry with this digest, which may not be another index.
 pub fn entry_manifest(
     alloc: Global,
     digest: &str,
@@ -74,7 +74,7 @@ pub fn entry_manifest(
     }
 }
 
-/// The reference of an entry, in the image's repository and by the same mirror.
+/// Returns the reference of an entry, in the image's repository and with the same mirror.
 pub fn entry_reference(
     alloc: Global,
     image: &Reference,
@@ -87,7 +87,7 @@ pub fn entry_reference(
     Ok(entry)
 }
 
-/// A configuration as text.
+/// Returns a configuration as text.
 #[tactic(auto, using(crate::proofs::ConfigTexts::text_is, crate::proofs::ConfigTexts::text_is_not))]
 pub fn config_text(alloc: Global, content: &Blob) -> Result<Text, OciDistributionError>
     ensures { Says result (config_text content.now) }

@@ -1,4 +1,4 @@
-//! What the registry's client makes of answers: documents with their digests, how a blob is checked, entries of
+//! How the registry client interprets responses: documents with their digests, how a blob is checked, entries of
 //! indexes, lists of referrers.
 #![tactic(auto)]
 

@@ -24,7 +24,7 @@ fn index_in(body: Blob, document: OciManifest) -> Result<OciImageIndex, OciDistr
     }
 }
 
-// The index that the bytes are.
+// Parses the index.
 fn read_index(alloc: Global, body: Blob) -> Result<OciImageIndex, OciDistributionError>
     ensures { Says result (index_read body) }
 {
@@ -34,8 +34,8 @@ fn read_index(alloc: Global, body: Blob) -> Result<OciImageIndex, OciDistributio
     Ok(index)
 }
 
-/// The index in an answer of status 200. A manifest is refused as `ManifestParsingError`, what reads as both as
-/// `AmbiguousManifest`.
+/// Returns the index in a response of status 200. A manifest is refused as `ManifestParsingError`, a document that
+/// parses as both as `AmbiguousManifest`.
 pub fn referrers_in(alloc: Global, got: Got) -> Result<OciImageIndex, OciDistributionError>
     ensures { Says result (referrers_in got) }
 {
@@ -44,7 +44,7 @@ pub fn referrers_in(alloc: Global, got: Got) -> Result<OciImageIndex, OciDistrib
     Ok(index)
 }
 
-// No tag has a colon, so a dash stands for it.
+// Replaces each colon by a dash: a tag has no colon.
 fn with_dashes(alloc: Global, digest: &str) -> Result<String, AllocError>
     ensures { IfOk result (λ tag. string_bytes tag ≡ referrers_tag digest.now) }
 {
@@ -54,7 +54,7 @@ fn with_dashes(alloc: Global, digest: &str) -> Result<String, AllocError>
         .collect(alloc)
 }
 
-// The tag under which registries without a list of referrers have the index of a digest's.
+// Returns the tag under which registries without a list of referrers store the index of a digest's referrers.
 fn referrers_tag(alloc: Global, digest: &str) -> Result<Text, AllocError>
     ensures { IfOk result (λ tag. tag ≡ referrers_tag digest.now) }
 {
@@ -62,7 +62,7 @@ fn referrers_tag(alloc: Global, digest: &str) -> Result<Text, AllocError>
     Text::new(alloc, tag.as_str())
 }
 
-/// The reference of the tag under which registries without a list of referrers have the index of a digest's.
+/// Returns the reference of the tag under which registries without a list of referrers store the index of a digest's.
 pub fn fallback_reference(
     alloc: Global,
     image: &Reference,
@@ -125,7 +125,7 @@ fn of_type(
     Ok(kept)
 }
 
-// The entries of this type of artifacts, where one is asked for.
+// Returns the entries of this artifact type, if one is requested.
 fn restricted(
     alloc: Global,
     mut index: OciImageIndex,
@@ -162,9 +162,8 @@ fn tag_index(
     }
 }
 
-/// What the answer to the tag's request comes to: its index, where an artifact type is given with the entries of this
-/// type alone, and an index without entries where the registry says that it has no such tag. A manifest is refused as
-/// `ReferrersTag`.
+/// Returns the result of the tag's request: its index, restricted to an artifact type if one is given, or an index
+/// without entries if the registry states that the tag does not exist. A manifest is refused as `ReferrersTag`.
 pub fn tagged_index(
     alloc: Global,
     digest: &str,

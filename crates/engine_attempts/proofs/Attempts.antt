@@ -56,15 +56,15 @@ memory_is_none P h = cc
 pub digest_is_none : (P : Type 0) (e : DigestError) → IsSinkFault (refusal.DigestError e) → P
 digest_is_none P e h = cc
 
--- a refusal with nothing put; a fault of the sink is none
+-- a refusal with nothing written; it is not a fault of the sink
 pub spills_none : {p : Row (List ℕ)} {old new : Link} {k l : Memory} {e : OciDistributionError} (tray : Tray) → Meets is_memory p old new k l (Err e) → (◌≡◌ {A = Result Unit OciDistributionError} (Err e) (Err refusal.SinkFault) → Rose tray.faults tray.faults) → Spills p old new k l tray tray (Err e)
 spills_none tray met fault = record { body = []; met = met; put = adds_none tray tray refl; front = meets_told (IsFront []) (λ c. inl refl) met; count = omega arith; fault = fault }
 
--- memory was wanting, with nothing put
+-- memory ran out, with nothing written
 pub spills_wanting : {p : Row (List ℕ)} {old new : Link} {k l : Memory} (tray : Tray) (r : Result Unit OciDistributionError) → IsErrAnd r (λ x. x ≡ refusal.WantOfMemory) → Meets is_memory p old new k l (Err refusal.WantOfMemory) → Spills p old new k l tray tray r
 spills_wanting tray r is met = let at = err_from_is_err_and r is in rw (at.1, at.2) (spills_none tray met (λ h. cc))
 
--- only an answer of success is put
+-- only a response with a 2xx status is written to the sink
 chosen : (b : Bool) (x : Option Expected) (y : Expected) (given : Option Expected) (own : Expected) → pouring b x y ≡ plan.Pour given own → b ≡ true
 chosen true x y given own h = refl
 chosen false x y given own h = absurd (cc h)
@@ -85,7 +85,7 @@ pub pours_success : (digest : List ℕ) (head : AnswerHead) (given : Option Expe
 unfolding plan_of
 pours_success digest head given own h = header_chosen (is_success head.status) digest (digest_in (first_of digest_header head.headers)) given own h
 
--- a front of the last answer's body was told
+-- a prefix of the last response's body is exposed
 pub front_told : (n : ℕ) (request : Request) (head : AnswerHead) (last : Request) (old mid new : Link) (front : List ℕ) → Reaches n request head last old mid → is_success head.status ≡ true → new.told ≡ mid.told → Steady mid new → ((rest : List ℕ) → mid.rest ≡ Some rest → (left : List ℕ) × (rest ≡ front ++ left)) → Told (IsFront front) old new
 front_told n request head last old mid new front reach good same steady part = by_told reach.mid.told refl where
   tells : (body left : List ℕ) → body ≡ front ++ left → Extends reach.mid new (record { request = last; answer = Some (answer_of head body); faults = reach.mid.faults } ∷ []) → Told (IsFront front) old new
@@ -108,7 +108,7 @@ front_told n request head last old mid new front reach good same steady part = b
   by_told None none = tells front [] (sym (append-nil front)) (Extends-untold reach.mid new _ none (Steady-more reach.mid mid new reach.sent.added.stays steady))
   by_told (Some before) h = let at = part reach.sent.body (reach.sent.rest before h) in tells reach.sent.body at.0 at.1 (Extends-still reach.mid mid new _ reach.sent.added same steady)
 
--- ---- an offer whose answer is no error
+-- ---- an offer whose response has no 4xx or 5xx status
 
 not_chosen : {A : Type 0} (b : Bool) (x y : A) → b ≡ false → (if b then x else y) ≡ y
 not_chosen true x y h = absurd (cc h)
@@ -139,7 +139,7 @@ blob_wanting to limit digest request head last old mid new k e (inr offered) rea
 unread_met : (p q : Plan) (r : Result (List ℕ) OciDistributionError) (link : Link) (k : Memory) → p ≡ q → Says r (unread_by q) → Meets is_memory (Done (unread_by p)) link link k k r
 unread_met p q r link k is says = said r (rw is says)
 
--- the answer is not read, for this cause
+-- the response is not read, for this cause
 pub blob_unread : (to : Destination) (limit : ℕ) (digest : List ℕ) (request : Request) (head : AnswerHead) (last : Request) (old new : Link) (k : Memory) (e : DigestError) → {row : Row (List ℕ)} → Takes to limit digest request head row → Reaches 10 request head last old new → plan_of digest head ≡ plan.Refuse e → Meets is_memory row old new k k (Err (refusal.DigestError e))
 unfolding attempt offer blob_reading
 blob_unread to limit digest request head last old new k e (inl row) reach is = rw row (reached_headed 10 request (blob_reading to limit digest) (blob_reply digest) head last reach (ap (reading_by to limit) is) (unread_met (plan_of digest head) (plan.Refuse e) (Err (refusal.DigestError e)) new k is refl))
@@ -168,7 +168,7 @@ unfolding attempt offer blob_reading
 blob_spilled limit digest request head last old mid new k given own (inl row) reach is le same steady = rw row (reached_spilled 10 request (blob_reading IntoSink limit digest) (blob_reply digest) head last limit reach (ap (reading_by IntoSink limit) is) le same steady (Meets-err is_memory new k refusal.SinkFault refl))
 blob_spilled limit digest request head last old mid new k given own (inr offered) reach is le same steady = rw offered.2 (reached_spilled 10 request (offer_reading IntoSink limit digest) (offer_reply digest offered.1) head last limit reach (offered_reading IntoSink limit digest head offered.0 ∙ ap (reading_by IntoSink limit) is) le same steady (Meets-err is_memory new k refusal.SinkFault refl))
 
--- an answer of another status is refused, or memory was wanting to say why
+-- a response with another status is refused, or memory ran out while stating why
 pub blob_judged : (to : Destination) (limit : ℕ) (digest : List ℕ) (request : Request) (head : AnswerHead) (last : Request) (body : List ℕ) (old mid new : Link) (k : Memory) (e : OciDistributionError) → {row : Row (List ℕ)} → Takes to limit digest request head row → Reaches 10 request head last old mid → plan_of digest head ≡ plan.Judge → mid.faults ≤ new.faults → new.told ≡ mid.told → Steady mid new → length body ≤ limit → ((rest : List ℕ) → mid.rest ≡ Some rest → body ≡ rest) → EndsUnbroken mid new → SaysError e (refused_answer 200 last.url (answer_of head body)) → Meets is_memory row old new k k (Err e)
 blob_judged to limit digest request head last body old mid new k e {row} takes reach is le same steady small whole unbroken says = by_memory (is_memory e) refl says where
   by_memory : (b : Bool) → is_memory e ≡ b → MatchBool b (Unit {0}) (e ≡ refused_answer 200 last.url (answer_of head body)) → Meets is_memory row old new k k (Err e)
@@ -183,7 +183,7 @@ passed_reading : (to : Destination) (limit : ℕ) (digest : List ℕ) (head : An
 unfolding offer_reading
 passed_reading to limit digest head bad = chosen_first (is_error head.status) Unread (blob_reading to limit digest head) bad
 
--- ---- an offer whose answer is one of an error, and what comes next
+-- ---- an offer whose response has a 4xx or 5xx status, and what comes next
 
 pub offer_passed : (to : Destination) (limit : ℕ) (digest : List ℕ) (next : Row (List ℕ)) (request : Request) (head : AnswerHead) (last : Request) (old new end : Link) (k l : Memory) (r : Result (List ℕ) OciDistributionError) → Reaches 10 request head last old new → is_error head.status ≡ true → Meets is_memory next new end k l r → Meets is_memory (offer to limit digest next request) old end k l r
 unfolding offer
@@ -197,7 +197,7 @@ pub offer_cut : (to : Destination) (limit : ℕ) (digest : List ℕ) (next : Row
 unfolding offer
 offer_cut to limit digest next request old new k c = cut is_memory 10 request (offer_reading to limit digest) (offer_reply digest next) k refusal.WantOfMemory c refl
 
--- ---- a blob that is held
+-- ---- a blob that is held in memory
 
 filled_says : (body : List ℕ) (x : Result Unit OciDistributionError) → x ≡ Ok tt → (x >> Ok body) ≡ Ok body
 filled_says body x is = rw is refl
@@ -212,7 +212,7 @@ limit_into : (to : Destination) (limit : ℕ) → limit_of (reading_into to limi
 limit_into IntoSink limit = refl
 limit_into IntoMemory limit = refl
 
--- the whole body was read, and what is said of its digests
+-- the whole body was read, and its digests were compared
 pub blob_compared : (to : Destination) (limit : ℕ) (digest : List ℕ) (request : Request) (head : AnswerHead) (last : Request) (body : List ℕ) (old mid new : Link) (k : Memory) (given : Option Expected) (own : Expected) (r : Result (List ℕ) OciDistributionError) → {row : Row (List ℕ)} → Takes to limit digest request head row → Reaches 10 request head last old mid → plan_of digest head ≡ plan.Pour given own → mid.faults ≤ new.faults → new.told ≡ mid.told → Steady mid new → length body ≤ limit → ((rest : List ℕ) → mid.rest ≡ Some rest → body ≡ rest) → EndsUnbroken mid new → Says r (both_compared given own body >> Ok body) → Meets is_memory row old new k k r
 blob_compared to limit digest request head last body old mid new k given own r takes reach is le same steady small whole unbroken says = blob_read to limit digest request head last body old mid new k (plan.Pour given own) r takes reach is (limit_into to limit) le same steady small whole unbroken says
 
@@ -226,15 +226,15 @@ held_other limit digest request head last body old mid new k given own e r takes
 pub held_whole : (limit : ℕ) (digest : List ℕ) (request : Request) (head : AnswerHead) (last : Request) (body : List ℕ) (old mid new : Link) (k : Memory) (given : Option Expected) (own : Expected) → {row : Row (List ℕ)} → Takes IntoMemory limit digest request head row → Reaches 10 request head last old mid → plan_of digest head ≡ plan.Pour given own → mid.faults ≤ new.faults → new.told ≡ mid.told → Steady mid new → length body ≤ limit → ((rest : List ℕ) → mid.rest ≡ Some rest → body ≡ rest) → EndsUnbroken mid new → both_compared given own body ≡ Ok tt → Meets is_memory row old new k k (Ok body)
 held_whole limit digest request head last body old mid new k given own takes reach is le same steady small whole unbroken good = blob_compared IntoMemory limit digest request head last body old mid new k given own (Ok body) takes reach is le same steady small whole unbroken (filled_says body (both_compared given own body) good)
 
--- memory was wanting to look at the head
+-- memory ran out while inspecting the head
 pub held_wanting : (limit : ℕ) (digest : List ℕ) (request : Request) (head : AnswerHead) (last : Request) (old new : Link) (k : Memory) (r : Result (List ℕ) OciDistributionError) → {row : Row (List ℕ)} → Takes IntoMemory limit digest request head row → Reaches 10 request head last old new → IsErrAnd r (λ x. x ≡ refusal.WantOfMemory) → Meets is_memory row old new k k r
 held_wanting limit digest request head last old new k r takes reach is = let at = err_from_is_err_and r is in rw (at.1, at.2) (blob_wanting IntoMemory limit digest request head last old new new k refusal.WantOfMemory takes reach (omega arith) refl (Steady-none new) refl)
 
--- a front was put, and the call was refused
+-- a prefix was written, and the call was refused
 pub spills_front : {p : Row (List ℕ)} {old mid new : Link} {k l : Memory} {e : OciDistributionError} (n : ℕ) (request : Request) (head : AnswerHead) (last : Request) (before after : Tray) → Reaches n request head last old mid → is_success head.status ≡ true → new.told ≡ mid.told → Steady mid new → before.faults ≤ after.faults → PoursFront mid before after → Meets is_memory p old new k l (Err e) → (◌≡◌ {A = Result Unit OciDistributionError} (Err e) (Err refusal.SinkFault) → Rose before.faults after.faults) → Spills p old new k l before after (Err e)
 spills_front {p} {old} {mid} {new} n request head last before after reach good same steady le front met fault = record { body = front.front; met = met; put = front.put; front = front_told n request head last old mid new front.front reach good same steady front.part; count = le; fault = fault }
 
--- ---- an answer of another status
+-- ---- a response with another status
 
 by_list : (url : List ℕ) (answer : Answer) (x : Option OciEnvelope) → by_envelope url answer x ≡ refusal.SinkFault → ⊥
 by_list url answer (Some envelope) h = cc
@@ -248,16 +248,16 @@ not_sink_answer url answer = by_status (nat_eq answer.status 401) (is_success an
   by_status false false true h = by_list url answer (envelope_in answer.body) h
   by_status false false false h = cc
 
--- an answer of another status is refused, or memory was wanting to say why
+-- a response with another status is refused, or memory ran out while stating why
 pub spills_judged : (limit : ℕ) (digest : List ℕ) (request : Request) (head : AnswerHead) (last : Request) (body : List ℕ) (old mid new : Link) (k : Memory) (tray : Tray) (e : OciDistributionError) → {row : Row (List ℕ)} → Takes IntoSink limit digest request head row → Reaches 10 request head last old mid → plan_of digest head ≡ plan.Judge → mid.faults ≤ new.faults → new.told ≡ mid.told → Steady mid new → length body ≤ limit → ((rest : List ℕ) → mid.rest ≡ Some rest → body ≡ rest) → EndsUnbroken mid new → SaysError e (refused_answer 200 last.url (answer_of head body)) → Spills row old new k k tray tray (Err e)
 spills_judged limit digest request head last body old mid new k tray e {row} takes reach is le same steady small whole unbroken says = by_memory (is_memory e) refl says where
   by_memory : (b : Bool) → is_memory e ≡ b → MatchBool b (Unit {0}) (e ≡ refused_answer 200 last.url (answer_of head body)) → Spills row old new k k tray tray (Err e)
   by_memory true of_memory says = spills_none tray (blob_wanting IntoSink limit digest request head last old mid new k e takes reach le same steady of_memory) (λ h. let is : e ≡ refusal.SinkFault = cc in absurd (cc (rw is at of_memory)))
   by_memory false other says = spills_none tray (blob_read IntoSink limit digest request head last body old mid new k plan.Judge (Err e) takes reach is refl le same steady small whole unbroken (rw other (ap Err (sym says)))) (λ h. let is : e ≡ refusal.SinkFault = cc in absurd (not_sink_answer last.url (answer_of head body) (sym says ∙ is)))
 
--- ---- a body that was put whole
+-- ---- a body that was written whole
 
--- the whole body was put, and has its digests
+-- the whole body was written, and has its digests
 pub spills_whole : (limit : ℕ) (digest : List ℕ) (request : Request) (head : AnswerHead) (last : Request) (old mid new : Link) (k : Memory) (before after : Tray) (from to : Digesters) (given : Option Expected) (own : Expected)
     → {row : Row (List ℕ)} → Takes IntoSink limit digest request head row → Reaches 10 request head last old mid → plan_of digest head ≡ plan.Pour given own → mid.faults ≤ new.faults → new.told ≡ mid.told → Steady mid new → before.faults ≤ after.faults → Pours limit from to mid new before after → BothHold from (given_algorithm given) own.algorithm []
     → ((m : List ℕ) → BothHold to (given_algorithm given) own.algorithm m → both_compared given own m ≡ Ok tt)
@@ -288,7 +288,7 @@ both_not_sink (Err e) y f g h = f h
 not_sink : (e : OciDistributionError) (x : Result Unit OciDistributionError) (P : Type 0) → (x ≡ Err refusal.SinkFault → ⊥) → Says {A = Unit} (Err e) x → ◌≡◌ {A = Result Unit OciDistributionError} (Err e) (Err refusal.SinkFault) → P
 not_sink e x P never says h = let is : e ≡ refusal.SinkFault = cc in absurd (never (rw is at says))
 
--- the whole body was put, and has not its digests
+-- the whole body was written, and does not have its digests
 pub spills_other : (limit : ℕ) (digest : List ℕ) (request : Request) (head : AnswerHead) (last : Request) (old mid new : Link) (k : Memory) (before after : Tray) (from to : Digesters) (given : Option Expected) (own : Expected) (e : OciDistributionError) (r : Result Unit OciDistributionError)
     → {row : Row (List ℕ)} → Takes IntoSink limit digest request head row → Reaches 10 request head last old mid → plan_of digest head ≡ plan.Pour given own → mid.faults ≤ new.faults → new.told ≡ mid.told → Steady mid new → before.faults ≤ after.faults → Pours limit from to mid new before after → BothHold from (given_algorithm given) own.algorithm []
     → ((m : List ℕ) → BothHold to (given_algorithm given) own.algorithm m → Says {A = Unit} (Err e) (both_compared given own m)) → IsErrAnd r (λ x. x ≡ e)
@@ -302,7 +302,7 @@ spills_other limit digest request head last old mid new k before after from to g
   fault = not_sink e (both_compared given own pours.body) (Rose before.faults after.faults) (both_not_sink _ _ (given_not_sink given pours.body) (one_not_sink own pours.body)) (bad pours.body (pours.hashed (given_algorithm given) own.algorithm fresh));
 })
 
--- ---- a step, and then one that puts bytes
+-- ---- a step, and then one that writes bytes
 
 later_front : (bytes : List ℕ) (c d : List Exchange) → IsFront bytes d → IsFront bytes (c ++ d)
 later_front bytes c d (inl none) = inl none
@@ -317,7 +317,7 @@ later_front bytes c d (inr h) = inr (record {
   body = h.body;
 })
 
--- what was met first puts its exchanges in front
+-- the exchanges of the first step come first
 pub spills_next : {A : Type 0} {p : Row A} (f : A → Row (List ℕ)) {old mid new : Link} {k l j : Memory} {a : A} {before after : Tray} {r : Result Unit OciDistributionError} → Meets is_memory p old mid k l (Ok a) → Spills (f a) mid new l j before after r → Spills (p >>= f) old new k j before after r
 spills_next {A} {p} f {old} {mid} {new} {k} {l} {j} {a} {before} {after} {r} first second = by_run first.outcome where
   by_run : Performs p old mid k l (Ok a) → Spills (p >>= f) old new k j before after r
@@ -330,7 +330,7 @@ spills_next {A} {p} f {old} {mid} {new} {k} {l} {j} {a} {before} {after} {r} fir
     fault = second.fault;
   }
 
--- an offer that was passed over, and what comes next puts
+-- an offer that was skipped, and what comes next writes
 pub spills_passed : (limit : ℕ) (digest : List ℕ) (next : Row (List ℕ)) (request : Request) (head : AnswerHead) (last : Request) (old new end : Link) (k l : Memory) (before later : Tray) (r : Result Unit OciDistributionError) → Reaches 10 request head last old new → is_error head.status ≡ true → Spills next new end k l before later r → Spills (offer IntoSink limit digest next request) old end k l before later r
 spills_passed limit digest next request head last old new end k l before later r reach bad rest = record {
   body = rest.body;
@@ -347,7 +347,7 @@ spills_passed limit digest next request head last old new end k l before later r
   exchange : Exchange
   exchange = record { request = last; answer = Some (answer_of head reach.sent.body); faults = reach.mid.faults }
 
--- what a refusal spilled, at the exit of a `?`
+-- what was written before a refusal, at the exit of a `?`
 pub spills_on : {p : Row (List ℕ)} {old new : Link} {k l : Memory} {before after : Tray} {e : OciDistributionError} {r : Result Unit OciDistributionError} → Spills p old new k l before after (Err e) → IsErrAnd r (λ x. x ≡ e) → Spills p old new k l before after r
 spills_on {r = r} spills is = let at = err_from_is_err_and r is in rw (at.1, at.2) spills
 

@@ -20,7 +20,7 @@ use oci_protocol::{PourError, Reached, pour, reach};
 use oci_transport::{BodyError, LinkError, Request, Transport, read_body};
 use std::alloc::{AllocError, Global};
 
-// Why the answer that was reached is refused, with its body.
+// Returns why the last response is refused, with its body.
 fn refusal_of(alloc: Global, reached: &Reached, body: Blob) -> OciDistributionError
     ensures { SaysError result
         (refused_answer 200 reached.now.request.url (answer_of reached.now.head body)) }
@@ -31,7 +31,7 @@ fn refusal_of(alloc: Global, reached: &Reached, body: Blob) -> OciDistributionEr
     }
 }
 
-// Puts the body of the answer that was reached, as its plan says.
+// Writes the body of the last response to the sink, as its plan says.
 #[tactic(none)]
 fn put_reached<T: Transport, K: Sink>(
     alloc: Global,
@@ -71,8 +71,8 @@ fn put_reached<T: Transport, K: Sink>(
     }
 }
 
-/// One request for a blob, whose bytes are put as they come. After a refusal the sink has taken a front of the last
-/// answer's body, or nothing.
+/// Sends one request for a blob, and writes its bytes to the sink as they are received. After a refusal the sink holds
+/// a prefix of the last response's body, or nothing.
 #[tactic(none)]
 pub fn attempt<T: Transport, K: Sink>(
     alloc: Global,
@@ -95,8 +95,8 @@ pub fn attempt<T: Transport, K: Sink>(
     Ok(())
 }
 
-/// One request for a blob that may be somewhere else too. Its bytes are put as they come; where its answer is one of
-/// an error, it is not read, nothing is put, and the result is false.
+/// Sends one request for a blob that may be elsewhere too, and writes its bytes to the sink as they are received. If
+/// the response has a 4xx or 5xx status, returns false: its body is not read, and nothing is written.
 #[tactic(none)]
 pub fn offer<T: Transport, K: Sink>(
     alloc: Global,
@@ -122,7 +122,7 @@ pub fn offer<T: Transport, K: Sink>(
     Ok(true)
 }
 
-// The bytes have the digest of the header, where it names one, and the descriptor's.
+// Checks that the bytes have the digest of the header, if it names one, and the descriptor's.
 fn have_digests(
     alloc: Global,
     body: &Blob,
@@ -137,7 +137,7 @@ fn have_digests(
     Ok(())
 }
 
-// Holds the body of the answer that was reached, as its plan says.
+// Holds the body of the last response in memory, as its plan says.
 fn held_reached<T: Transport>(
     alloc: Global,
     transport: &mut T,
@@ -171,7 +171,7 @@ fn held_reached<T: Transport>(
     }
 }
 
-/// One request for a blob, whose bytes are held whole. No sink takes part.
+/// Sends one request for a blob, and holds its bytes in memory. No sink is involved.
 #[tactic(none)]
 pub fn held<T: Transport>(
     alloc: Global,
@@ -192,8 +192,8 @@ pub fn held<T: Transport>(
     Ok(body)
 }
 
-/// One request for a blob that may be somewhere else too, whose bytes are held whole. None where its answer is one of
-/// an error, which is not read. No sink takes part.
+/// Sends one request for a blob that may be elsewhere too, and holds its bytes in memory. `None` if the response has a
+/// 4xx or 5xx status: its body is not read. No sink is involved.
 #[tactic(none)]
 pub fn held_offer<T: Transport>(
     alloc: Global,

@@ -1,4 +1,4 @@
-//! One attempt at a blob, into a sink or into memory: the answer to one request for it, checked by its digests.
+//! One attempt at a blob, into a sink or into memory: the response to one request for it, checked by its digests.
 #![tactic(auto)]
 
 mod blobs;

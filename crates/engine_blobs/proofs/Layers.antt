@@ -33,7 +33,7 @@ pub layers_next : (s : Context) (image : Reference) (xs : List OciDescriptor) (i
 unfolding pull_layers
 layers_next s image xs i x layers lt is rest = rw (at_next xs i x lt is) rest
 
--- From one row, what was done leads to another: whatever the other then does, the first did.
+-- What was done leads from row p to row q: whatever q then does, p did.
 pub record Leads {A : Type 0} (p q : Row A) (old mid : Link) (k j : Memory) : Type 0 where
   pub met : (new : Link) (l : Memory) (r : Result A OciDistributionError) → Meets is_memory q mid new j l r
       → Meets is_memory p old new k l r

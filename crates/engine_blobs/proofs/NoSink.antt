@@ -1,4 +1,4 @@
--- What comes before a blob's request is no fault of the sink.
+-- What precedes a blob's request does not fail because of the sink.
 use Rattle.std.proofs.Common.{◌≡◌, ℕ, Bool, true, false, List, [], Option, Some, None, Result, Ok, Err, codes, refl, sym, subst, ◌∙◌}
 use Rattle.std.specs.Prelude.{MatchBool, if◌then◌else◌, nat_lt, ◌&&◌}
 use Rattle.std.specs.Result.{IsErrAnd}
@@ -35,7 +35,7 @@ use Rattle.engine_rows.specs.Rows.{Row, passed_over, taken, token_step, token_as
 use Rattle.engine_rows.specs.Blobs.{Spills}
 use Rattle.engine_attempts.proofs.Attempts.{spills_none}
 
--- the refusal, if it is one, is no fault of the sink
+-- an error is not a fault of the sink
 abbrev pub Calm : {A : Type 0} → Result A OciDistributionError → Type 0
 Calm (Ok a) = Unit {0}
 Calm (Err e) = e ≡ refusal.SinkFault → ⊥
@@ -126,6 +126,6 @@ prepared_calm s image op method url types = next_calm (authorized s image op url
 is_calm : (e : OciDistributionError) → MatchBool (is_memory e) (Unit {0}) (e ≡ refusal.SinkFault → ⊥) → e ≡ refusal.SinkFault → ⊥
 is_calm e h is = (rw is at h) refl
 
--- a step before it was refused, with nothing put
+-- a step before it returned an error, with nothing written
 pub spills_refused : {A : Type 0} {p : Row A} (f : A → Row (List ℕ)) {old new : Link} {k l : Memory} {e : OciDistributionError} {r : Result Unit OciDistributionError} (tray : Tray) → Ends Calm p → Meets is_memory p old new k l (Err e) → Meets is_memory (p >>= f) old new k l (Err e) → IsErrAnd r (λ x. x ≡ e) → Spills (p >>= f) old new k l tray tray r
 spills_refused f {e = e} {r = r} tray calm met all is = let at = err_from_is_err_and r is in rw (at.1, at.2) (spills_none tray all (λ h. let sink : e ≡ refusal.SinkFault = cc in absurd (is_calm e (Meets-ends Calm calm met) sink)))

@@ -36,7 +36,7 @@ places_skip urls i text lt is none = ap places_of (at_next urls i text lt is) �
 places_next : (urls : List (List ℕ)) (i : ℕ) (text : List ℕ) (p : Place) → i < length urls → text ≡ get_or urls i text → place_of text ≡ Some p → places_of (drop i urls) ≡ p ∷ places_of (drop (i + 1) urls)
 places_next urls i text p lt is some = ap places_of (at_next urls i text lt is) ∙ ap (λ (o : Option Place). with_place o (places_of (drop (i + 1) urls))) some
 
--- what comes at a place
+-- what follows at a place
 abbrev pub then_at : Destination → Settings → List ℕ → Place → List Place → Row (List ℕ)
 then_at to s digest p ps = Done (asked_at s p) >>= (λ next. tried to s digest ps next)
 
@@ -48,7 +48,7 @@ tried_at : (to : Destination) (s : Settings) (digest : List ℕ) (places : List 
 unfolding tried
 tried_at to s digest places p ps request is = rw is refl
 
--- a request at a place is refused for no fault of a sink
+-- a request at a place is not refused for a fault of the sink
 asked_calm : (s : Settings) (p : Place) → Calm (asked_at s p)
 unfolding asked_at
 asked_calm s (Web url) = request_calm s Get url (Some manifest_types) None
@@ -56,7 +56,7 @@ asked_calm s (Unfit text) = λ h. cc
 
 -- ---- into a sink
 
--- From one row, what was done leads to another: whatever the other then does and puts, the first did.
+-- What was done leads from row p to row q: whatever q then does and writes, p did.
 pub record LeadsInto (p q : Row (List ℕ)) (old mid : Link) (before between : Tray) : Type 0 where
   pub met : (end : Link) (k l : Memory) (later : Tray) (r : Result Unit OciDistributionError) → Spills q mid end k l between later r → Spills p old end k l before later r
 
@@ -72,7 +72,7 @@ put_at s digest urls i text p request lt is some rest = rw (tried_at IntoSink s 
 pub put_wanting : {p : Row (List ℕ)} {link : Link} {k : Memory} {tray : Tray} {r : Result Unit OciDistributionError} → IsErrAnd r (λ x. x ≡ refusal.WantOfMemory) → Spills p link link k k tray tray r
 put_wanting {p} {link} {k} {tray} {r} is = spills_wanting tray r is (Meets-memory is_memory p link k refusal.WantOfMemory refl)
 
--- what was offered was taken, or passed over
+-- the response to the offer was used, or skipped
 pub put_taken : (next : Row (List ℕ)) {p : Row (List ℕ)} {old new : Link} {k : Memory} {before after : Tray} (b : Bool) → b ≡ true → OfferedInto next p old new k before after (Ok b) → Spills p old new k k before after (Ok tt)
 put_taken next true h offered = offered
 put_taken next false h offered = absurd (cc h)
@@ -85,13 +85,13 @@ put_passed {end = end} {l = l} {later = later} {r = r} false h offered rest = of
 pub put_unasked : (s : Settings) (digest : List ℕ) (p : Place) (ps : List Place) {link : Link} {k : Memory} {tray : Tray} (e : OciDistributionError) {r : Result Unit OciDistributionError} → Says {A = Request} (Err e) (asked_at s p) → IsErrAnd r (λ x. x ≡ e) → Spills (then_at IntoSink s digest p ps) link link k k tray tray r
 put_unasked s digest p ps {tray = tray} e says is = spills_refused (λ next. tried IntoSink s digest ps next) tray (done_calm (asked_at s p) (asked_calm s p)) (said {A = Request} (Err e) says) (Meets-refused (λ next. tried IntoSink s digest ps next) (said {A = Request} (Err e) says)) is
 
--- it is made
+-- it is built
 pub put_asked : (s : Settings) (digest : List ℕ) (p : Place) (ps : List Place) (next : Request) {mid end : Link} {k l : Memory} {before after : Tray} {r : Result Unit OciDistributionError} → Says (Ok next) (asked_at s p) → Spills (tried IntoSink s digest ps next) mid end k l before after r → Spills (then_at IntoSink s digest p ps) mid end k l before after r
 put_asked s digest p ps next says rest = spills_next (λ next. tried IntoSink s digest ps next) (said (Ok next) says) rest
 
--- ---- held
+-- ---- in memory
 
--- From one row, what was done leads to another: whatever the other then does, the first did.
+-- What was done leads from row p to row q: whatever q then does, p did.
 pub record LeadsOn (p q : Row (List ℕ)) (old mid : Link) : Type 0 where
   pub met : (end : Link) (k l : Memory) (r : Result (List ℕ) OciDistributionError) → Meets is_memory q mid end k l r → Meets is_memory p old end k l r
 
@@ -104,7 +104,7 @@ held_over s digest urls i text request lt is none rest = rw (places_skip urls i 
 pub held_at : (s : Settings) (digest : List ℕ) (urls : List (List ℕ)) (i : ℕ) (text : List ℕ) (p : Place) (request : Request) {old new : Link} {k l : Memory} {r : Result (List ℕ) OciDistributionError} → i < length urls → text ≡ get_or urls i text → place_of text ≡ Some p → Meets is_memory (offer IntoMemory s.max_body_bytes digest (then_at IntoMemory s digest p (places_of (drop (i + 1) urls))) request) old new k l r → Meets is_memory (tried IntoMemory s digest (places_of (drop i urls)) request) old new k l r
 held_at s digest urls i text p request lt is some rest = rw (tried_at IntoMemory s digest (places_of (drop i urls)) p (places_of (drop (i + 1) urls)) request (places_next urls i text p lt is some)) rest
 
--- what was offered was taken, or passed over
+-- the response to the offer was used, or skipped
 pub held_taken : (next : Row (List ℕ)) {p : Row (List ℕ)} {old new : Link} {k : Memory} (o : Option (List ℕ)) (bytes : List ℕ) → o ≡ Some bytes → Offered next p old new k (Ok o) → Meets is_memory p old new k k (Ok bytes)
 held_taken next (Some found) bytes h offered = let same : found ≡ bytes = cc h in rw (← same) offered
 held_taken next None bytes h offered = absurd (cc h)

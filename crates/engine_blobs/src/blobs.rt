@@ -1,4 +1,4 @@
-// Blobs, into a sink or into memory.
+// Pulls blobs, into a sink or into memory.
 ghost use Rattle.oci_auth.specs.declared.memory.Memory.{Memory};
 ghost use Rattle.oci_protocol.specs.Runs.{Meets};
 ghost use Rattle.engine_terms.specs.Contexts.{context_of};
@@ -17,7 +17,7 @@ use oci_auth::{Memory, RegistryOperation};
 use oci_transport::{Method, Request, Transport};
 use std::alloc::Global;
 
-// One request, and while its answer is one of an error the places that the URLs name, in order.
+// Sends the request and, while the status is 4xx or 5xx, requests the places that the URLs name, in order.
 fn tried<T: Transport, K: Sink>(
     alloc: Global,
     transport: &mut T,
@@ -46,7 +46,7 @@ fn tried<T: Transport, K: Sink>(
     Ok(())
 }
 
-// The same, with the bytes held.
+// The same, with the bytes held in memory.
 fn held_tried<T: Transport>(
     alloc: Global,
     transport: &mut T,
@@ -74,9 +74,9 @@ fn held_tried<T: Transport>(
     Ok(bytes)
 }
 
-/// Puts the bytes of a blob, piece by piece as they come. It is asked at the registry, and while the answer is one of
-/// an error at the URLs of its descriptor, in order and with no credentials. After a refusal the sink has taken a
-/// front of the last answer's body, whose status is one of success, or nothing.
+/// Writes the bytes of a blob to a sink, piece by piece as they are received. The blob is requested from the registry
+/// and, while the status is 4xx or 5xx, from the URLs of its descriptor, in order and without credentials. After a
+/// refusal the sink holds a prefix of the last response's body, whose status is 2xx, or nothing.
 pub fn pull_blob<T: Transport, K: Sink>(
     alloc: Global,
     transport: &mut T,
@@ -117,7 +117,7 @@ pub fn pull_blob<T: Transport, K: Sink>(
     }
 }
 
-/// The bytes of a blob, asked for at the same places. No sink takes part.
+/// Returns the bytes of a blob, requested from the same places. No sink is involved.
 pub fn pulled_blob<T: Transport>(
     alloc: Global,
     transport: &mut T,

@@ -1,4 +1,4 @@
-//! The call of the registry's client that pulls a blob, into a sink or into memory.
+//! The call of the registry client that pulls a blob, into a sink or into memory.
 #![tactic(auto)]
 
 mod blobs;

@@ -1,4 +1,4 @@
--- The list of referrers, and the tag that stands for it, as steps of the row.
+-- The list of referrers, and the tag that replaces it, as steps of the row.
 use Rattle.std.proofs.Common.{◌≡◌, ◌≢◌, ℕ, Bool, true, false, List, Option, Result, Ok, Err, refl, arith}
 use Rattle.std.specs.Prelude.{MatchBool, nat_eq}
 use Rattle.std.proofs.lemmas.Bool.Decides.{nat_tests}
@@ -24,7 +24,7 @@ memory_is : (e : OciDistributionError) → is_memory e ≡ true → e ≡ refusa
 memory_is refusal.WantOfMemory is = refl
 memory_is _ is = absurd (cc is)
 
--- memory cut the call off
+-- out of memory cut the call off
 cut : {A : Type 0} {p : Row A} {old new : Link} {k l : Memory} (r : Result A OciDistributionError) → Breaks p old new k l → Says r (Err refusal.WantOfMemory) → Meets is_memory p old new k l r
 cut (Ok a) h w = absurd (cc w)
 cut {A} {p} {old} {new} {k} {l} (Err e) h w = record { outcome = by_memory (is_memory e) refl w } where
@@ -49,10 +49,10 @@ is_other a b other = by_test (nat_eq a b) refl where
   by_test true is = absurd (other (grind (arith, nat_tests, is)))
   by_test false is = is
 
--- the registry answered for the list
+-- the registry responded to the request for the list
 pub listed_met : (s : Context) (image : Reference) (digest : List ℕ) (kind : Option (List ℕ)) (got : Got) {link : Link} {k : Memory} (r : Result OciImageIndex OciDistributionError) → got.answer.status ≢ 404 → Says r (referrers_in got) → Meets is_memory (referrers_by s image digest kind got) link link k k r
 listed_met s image digest kind got r other says = rw (is_other got.answer.status 404 other) (said r says)
 
--- it knows no list
+-- it has no such list
 pub by_tag_met : (s : Context) (image : Reference) (digest : List ℕ) (kind : Option (List ℕ)) (got : Got) {old new : Link} {k l : Memory} {r : Result OciImageIndex OciDistributionError} → got.answer.status ≡ 404 → Meets is_memory (referrers_tagged s image digest kind) old new k l r → Meets is_memory (referrers_by s image digest kind got) old new k l r
 by_tag_met s image digest kind got missing met = rw (is_equal got.answer.status 404 missing) met

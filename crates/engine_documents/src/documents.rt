@@ -1,4 +1,4 @@
-// Documents and their digests.
+// Pulls documents and their digests.
 ghost use Rattle.std.specs.Prelude.{◌≡◌};
 ghost use Rattle.oci_auth.specs.declared.memory.Memory.{Memory};
 ghost use Rattle.oci_protocol.specs.Runs.{Meets};
@@ -19,7 +19,7 @@ use oci_transport::{Method, Transport};
 use std::alloc::Global;
 use url::Url;
 
-// A document's bytes with their digest.
+// Returns a document's bytes with their digest.
 fn document<T: Transport>(
     alloc: Global,
     transport: &mut T,
@@ -49,7 +49,7 @@ fn document<T: Transport>(
     Ok(found)
 }
 
-/// The bytes of the image's manifest or index, with their digest. `types` is what the header `accept` lists.
+/// Returns the bytes of the image's manifest or index, with their digest. `types` is what the header `accept` lists.
 pub fn manifest_document<T: Transport>(
     alloc: Global,
     transport: &mut T,
@@ -65,7 +65,7 @@ pub fn manifest_document<T: Transport>(
     Ok(found)
 }
 
-/// The same, with credentials that are stored for the registry where none are.
+/// Returns the same, after storing the credentials unless some are stored for the registry already.
 pub fn pull_manifest_raw<T: Transport>(
     alloc: Global,
     transport: &mut T,
@@ -82,7 +82,7 @@ pub fn pull_manifest_raw<T: Transport>(
     Ok(found)
 }
 
-// The digest that an answer names, or else the document's.
+// Returns the digest that a response names, or else the document's.
 fn digest_by<T: Transport>(
     alloc: Global,
     transport: &mut T,
@@ -107,7 +107,7 @@ fn digest_by<T: Transport>(
     }
 }
 
-/// The digest of the image's manifest or index, as the registry names it.
+/// Returns the digest of the image's manifest or index, as the registry names it.
 pub fn fetch_manifest_digest<T: Transport>(
     alloc: Global,
     transport: &mut T,
@@ -138,7 +138,7 @@ pub fn fetch_manifest_digest<T: Transport>(
     Ok(digest)
 }
 
-/// The image's manifest or index, with its digest.
+/// Returns the image's manifest or index, with its digest.
 pub fn pull_manifest<T: Transport>(
     alloc: Global,
     transport: &mut T,
@@ -154,7 +154,7 @@ pub fn pull_manifest<T: Transport>(
     Ok((document, found.1))
 }
 
-/// The same, where credentials are stored already.
+/// Returns the same, if credentials are already stored.
 pub(crate) fn manifest_asked<T: Transport>(
     alloc: Global,
     transport: &mut T,

@@ -1,4 +1,4 @@
-//! The calls of the registry's client that pull one document: a digest, a manifest or an index, a list of referrers.
+//! The calls of the registry client that pull one document: a digest, a manifest or an index, a list of referrers.
 #![tactic(auto)]
 
 mod documents;

@@ -1,4 +1,4 @@
-// What refers to a manifest.
+// Pulls the referrers of a manifest.
 ghost use Rattle.std.specs.Prelude.{◌≡◌, option_copied};
 ghost use Rattle.oci_auth.specs.declared.memory.Memory.{Memory};
 ghost use Rattle.oci_protocol.specs.Runs.{Meets};
@@ -17,7 +17,7 @@ use oci_manifests::OciImageIndex;
 use oci_transport::{Method, Transport};
 use std::alloc::Global;
 
-// The answer to the request for the list.
+// Returns the response to the request for the list.
 fn referrers_asked<T: Transport>(
     alloc: Global,
     transport: &mut T,
@@ -48,7 +48,7 @@ fn referrers_asked<T: Transport>(
     Ok(got)
 }
 
-// The index under the tag that stands for the list.
+// Returns the index under the tag that replaces the list.
 fn referrers_tagged<T: Transport>(
     alloc: Global,
     transport: &mut T,
@@ -71,7 +71,7 @@ fn referrers_tagged<T: Transport>(
     tagged_index(alloc, digest, artifact_type, answer)
 }
 
-// A registry that knows no such list is asked for the tag.
+// Requests the tag if the registry has no such list.
 fn referrers_by<T: Transport>(
     alloc: Global,
     transport: &mut T,
@@ -93,9 +93,9 @@ fn referrers_by<T: Transport>(
     Ok(index)
 }
 
-/// The index of what refers to the image's digest, of this type of artifacts where one is given. A registry that
-/// answers 404 is asked for the tag that stands for the list: without such a tag the index has no entries, and where
-/// the tag holds a manifest it is `ReferrersTag`. A reference without a digest is `NoDigest`.
+/// Returns the index of the referrers of the image's digest, restricted to an artifact type if one is given. If the
+/// registry responds with 404, the tag that replaces the list is requested: if the tag does not exist, the index has no
+/// entries; if it holds a manifest, the call returns `ReferrersTag`. `NoDigest` if the reference has no digest.
 pub fn pull_referrers<T: Transport>(
     alloc: Global,
     transport: &mut T,

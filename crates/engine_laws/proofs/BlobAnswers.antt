@@ -1,4 +1,4 @@
--- What the call that answers a blob shows.
+-- Which properties the call has that returns a blob.
 use Rattle.std.proofs.Common.{◌≡◌, ℕ, Bool, true, false, List, [], ◌∷◌, ◌++◌, Option, Result, Ok, Err, bytes_eq, refl, sym, ap, subst, ◌∙◌, append_assoc, append-nil}
 use Rattle.std.specs.Prelude.{if◌then◌else◌}
 use Rattle.std.proofs.lemmas.Slice.Eq.{bytes_eq-Decides}
@@ -43,7 +43,7 @@ use Rattle.engine_laws.proofs.PreparedRequests.{into_ok, Prepared, prepared_show
 use Rattle.engine_laws.proofs.DocumentAnswers.{led_of, body_after, body_led}
 use Rattle.engine_laws.proofs.OfferedPlaces.{EachPlace, Unasked, Gives, tried_law}
 
--- ---- the digest that is expected is the one that was asked
+-- ---- the expected digest is the requested one
 
 then_ok : {A B : Type 0} (r : Result A DigestError) (f : A → Result B DigestError) (b : B) → and_then r f ≡ Ok b → (a : A) × (r ≡ Ok a) × (f a ≡ Ok b)
 then_ok (Ok a) f b is = (a, refl, is)
@@ -78,7 +78,7 @@ compared_names x body u = by_test (bytes_eq x.text (digest_text x.algorithm body
   by_test true test is = (x.algorithm, (bytes_eq-Decides x.text (digest_text x.algorithm body)).0 test)
   by_test false test is = absurd (cc is)
 
--- what was poured is the body, and the digest names it
+-- what was piped into the digesters is the body, and the digest names it
 poured_is : (given : Option Expected) (own : Expected) (body bytes : List ℕ) → (both_compared given own body before Ok body) ≡ Ok bytes → (body ≡ bytes) × Names own.text body
 poured_is given own body bytes is =
     let first = into_ok (both_compared given own body) (λ u. Ok body) bytes is in
@@ -87,7 +87,7 @@ poured_is given own body bytes is =
 
 -- ---- the row
 
--- the bytes are an answer's body, which the digest names, and the answer is the last one
+-- the bytes are the body of the last response, which the digest names
 abbrev pub Blob : List ℕ → List Exchange → List ℕ → Type 0
 Blob digest c bytes = Body c bytes × Names digest bytes × LastBody c bytes
 
@@ -140,7 +140,7 @@ given_shows s (p ∷ ps) = ((λ request is. tt), given_shows s ps)
 tried_shows : (to : Destination) (s : Settings) (digest : List ℕ) (places : List Place) (request : Request) → Shows (WhereOk (λ m c n bytes. Blob digest c bytes)) (tried to s digest places request)
 tried_shows to s digest places request = tried_law (WhereOk (λ m c n bytes. Blob digest c bytes)) (λ request. Unit {0}) to s digest (λ request good. blob_run to digest request s.max_body_bytes) (λ m start n c d r h. later_where digest c m start n d r h) places (given_shows s places) (unasked_shows s digest places) request tt
 
--- the bytes are those of an answer, and the digest names them
+-- the bytes are those of a response, and the digest names them
 pub blob_shows : (to : Destination) (s : Context) (image : Reference) (layer : Layer) → Shows (WhereOk (λ m c n bytes. Blob layer.digest c bytes)) (blob_to to s image layer)
 unfolding blob_to
 blob_shows to s image layer = Shows-step (WhereOk (λ m c n bytes. Blob layer.digest c bytes)) (url_read (blob_text s.settings image layer.digest)) (λ url. prepared s image Pull Get url manifest_types >>= λ request. tried to s.settings layer.digest (places_of layer.urls) request)

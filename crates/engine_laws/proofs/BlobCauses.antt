@@ -53,9 +53,9 @@ use Rattle.engine_laws.proofs.OfferedPlaces.{EachPlace, Unasked, Gives, tried_la
 use Rattle.engine_laws.proofs.DocumentAnswers.{url_is}
 use Rattle.engine_laws.proofs.DocumentCauses.{asks_at, answer_cause, cause_later, early_cause, status_cause, heard_answer, heard_failed, heard_long, url_cause}
 
--- ---- what a plan says of the answer
+-- ---- what a plan implies about the response
 
--- a digest with its algorithm, which the answer's header names
+-- a digest with its algorithm, which the response's header names
 abbrev GivenShape : Answer → Option Expected → Type 0
 GivenShape answer None = Unit {0}
 GivenShape answer (Some x) = (header_digest answer.headers ≡ Ok (Some x.text)) × (named_algorithm x.text ≡ Ok x.algorithm)
@@ -65,7 +65,7 @@ PlanShape digest answer (plan.Refuse e) = DigestCause (AskedDigest digest) answe
 PlanShape digest answer plan.Judge = is_success answer.status ≡ false
 PlanShape digest answer (plan.Pour given own) = GivenShape answer given × (own.text ≡ digest) × (named_algorithm own.text ≡ Ok own.algorithm)
 
--- a text that is expected
+-- an expected digest text
 expected_ok : (text : List ℕ) (r : Result Algorithm DigestError) (x : Expected) → named_algorithm text ≡ r → and_then r (λ a. Ok (record { text = text; algorithm = a })) ≡ Ok x → (x.text ≡ text) × (named_algorithm x.text ≡ Ok x.algorithm)
 expected_ok text (Ok a) x is h = let same : record { text = text; algorithm = a } ≡ x = one h in (sym (ap (λ (x : Expected). x.text) same), subst (λ (x : Expected). named_algorithm x.text ≡ Ok x.algorithm) same is) where
   one : ◌≡◌ {A = Result Expected DigestError} (Ok (record { text = text; algorithm = a })) (Ok x) → record { text = text; algorithm = a } ≡ x
@@ -171,7 +171,7 @@ limit_is to limit n plan.Judge is = cc is
 limit_is IntoSink limit n (plan.Pour given own) is = cc is
 limit_is IntoMemory limit n (plan.Pour given own) is = cc is
 
--- no sink takes part where the blob is held
+-- no sink is involved if the blob is held in memory
 may_fail : (to : Destination) (limit n : ℕ) (p : Plan) → reading_by to limit p ≡ Piped n → SinkMayFail to
 may_fail IntoSink limit n p is = tt
 may_fail IntoMemory limit n (plan.Refuse e) is = absurd (cc is)
@@ -227,7 +227,7 @@ pub places_are : (urls : List (List ℕ)) → EachPlace (OfUrls urls) (places_of
 places_are [] = tt
 places_are (text ∷ texts) = with_first text texts (places_of texts) (place_of text) refl (places_are texts)
 
--- an unfit URL is no URL of a request, and the place has its text
+-- an unfit URL is not the URL of a request, and the place has its text
 abbrev pub UnfitAs : List ℕ → Option Place → Type 0
 UnfitAs text (Some (Unfit other)) = (text ≡ other) × (request_url text ≡ None)
 UnfitAs text o = Unit {0}
@@ -268,7 +268,7 @@ place_refused T to s digest urls listed (Unfit text) has e is m =
     let here : UnfitUrl urls text = (subst (Contains urls) unfit.0 has.1, subst (λ (t : List ℕ). place_of t ≡ Some (Unfit text)) unfit.0 has.2) in
     subst (λ (x : OciDistributionError). LooseBlob T to s digest [] m x) same (subst (λ (t : List ℕ). request_url t ≡ None) unfit.0 unfit.1, listed text here)
 
--- the request at a place is for a URL that is listed
+-- the request at a place is for a listed URL
 pub listed_own : (s : Settings) (urls : List (List ℕ)) (p : Place) (request : Request) → OfUrls urls p → asked_at s p ≡ Ok request → AsksListed s urls request
 unfolding asked_at
 listed_own s urls (Web url) request has is = (has.0, has.1, url, has.2, (Get, manifest_types, asks_of s Get url (Some manifest_types) None request is))

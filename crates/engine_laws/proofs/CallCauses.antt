@@ -42,12 +42,12 @@ use Rattle.engine_laws.proofs.KeptTokens.{Keeps, keeps_first}
 use Rattle.engine_laws.proofs.ShownTokens.{Carries, HeaderCause, Ended}
 use Rattle.engine_laws.proofs.HeaderCauses.{digest_sound, raw_sound, manifest_sound, found_sound, one_sound, config_sound, text_sound, image_sound, blob_sound}
 
--- a cause with the values that could not stand in a header
+-- a cause, with the values that are not valid header values
 pub tight : (T : Act → Type 0) (Of : List ℕ → Answer → OciDistributionError → Type 0) (x : Entry) (s : Settings) (types : List ℕ) (now : ℕ) (c : List Exchange) (e : OciDistributionError) → Loose T Of s types c now e → HeaderCause x s types c e → Cause T Of (BadHeader x s types) s c now e
 tight T Of x s types now c (refusal.GenericError HeaderText) h bad = bad
 tight T Of x s types now c _ h bad = h
 
--- want of memory has no cause
+-- out of memory has no cause
 cause_free : (T : Act → Type 0) (Of : List ℕ → Answer → OciDistributionError → Type 0) (Bad : List Exchange → Type 0) (s : Settings) (now : ℕ) (c : List Exchange) (e : OciDistributionError) → is_memory e ≡ true → Cause T Of Bad s c now e
 cause_free T Of Bad s now c refusal.WantOfMemory is = tt
 cause_free T Of Bad s now c _ is = absurd (cc is)
@@ -84,7 +84,7 @@ config_free : (Bad : List Exchange → Type 0) (s : Settings) (image : Reference
 config_free Bad s image now c refusal.WantOfMemory is = tt
 config_free Bad s image now c _ is = absurd (cc is)
 
--- a fault of the transport, where a result is one
+-- a fault of the transport, if the result is one
 faulted : {A : Type 0} (P : ℕ → List Exchange → ℕ → A → Type 0) (R : ℕ → List Exchange → ℕ → OciDistributionError → Type 0) (p : Row A) {old new : Link} {k l : Memory} {r : Result A OciDistributionError} → ((m n : ℕ) (c : List Exchange) → R m c n refusal.TransportFault → LastIs (λ e. Rose e.faults n) c) → Shows (ByAnswer P R) p → Meets is_memory p old new k l r → r ≡ Err refusal.TransportFault → Rose old.faults new.faults
 faulted P R p {old} {new} {k} {l} {r} fails h met is = fault_last P R p refusal.TransportFault refl fails h (rw is at met)
 
@@ -110,7 +110,7 @@ raw_reason s image a types {k = k} met =
 pub raw_fault : (s : Context) (image : Reference) (a : RegistryAuth) (types : List ℕ) {old new : Link} {k l : Memory} {r : Result (List ℕ × List ℕ) OciDistributionError} → Meets is_memory (pull_manifest_raw s image a types) old new k l r → r ≡ Err refusal.TransportFault → Rose old.faults new.faults
 raw_fault s image a types met is = faulted (λ m c n found. Accepted s.settings image c found.0) (λ m c n e. Loose (ManifestUrl s.settings image) (AnswerCause (OwnDigest image)) s.settings types c n e) (pull_manifest_raw s image a types) (λ m n c h. failed_last h) (raw_causes s image a types) met is
 
--- for types that were put into one text
+-- for types that were joined to one text
 pub listed_reason : (s : Context) (image : Reference) (a : RegistryAuth) (text types : List ℕ) {old new : Link} {k l : Memory} {r : Result (List ℕ × List ℕ) OciDistributionError} → text ≡ types → Meets is_memory (pull_manifest_raw s image a text) old new k l r → IfErr r (λ e. Told (λ c. Cause (ManifestUrl s.settings image) (AnswerCause (OwnDigest image)) (BadHeader (pulling k s image (Some a)) s.settings types) s.settings c new.faults e) old new)
 listed_reason s image a text types is met = raw_reason s image a types (rw is at met)
 

@@ -1,5 +1,5 @@
--- Each call shows credentials and tokens to the registry and to the realm that it names and to nobody else, and keeps
--- what was kept or what it may show.
+-- Each call sends credentials and tokens only to the registry and to the realm that it names, and stores only what was
+-- stored before or what it may send.
 use Rattle.std.proofs.Common.{◌≡◌, inr, ℕ, List, [], Option, Some, None, Result, Ok, Err, refl}
 use Rattle.json_values.specs.Tray.{Tray}
 use Rattle.oci_transport.specs.Link.{Link}
@@ -44,7 +44,7 @@ digest_confined s image a {k = k} {l = l} met = let x = pulling k s image (Some 
 pub raw_confined : (s : Context) (image : Reference) (a : RegistryAuth) (types : List ℕ) {old new : Link} {k l : Memory} {r : Result (List ℕ × List ℕ) OciDistributionError} → Meets is_memory (pull_manifest_raw s image a types) old new k l r → Told (Within (pulling k s image (Some a)) s.settings l) old new
 raw_confined s image a types {k = k} {l = l} met = let x = pulling k s image (Some a) in call_within x s.settings (Ended x s.settings types) l (raw_sound s image a types k k [] (keeps_first x)) met
 
--- for types that were put into one text
+-- for types that were joined to one text
 pub listed_confined : (s : Context) (image : Reference) (a : RegistryAuth) (text types : List ℕ) {old new : Link} {k l : Memory} {r : Result (List ℕ × List ℕ) OciDistributionError} → text ≡ types → Meets is_memory (pull_manifest_raw s image a text) old new k l r → Told (Within (pulling k s image (Some a)) s.settings l) old new
 listed_confined s image a text types is met = raw_confined s image a text met
 
@@ -75,7 +75,7 @@ spilled_confined s image layer spills = blob_confined IntoSink s image layer spi
 
 -- ---- the call for a token
 
--- whatever it answers
+-- for any result
 abbrev pub Any : Entry → {A : Type 0} → Memory → List Exchange → A → Type 0
 Any x l c r = Unit {0}
 

@@ -1,4 +1,4 @@
--- What the results of a client's calls show.
+-- Which properties the results of a client's calls have.
 use Rattle.std.proofs.Common.{◌≡◌, ℕ, List, Some, Result, Ok, Err, IfOk}
 use Rattle.json_values.specs.Tray.{Tray}
 use Rattle.oci_transport.specs.Link.{Link}
@@ -27,7 +27,7 @@ digest_answered s image a met = Meets-shows-ok (λ m c n d. DigestAnswered s.set
 raw_told : (s : Context) (image : Reference) (a : RegistryAuth) (types : List ℕ) {old new : Link} {k l : Memory} {r : Result (List ℕ × List ℕ) OciDistributionError} → Meets is_memory (pull_manifest_raw s image a types) old new k l r → IfOk r (λ found. Told (λ c. Document image c found.0 found.1) old new)
 raw_told s image a types met = Meets-shows-ok (λ m c n found. Document image c found.0 found.1) (raw_shows s image a types) met
 
--- what is so of what was told, and what follows of it
+-- `Told` is monotone: P implies Q
 told_more : {P Q : List Exchange → Type 0} {old new : Link} → ((c : List Exchange) → P c → Q c) → Told P old new → Told Q old new
 told_more more told = record { conversation = told.conversation; told = told.told; holds = more told.conversation told.holds }
 

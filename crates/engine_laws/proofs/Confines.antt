@@ -1,5 +1,5 @@
--- A part of a call shows credentials and tokens to the image's registry and to the realm that it names, and to nobody
--- else, from wherever it begins and whatever else the client keeps.
+-- A part of a call sends credentials and tokens only to the image's registry and to the realm that it names, from any
+-- beginning and with any further client state.
 use Rattle.std.proofs.Common.{◌≡◌, ◌⊎◌, inl, inr, ℕ, List, [], ◌∷◌, ◌++◌, Option, Some, Result, Ok, Err, codes, sym, ap, subst, ◌∙◌}
 use Rattle.std.specs.Prelude.{Bool}
 use Rattle.std.specs.FinMap as map
@@ -37,7 +37,7 @@ use Rattle.engine_laws.proofs.SafeKeeps.{Lasts, Meets-within}
 use Rattle.engine_laws.proofs.SafeMore.{Safe-map}
 use Rattle.engine_laws.proofs.ShownTokens.{Carries}
 
--- ---- what is kept stays so to the end
+-- ---- the client state keeps its invariant to the end
 
 Safe-held : {K A : Type 0} (P : K → List Exchange → Request → Type 0) (I : K → List Exchange → Type 0) (Q : K → List Exchange → A → Type 0) (p : Proto K A) (k : K) (seen : List Exchange) → Lasts I → I k seen → Safe P I Q k seen p → Safe P I (λ k c a. I k c) k seen p
 unfolding Safe
@@ -47,16 +47,16 @@ Safe-held P I Q (Recall next) k seen lasts i h = Safe-held P I Q (next k) k seen
 Safe-held P I Q (Keep kept rest) k seen lasts i h = (h.0, Safe-held P I Q rest kept seen lasts h.0 h.1)
 Safe-held P I Q (Consult next) k seen lasts i h = λ said. Safe-held P I Q (next said) k seen lasts i (h said)
 
--- From wherever the part begins, its requests carry what they may, and what is kept stays so. It keeps credentials and
--- tokens, as `of` shows, and maybe more.
+-- From any beginning, the part's requests contain only what they may, and the client state keeps its invariant. The
+-- client state has credentials and tokens, which `of` returns, and possibly more.
 pub record ConfinesBy {K A : Type 0} (of : K → Memory) (x : Entry) (s : Settings) (p : Proto K A) : Type 0 where
   pub safe : (l : K) (c : List Exchange) → Keeps x (of l) c → Safe (λ l. Carries x s (of l)) (λ l. Keeps x (of l)) (λ l c (a : A). Keeps x (of l) c) l c p
 
--- a part that keeps nothing else
+-- a part without further client state
 abbrev pub Alone : Memory → Memory
 Alone l = l
 
--- a part that keeps something beside
+-- a part with further client state
 abbrev pub Beside : {C : Type 0} → Memory × C → Memory
 Beside l = l.0
 
@@ -77,29 +77,29 @@ confines_unless of x s f each (Err e) = confines_done of x s (Err e)
 pub confines_next : {K A B E : Type 0} (of : K → Memory) (x : Entry) (s : Settings) (p : Proto K (Result A E)) (f : A → Proto K (Result B E)) → ConfinesBy of x s p → ((a : A) → ConfinesBy of x s (f a)) → ConfinesBy of x s (p >>= f)
 confines_next of x s p f h each = confines_bind of x s p (unless_refused f) h (confines_unless of x s f each)
 
--- what is kept is looked at
+-- the client state is read
 pub confines_recall : {K A : Type 0} (of : K → Memory) (x : Entry) (s : Settings) (next : K → Proto K A) → ((k : K) → ConfinesBy of x s (next k)) → ConfinesBy of x s (Recall next)
 unfolding Safe
 confines_recall {K} {A} of x s next each = record { safe = λ l c keeps. looked l c ((each l).safe l c keeps) } where
   looked : (l : K) (c : List Exchange) → Safe (λ l. Carries x s (of l)) (λ l. Keeps x (of l)) (λ l c (a : A). Keeps x (of l) c) l c (next l) → Safe (λ l. Carries x s (of l)) (λ l. Keeps x (of l)) (λ l c (a : A). Keeps x (of l) c) l c (Recall next)
   looked l c h = h
 
--- something else is kept, and credentials and tokens stay
+-- the client state is replaced, with the same credentials and tokens
 pub confines_kept : {C A : Type 0} (x : Entry) (s : Settings) (more : C → C) (rest : Proto (Memory × C) A) → ConfinesBy Beside x s rest → ConfinesBy Beside x s (Recall (λ k. Keep (k.0, more k.1) rest))
 unfolding Safe
 confines_kept {C} {A} x s more rest h = record { safe = λ l c keeps. stays l c keeps (h.safe (l.0, more l.1) c keeps) } where
   stays : (l : Memory × C) (c : List Exchange) → Keeps x l.0 c → Safe (λ l. Carries x s (Beside l)) (λ l. Keeps x (Beside l)) (λ l c (a : A). Keeps x (Beside l) c) (l.0, more l.1) c rest → Safe (λ l. Carries x s (Beside l)) (λ l. Keeps x (Beside l)) (λ l c (a : A). Keeps x (Beside l) c) l c (Recall (λ k. Keep (k.0, more k.1) rest))
   stays l c keeps h = (keeps, h)
 
--- a part that keeps nothing else, whatever it ends with
+-- a part without further client state, with any result
 pub confines_by : {A : Type 0} (x : Entry) (s : Settings) (Q : Memory → List Exchange → A → Type 0) (p : Proto Memory A) → ((l : Memory) (c : List Exchange) → Keeps x l c → Safe (Carries x s) (Keeps x) Q l c p) → ConfinesBy Alone x s p
 confines_by x s Q p h = record { safe = λ l c keeps. Safe-held (Carries x s) (Keeps x) Q p l c (keeps_more x) keeps (h l c keeps) }
 
--- beside something that stays as it is
+-- with further client state, which is unchanged
 pub confines_lifted : {C A : Type 0} (x : Entry) (s : Settings) (p : Proto Memory A) → ConfinesBy Alone x s p → ConfinesBy {K = Memory × C} Beside x s (lifted p)
 confines_lifted {C} {A} x s p h = record { safe = λ l c keeps. Safe-lifted (Carries x s) (Keeps x) (λ l c (a : A). Keeps x l c) p l.0 l.1 c (h.safe l.0 c keeps) }
 
--- so it is of a call
+-- the same for a call
 pub confines_call : {K A E : Type 0} {of_memory : E → Bool} (of : K → Memory) (x : Entry) (s : Settings) {p : Proto K (Result A E)} {old new : Link} {k l : K} {r : Result A E} → of k ≡ x.kept → ConfinesBy of x s p → Meets of_memory p old new k l r → Told (Within x s (of l)) old new
 confines_call {K} {A} {E} of x s {k = k} {l = l} begins h met =
     let first : Keeps x (of k) [] = subst (λ m. Keeps x m []) (sym begins) (keeps_first x) in
@@ -182,7 +182,7 @@ module _ (k : Memory) (s : Context) (image other : Reference) (handed : Option R
     stored = λ registry a is. stored_same registry a (h.stored registry a is);
   }
 
--- what may be asked for one may be asked for the other
+-- what may be requested for one may be requested for the other
 pub confines_same : {K A : Type 0} (of : K → Memory) (k : Memory) (s : Context) (image other : Reference) (handed : Option RegistryAuth) → resolved_registry other ≡ resolved_registry image → repository_of other ≡ repository_of image → (t : Settings) (p : Proto K A)
     → ConfinesBy of (pulling k s other handed) t p → ConfinesBy of (pulling k s image handed) t p
 confines_same {K} {A} of k s image other handed registry repository t p h = let x = pulling k s image handed in let y = pulling k s other handed in record {

@@ -1,4 +1,4 @@
--- What the digest that a registry answered shows.
+-- Which properties the digest has that a registry returned.
 use Rattle.std.proofs.Common.{◌≡◌, ◌⊎◌, inl, inr, ℕ, Bool, true, false, List, [], ◌++◌, Option, Some, None, Result, Ok, Err, bytes_eq, refl, sym, ap, subst, ◌∙◌, append_assoc, append-nil}
 use Rattle.std.specs.Prelude.{not, ◌&&◌, if◌then◌else◌}
 use Rattle.url.specs.Parts.{Parts}
@@ -37,7 +37,7 @@ use Rattle.engine_laws.specs.Answered.{LedTo, FirstAsked, ByHeader, ByDocument, 
 use Rattle.engine_laws.proofs.PreparedRequests.{asks_of, Silent, silent_store, Prepared, prepared_shows}
 use Rattle.engine_laws.proofs.DocumentAnswers.{led_of, first_asked, accepted_is, digest_ok, names_of, Found, document_shows, url_is}
 
--- ---- the answer whose header names a digest, or none
+-- ---- the response whose header names a digest, or none
 
 abbrev Names : Request → List Exchange → NamedAnswer → Type 0
 Names request c (named.ByHeader digest got) = LedTo request c got.answer × (header_digest got.answer.headers ≡ Ok (Some digest))
@@ -71,7 +71,7 @@ named_shows : (request : Request) (limit : ℕ) → Shows (WhereOk (λ m c n x. 
 unfolding named_after
 named_shows request limit = Shows-follow (WhereOk (λ m c n x. Names request c x)) 10 request (named_reading limit) named_reply (named_run request limit)
 
--- ---- the digest of an answer, or of the document that is asked after it
+-- ---- the digest of a response, or of the document that is requested after it
 
 agreed_is : (digest own : List ℕ) (a b : Option (List ℕ × List ℕ)) (x : List ℕ) → agreed digest own a b ≡ Ok x → x ≡ digest
 agreed_is digest own None b x is = absurd (cc is)
@@ -88,7 +88,7 @@ fits_is digest (Some own) x is = agreed_is digest own (parts_of digest) (parts_o
 ok_same : (a b : List ℕ) → ◌≡◌ {A = Result (List ℕ) OciDistributionError} (Ok a) (Ok b) → a ≡ b
 ok_same a b is = cc is
 
--- what comes after an answer
+-- what comes after a response
 abbrev After : Settings → Reference → Parts → NamedAnswer → List Exchange → List ℕ → Type 0
 After s image url (named.ByHeader digest got) d x = (d ≡ []) × (got.answer.status ≡ 200) × (x ≡ digest)
 After s image url named.Unnamed d x = ByDocument s image url x d
@@ -105,7 +105,7 @@ after_shows s image url (named.ByHeader digest got) = Shows-step (WhereOk (λ m 
 after_shows s image url named.Unnamed = Shows-next (λ m c n found. Found s.settings image url manifest_types c found) (λ m c n d. After s.settings image url named.Unnamed c d) (document s image url manifest_types) (λ found. Done (Ok found.1)) (document_shows s image url manifest_types)
     (λ m n c found f. Shows-last (λ start d o x. After s.settings image url named.Unnamed (c ++ d) x) (λ start d o e. Unit {0}) (Ok found.1) (λ x is o. subst (λ (e : List Exchange). ByDocument s.settings image url x e) (sym (append-nil c)) (subst (λ (x : List ℕ). ByDocument s.settings image url x c) (ok_same found.1 x is) (by_document f))) (λ e is o. tt))
 
--- the request led to an answer of this digest
+-- the request led to a response with this digest
 record DigestRead (s : Settings) (image : Reference) (url : Parts) (request : Request) (c : List Exchange) (d : List ℕ) : Type 0 where
   asked : List Exchange
   after : List Exchange
@@ -167,7 +167,7 @@ answered_where : (s : Settings) (image : Reference) (url : Parts) (c : List Exch
 answered_where s image url c is none m start n d (Ok t) h = subst (λ (x : List Exchange). Digest s image (x ++ d) t) (sym none) (record { url = url; address = url_is (manifest_text s image) (request_url (manifest_text s image)) url is; head = h.head; digest = h.digest })
 answered_where s image url c is none m start n d (Err e) h = tt
 
--- the digest is the one that the registry answered
+-- the digest is the one that the registry returned
 pub digest_shows : (s : Context) (image : Reference) (a : RegistryAuth) → Shows (WhereOk (λ m c n t. Digest s.settings image c t)) (fetch_manifest_digest s image a)
 unfolding fetch_manifest_digest
 digest_shows s image a = Shows-next Stored (λ m c n t. Digest s.settings image c t) (store image a) (λ u. Done (url_read (manifest_text s.settings image)) >>= λ url. prepared s image Pull Head url manifest_types >>= λ request. named_after 10 request s.settings.max_body_bytes >>= λ x. digest_by s image url x) (stored_shows image a)
@@ -175,7 +175,7 @@ digest_shows s image a = Shows-next Stored (λ m c n t. Digest s.settings image 
     (λ url is. Shows-more (WhereOk (λ m c n t. HeadRead s.settings image url c t)) (λ start d o r. WhereOk (λ m c n t. Digest s.settings image c t) m (c ++ d) o r) (prepared s image Pull Head url manifest_types >>= λ request. named_after 10 request s.settings.max_body_bytes >>= λ x. digest_by s image url x) (head_shows s image url) (λ start o d r h. answered_where s.settings image url c is none m start o d r h))
     (λ e is o. tt))
 
--- ---- an answered digest stays one as more is asked
+-- ---- a returned digest stays one after further requests
 
 first_before : {s : Settings} {image : Reference} {op : RegistryOperation} {method : Method} {url : Parts} {types : Option (List ℕ)} {c : List Exchange} (d : List Exchange) → FirstAsked s image op method url types c → FirstAsked s image op method url types (c ++ d)
 first_before d first = record {

@@ -34,7 +34,7 @@ use Rattle.engine_laws.proofs.DigestErrors.{digest_err, agreed_cause}
 use Rattle.engine_laws.proofs.EarlyCauses.{prepared_causes, store_causes}
 use Rattle.engine_laws.proofs.DocumentCauses.{answer_cause, cause_later, header_refused, not_accepted, heard_answer, heard_failed, heard_long, Accepted, OwnCause, manifest_own, document_causes, early_shown, url_cause}
 
--- the last answer, where its header names a digest
+-- the last response, if its header names a digest
 abbrev NamedLast : Settings → Reference → ℕ → List Exchange → ℕ → NamedAnswer → Type 0
 NamedLast s image m c n (named.ByHeader digest got) = LastAnswer (ManifestUrl s image) c got.url got.answer × (header_digest got.answer.headers ≡ Ok (Some digest))
 NamedLast s image m c n named.Unnamed = Unit {0}

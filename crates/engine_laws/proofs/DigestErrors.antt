@@ -1,4 +1,4 @@
--- Why digests were refused, by what an answer shows.
+-- Why digests were refused, by what a response shows.
 use Rattle.std.proofs.Common.{◌≡◌, ◌≢◌, inl, inr, ℕ, Bool, true, false, List, [], ◌∷◌, Option, Some, None, Result, Ok, Err, bytes_eq, refl, sym, ap, subst, ◌∙◌}
 use Rattle.std.specs.Prelude.{if◌then◌else◌, ok_or, not, ◌&&◌}
 use Rattle.std.proofs.lemmas.Slice.Eq.{bytes_eq-Decides}
@@ -32,7 +32,7 @@ by_parts text (Some parts) e is h = unnamed text parts (algorithm_of parts.0) e 
 pub name_cause : (text : List ℕ) (e : DigestError) → named_algorithm text ≡ Err e → NameCause text e
 name_cause text e h = by_parts text (parts_of text) e refl h
 
--- a text that was claimed names no algorithm
+-- a claimed text names no algorithm
 pub name_claimed : (Given : List ℕ → Type 0) (answer : Answer) (text : List ℕ) (e : DigestError) → Claimed Given answer text → NameCause text e → DigestCause Given answer e
 name_claimed Given answer text MissingAlgorithm claimed h = (text, claimed, h)
 name_claimed Given answer text (UnsupportedAlgorithm name) claimed h = (text, h.0, claimed, h.1, h.2)
@@ -72,7 +72,7 @@ both_parts Given answer header reference e None b first second x y is = let same
 both_parts Given answer header reference e (Some p) None first second x y is = let same : MissingAlgorithm ≡ e = cc is in subst (DigestCause Given answer) same (reference, second, y)
 both_parts Given answer header reference e (Some p) (Some q) first second x y is = both_cause Given answer header reference e (bytes_eq header reference) first second is
 
--- the body was checked against the header's digest and the one that was given
+-- the body was checked against the header's digest and the given one
 pub validated_cause : (Given : List ℕ → Type 0) (answer : Answer) (header own : Option (List ℕ)) (e : DigestError) → header_digest answer.headers ≡ Ok header → ((text : List ℕ) → own ≡ Some text → Given text) → validated answer.body header own ≡ Err e → DigestCause Given answer e
 validated_cause Given answer None None e named given is = absurd (cc is)
 validated_cause Given answer (Some h) None e named given is = checked_cause Given answer h e (inr named) is
@@ -90,12 +90,12 @@ header_cause Given answer None e first is = absurd (cc is)
 header_cause Given answer (Some []) e first is = absurd (cc is)
 header_cause Given answer (Some (b ∷ bs)) e first is = by_text Given answer (b ∷ bs) e (is_header_text (b ∷ bs)) first refl is
 
--- a digest's refusal, in the words of the client
+-- a digest error, converted to the client's
 pub digest_err : {A : Type 0} (r : Result A DigestError) (e : OciDistributionError) → or_digest_error r ≡ Err e → (x : DigestError) × (e ≡ refusal.DigestError x) × (r ≡ Err x)
 digest_err (Ok a) e is = absurd (cc is)
 digest_err (Err x) e is = (x, cc is, refl)
 
--- ---- the header's digest beside the reference's
+-- ---- the header's digest and the reference's
 
 by_names : (Given : List ℕ → Type 0) (answer : Answer) (digest own : List ℕ) (given named : List ℕ × List ℕ) (e : DigestError) (same other : Bool) → header_digest answer.headers ≡ Ok (Some digest) → Given own → parts_of digest ≡ Some given → parts_of own ≡ Some named → bytes_eq given.0 named.0 ≡ same → bytes_eq digest own ≡ other → (if same && not other then Err (VerificationError own digest) else Ok digest) ≡ Err e → DigestCause Given answer e
 by_names Given answer digest own given named e false other header has x y s t is = absurd (cc is)

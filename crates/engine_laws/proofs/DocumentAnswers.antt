@@ -1,4 +1,4 @@
--- What the calls that answer a document show.
+-- Which properties the calls have that return a document.
 use Rattle.std.proofs.Common.{◌≡◌, ℕ, Bool, true, false, List, [], ◌∷◌, ◌++◌, Option, Some, None, Result, Ok, Err, refl, sym, ap, subst, ◌∙◌, append_assoc, append-nil, arith}
 use Rattle.std.specs.Prelude.{nat_eq, if◌then◌else◌}
 use Rattle.std.proofs.lemmas.Bool.Decides.{nat_tests}
@@ -41,7 +41,7 @@ use Rattle.engine_laws.proofs.PreparedRequests.{asks_of, into_ok, Silent, silent
 
 -- ---- conversations
 
--- a request that is followed led to the answer that was heard
+-- a request whose redirects are followed led to the response in the conversation
 pub led_of : {request : Request} {reading : AnswerHead → Reading} {m : ℕ} {c : List Exchange} {after : ℕ} {last : Request} {reply : Reply} (h : Heard 10 request reading m c after last reply) (answer : Answer) → h.exchange.answer ≡ Some answer → IsFinal h.left last (head_part answer) → LedTo request c answer
 led_of {request} {m = m} h answer is final =
     let same = sym h.replies.request_is in
@@ -57,7 +57,7 @@ led_of {request} {m = m} h answer is final =
       final = subst (λ r. IsFinal h.left r (head_part answer)) same final;
     }
 
--- behind a token step
+-- after a token step
 abbrev pub first_asked : {s : Settings} {image : Reference} {op : RegistryOperation} {method : Method} {url : Parts} {types : Option (List ℕ)} (c exchanges after d : List Exchange) (request : Request) (answer : Answer) → OfTokenStep s image op c → Asks s method url types request → LedTo request exchanges answer → d ≡ exchanges ++ after → FirstAsked s image op method url types (c ++ d)
 first_asked c exchanges after d request answer step asks led split = record {
   before = c;
@@ -71,7 +71,7 @@ first_asked c exchanges after d request answer step asks led split = record {
   split = ap (λ x. c ++ x) split ∙ sym (append_assoc c exchanges after);
 }
 
--- an answer's body stays one in a longer conversation
+-- the body of a response is still one in a longer conversation
 pub body_before : {c : List Exchange} (d : List Exchange) {bytes : List ℕ} → Body c bytes → Body (c ++ d) bytes
 body_before d b = record { before = b.before; exchange = b.exchange; after = b.after ++ d; split = ap (λ x. x ++ d) b.split ∙ append_assoc b.before (b.exchange ∷ b.after) d; answer = b.answer; answered = b.answered; body = b.body }
 
@@ -84,7 +84,7 @@ body_led {answer = answer} led = record { before = led.redirects; exchange = led
 pub body_first : {s : Settings} {image : Reference} {op : RegistryOperation} {method : Method} {url : Parts} {types : Option (List ℕ)} {c : List Exchange} (first : FirstAsked s image op method url types c) → Body c first.answer.body
 body_first first = subst (λ c. Body c first.answer.body) (sym first.split) (body_before first.after (body_after first.before (body_led first.led)))
 
--- ---- answers that are accepted
+-- ---- responses that are accepted
 
 status_is : (status : ℕ) → nat_eq status 200 ≡ true → status ≡ 200
 status_is status h = grind (arith, nat_tests, h)
@@ -99,7 +99,7 @@ pub digest_ok : {A : Type 0} (r : Result A DigestError) (a : A) → or_digest_er
 digest_ok (Ok b) a is = cc is
 digest_ok (Err e) a is = absurd (cc is)
 
--- the text that is answered names the body
+-- the returned text names the body
 pub names_of : (body : List ℕ) (header reference : Option (List ℕ)) (text : List ℕ) → Validates body header reference text → Names text body
 names_of body (Some h) reference text v = subst (λ t. Names t body) (sym v.answer) v.header_names
 names_of body None (Some r) text v = subst (λ t. Names t body) (sym v.answer) v.reference_names
@@ -109,7 +109,7 @@ own_names : (body : List ℕ) (header reference : Option (List ℕ)) (text own :
 own_names body header (Some r) text own v is = let same : r ≡ own = cc is in subst (λ t. Names t body) same v.reference_names
 own_names body header None text own v is = absurd (cc is)
 
--- an accepted answer's body was validated
+-- the body of an accepted response was validated
 pub record Validly (image : Reference) (answer : Answer) (found : List ℕ × List ℕ) : Type 0 where
   pub status : answer.status ≡ 200
   pub header : Option (List ℕ)
@@ -139,7 +139,7 @@ within_read : (limit : ℕ) (head : AnswerHead) → read_within limit head ≡ R
 unfolding read_within
 within_read limit head is = cc
 
--- the last answer came of the request
+-- the last response results from the request
 whole_run : (request : Request) (limit : ℕ) (k l : Memory) (m after o : ℕ) (c d : List Exchange) (last : Request) (reply : Reply) (r : Result Got OciDistributionError) → Heard 10 request (read_within limit) m c after last reply → Runs (whole_reply last reply) k after d o l r → WhereOk (λ m c n got. LedTo request c got.answer) m (c ++ d) o r
 whole_run request limit k l m after o c d last (Headed head) r h run = absurd (within_read limit head h.replies.reply_is.2)
 whole_run request limit k l m after o c d last (Answered answer) r h run = done_run (λ s d o r. WhereOk (λ m c n got. LedTo request c got.answer) m (c ++ d) o r) (Ok (record { url = last.url; answer = answer })) k l after o d r (rw append-nil (led_of h answer h.replies.reply_is.1 h.settles)) run
@@ -151,7 +151,7 @@ whole_shows : (request : Request) (limit : ℕ) → Shows (WhereOk (λ m c n got
 unfolding whole
 whole_shows request limit = Shows-follow (WhereOk (λ m c n got. LedTo request c got.answer)) 10 request (read_within limit) whole_reply (whole_run request limit)
 
--- the request led to an answer that was accepted
+-- the request led to a response that was accepted
 record Read (image : Reference) (request : Request) (c : List Exchange) (found : List ℕ × List ℕ) : Type 0 where
   answer : Answer
   led : LedTo request c answer
@@ -194,7 +194,7 @@ pub url_is : (text : List ℕ) (o : Option Parts) (url : Parts) → url_or text 
 url_is text (Some u) url is = cc is
 url_is text None url is = absurd (cc is)
 
--- after a step that asks nothing
+-- after a step that sends no request
 document_later : {image : Reference} (c : List Exchange) {d : List Exchange} {bytes digest : List ℕ} → Document image d bytes digest → Document image (c ++ d) bytes digest
 document_later c h = record { body = body_after c h.body; names = h.names; named = h.named }
 
@@ -202,7 +202,7 @@ later_where : (s : Settings) (image : Reference) (url : Parts) (types : List ℕ
 later_where s image url types c m start n d (Ok found) f = document_later c (document_of f)
 later_where s image url types c m start n d (Err e) f = tt
 
--- the bytes are those of an answer, and the digest names them
+-- the bytes are those of a response, and the digest names them
 pub raw_shows : (s : Context) (image : Reference) (a : RegistryAuth) (types : List ℕ) → Shows (WhereOk (λ m c n found. Document image c found.0 found.1)) (pull_manifest_raw s image a types)
 unfolding pull_manifest_raw manifest_document
 raw_shows s image a types = Shows-next (λ m c n u. Unit {0}) (λ m c n found. Document image c found.0 found.1) (store image a) (λ u. Done (url_read (manifest_text s.settings image)) >>= λ url. document s image url types)

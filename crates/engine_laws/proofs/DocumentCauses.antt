@@ -1,4 +1,4 @@
--- Why the calls that answer documents and digests were refused.
+-- Why the calls that return documents and digests were refused.
 use Rattle.std.proofs.Common.{◌≡◌, ◌≢◌, ◌⊎◌, inl, inr, ℕ, Bool, true, false, List, [], ◌∷◌, ◌++◌, Option, Some, None, Result, Ok, Err, refl, sym, ap, subst, ◌∙◌, append_assoc, append-nil, arith}
 use Rattle.std.specs.Prelude.{nat_eq, if◌then◌else◌}
 use Rattle.std.proofs.lemmas.Bool.Decides.{nat_tests}
@@ -46,7 +46,7 @@ use Rattle.engine_laws.proofs.EarlyCauses.{EarlyCause, Early, read_early, prepar
 
 -- ---- the last exchange
 
--- in the conversation of a request that is followed
+-- in the conversation of a request whose redirects are followed
 abbrev pub asked_last : (T : Act → Type 0) {request : Request} {reading : AnswerHead → Reading} {m : ℕ} {c : List Exchange} {after : ℕ} {last : Request} {reply : Reply} (h : Heard 10 request reading m c after last reply) → T (Sends request) → LastAsked T c h.exchange
 asked_last T {request} {m = m} h own = record {
   front = [];
@@ -80,7 +80,7 @@ answer_later T U c acts a = record { last = a.last; asked = asked_later T U c ac
 pub last_later : (T U : Act → Type 0) {P : List ℕ → Answer → Type 0} (Q : List ℕ → Answer → Type 0) (c : List Exchange) {d : List Exchange} → ((act : Act) → T act → U act) → ((address : List ℕ) (answer : Answer) → P address answer → Q address answer) → ByLast T P d → ByLast U Q (c ++ d)
 last_later T U Q c acts more b = record { address = b.address; answer = b.answer; last = answer_later T U c acts b.last; holds = more b.address b.answer b.holds }
 
--- a cause stays one after other exchanges
+-- a cause is still one after other exchanges
 pub cause_later : (T U : Act → Type 0) (P Q : List ℕ → Answer → OciDistributionError → Type 0) (s : Settings) (types : List ℕ) (now : ℕ) (c d : List Exchange) (e : OciDistributionError) → ((act : Act) → T act → U act) → ((address : List ℕ) (answer : Answer) → P address answer e → Q address answer e) → Loose T P s types d now e → Loose U Q s types (c ++ d) now e
 cause_later T U P Q s types now c d (refusal.UrlParseError text) acts more h = (h.0, acts (Reads text) h.1)
 cause_later T U P Q s types now c d (refusal.GenericError HeaderText) acts more h = h
@@ -95,7 +95,7 @@ early_cause T Of s types now c (refusal.GenericError HeaderText) h = h
 early_cause T Of s types now c refusal.WantOfMemory h = tt
 early_cause T Of s types now c e h = absurd h
 
--- what the last answer shows
+-- what the last response shows
 pub answer_cause : (T : Act → Type 0) (Given : List ℕ → Type 0) (s : Settings) (types : List ℕ) (now : ℕ) (c : List Exchange) (address : List ℕ) (answer : Answer) (e : OciDistributionError) → LastAnswer T c address answer → AnswerCause Given address answer e → Loose T (AnswerCause Given) s types c now e
 answer_cause T Given s types now c address answer (refusal.UrlParseError text) last h = absurd h
 answer_cause T Given s types now c address answer (refusal.GenericError HeaderText) last h = absurd h
@@ -128,7 +128,7 @@ by_401 : (Given : List ℕ → Type 0) (address : List ℕ) (answer : Answer) (b
 by_401 Given address answer true test not_ok = (refl, status_is answer.status 401 test)
 by_401 Given address answer false test not_ok = by_success Given address answer (is_success answer.status) refl not_ok (status_other answer.status 401 test)
 
--- an answer of another status than 200 is refused for it
+-- a response with another status than 200 is refused for it
 pub status_cause : (Given : List ℕ → Type 0) (address : List ℕ) (answer : Answer) → answer.status ≢ 200 → AnswerCause Given address answer (refused_answer 200 address answer)
 status_cause Given address answer not_ok = by_401 Given address answer (nat_eq answer.status 401) refl not_ok
 
@@ -141,7 +141,7 @@ not_accepted Given address answer e is = accepted_cause Given address answer e (
 
 -- ---- documents
 
--- a step that was refused, or the one after it
+-- a step that returned an error, or the one after it
 pub into_err : {A B E : Type 0} (r : Result A E) (f : A → Result B E) (e : E) → (r into f) ≡ Err e → (r ≡ Err e) ⊎ ((a : A) × (r ≡ Ok a) × (f a ≡ Err e))
 into_err (Ok a) f e is = inr (a, refl, is)
 into_err {A} {B} {E} (Err x) f e is = let same : x ≡ e = err_same x e is in inl (ap Err same) where
@@ -176,11 +176,11 @@ of_document image got e (inr h) =
     let same = (accepted_is got.url got.answer h.0 h.1).1 in
     after_digest image got.url got.answer e (into_err (answer_digest image got.answer) (λ digest. Ok (got.answer.body, digest)) e (subst (λ (a : Answer). ◌into◌ {B = List ℕ × List ℕ} (answer_digest image a) (λ digest. Ok (a.body, digest)) ≡ Err e) same h.2))
 
--- the document rule refused it
+-- the document was refused
 pub document_cause : (image : Reference) (got : Got) (e : OciDistributionError) → document_in image got ≡ Err e → AnswerCause (OwnDigest image) got.url got.answer e
 document_cause image got e is = of_document image got e (into_err (accepted 200 got.url got.answer) (λ answer. answer_digest image answer into λ digest. Ok (answer.body, digest)) e is)
 
--- ---- whole answers
+-- ---- whole responses
 
 read_never : (limit : ℕ) (head : AnswerHead) → read_within limit head ≡ NotRead → ⊥
 unfolding read_within
@@ -194,7 +194,7 @@ piped_never : (limit n : ℕ) (head : AnswerHead) → read_within limit head ≡
 unfolding read_within
 piped_never limit n head is = cc is
 
--- the answer that a request led to
+-- the response that a request led to
 pub heard_answer : (T : Act → Type 0) {request : Request} {reading : AnswerHead → Reading} {m : ℕ} {c : List Exchange} {after : ℕ} {last : Request} {reply : Reply} (h : Heard 10 request reading m c after last reply) → T (Sends request) → (answer : Answer) → h.exchange.answer ≡ Some answer → IsFinal h.left last (head_part answer) → LastAnswer T c last.url answer
 heard_answer T h own answer is final = record {
   last = h.exchange;
@@ -212,7 +212,7 @@ heard_long T {reading = reading} h limit own within =
     let b = h.replies.reply_is in
     record { last = h.exchange; asked = asked_last T h own; answer = b.0; answered = b.2; long = rw (within b.1 (head_part b.0) b.3) b.4 }
 
--- the whole last answer
+-- the whole last response
 abbrev Whole : (Act → Type 0) → ℕ → List Exchange → ℕ → Got → Type 0
 Whole T m c n got = LastAnswer T c got.url got.answer
 
@@ -227,7 +227,7 @@ pub whole_causes : (T : Act → Type 0) (Of : List ℕ → Answer → OciDistrib
 unfolding whole
 whole_causes T Of s types request own = Shows-follow (ByAnswer (Whole T) (λ m c n e. Loose T Of s types c n e)) 10 request (read_within s.max_body_bytes) whole_reply (whole_run T Of s types request own)
 
--- the last answer was accepted, and the bytes are its body
+-- the last response was accepted, and the bytes are its body
 abbrev pub Accepted : Settings → Reference → List Exchange → List ℕ → Type 0
 Accepted s image c bytes = ByLast (ManifestUrl s image) (λ address answer. (answer.status ≡ 200) × (bytes ≡ answer.body)) c
 
@@ -245,7 +245,7 @@ found_accepted s image got found c last is =
       ok_same : (a b : List ℕ × List ℕ) → ◌≡◌ {A = Result (List ℕ × List ℕ) OciDistributionError} (Ok a) (Ok b) → a ≡ b
       ok_same a b is = cc is
 
--- why an answer's digest or document was refused
+-- why a response's digest or document was refused
 abbrev pub OwnCause : Settings → Reference → List ℕ → ℕ → List Exchange → ℕ → OciDistributionError → Type 0
 OwnCause s image types m c n e = Loose (ManifestUrl s image) (AnswerCause (OwnDigest image)) s types c n e
 
@@ -271,7 +271,7 @@ early_where T Of s types P m n c (Err e) h = early_cause T Of s types n c e h
 pub early_shown : (T : Act → Type 0) {A : Type 0} (Of : List ℕ → Answer → OciDistributionError → Type 0) (s : Settings) (types : List ℕ) (P : ℕ → List Exchange → ℕ → A → Type 0) (p : Row A) → Shows (ByAnswer P (λ m c n e. EarlyCause T e)) p → Shows (ByAnswer P (λ m c n e. Loose T Of s types c n e)) p
 early_shown T Of s types P p h = Shows-more (ByAnswer P (λ m c n e. EarlyCause T e)) (ByAnswer P (λ m c n e. Loose T Of s types c n e)) p h (early_where T Of s types P)
 
--- a URL was refused
+-- a URL was malformed
 pub url_cause : (T : Act → Type 0) (Of : List ℕ → Answer → OciDistributionError → Type 0) (s : Settings) (types text : List ℕ) (now : ℕ) (c : List Exchange) (e : OciDistributionError) → T (Reads text) → url_read text ≡ Err e → Loose T Of s types c now e
 url_cause T Of s types text now c e here is = early_cause T Of s types now c e (by_read (url_read text) is (read_early T s types text here)) where
   by_read : (r : Result Parts OciDistributionError) → r ≡ Err e → Early T r → EarlyCause T e

@@ -34,7 +34,7 @@ use Rattle.engine_rows.specs.Blobs.{Destination}
 use Rattle.engine_laws.specs.Causes.{Act, Reads, Cause, BlobCause}
 use Rattle.engine_laws.proofs.PreparedRequests.{Prepared, prepared_shows}
 
--- ---- causes, whatever value it is that cannot stand in a header
+-- ---- causes, for any invalid header value
 
 abbrev pub AnyValue : List Exchange → Type 0
 AnyValue c = Unit {0}
@@ -45,14 +45,14 @@ Loose T Of s types c now e = Cause T Of AnyValue s c now e
 abbrev pub LooseBlob : (Act → Type 0) → Destination → Settings → List ℕ → List Exchange → ℕ → OciDistributionError → Type 0
 LooseBlob T to s digest c now e = BlobCause T to AnyValue s digest c now e
 
--- one of these texts is no URL, or a value cannot stand in a header
+-- one of these texts is not a URL, or a value is not a valid header value
 abbrev pub EarlyCause : (Act → Type 0) → OciDistributionError → Type 0
 EarlyCause T (refusal.UrlParseError text) = (request_url text ≡ None) × T (Reads text)
 EarlyCause T (refusal.GenericError HeaderText) = Unit {0}
 EarlyCause T refusal.WantOfMemory = Unit {0}
 EarlyCause T _ = ⊥
 
--- the refusal, if it is one, is such
+-- an error has such a cause
 abbrev pub Early : (Act → Type 0) → {A : Type 0} → Result A OciDistributionError → Type 0
 Early T (Ok a) = Unit {0}
 Early T (Err e) = EarlyCause T e
@@ -105,7 +105,7 @@ done_early : (T : Act → Type 0) {A : Type 0} (s : Settings) (types : List ℕ)
 unfolding Ends
 done_early T s types r h = h
 
--- only want of memory comes out of the token step
+-- the only refusal of the token step is out of memory
 over_early : (T : Act → Type 0) (s : Settings) (types : List ℕ) (e : OciDistributionError) → Early T (passed_over e)
 over_early T s types refusal.WantOfMemory = tt
 over_early T s types _ = tt
@@ -148,7 +148,7 @@ store_early : (T : Act → Type 0) (s : Settings) (types : List ℕ) (image : Re
 unfolding store Ends bind
 store_early T s types image a = λ k. tt
 
--- what is so where it answers, and why it refuses
+-- P holds for an `Ok`, and an error has its cause
 by_answer : (T : Act → Type 0) {A : Type 0} (s : Settings) (types : List ℕ) (P : ℕ → List Exchange → ℕ → A → Type 0) (m n : ℕ) (c : List Exchange) (r : Result A OciDistributionError) → WhereOk P m c n r → Early T r → ByAnswer P (λ m c n e. EarlyCause T e) m c n r
 by_answer T s types P m n c (Ok a) h early = h
 by_answer T s types P m n c (Err e) h early = early

@@ -37,7 +37,7 @@ use Rattle.engine_rows.specs.Manifests.{pull_image_manifest_and_list_digest, pul
 use Rattle.engine_laws.specs.Causes.{Act, IsEarly, IsEarlyRefusal, HasBadHeader, IsRefusedAs}
 use Rattle.engine_laws.proofs.EarlyCauses.{Early, EarlyCause, authorized_early}
 
--- ---- a URL that is none
+-- ---- a malformed URL
 
 -- the refusal, and no other
 abbrev pub Only : OciDistributionError → {A : Type 0} → Result A OciDistributionError → Type 0
@@ -98,12 +98,12 @@ pub blob_url : (to : Destination) (s : Context) (image : Reference) (layer : Lay
 unfolding blob_to
 blob_url to s image layer none = no_url (blob_text s.settings image layer.digest) (λ url. prepared s image Pull Get url manifest_types >>= λ request. tried to s.settings layer.digest (places_of layer.urls) request) none
 
--- ---- a value that cannot stand in a header
+-- ---- an invalid header value
 
 not_made : (headers : Fields) (name value : List ℕ) (r : Result Fields OciDistributionError) → is_header_value value ≡ false → with_header headers name value ≡ r → r ≡ Err (refusal.GenericError HeaderText)
 not_made headers name value r bad is = sym is ∙ ap (λ b. if b && nat_lt (held headers) 1000 then Ok (added headers name value) else Err (refusal.GenericError HeaderText)) bad
 
--- a request of such values is none
+-- a request with such values cannot be built
 unmade : {A : Type 0} (r : Result Fields OciDistributionError) → ◌≡◌ {A = Result Fields OciDistributionError} r (Err (refusal.GenericError HeaderText)) → (f : Fields → Result A OciDistributionError) → (r into f) ≡ Err (refusal.GenericError HeaderText)
 unmade (Ok headers) is f = absurd (cc is)
 unmade (Err e) is f = let same : e ≡ refusal.GenericError HeaderText = cc is in ap (λ (x : OciDistributionError). Err x) same
@@ -133,7 +133,7 @@ request_bad : (s : Settings) (method : Method) (url : Parts) (types : List ℕ) 
 unfolding request_of
 request_bad s method url types token bad = unmade (headers_of s (Some types) token) (headers_bad s types token bad) (λ headers. Ok (bare_request method url headers))
 
--- whatever text it is
+-- for any text
 abbrev AnyText : Act → Type 0
 AnyText act = Unit {0}
 
@@ -214,7 +214,7 @@ blob_bad to s image layer bad = url_first (blob_text s.settings image layer.dige
 
 -- ---- results
 
--- memory may be wanting before
+-- memory may run out before
 of_error : (e : OciDistributionError) → MatchBool (is_memory e) (Unit {0}) (IsEarlyRefusal e) → IsEarlyRefusal e
 of_error refusal.WantOfMemory h = tt
 of_error _ h = h
@@ -226,7 +226,7 @@ by_memory (Err e) h = of_error e h
 pub met_early : {A : Type 0} {p : Row A} {old new : Link} {k l : Memory} {r : Result A OciDistributionError} → Ends IsEarly p → Meets is_memory p old new k l r → IsEarly r
 met_early {r = r} h met = by_memory r (Meets-ends IsEarly h met)
 
--- so it is where the bytes went into a sink
+-- the same if the bytes were written to a sink
 filled_early : (body : List ℕ) (r : Result (Unit {0}) OciDistributionError) → IsEarly (filled body r) → IsEarly r
 filled_early body (Ok u) h = absurd h
 filled_early body (Err e) h = h
@@ -247,6 +247,6 @@ filled_only e body (Err x) h = by_kind (is_memory x) h where
 pub spilled_only : (e : OciDistributionError) {p : Row (List ℕ)} {old new : Link} {k l : Memory} {before after : Tray} {r : Result (Unit {0}) OciDistributionError} → Ends (Only e) p → Spills p old new k l before after r → IsRefusedAs e r
 spilled_only e {r = r} h spills = filled_only e spills.body r (met_only e h spills.met)
 
--- types that were put into one text
+-- types that were joined to one text
 pub listed_met : (s : Context) (image : Reference) (a : RegistryAuth) (text types : List ℕ) {old new : Link} {k l : Memory} {r : Result (List ℕ × List ℕ) OciDistributionError} → text ≡ types → Meets is_memory (pull_manifest_raw s image a text) old new k l r → Meets is_memory (pull_manifest_raw s image a types) old new k l r
 listed_met s image a text types is met = rw is at met

@@ -29,9 +29,9 @@ use Rattle.engine_laws.proofs.DocumentAnswers.{body_before}
 use Rattle.engine_laws.proofs.DocumentCauses.{cause_later, last_later}
 use Rattle.engine_laws.proofs.ManifestCauses.{document_more, ReadLast, ManifestCause, manifest_causes}
 
--- ---- what was read
+-- ---- what was parsed
 
--- the manifest that was read
+-- the manifest that was parsed
 pub read_manifest : (s : Settings) (image : Reference) (c : List Exchange) (manifest : OciImageManifest) → ReadLast s image c (Image manifest) → ManifestRead c manifest
 read_manifest s image c manifest h = record {
   bytes = h.answer.body;
@@ -55,11 +55,11 @@ index_before d h = record { bytes = h.bytes; body = body_before d h.body; reads 
 manifest_after : (s : Settings) (image : Reference) {c : List Exchange} {manifest : OciImageManifest} (b : List Exchange) → ReadLast s image c (Image manifest) → ManifestRead (b ++ c) manifest
 manifest_after s image {c} {manifest} b h = read_manifest s image (b ++ c) manifest (last_later (ManifestUrl s image) (ManifestUrl s image) (λ address answer. document_read answer.body ≡ Ok (Image manifest)) b (λ act h. h) (λ address answer is. is) h)
 
--- the last answer is an index, also after other exchanges
+-- the last response is an index, also after other exchanges
 last_index : (s : Settings) (image : Reference) (Own : Act → Type 0) (b : List Exchange) {c : List Exchange} (index : OciImageIndex) → ((act : Act) → ManifestUrl s image act → Own act) → ReadLast s image c (ImageIndex index) → LastIsIndex Own (b ++ c)
 last_index s image Own b index acts h = last_later (ManifestUrl s image) Own (λ address answer. (index : OciImageIndex) × (document_read answer.body ≡ Ok (ImageIndex index))) b acts (λ address answer is. (index, is)) h
 
--- what is said of a call's own requests stays said where more are its own
+-- what holds for a call's own requests holds for a larger set of them
 index_more : (T U : Act → Type 0) (c : List Exchange) → ((act : Act) → T act → U act) → LastIsIndex T c → LastIsIndex U c
 index_more T U c acts h = last_later T U (λ address answer. (index : OciImageIndex) × (document_read answer.body ≡ Ok (ImageIndex index))) [] acts (λ address answer is. is) h
 
@@ -77,7 +77,7 @@ no_resolver_more T U Given Other s c now acts h = (h.0, index_more T U c acts h.
 pub no_entry_more : (T U : Act → Type 0) (Given Other : List ℕ → Type 0) (s : Settings) (c : List Exchange) (now : ℕ) (text : List ℕ) → ((act : Act) → T act → U act) → IndexCause T Given AnyValue s c now (refusal.ImageManifestNotFoundError text) → IndexCause U Other AnyValue s c now (refusal.ImageManifestNotFoundError text)
 no_entry_more T U Given Other s c now text acts h = not_found_more T U s c text acts h
 
--- ---- the entry that is meant
+-- ---- the selected entry
 
 -- one was found
 record Chosen (s : Settings) (index : OciImageIndex) (digest : List ℕ) : Type 0 where
@@ -101,7 +101,7 @@ chosen_by s index (Some promise) digest has is = let found = named_ok index.mani
 chosen : (s : Settings) (index : OciImageIndex) (digest : List ℕ) → entry_found s.platform_resolver index.manifests ≡ Ok digest → Chosen s index digest
 chosen s index digest is = chosen_by s index s.platform_resolver digest refl is
 
--- none was
+-- none was found
 abbrev pub FoundLoose : Settings → Reference → List Exchange → ℕ → OciDistributionError → Type 0
 FoundLoose s image c now e = FoundCause AnyValue s image c now e
 
@@ -143,7 +143,7 @@ second_found s image c d digest now e has h = cause_later (ManifestUrl s (entry_
     (λ act is. inr (digest, has, is))
     (λ address answer g. document_more (OwnDigest (entry_reference image digest)) (FoundDigest image (c ++ d)) address answer e (λ text is. entry_digest image (c ++ d) digest text has is) g) h
 
--- the entry's document is an index again
+-- the entry's document is another index
 again_found : (s : Settings) (image : Reference) (c d : List Exchange) (index : OciImageIndex) (digest : List ℕ) (now : ℕ) (document : OciManifest) (e : OciDistributionError) → Chosen s index digest → IndexRead c index → ReadLast s (entry_reference image digest) d document → entry_manifest digest document ≡ Err e → FoundLoose s image (c ++ d) now e
 again_found s image c d index digest now (Image manifest) e choice read last is = absurd (cc is)
 again_found s image c d index digest now (ImageIndex other) e choice read last is =
@@ -156,7 +156,7 @@ entry_is digest (ImageIndex index) manifest is = absurd (cc is)
 
 -- ---- rows
 
--- the row of a manifest, and why it ends with a refusal, whatever value it is that cannot stand in a header
+-- the row of a manifest, and why it ends with a refusal, for any invalid header value
 abbrev HasRead : ℕ → List Exchange → ℕ → OciImageManifest → Type 0
 HasRead m c n manifest = ManifestRead c manifest
 
@@ -190,7 +190,7 @@ first_where : (s : Settings) (image : Reference) (m n : ℕ) (c : List Exchange)
 first_where s image m n c (Ok found) h = h
 first_where s image m n c (Err e) h = first_found s image c n e h
 
--- the manifest was read, and each refusal has its cause
+-- the manifest was parsed, and each refusal has its cause
 pub found_causes : (s : Context) (image : Reference) (a : RegistryAuth) → Shows (ByAnswer (λ m c n found. ManifestRead c found.0) (FoundRefused s.settings image)) (pull_image_manifest_and_list_digest s image a)
 unfolding pull_image_manifest_and_list_digest
 found_causes s image a = Shows-each (λ m c n found. ReadLast s.settings image c found.0) Found (FoundRefused s.settings image) (pull_manifest s image a) (λ found. manifest_by s image a found.0 found.1)

@@ -1,4 +1,4 @@
--- Why a call was refused whose values cannot stand in a header, for each call.
+-- Why a call with an invalid header value was refused, for each call.
 use Rattle.std.proofs.Common.{ℕ, Bool, true, false, List, [], ◌∷◌, ◌++◌, Option, Some, None, Result, Ok, Err, ◌⊎◌, inl, inr, codes, refl}
 use Rattle.std.specs.Prelude.{if◌then◌else◌, bytes_eq}
 use Rattle.url.specs.Parts.{Parts}
@@ -57,11 +57,11 @@ use Rattle.engine_laws.proofs.RequestConfinement.{Sent, each_more}
 use Rattle.engine_laws.specs.Confined.{ToRegistry, ToRealm, MayCarry}
 use Rattle.engine_laws.proofs.ShownTokens.{Carries, HeaderCause, Ended, Ready, request_ready, safe_done, safe_next, safe_ready, safe_follow, prepared_safe, store_safe, plain_step, plain_last, url_first}
 
--- the protocol keeps to it, and its refusals have their causes
+-- the protocol is safe, and its refusals have their causes
 abbrev pub Sound : Entry → Settings → List ℕ → {A : Type 0} → Memory → List Exchange → Row A → Type 0
 Sound x s types l c p = Safe (Carries x s) (Keeps x) (Ended x s types) l c p
 
--- ---- ways to ask
+-- ---- ways to send a request
 
 pub whole_sound : (x : Entry) (s : Settings) (types : List ℕ) (n : ℕ) (request : Request) (limit : ℕ) (l : Memory) (c : List Exchange) → Sent x s c request → Keeps x l c → Sound x s types l c (whole n request limit)
 unfolding whole
@@ -112,7 +112,7 @@ read_blob url answer (plan.Refuse e) = tt
 read_blob url answer plan.Judge = refused_plain url answer
 read_blob url answer (plan.Pour given own) = into_plain (both_compared given own answer.body) _ (into_plain (given_compared given answer.body) _ (given_plain given answer.body) (λ u. compared_plain own answer.body)) (λ u. tt)
 
--- what is made of the reply to an attempt
+-- what is computed from the reply to an attempt
 reply_sound : (x : Entry) (s : Settings) (types : List ℕ) (digest : List ℕ) (l : Memory) (last : Request) (reply : Reply) (d : List Exchange) → Keeps x l d → Sound x s types l d (blob_reply digest last reply)
 reply_sound x s types digest l last (Headed head) d h = plain_last x s types (unread_by (plan_of digest head)) l d (unread_blob (plan_of digest head)) h
 reply_sound x s types digest l last (Answered answer) d h = plain_last x s types (read_by last.url answer (plan_of digest (head_part answer))) l d (read_blob last.url answer (plan_of digest (head_part answer))) h
@@ -124,7 +124,7 @@ attempt_sound : (to : Destination) (x : Entry) (s : Settings) (types : List ℕ)
 unfolding attempt
 attempt_sound to x s types limit digest request l c sent keeps = safe_follow x s (Ended x s types) 10 request (blob_reading to limit digest) (blob_reply digest) l c sent keeps (λ last d e before after other reply h replies. reply_sound x s types digest l last reply (d ++ e ∷ []) h)
 
--- what comes next may be asked after any exchanges
+-- what comes next may follow any exchanges
 headed_sound : (x : Entry) (s : Settings) (types : List ℕ) (digest : List ℕ) (next : Row (List ℕ)) (l : Memory) (last : Request) (head : AnswerHead) (d : List Exchange) (b : Bool) → Sound x s types l d next → Keeps x l d → Sound x s types l d (if b then next else blob_reply digest last (Headed head))
 headed_sound x s types digest next l last head d true rest h = rest
 headed_sound x s types digest next l last head d false rest h = reply_sound x s types digest l last (Headed head) d h
@@ -139,7 +139,7 @@ offer_sound to x s types limit digest next request l c sent keeps rest = safe_fo
   by_reply last TooLong d h = reply_sound x s types digest l last TooLong d h
   by_reply last SinkFailed d h = reply_sound x s types digest l last SinkFailed d h
 
--- a request at a listed URL, which shows no token
+-- a request at a listed URL, which contains no token
 pub place_ready : (x : Entry) (s : Settings) (p : Place) (l : Memory) (c : List Exchange) → Keeps x l c → Ready x s manifest_types l c (asked_at s p)
 unfolding asked_at
 place_ready x s (Web url) l c keeps = request_ready x s Get url manifest_types None l c keeps tt (request_of s Get url (Some manifest_types) None) refl
@@ -234,7 +234,7 @@ same_value k s image digest handed c request value h = record { goes = same_goes
 same_carries : (k : Memory) (s : Context) (image : Reference) (digest : List ℕ) (handed : Option RegistryAuth) (l : Memory) (c : List Exchange) (request : Request) → Carries (pulling k s (entry_reference image digest) handed) s.settings l c request → Carries (pulling k s image handed) s.settings l c request
 same_carries k s image digest handed l c request h = each_more (MayCarry (pulling k s (entry_reference image digest) handed) s.settings c request) (MayCarry (pulling k s image handed) s.settings c request) (values_of (codes "authorization") request.headers) (λ value at. same_value k s image digest handed c request value at) h
 
--- it is asked for as the image is
+-- it is requested as the image is
 as_image : {A : Type 0} (k : Memory) (s : Context) (image : Reference) (digest : List ℕ) (handed : Option RegistryAuth) (types : List ℕ) (l : Memory) (c : List Exchange) (p : Row A) → Sound (pulling k s (entry_reference image digest) handed) s.settings types l c p → Sound (pulling k s image handed) s.settings types l c p
 as_image k s image digest handed types l c p h = Safe-map (Carries (pulling k s (entry_reference image digest) handed) s.settings) (Carries (pulling k s image handed) s.settings) (Keeps (pulling k s (entry_reference image digest) handed)) (Keeps (pulling k s image handed)) (Ended (pulling k s (entry_reference image digest) handed) s.settings types) (Ended (pulling k s image handed) s.settings types) p (same_carries k s image digest handed) (same_keeps k s image digest handed) (same_ended k s image digest handed types) l c h
 

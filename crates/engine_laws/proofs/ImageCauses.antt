@@ -88,7 +88,7 @@ one_other accepted (x ∷ xs) e is = by_test (is_accepted accepted x.media_type)
 
 -- ---- a whole image
 
--- why the row of an image ends with a refusal, whatever value it is that cannot stand in a header
+-- why the row of an image ends with a refusal, for any invalid header value
 abbrev pub RowCause : Settings → Reference → List (List ℕ) → List Exchange → ℕ → OciDistributionError → Type 0
 RowCause s image accepted c now e = ImageCause AnyValue s image accepted c now e
 
@@ -96,11 +96,11 @@ RowCause s image accepted c now e = ImageCause AnyValue s image accepted c now e
 abbrev pub ConfigRow : Settings → Reference → List Exchange → ℕ → OciDistributionError → Type 0
 ConfigRow s image c now e = ConfigCause AnyValue s image c now e
 
--- a blob of the manifest was refused, in a call that an index may lead on
+-- a blob of the manifest was refused, in a call that an index may redirect
 abbrev BlobLed : Settings → Reference → List Exchange → ℕ → OciDistributionError → Type 0
 BlobLed s image c now e = IndexCause (ImageUrl s image c) (ImageDigest image c) AnyValue s c now e
 
--- but for a fault of a sink
+-- except for a fault of a sink
 blob_led : (s : Settings) (image : Reference) (c d : List Exchange) (x : OciDescriptor) (now : ℕ) (e : OciDistributionError) → ReadDescriptor (c ++ d) x → Loose (BlobUrl s image (described x)) (AnswerCause (AskedDigest x.digest)) s manifest_types d now e → BlobLed s image (c ++ d) now e
 blob_led s image c d x now refusal.ImageIndexParsingNoPlatformResolverError has h = absurd h.holds
 blob_led s image c d x now (refusal.ImageManifestNotFoundError text) has h = absurd h.holds
@@ -196,7 +196,7 @@ image_causes s image a accepted = Shows-each (λ m c n found. ManifestRead c fou
 abbrev ConfigRefused : Settings → Reference → ℕ → List Exchange → ℕ → OciDistributionError → Type 0
 ConfigRefused s image m c n e = ConfigRow s image c n e
 
--- both what a row shows where it answers, and why it refuses
+-- the property of a row's `Ok`, and why it is refused
 both_shown : {A : Type 0} (P : ℕ → List Exchange → ℕ → A → Type 0) (R : ℕ → List Exchange → ℕ → OciDistributionError → Type 0) (m n : ℕ) (c : List Exchange) (r : Result A OciDistributionError) → WhereOk P m c n r → ByAnswer (λ m c n a. Unit {0}) R m c n r → ByAnswer P R m c n r
 both_shown P R m n c (Ok a) h g = h
 both_shown P R m n c (Err e) h g = g

@@ -1,4 +1,4 @@
--- What a client keeps in a call: credentials and tokens that the call may show.
+-- The client state during a call: credentials and tokens that the call may send.
 use Rattle.std.proofs.Common.{◌≡◌, inl, inr, ℕ, Bool, true, false, cond, List, [], ◌∷◌, ◌++◌, Option, Some, None, true≢false, refl, sym, ap, subst, ◌∙◌, append_assoc}
 use Rattle.std.specs.Prelude.{is_some, nat_le, if◌then◌else◌, option_and_then}
 use Rattle.std.specs.Option.{option_map_or}
@@ -22,7 +22,7 @@ use Rattle.engine_rows.specs.Rows.{with_kept}
 use Rattle.engine_laws.specs.Confined.{KeptOrAdded, KeptWell, StoredOrHanded, StoredWell}
 use Rattle.engine_laws.specs.Held.{Entry, IsAuth, GivenIn, IsHeld}
 
--- what is kept after these exchanges
+-- the client state after these exchanges
 pub record Keeps (x : Entry) (l : Memory) (c : List Exchange) : Type 0 where
   pub credentials : (a : RegistryAuth) → map.get l.credentials (resolved_registry x.image) ≡ Some a → IsAuth x a
   pub tokens : (token : RegistryTokenType) → token_at l.tokens (key_of x.image x.operation) x.moment ≡ Some token → IsHeld x c token
@@ -33,7 +33,7 @@ pub record Keeps (x : Entry) (l : Memory) (c : List Exchange) : Type 0 where
 pub keeps_first : (x : Entry) → Keeps x x.kept []
 keeps_first x = record { credentials = λ a is. inl is; tokens = λ token is. inr (inl is); added = λ key moment token is. inl is; stored = λ registry a is. inl is }
 
--- what may be shown stays so
+-- what may be sent may still be sent later
 given_more : (c d : List Exchange) (token : RegistryTokenType) → GivenIn c token → GivenIn (c ++ d) token
 given_more c d token g = record { before = g.before; exchange = g.exchange; after = g.after ++ d; split = ap (λ e. e ++ d) g.split ∙ append_assoc g.before (g.exchange ∷ g.after) d; answer = g.answer; answered = g.answered; read = g.read }
 
@@ -58,7 +58,7 @@ by_key x false a other found handed before is = before is
 into_map : (x : Entry) (m : FinMap by_bytes RegistryAuth) (registry : List ℕ) (a other : RegistryAuth) → x.handed ≡ Some a → (map.get m (resolved_registry x.image) ≡ Some other → IsAuth x other) → map.get (map.insert m registry a) (resolved_registry x.image) ≡ Some other → IsAuth x other
 into_map x m registry a other handed before is = by_key x _ a other (map.get m (resolved_registry x.image)) handed before (sym (get-insert nat_list_cmp_total m registry a (resolved_registry x.image)) ∙ is)
 
--- those under another registry are what they were
+-- those under another registry are unchanged
 into_stored : (x : Entry) (found : Option RegistryAuth) (registry key : List ℕ) (a other : RegistryAuth) (b : Bool) → eq_by_cmp by_bytes key registry ≡ b → x.handed ≡ Some a → registry ≡ resolved_registry x.image → (found ≡ Some other → StoredOrHanded x key other) → cond b (Some a) found ≡ Some other → StoredOrHanded x key other
 into_stored x found registry key a other true tied handed own before is = let same : a ≡ other = cc is in inr (same_text key registry (sym (texts_ties key registry ∙ tied)) ∙ own, handed ∙ ap Some same)
 into_stored x found registry key a other false tied handed own before is = before is
@@ -75,13 +75,13 @@ stored_by x l c registry a false handed own k = record {
 pub keeps_stored : (x : Entry) (l : Memory) (c : List Exchange) (a : RegistryAuth) → x.handed ≡ Some a → Keeps x l c → Keeps x (stored l (resolved_registry x.image) a) c
 keeps_stored x l c a handed k = stored_by x l c (resolved_registry x.image) a (is_some (map.get l.credentials (resolved_registry x.image))) handed refl k
 
--- ---- a token is kept
+-- ---- a token is stored
 
 by_moment : (b : Bool) (token other : RegistryTokenType) → (if b then Some token else None) ≡ Some other → token ≡ other
 by_moment true token other is = cc is
 by_moment false token other is = absurd (cc is)
 
--- the token that is given once one is kept under this key
+-- the token that is returned after one is stored under this key
 given_kept : (cache : TokenCache) (key : Key) (token other : RegistryTokenType) (until moment : ℕ) → token_at (record cache { tokens = inserted cache.tokens (kept_token key token until) }) key moment ≡ Some other → token ≡ other
 given_kept cache key token other until moment is =
     by_moment (nat_le moment until) token other (sym (ap (λ (o : Option KeptToken). option_and_then (given_at moment) o) (is_kept cache.tokens (kept_token key token until)).here) ∙ is)
@@ -91,7 +91,7 @@ cache_by : (x : Entry) (cache : TokenCache) (c : List Exchange) (token other : R
 cache_by x cache c token other None held before is = before is
 cache_by x cache c token other (Some until) held before is = subst (IsHeld x c) (given_kept cache (key_of x.image x.operation) token other until x.moment is) held
 
--- the token that is given under some key once one is kept
+-- the token that is returned under some key after one is stored
 other_key : (key : Key) (t : KeptToken) → is_under key t ≡ false → key ≡ key_in t → ⊥
 other_key key t apart same = true≢false (sym (under_itself t) ∙ ap (λ (k : Key). is_under k t) (sym same) ∙ apart)
 

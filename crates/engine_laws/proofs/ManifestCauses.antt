@@ -29,7 +29,7 @@ use Rattle.engine_laws.specs.Causes.{Act, ManifestUrl, Claimed, DigestCause, Ans
 use Rattle.engine_laws.proofs.EarlyCauses.{Loose}
 use Rattle.engine_laws.proofs.DocumentCauses.{cause_later, last_later, Accepted, OwnCause, raw_causes}
 
--- ---- which refusals speak of a document
+-- ---- which refusals are about a document
 
 abbrev IsOfDocument : OciDistributionError → Type 0
 IsOfDocument (refusal.VersionedParsingError body) = Unit {0}
@@ -83,7 +83,7 @@ unread_cause Given address answer (refusal.UnsupportedSchemaVersionError version
 unread_cause Given address answer (refusal.UnsupportedMediaTypeError media_type) kind h = h
 unread_cause Given address answer e kind h = absurd kind
 
--- so of the last answer
+-- the same for the last response
 last_unread : (T : Act → Type 0) (Given : List ℕ → Type 0) (s : Settings) (types : List ℕ) (now : ℕ) (c : List Exchange) (e : OciDistributionError) → IsOfDocument e → ByLast T (λ address answer. DocumentCause Given address answer e) c → Loose T (DocumentCause Given) s types c now e
 last_unread T Given s types now c (refusal.VersionedParsingError body) kind h = h
 last_unread T Given s types now c (refusal.ManifestParsingError body) kind h = h
@@ -113,7 +113,7 @@ digest_more P Q answer (digest_refusal.UnsupportedAlgorithm name) more h = (h.0,
 digest_more P Q answer (digest_refusal.VerificationError expected actual) more h = (claimed_more P Q answer expected more h.0, h.1, h.2)
 digest_more P Q answer digest_refusal.WantOfMemory more h = h
 
--- what an answer shows of a refusal it shows of a call that reads a document
+-- what a response shows about a refusal also holds for a call that parses a document
 pub answer_document : (P Q : List ℕ → Type 0) (address : List ℕ) (answer : Answer) (e : OciDistributionError) → ((text : List ℕ) → P text → Q text) → AnswerCause P address answer e → DocumentCause Q address answer e
 answer_document P Q address answer (refusal.DigestError e) more h = digest_more P Q answer e more h
 answer_document P Q address answer (refusal.UnauthorizedError url) more h = h
@@ -128,7 +128,7 @@ document_more P Q address answer e more h = h
 
 -- ---- a manifest
 
--- the last answer's body is this document
+-- the last response's body is this document
 abbrev pub ReadLast : Settings → Reference → List Exchange → OciManifest → Type 0
 ReadLast s image c document = ByLast (ManifestUrl s image) (λ address answer. document_read answer.body ≡ Ok document) c
 

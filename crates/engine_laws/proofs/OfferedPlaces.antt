@@ -1,4 +1,4 @@
--- What a blob's row shows, which may go on to the URLs of a descriptor: what an attempt does, at each place.
+-- The properties of a blob's row, which may continue with the URLs of a descriptor: those of an attempt, at each place.
 use Rattle.std.proofs.Common.{◌≡◌, ◌⊎◌, inl, inr, ℕ, Bool, true, false, List, [], ◌∷◌, ◌++◌, Some, Result, Ok, Err, refl, sym, ap, ◌∙◌}
 use Rattle.std.specs.Prelude.{if◌then◌else◌}
 use Rattle.oci_transport.specs.declared.message.Request.{Request}
@@ -18,7 +18,7 @@ use Rattle.engine_rows.specs.Blobs.{Destination, blob_reading, blob_reply, attem
 use Rattle.engine_rows.specs.Offers.{offer_reading, offer_reply, offer, tried}
 use Rattle.engine_rows.specs.Rows.{Row}
 
--- ---- the reply to an offer: it is passed over, or it is one to an attempt
+-- ---- the reply to an offer: it is skipped, or it is one to an attempt
 
 abbrev pub IsPassed : Reply → Type 0
 IsPassed (Headed head) = is_error head.status ≡ true
@@ -40,7 +40,7 @@ passed_reading : (to : Destination) (limit : ℕ) (digest : List ℕ) (head : An
 unfolding offer_reading
 passed_reading to limit digest head bad = passed (is_error head.status) Unread (blob_reading to limit digest head) bad
 
--- what was read was no answer of an error
+-- a body was read only if the status is not 4xx or 5xx
 read_reading : (to : Destination) (limit n : ℕ) (digest : List ℕ) (head : AnswerHead) → limit_of (offer_reading to limit digest head) ≡ Some n → offer_reading to limit digest head ≡ blob_reading to limit digest head
 read_reading to limit n digest head is = by_test (is_error head.status) refl where
   by_test : (b : Bool) → is_error head.status ≡ b → offer_reading to limit digest head ≡ blob_reading to limit digest head
@@ -50,7 +50,7 @@ read_reading to limit n digest head is = by_test (is_error head.status) refl whe
 headed_as : (to : Destination) (limit : ℕ) (digest : List ℕ) (last : Request) (before after : ℕ) (e : Exchange) (head : AnswerHead) → is_error head.status ≡ false → Replies last (offer_reading to limit digest) before e after (Headed head) → Replies last (blob_reading to limit digest) before e after (Headed head)
 headed_as to limit digest last before after e head good r = record { request_is = r.request_is; faults_is = r.faults_is; count = r.count; reply_is = (r.reply_is.0, r.reply_is.1, sym (offered_reading to limit digest head good) ∙ r.reply_is.2) }
 
--- a reply that is not passed over is one to an attempt
+-- a reply that is not skipped is one to an attempt
 replies_as : (to : Destination) (limit : ℕ) (digest : List ℕ) (last : Request) (before after : ℕ) (e : Exchange) (reply : Reply) → Replies last (offer_reading to limit digest) before e after reply → IsPassed reply ⊎ Replies last (blob_reading to limit digest) before e after reply
 replies_as to limit digest last before after e (Headed head) r = by_test (is_error head.status) refl where
   by_test : (b : Bool) → is_error head.status ≡ b → IsPassed (Headed head) ⊎ Replies last (blob_reading to limit digest) before e after (Headed head)
@@ -75,7 +75,7 @@ passed_runs digest next last Failed k l m n c r bad run = absurd bad
 passed_runs digest next last TooLong k l m n c r bad run = absurd bad
 passed_runs digest next last SinkFailed k l m n c r bad run = absurd bad
 
--- a run of a reply that was not read because its status is one of an error
+-- a run from a reply that was not read because its status is 4xx or 5xx
 error_or_not : (digest : List ℕ) (next : Row (List ℕ)) (last : Request) (head : AnswerHead) (k l : Memory) (m n : ℕ) (c : List Exchange) (r : Result (List ℕ) OciDistributionError) (b : Bool) → is_error head.status ≡ b → Runs (offer_reply digest next last (Headed head)) k m c n l r → Runs next k m c n l r ⊎ Runs (blob_reply digest last (Headed head)) k m c n l r
 error_or_not digest next last head k l m n c r true bad run = inl (rw (passed (is_error head.status) next (blob_reply digest last (Headed head)) bad) at run)
 error_or_not digest next last head k l m n c r false good run = inr (rw (not_passed (is_error head.status) next (blob_reply digest last (Headed head)) good) at run)
@@ -89,11 +89,11 @@ either_runs digest next last SinkFailed k l m n c r run = inr run
 
 -- ---- laws of rows
 
--- what an attempt's last reply gives
+-- what an attempt's last reply leads to
 abbrev pub Replied : (ℕ → List Exchange → ℕ → Result (List ℕ) OciDistributionError → Type 0) → Destination → ℕ → List ℕ → Request → Type 0
 Replied Q to limit digest request = (k l : Memory) (m after o : ℕ) (c d : List Exchange) (last : Request) (reply : Reply) (r : Result (List ℕ) OciDistributionError) → Heard 10 request (blob_reading to limit digest) m c after last reply → Runs (blob_reply digest last reply) k after d o l r → Q m (c ++ d) o r
 
--- what is so of a run is so of it with exchanges before it
+-- what holds for a run holds for it with exchanges before it
 abbrev pub Later : (ℕ → List Exchange → ℕ → Result (List ℕ) OciDistributionError → Type 0) → Type 0
 Later Q = (m start n : ℕ) (c d : List Exchange) (r : Result (List ℕ) OciDistributionError) → Q start d n r → Q m (c ++ d) n r
 
@@ -112,20 +112,20 @@ offer_law Q to limit digest next request each later rest = Shows-follow Q 10 req
   by_reply : (k l : Memory) (m after o : ℕ) (c d : List Exchange) (last : Request) (reply : Reply) (r : Result (List ℕ) OciDistributionError) → Heard 10 request (offer_reading to limit digest) m c after last reply → Runs (offer_reply digest next last reply) k after d o l r → Q m (c ++ d) o r
   by_reply k l m after o c d last reply r h run = by_kind k l m after o c d last reply r (heard_replies to limit digest request m c after last reply h) (either_runs digest next last reply k l after o d r run) (λ bad. passed_runs digest next last reply k l after o d r bad run)
 
--- this is so of each place
+-- P holds for each place
 abbrev pub EachPlace : (Place → Type 0) → List Place → Type 0
 EachPlace P [] = Unit {0}
 EachPlace P (p ∷ ps) = P p × EachPlace P ps
 
--- why a place is not asked
+-- why a place is not requested
 abbrev pub Unasked : (ℕ → List Exchange → ℕ → Result (List ℕ) OciDistributionError → Type 0) → Settings → Place → Type 0
 Unasked Q s p = (e : OciDistributionError) → asked_at s p ≡ Err e → (m : ℕ) → Q m [] m (Err e)
 
--- the request at a place is good
+-- the request at a place has the property
 abbrev pub Gives : (Request → Type 0) → Settings → Place → Type 0
 Gives Good s p = (request : Request) → asked_at s p ≡ Ok request → Good request
 
--- of the request and of each place
+-- for the request and each place
 pub tried_law : (Q : ℕ → List Exchange → ℕ → Result (List ℕ) OciDistributionError → Type 0) (Good : Request → Type 0) (to : Destination) (s : Settings) (digest : List ℕ) → ((request : Request) → Good request → Replied Q to s.max_body_bytes digest request) → Later Q
     → (places : List Place) → EachPlace (Gives Good s) places → EachPlace (Unasked Q s) places → (request : Request) → Good request → Shows Q (tried to s digest places request)
 unfolding tried

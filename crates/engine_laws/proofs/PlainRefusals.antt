@@ -1,4 +1,4 @@
--- Refusals that are neither a fault of the sink nor a value that cannot stand in a header.
+-- Refusals that are neither a fault of the sink nor an invalid header value.
 use Rattle.std.proofs.Common.{ℕ, Bool, true, false, List, [], ◌∷◌, Option, Some, None, Result, Ok, Err}
 use Rattle.std.specs.Prelude.{if◌then◌else◌, nat_eq, pos}
 use Rattle.std.specs.Ordering.{int_eq}
@@ -27,7 +27,7 @@ use Rattle.oci_manifests.specs.declared.document.OciManifest.TheVariants.{Image,
 use Rattle.engine_terms.specs.declared.error.GenericCause.TheVariants.{ConfigNotText, HeaderText}
 use Rattle.engine_terms.specs.Error.{◌>>=◌ as ◌into◌}
 
--- the refusal is neither a fault of the sink nor a value that cannot stand in a header
+-- the refusal is neither a fault of the sink nor an invalid header value
 abbrev pub IsPlain : OciDistributionError → Type 0
 IsPlain refusal.SinkFault = ⊥
 IsPlain (refusal.GenericError HeaderText) = ⊥
@@ -41,7 +41,7 @@ pub into_plain : {A B : Type 0} (r : Result A OciDistributionError) (f : A → R
 into_plain (Ok a) f h each = each a
 into_plain (Err e) f h each = h
 
--- ---- answers
+-- ---- responses
 
 listed_plain : (url : List ℕ) (answer : Answer) (o : Option OciEnvelope) → IsPlain (by_envelope url answer o)
 listed_plain url answer (Some envelope) = tt

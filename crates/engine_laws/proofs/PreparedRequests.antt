@@ -1,4 +1,4 @@
--- What the requests of a client ask, and what its token step asks before them.
+-- What the requests of a client are, and which requests its token step sends before them.
 use Rattle.std.proofs.Common.{◌≡◌, ℕ, zero, Bool, true, false, List, [], ◌∷◌, ◌++◌, Option, Some, None, Result, Ok, Err, codes, unwrap_or, refl, sym, ap, subst, ◌∙◌, append-nil}
 use Rattle.std.specs.Prelude.{nat_lt, ◌&&◌, if◌then◌else◌}
 use Rattle.std.specs.FinMap as map
@@ -45,7 +45,7 @@ use Rattle.engine_terms.specs.declared.error.OciDistributionError.{OciDistributi
 use Rattle.engine_rows.specs.Rows.{whole_reply, whole, head_reply, head_after, recalled, store, realm_asked, fetched, registry_asked, token_step, with_kept, passed_over, taken, token_asked, kept_or_asked, token_by, token_for, goes_to, token_where, authorized, prepared}
 use Rattle.engine_laws.specs.Answered.{AsksRegistry, AsksRealm, OfTokenStep, Asks}
 
--- ---- how a request is made
+-- ---- how a request is built
 
 pub accept_none : (name : List ℕ) → values_of (codes "accept") (added map.empty (codes "user-agent") name) ≡ []
 accept_none name =
@@ -57,12 +57,12 @@ with_ok headers name value made = by_test (is_header_value value && nat_lt (held
   by_test true is = cc
   by_test false is = cc
 
--- steps that were not refused
+-- steps that returned `Ok`
 pub into_ok : {A B E : Type 0} (r : Result A E) (f : A → Result B E) (b : B) → (r into f) ≡ Ok b → (a : A) × (r ≡ Ok a) × (f a ≡ Ok b)
 into_ok (Ok a) f b is = (a, refl, is)
 into_ok (Err e) f b is = cc
 
--- a request that was made
+-- a request that was built
 pub record Made (s : Settings) (method : Method) (url : Parts) (types : Option (List ℕ)) (token : Option RegistryTokenType) (request : Request) : Type 0 where
   pub headers : Fields
   pub is : request ≡ bare_request method url headers
@@ -84,7 +84,7 @@ made_of s method url types token request is =
       shown = two.2;
     }
 
--- it asks so
+-- it has this method, URL and types
 pub asks_of : (s : Settings) (method : Method) (url : Parts) (types : Option (List ℕ)) (token : Option RegistryTokenType) (request : Request) → request_of s method url types token ≡ Ok request → Asks s method url types request
 asks_of s method url types token request is =
     let made = made_of s method url types token request is in
@@ -95,7 +95,7 @@ asks_of s method url types token request is =
       made = is;
     }
 
--- ---- steps that ask nothing
+-- ---- steps that send no request
 
 abbrev pub Silent : {A : Type 0} → ℕ → List Exchange → ℕ → A → Type 0
 Silent m c n a = c ≡ []
@@ -111,7 +111,7 @@ silent_taken moment key (Ok None) = silent_done (Ok None)
 silent_taken moment key (Ok (Some token)) = Shows-recall Silent _ (λ k. Shows-keep Silent (with_kept k key token moment) (Done (Ok (Some token))) (silent_done (Ok (Some token))))
 silent_taken moment key (Err e) = silent_done (passed_over e)
 
--- before what is so of the exchanges, and after it
+-- before the exchanges with P, and after them
 silent_first : (P : List Exchange → Type 0) {A B E : Type 0} (p : Proto Memory (Result A E)) (f : A → Proto Memory (Result B E)) → P [] → Shows Silent p → ((a : A) → Shows (λ m c n b. P c) (f a)) → Shows (λ m c n b. P c) (p >>= f)
 silent_first P {A} {B} {E} p f none first each = Shows-bind Silent (λ m c n b. P c) p (unless_refused f) first (λ m n c r h. Shows-more (λ s d o b. P d) (λ s d o b. P (c ++ d)) (unless_refused f r) (by_result r) (λ s o d b g. subst (λ (x : List Exchange). P (x ++ d)) (sym h) g)) where
   by_result : (r : Result A E) → Shows (λ m c n b. P c) (unless_refused f r)
@@ -129,7 +129,7 @@ pub silent_store : (image : Reference) (a : RegistryAuth) → Shows Silent (stor
 unfolding store
 silent_store image a = silent_first (λ c. c ≡ []) recalled _ refl silent_recalled (λ k. Shows-keep Silent (stored k (resolved_registry image) a) (Done (Ok tt)) (silent_done (Ok tt)))
 
--- ---- one request that is not followed
+-- ---- one request whose redirects are not followed
 
 record One (request : Request) (c : List Exchange) : Type 0 where
   exchange : Exchange
@@ -146,7 +146,7 @@ one_heard request last m after c reply h = by_trail h.redirects h.split h.trail 
 one_of : (request last : Request) {reading : AnswerHead → Reading} (m after : ℕ) (c : List Exchange) (reply : Reply) (h : Heard zero request reading m c after last reply) → One request (c ++ [])
 one_of request last m after c reply h = let one = one_heard request last m after c reply h in record { exchange = h.exchange; split = append-nil c ∙ one.0; request_is = one.1 }
 
--- it was answered with this head
+-- the response has this head
 record OneHead (request : Request) (c : List Exchange) (head : AnswerHead) : Type 0 where
   exchange : Exchange
   split : c ≡ exchange ∷ []
@@ -172,7 +172,7 @@ head_shown : (request : Request) → Shows (HeadShown request) (head_after 0 req
 unfolding head_after
 head_shown request = Shows-follow (HeadShown request) 0 request read_none head_reply (head_run request)
 
--- the reply's result asks nothing more
+-- the result of the reply sends no further request
 whole_silent : (last : Request) (reply : Reply) → Shows Silent (whole_reply last reply)
 whole_silent last (Headed head) = silent_done _
 whole_silent last (Answered answer) = silent_done _
@@ -184,13 +184,13 @@ whole_shown : (request : Request) (limit : ℕ) → Shows (λ m c n r. One reque
 unfolding whole
 whole_shown request limit = Shows-follow (λ m c n r. One request c) 0 request (read_within limit) whole_reply (λ k l m after o c d last reply r h run. subst (λ (x : List Exchange). One request (c ++ x)) (sym ((whole_silent last reply).shows k l after o d r run)) (one_of request last m after c reply h))
 
--- ---- what the token step asks
+-- ---- the requests of the token step
 
 url_some : (text : List ℕ) (o : Option Parts) (url : Parts) → url_or text o ≡ Ok url → o ≡ Some url
 url_some text (Some found) url is = cc is
 url_some text None url is = absurd (cc is)
 
--- behind the registry's answer: nothing, or the realm that is wanted
+-- after the registry's response: nothing, or the request for the required realm
 abbrev Behind : Settings → Reference → RegistryOperation → Wanted → List Exchange → Type 0
 Behind s image op w [] = Unit {0}
 Behind s image op w (f ∷ []) = (challenge : BearerChallenge) × (w ≡ wants.Token challenge) × AsksRealm s image op challenge f.request
@@ -259,12 +259,12 @@ pub stepped_authorized : (s : Context) (image : Reference) (op : RegistryOperati
 unfolding authorized
 stepped_authorized s image op url = Shows-step (Stepped s.settings image op) (url_read (registry_text s.settings image)) _ (λ registry is. stepped_where s image op (goes_to (request_url (serialize url)) registry)) (λ e is m. tt)
 
--- where nothing is said of refusals
+-- the same, with refusals unspecified
 stepped_ok : (s : Settings) (image : Reference) (op : RegistryOperation) {A E : Type 0} (m n : ℕ) (c : List Exchange) (r : Result A E) → OfTokenStep s image op c → WhereOk (λ m c n a. OfTokenStep s image op c) m c n r
 stepped_ok s image op m n c (Ok a) h = h
 stepped_ok s image op m n c (Err e) h = tt
 
--- a request is prepared behind a token step
+-- a request is built after a token step
 pub record Prepared (s : Settings) (image : Reference) (op : RegistryOperation) (method : Method) (url : Parts) (types : List ℕ) (c : List Exchange) (request : Request) : Type 0 where
   pub step : OfTokenStep s image op c
   pub token : Option RegistryTokenType

@@ -1,4 +1,4 @@
--- What the calls for a list of referrers and for a tag show, whatever value it is that cannot stand in a header.
+-- The properties of the calls for a list of referrers and for a tag, for any invalid header value.
 use Rattle.std.proofs.Common.{◌≡◌, ◌⊎◌, inl, inr, ℕ, List, [], ◌++◌, Option, Result, Ok, Err, refl, sym, ap, subst, ◌∙◌, append-nil}
 use Rattle.url.specs.Parts.{Parts}
 use Rattle.oci_transport.specs.Urls.{request_url}
@@ -34,7 +34,7 @@ use Rattle.engine_laws.proofs.DocumentAnswers.{url_is}
 abbrev pub ListLoose : Settings → Reference → List ℕ → List Exchange → ℕ → OciDistributionError → Type 0
 ListLoose s image digest c n e = Loose (ListUrl s image digest) ListAnswer s manifest_types c n e
 
--- the whole last answer, or a cause of the list's
+-- the whole last response, or a cause of the list's
 abbrev pub Listed : Settings → Reference → List ℕ → ℕ → List Exchange → ℕ → Result Got OciDistributionError → Type 0
 Listed s image digest = ByAnswer (λ m c n got. LastAnswer (ListUrl s image digest) c got.url got.answer) (λ m c n e. ListLoose s image digest c n e)
 
@@ -48,7 +48,7 @@ url_refused s image digest kind c n e is = by_step (into_err (url_read (referrer
   by_step (inl refused) = url_cause (ListUrl s image digest) ListAnswer s manifest_types (referrers_text s image digest) n c e (inr refl) refused
   by_step (inr (url, read, never)) = absurd (cc never)
 
--- the prepared request is for the list
+-- the request that was built is for the list
 list_own : (s : Settings) (image : Reference) (digest : List ℕ) (kind : Option (List ℕ)) (url : Parts) (c : List Exchange) (request : Request) → referrers_url s image digest kind ≡ Ok url → Prepared s image Pull Get url manifest_types c request → ListUrl s image digest (Sends request)
 list_own s image digest kind url c request is p = by_step (into_ok (url_read (referrers_text s image digest)) (λ url. Ok (with_artifact_type kind url)) url is) where
   by_step : (base : Parts) × (url_read (referrers_text s image digest) ≡ Ok base) × (◌≡◌ {A = Result Parts OciDistributionError} (Ok (with_artifact_type kind base)) (Ok url)) → ListUrl s image digest (Sends request)

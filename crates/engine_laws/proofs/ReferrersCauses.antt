@@ -51,7 +51,7 @@ use Rattle.engine_laws.proofs.ReferrersAnswers.{asked_causes, manifest_shown}
 use Rattle.engine_laws.proofs.ReferrersConfinement.{asked_sound, document_asked_sound, asked_within}
 use Rattle.engine_laws.proofs.ShownTokens.{Carries, HeaderCause, Ended}
 
--- ---- which refusals an answer of the list gives
+-- ---- which refusals a response of the list results in
 
 abbrev IsOfStatus : OciDistributionError → Type 0
 IsOfStatus (refusal.UnauthorizedError url) = Unit {0}
@@ -120,7 +120,7 @@ by_body s image digest Bad c n address answer (refusal.ManifestParsingError body
 by_body s image digest Bad c n address answer (refusal.AmbiguousManifest body) last of h = record { address = address; answer = answer; last = last; holds = h }
 by_body s image digest Bad c n address answer e last of h = absurd of
 
--- the list's answer was refused
+-- the list's response was refused
 list_refused : (s : Settings) (image : Reference) (digest : List ℕ) (Bad : List Exchange → Type 0) (c : List Exchange) (n : ℕ) (got : Got) (e : OciDistributionError) → LastAnswer (ListUrl s image digest) c got.url got.answer → got.answer.status ≢ 404
     → (accepted 200 got.url got.answer ≡ Err e) ⊎ ((answer : Answer) × (accepted 200 got.url got.answer ≡ Ok answer) × (index_read answer.body ≡ Err e)) → Cause (ListUrl s image digest) ListAnswer Bad s c n e
 list_refused s image digest Bad c n got e last other (inl is) =
@@ -142,13 +142,13 @@ tag_tight T image digest y s n c refusal.WantOfMemory other h bad = tt
 tag_tight T image digest y s n c (refusal.SpecViolationError (ReferrersTag tag)) other h bad = absurd h.holds
 tag_tight T image digest y s n c e other h bad = record { address = h.address; answer = h.answer; last = h.last; holds = (other, h.holds) }
 
--- the exchanges of a run that is done, its count and its answer
+-- the exchanges of a run that is done, its fault count and its result
 runs_done : {A : Type 0} (x : A) (k : Memory) (m : ℕ) (c : List Exchange) (n : ℕ) (l : Memory) (a : A) → Runs (Done x) k m c n l a → (c ≡ []) × (m ≡ n) × (x ≡ a)
 unfolding Runs
 runs_done x k m [] n l a r = (refl, r.0, r.2)
 runs_done x k m (e ∷ c) n l a r = absurd r
 
--- a cause of a front that is the whole
+-- a cause of a prefix that is the whole
 whole_cause : (P : List Exchange → ℕ → Type 0) (c first second : List Exchange) (m n : ℕ) → c ≡ first ++ second → second ≡ [] → m ≡ n → P first m → P c n
 whole_cause P c first second m n joined none same h = subst (λ z. P c z) same (subst (λ z. P z m) (sym (joined ∙ ap (λ z. first ++ z) none ∙ append-nil first)) h)
 
@@ -245,7 +245,7 @@ runs_cause k s image kind l m n c e run = by_digest (digest_of image) refl run w
       let same : refusal.GenericError NoDigest ≡ e = cc (over.2) in
       subst (λ z. ReferrersCause (pulling k s image None) s.settings c n z) same is
 
--- by what was kept when the call began
+-- by the client state when the call began
 abbrev pub RowCause : Context → Reference → ℕ → List Exchange → ℕ → OciDistributionError → Type 0
 RowCause s image m c n e = (k : Memory) × ReferrersCause (pulling k s image None) s.settings c n e
 
@@ -255,7 +255,7 @@ referrers_causes s image kind = record { shows = λ k l m n c r run. by_result k
   by_result k l m n c (Ok index) run = tt
   by_result k l m n c (Err e) run = (k, runs_cause k s image kind l m n c e run)
 
--- no sink takes part
+-- no sink is involved
 pub referrers_no_sink : (x : Entry) (s : Settings) (c : List Exchange) (n : ℕ) → ReferrersCause x s c n refusal.SinkFault → ⊥
 referrers_no_sink x s c n (inl h) = h.cause.holds.1
 referrers_no_sink x s c n (inr h) = h.after.holds.1
@@ -281,7 +281,7 @@ failed x s c n (inr h) = subst (LastIs (λ e. Rose e.faults n)) (sym h.split) (l
 pub referrers_fault : (s : Context) (image : Reference) (kind : Option (List ℕ)) {old new : Link} {k l : Memory} {r : Result OciImageIndex OciDistributionError} → Meets is_memory (pull_referrers s image kind) old new k l r → r ≡ Err refusal.TransportFault → Rose old.faults new.faults
 referrers_fault s image kind {r = r} met is = fault_last (λ m c n index. Unit {0}) (RowCause s image) (pull_referrers s image kind) refusal.TransportFault refl (λ m n c h. failed (pulling h.0 s image None) s.settings c n h.1) (referrers_causes s image kind) (rw is at met)
 
--- a reference without a digest is refused as that
+-- a reference without a digest is refused as such
 pub no_digest : (s : Context) (image : Reference) (kind : Option (List ℕ)) → digest_of image ≡ None → Ends (Only (refusal.GenericError NoDigest)) (pull_referrers s image kind)
 unfolding pull_referrers Ends bind
 no_digest s image kind none = after_refusal (refusal.GenericError NoDigest) (λ digest. referrers_asked s image digest kind >>= referrers_by s image digest kind) (digest_given (digest_of image)) (ap digest_given none)

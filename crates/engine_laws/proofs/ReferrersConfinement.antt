@@ -80,7 +80,7 @@ pub asked_within : (k : Memory) (s : Context) (image : Reference) (digest : List
 asked_within k s image digest kind between m n c r runs = let x = pulling k s image None in
     within_behind x s.settings (Ended x s.settings manifest_types) (referrers_asked s image digest kind) k between m [] c tt (keeps_first x) (asked_sound s image digest kind k None k [] (keeps_first x)) (inr (n, r, runs))
 
--- the tag is asked after an answer of status 404
+-- the tag is requested after a response of status 404
 after_list : (k : Memory) (s : Context) (image : Reference) (digest : List ℕ) (kind : Option (List ℕ)) (handed : Option RegistryAuth) (j l : Memory) (m : ℕ) (seen c : List Exchange) → digest_of image ≡ Some digest → AllConfined (pulling k s image handed) s.settings seen → Keeps (pulling k s image handed) j seen
     → Parted (referrers_asked s image digest kind) (unless_refused (referrers_by s image digest kind)) j m c l → WithinReferrers (pulling k s image handed) s.settings l (seen ++ c)
 after_list k s image digest kind handed j l m seen c digest_is confined keeps h = by_answer h.answer h.runs h.behind where
@@ -122,7 +122,7 @@ with_digest k s image digest kind handed j l m seen c digest_is confined keeps (
     inl (within_behind x s.settings (Ended x s.settings manifest_types) (referrers_asked s image digest kind) j l m seen c confined keeps (asked_sound s image digest kind k handed j seen keeps) behind)
 with_digest k s image digest kind handed j l m seen c digest_is confined keeps (inr parted) = after_list k s image digest kind handed j l m seen c digest_is confined keeps parted
 
--- after exchanges that keep to the image
+-- after exchanges that are confined to the image
 referrers_within : (k : Memory) (s : Context) (image : Reference) (kind : Option (List ℕ)) (handed : Option RegistryAuth) (j l : Memory) (m : ℕ) (seen c : List Exchange) → AllConfined (pulling k s image handed) s.settings seen → Keeps (pulling k s image handed) j seen
     → Behind (pull_referrers s image kind) j m c l → WithinReferrers (pulling k s image handed) s.settings l (seen ++ c)
 unfolding pull_referrers bind

@@ -1,4 +1,4 @@
--- Steps of a call for referrers that make no request: no refusal of theirs speaks of a header or a sink.
+-- Steps of a call for referrers that make no request: none of their refusals is about a header or a sink.
 use Rattle.std.proofs.Common.{ℕ, Bool, true, false, List, Option, Some, None, Result, Ok, Err}
 use Rattle.std.specs.Prelude.{if◌then◌else◌}
 use Rattle.url.specs.Parts.{Parts}
@@ -50,7 +50,7 @@ tag_plain : (digest : List ℕ) (kind : Option (List ℕ)) (document : OciManife
 tag_plain digest kind (ImageIndex index) = tt
 tag_plain digest kind (Image manifest) = tt
 
--- what is kept stays well, also where the tag is absent
+-- the client state keeps its invariant, also if the tag does not exist
 pub tagged_ended : (x : Entry) (s : Settings) (types : List ℕ) (digest : List ℕ) (kind : Option (List ℕ)) (l : Memory) (c : List Exchange) (r : Result (OciManifest × List ℕ) OciDistributionError) → Keeps x l c → Ended x s types l c r → Ended x s types l c (tagged_index digest kind r)
 tagged_ended x s types digest kind l c (Ok found) keeps h = ended_plain x s types l c (tag_index digest kind found.0) keeps (tag_plain digest kind found.0)
 tagged_ended x s types digest kind l c (Err e) keeps h = by_test (is_absent e) where

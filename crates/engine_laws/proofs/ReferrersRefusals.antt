@@ -20,12 +20,12 @@ use Rattle.engine_rows.specs.Referrers.{referrers_asked, referrers_by, pull_refe
 use Rattle.engine_laws.specs.Causes.{IsEarly, HasBadHeader}
 use Rattle.engine_laws.proofs.ExactRefusals.{Only, after_refusal, handed_on, early_on, prepared_bad}
 
--- the digest is there
+-- the digest is present
 with_digest : {B : Type 0} (Q : Result B OciDistributionError → Type 0) (f : List ℕ → Row B) (digest : List ℕ) (o : Option (List ℕ)) → o ≡ Some digest → Ends Q (f digest) → Ends Q (Done (digest_given o) >>= f)
 unfolding bind
 with_digest Q f digest o is h = subst (λ (o : Option (List ℕ)). Ends Q (unless_refused f (digest_given o))) (sym is) h
 
--- ---- a URL that is none
+-- ---- a malformed URL
 
 list_url : (s : Context) (image : Reference) (digest : List ℕ) (kind : Option (List ℕ)) → request_url (referrers_text s.settings image digest) ≡ None → Ends (Only (refusal.UrlParseError (referrers_text s.settings image digest))) (referrers_asked s image digest kind)
 unfolding referrers_asked Ends bind
@@ -37,7 +37,7 @@ referrers_no_url s image kind digest is none =
     let e = refusal.UrlParseError (referrers_text s.settings image digest) in
     with_digest (Only e) (λ digest. referrers_asked s image digest kind >>= referrers_by s image digest kind) digest (digest_of image) is (handed_on e (referrers_asked s image digest kind) (referrers_by s image digest kind) (list_url s image digest kind none))
 
--- ---- a value that cannot stand in a header
+-- ---- an invalid header value
 
 by_list : {B : Type 0} (text : List ℕ) (kind : Option (List ℕ)) (f : Parts → Row B) (o : Option Parts) → request_url text ≡ o → ((url : Parts) → Ends IsEarly (f url)) → Ends IsEarly (unless_refused f (url_or text o into (λ url. Ok (with_artifact_type kind url))))
 unfolding Ends
@@ -52,7 +52,7 @@ pub referrers_bad : (s : Context) (image : Reference) (kind : Option (List ℕ))
 unfolding pull_referrers
 referrers_bad s image kind digest is bad = with_digest IsEarly (λ digest. referrers_asked s image digest kind >>= referrers_by s image digest kind) digest (digest_of image) is (early_on (referrers_asked s image digest kind) (referrers_by s image digest kind) (list_bad s image digest kind bad))
 
--- what is so of the digest, if there is one
+-- P holds for the digest, if there is one
 pub of_digest : (P : List ℕ → Type 0) (o : Option (List ℕ)) → ((digest : List ℕ) → o ≡ Some digest → P digest) → IfSome o P
 of_digest P (Some digest) each = each digest refl
 of_digest P None each = tt

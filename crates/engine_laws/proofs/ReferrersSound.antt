@@ -1,4 +1,4 @@
--- A call for referrers whose tag is asked at the image's own registry keeps to the image.
+-- A call for referrers whose tag is requested from the image's own registry is confined to the image.
 use Rattle.std.proofs.Common.{◌≡◌, ◌⊎◌, inl, inr, ℕ, Bool, true, false, List, Option, Some, None, Result, Ok, Err, codes, refl, sym, ap, subst}
 use Rattle.std.specs.Prelude.{if◌then◌else◌, nat_eq, bytes_eq, unwrap_or}
 use Rattle.oci_transport.specs.Headers.{values_of}
@@ -30,9 +30,9 @@ use Rattle.engine_laws.proofs.ReferrersPlain.{digest_plain, list_plain}
 use Rattle.engine_laws.proofs.SafeMore.{Safe-map}
 use Rattle.engine_laws.proofs.ShownTokens.{Carries, HeaderCause, Ended, safe_next, plain_step, plain_last}
 
--- ---- a reference is asked for by its registry and its repository
+-- ---- a reference is requested by its registry and its repository
 
--- one of these, and of no more
+-- a reference with these, and nothing else
 place : List ℕ → List ℕ → Reference
 place registry repository = record { registry = registry; mirror = Some registry; repository = repository; tag = None; digest = None }
 
@@ -130,7 +130,7 @@ unfolding hub
 of_mirror None registry none = once_more registry (bytes_eq registry (codes "docker.io")) refl
 of_mirror (Some mirror) registry none = absurd (cc none)
 
--- its tag is asked at its own registry
+-- its tag is requested from its own registry
 pub same_registry : (image : Reference) (digest : List ℕ) → mirror_of image ≡ None → resolved_registry (fallback_reference image digest) ≡ resolved_registry image
 unfolding hub
 same_registry image digest none = of_mirror image.mirror image.registry none

@@ -1,4 +1,4 @@
--- Requests that carry a value of `authorization` go to the registry, also where redirects lead.
+-- Requests that contain a value of `authorization` go to the registry, also if redirects are followed.
 use Rattle.std.proofs.Common.{◌≡◌, inl, ℕ, Bool, true, false, not, List, [], ◌∷◌, ◌++◌, Option, Some, None, Ok, codes, unwrap_or, refl, sym, ap, subst, ◌∙◌, arith}
 use Rattle.std.specs.Prelude.{◌&&◌, nat_eq, if◌then◌else◌, bytes_eq}
 use Rattle.std.specs.FinMap as map
@@ -28,7 +28,7 @@ pub each_more : (P Q : List ℕ → Type 0) (values : List (List ℕ)) → ((val
 each_more P Q [] more h = tt
 each_more P Q (value ∷ values) more h = (more value h.0, each_more P Q values more h.1)
 
--- ---- which values a request carries
+-- ---- which values a request contains
 
 none_shown : (name : List ℕ) → values_of (codes "authorization") (added map.empty (codes "user-agent") name) ≡ []
 none_shown name =
@@ -41,7 +41,7 @@ listing_none : (types : Option (List ℕ)) (m made : Fields) → values_of (code
 listing_none None m made none is = let same : m ≡ made = cc is in ap (values_of (codes "authorization")) (sym same) ∙ none
 listing_none (Some types) m made none is = ap (values_of (codes "authorization")) (with_ok m (codes "accept") types made is) ∙ types_keep m types ∙ none
 
--- the value of a token, where there is one
+-- the value of a token, if there is one
 abbrev pub values_by : Option RegistryTokenType → List (List ℕ)
 values_by None = []
 values_by (Some token) = authorization_of token ∷ []
@@ -65,7 +65,7 @@ request_url_is s method url types token request is = ap (λ (r : Request). r.url
 pub request_method_is : (s : Settings) (method : Method) (url : Parts) (types : Option (List ℕ)) (token : Option RegistryTokenType) (request : Request) → request_of s method url types token ≡ Ok request → request.method ≡ method
 request_method_is s method url types token request is = ap (λ (r : Request). r.method) (made_of s method url types token request is).is
 
--- ---- requests to the registry, with a token where they carry one
+-- ---- requests to the registry, with a token if they contain one
 
 abbrev pub SentValue : Entry → Settings → List Exchange → Request → List ℕ → Type 0
 SentValue x s seen request value = ToRegistry s x.image request × (token : RegistryTokenType) × IsHeld x seen token × (value ≡ authorization_of token)
@@ -98,7 +98,7 @@ both_true : (a b : Bool) → (a && b) ≡ true → (a ≡ true) × (b ≡ true)
 both_true true b h = (refl, h)
 both_true false b h = absurd (cc h)
 
--- whether a URL goes to a registry, by its parts that matter
+-- whether a URL is at a registry, by its relevant parts
 goes_by : Option (List ℕ) → Option ℕ → List ℕ → Parts → Bool
 goes_by host port scheme registry = (same_text host (host_of registry) && same_port port (port_of registry)) && not (bytes_eq registry.scheme (codes "https") && not (bytes_eq scheme (codes "https")))
 
@@ -113,7 +113,7 @@ origin_is a b h =
     let second = both_true (same_text (host_of a) (host_of b)) (same_port (port_of a) (port_of b)) first.1 in
     (first.0, second.0, second.1)
 
--- a URL of the same origin goes to the same registry
+-- a URL of the same origin is at the same registry
 targets_moved : (a b registry : Parts) → same_origin a b ≡ true → targets a registry ≡ true → targets b registry ≡ true
 targets_moved a b registry same goes =
     let parts = origin_is a b same in
@@ -162,7 +162,7 @@ by_status : (x : Entry) (s : Settings) (c : List Exchange) (e : Exchange) (r nex
 by_status x s c e r next location true is h = moves_to x s c e r next location is h
 by_status x s c e r next location false is h = absurd (cc is)
 
--- a followed request keeps its values only at the registry
+-- a request whose redirects are followed keeps its values only at the registry
 pub sent_moves : (x : Entry) (s : Settings) (c : List Exchange) (e : Exchange) (r next : Request) (head : AnswerHead) → redirected r head ≡ Some next → Sent x s c r → Sent x s (c ++ e ∷ []) next
 unfolding redirected
 sent_moves x s c e r next head is h = by_status x s c e r next (location_of (first_of (codes "location") head.headers)) (may_follow r.method && is_redirect_status head.status) is h

@@ -1,4 +1,4 @@
--- Runs of two protocols in turn, whole or cut off.
+-- Runs of two protocols in sequence, whole or cut off.
 use Rattle.std.proofs.Common.{◌≡◌, ◌⊎◌, inl, inr, ℕ, Bool, true, false, List, [], ◌∷◌, ◌++◌, Result, Ok, Err, refl, sym, ap, subst, ◌∙◌, append_assoc, append-nil}
 use Rattle.std.specs.Prelude.{MatchBool}
 use Rattle.oci_transport.specs.Link.{Link}
@@ -11,7 +11,7 @@ use Rattle.oci_protocol.proofs.Parts.{Runs-parts}
 use Rattle.oci_protocol.proofs.Safety.{Runs-safe, Stops-safe}
 use Rattle.engine_laws.proofs.SafeKeeps.{Lasts, Runs-keeps, Stops-keeps}
 
--- a front of a run, or a whole one
+-- a prefix of a run, or a whole one
 abbrev pub Behind : {K A : Type 0} → Proto K A → K → ℕ → List Exchange → K → Type 0
 Behind {K} {A} p k m c l = Stops p k m c l ⊎ ((n : ℕ) × (a : A) × Runs p k m c n l a)
 
@@ -60,7 +60,7 @@ behind_parts p f k m c l (inr (n, b, r)) =
     let parts = Runs-parts p f k m c n l b r in
     inr (record { first = parts.first; second = parts.second; joined = parts.joined; between = parts.between; count = parts.count; answer = parts.answer; runs = parts.runs_first; behind = inr (n, b, parts.runs_second) })
 
--- what is done has made no request
+-- a protocol that is done has made no request
 pub behind_done : {K A : Type 0} (x : A) (k : K) (m : ℕ) (c : List Exchange) (l : K) → Behind (Done x) k m c l → (c ≡ []) × (k ≡ l)
 unfolding Runs Stops
 behind_done x k m [] l (inl s) = (refl, s)
@@ -68,7 +68,7 @@ behind_done x k m (e ∷ c) l (inl s) = absurd s
 behind_done x k m [] l (inr (n, a, r)) = (refl, r.1)
 behind_done x k m (e ∷ c) l (inr (n, a, r)) = absurd r
 
--- what a call did is one of these
+-- a call that met the protocol has one of these
 pub met_behind : {K A E : Type 0} {of_memory : E → Bool} {p : Proto K (Result A E)} {old new : Link} {k l : K} {r : Result A E} → Meets of_memory p old new k l r → Told (λ c. Behind p k old.faults c l) old new
 met_behind {K} {A} {E} {of_memory} {p} {old} {new} {k} {l} {r} met = by_result r met.outcome where
   performed : (r : Result A E) → Performs p old new k l r → Told (λ c. Behind p k old.faults c l) old new
@@ -82,7 +82,7 @@ met_behind {K} {A} {E} {of_memory} {p} {old} {new} {k} {l} {r} met = by_result r
   by_result (Ok a) done = performed (Ok a) done
   by_result (Err e) outcome = by_memory (of_memory e) e outcome
 
--- ---- what it keeps to
+-- ---- safety
 
 pub each_more : (P : List Exchange → Request → Type 0) (a c d : List Exchange) → EachAfter P a c → EachAfter P (a ++ c) d → EachAfter P a (c ++ d)
 each_more P a [] d h g = subst (λ z. EachAfter P z d) (append-nil a) g

@@ -1,4 +1,4 @@
--- What a protocol keeps to is so at its end, where it stays so over more exchanges.
+-- The invariant of a safe protocol holds at its end, if it is preserved by further exchanges.
 use Rattle.std.proofs.Common.{◌≡◌, inl, inr, ℕ, Bool, true, false, List, [], ◌∷◌, ◌++◌, Result, Ok, Err, sym, subst, append_assoc, append-nil}
 use Rattle.std.specs.Prelude.{MatchBool}
 use Rattle.oci_transport.specs.Link.{Link}
@@ -9,7 +9,7 @@ use Rattle.oci_protocol.specs.Runs.{Runs, Stops, Performs, Breaks, Outcome, Meet
 use Rattle.oci_protocol.specs.Safe.{Safe, EachAfter}
 use Rattle.oci_protocol.proofs.Safety.{Runs-safe, Stops-safe}
 
--- it stays so
+-- the invariant is preserved
 abbrev pub Lasts : {K : Type 0} → (K → List Exchange → Type 0) → Type 0
 Lasts {K} I = (k : K) (c d : List Exchange) → I k c → I k (c ++ d)
 
@@ -38,7 +38,7 @@ Stops-keeps P I Q (Consult next) k l m seen c lasts i h s = Stops-keeps P I Q (n
 Stops-keeps P I Q (Keep kept rest) k l m seen c lasts i h (inl s) = lasts l seen c (subst (λ k. I k seen) s.1 i)
 Stops-keeps P I Q (Keep kept rest) k l m seen c lasts i h (inr s) = Stops-keeps P I Q rest kept l m seen c lasts h.0 h.1 s
 
--- and it is so of each answer
+-- and it holds for each result
 pub Safe-keeps : {K A : Type 0} (P : K → List Exchange → Request → Type 0) (I : K → List Exchange → Type 0) (Q : K → List Exchange → A → Type 0) (p : Proto K A) (k : K) (seen : List Exchange) → Lasts I → I k seen → Safe P I Q k seen p → Safe P I (λ l c a. I l c × Q l c a) k seen p
 unfolding Safe
 Safe-keeps P I Q (Done x) k seen lasts i h = (i, h)
@@ -47,7 +47,7 @@ Safe-keeps P I Q (Recall next) k seen lasts i h = Safe-keeps P I Q (next k) k se
 Safe-keeps P I Q (Keep kept rest) k seen lasts i h = (h.0, Safe-keeps P I Q rest kept seen lasts h.0 h.1)
 Safe-keeps P I Q (Consult next) k seen lasts i h = λ said. Safe-keeps P I Q (next said) k seen lasts i (h said)
 
--- so it is of a call's requests and of what is kept after it, whatever it answered
+-- it holds for a call's requests and for the client state after it, whatever it returned
 pub Meets-within : {K A E : Type 0} {of_memory : E → Bool} (P : List Exchange → Request → Type 0) (I : K → List Exchange → Type 0) (Q : K → List Exchange → Result A E → Type 0) (R : List Exchange → Type 0) {p : Proto K (Result A E)} {old new : Link} {k l : K} {r : Result A E} → Lasts I → I k []
     → ((c : List Exchange) → EachAfter P [] c → I l c → R c) → Safe (λ k. P) I Q k [] p → Meets of_memory p old new k l r → Told R old new
 Meets-within {K} {A} {E} {of_memory} P I Q R {p} {old} {new} {k} {l} {r} lasts first gives h met = by_result r met.outcome where

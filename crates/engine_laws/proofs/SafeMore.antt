@@ -1,4 +1,4 @@
--- What is safe stays so where more may be asked, kept and answered.
+-- A safe protocol is safe if more may be requested, stored and returned.
 use Rattle.std.proofs.Common.{List, [], ◌∷◌, ◌++◌}
 use Rattle.oci_transport.specs.declared.message.Request.{Request}
 use Rattle.oci_transport.specs.declared.message.Exchange.{Exchange}

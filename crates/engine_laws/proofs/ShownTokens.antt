@@ -1,4 +1,4 @@
--- Which values could not stand in a header: the user agent, the types, or a token that the call may show.
+-- Which values may be invalid header values: the user agent, the types, or a token that the call may send.
 use Rattle.std.proofs.Common.{◌≡◌, ◌⊎◌, inl, inr, ℕ, Bool, true, false, List, [], ◌∷◌, ◌++◌, Option, Some, None, Result, Ok, Err, codes, length, unwrap_or, refl, sym, ap, subst, ◌∙◌}
 use Rattle.std.specs.Prelude.{◌&&◌, nat_lt, sum_by, if◌then◌else◌}
 use Rattle.std.proofs.lemmas.List.{nil_from_length}
@@ -55,7 +55,7 @@ use Rattle.engine_laws.specs.Causes.{HasBadHeader, HasBadToken, BadHeader}
 use Rattle.engine_laws.proofs.PreparedRequests.{with_ok, accept_none}
 use Rattle.engine_laws.proofs.KeptTokens.{Keeps, keeps_more, keeps_stored, keeps_kept}
 
--- ---- few fields are held
+-- ---- there are few fields
 
 no_entries : map.entries (map.empty {X = List (List ℕ)} {R = by_bytes}) ≡ []
 no_entries = nil_from_length _ (sym (len-entries map.empty) ∙ len-empty by_bytes (List (List ℕ)))
@@ -78,9 +78,9 @@ two_held name types =
     ∙ ap (λ (es : List (List ℕ × List (List ℕ))). sum_by (λ (e : List ℕ × List (List ℕ)). length e.1) (put by_bytes (codes "accept") (values_of (codes "accept") m ++ types ∷ []) es)) (agent_entries name)
     ∙ ap (λ (xs : List (List ℕ)). sum_by (λ (e : List ℕ × List (List ℕ)). length e.1) (put by_bytes (codes "accept") (xs ++ types ∷ []) ((codes "user-agent", name ∷ []) ∷ []))) (accept_none name)
 
--- ---- a request that is not made
+-- ---- a request that cannot be built
 
--- a value is refused that cannot stand there, since there is room
+-- the refused value is not a valid header value, since there is room
 pub refused_value : (headers : Fields) (name value : List ℕ) (e : OciDistributionError) (n : ℕ) → held headers ≡ n → nat_lt n 1000 ≡ true → with_header headers name value ≡ Err e → is_header_value value ≡ false
 refused_value headers name value e n few small = by_test (is_header_value value) refl where
   room : nat_lt (held headers) 1000 ≡ true
@@ -94,12 +94,12 @@ refused_value headers name value e n few small = by_test (is_header_value value)
   by_test true test h = absurd (by_both (nat_lt (held headers) 1000) room h)
   by_test false test h = test
 
--- which of two steps was refused
+-- which of two steps returned the error
 pub into_err : {A B : Type 0} (r : Result A OciDistributionError) (f : A → Result B OciDistributionError) (e : OciDistributionError) → (r into f) ≡ Err e → (r ≡ Err e) ⊎ ((a : A) × (r ≡ Ok a) × (f a ≡ Err e))
 into_err (Ok a) f e is = inr (a, refl, is)
 into_err (Err x) f e is = let same : x ≡ e = cc is in inl (ap Err same)
 
--- the token, where there is one, may be shown
+-- the token, if there is one, may be sent
 abbrev pub MayShow : Entry → List Exchange → Option RegistryTokenType → Type 0
 MayShow x c None = Unit {0}
 MayShow x c (Some token) = IsHeld x c token
@@ -145,7 +145,7 @@ abbrev pub HeaderCause : Entry → Settings → List ℕ → List Exchange → O
 HeaderCause x s types c (refusal.GenericError HeaderText) = BadHeader x s types c
 HeaderCause x s types c _ = Unit {0}
 
--- after an answer what is kept may be shown, and a refusal has its cause
+-- after an `Ok`, the client state may be sent, and a refusal has its cause
 abbrev pub Ended : Entry → Settings → List ℕ → {A : Type 0} → Memory → List Exchange → Result A OciDistributionError → Type 0
 Ended x s types l c (Ok a) = Keeps x l c
 Ended x s types l c (Err e) = HeaderCause x s types c e
@@ -181,7 +181,7 @@ unless_safe x s types f each l c (Err e) h = h
 pub safe_next : {A B : Type 0} (x : Entry) (s : Settings) (types : List ℕ) (p : Row A) (f : A → Row B) (l : Memory) (c : List Exchange) → Safe (Carries x s) (Keeps x) (Ended x s types) l c p → ((l : Memory) (c : List Exchange) (a : A) → Keeps x l c → Safe (Carries x s) (Keeps x) (Ended x s types) l c (f a)) → Safe (Carries x s) (Keeps x) (Ended x s types) l c (p >>= f)
 safe_next x s types p f l c h each = Safe-bind (Carries x s) (Keeps x) (Ended x s types) (Ended x s types) p (unless_refused f) l c h (unless_safe x s types f each)
 
--- a request that is followed
+-- a request whose redirects are followed
 pub safe_follow : {A : Type 0} (x : Entry) (s : Settings) (Q : Memory → List Exchange → A → Type 0) (n : ℕ) (request : Request) (reading : AnswerHead → Reading) (next : Request → Reply → Proto Memory A) (l : Memory) (c : List Exchange) → Sent x s c request → Keeps x l c
     → ((last : Request) (d : List Exchange) (e : Exchange) (before after : ℕ) (other : AnswerHead → Reading) (reply : Reply) → Keeps x l (d ++ e ∷ []) → Replies last other before e after reply → Safe (Carries x s) (Keeps x) Q l (d ++ e ∷ []) (next last reply)) → Safe (Carries x s) (Keeps x) Q l c (follow n request reading next)
 safe_follow x s Q n request reading next l c sent keeps each = Safe-follow (λ k d r. Sent x s d r × Keeps x k d) (Carries x s) (Keeps x) Q n request reading next l c (sent, keeps) (λ d r h. sent_confined x s d r h.0) (λ d e r to head is h. (sent_moves x s d e r to head is h.0, keeps_more x l d (e ∷ []) h.1)) (λ last d e before after other reply h replies. each last d e before after other reply (keeps_more x l d (e ∷ []) h.1) replies)
@@ -208,7 +208,7 @@ head_last x s request l c may keeps = safe_once x s (LastHead x request) request
   by_reply e before after TooLong h replies = safe_done x s (LastHead x request) l (c ++ e ∷ []) _ h
   by_reply e before after SinkFailed h replies = safe_done x s (LastHead x request) l (c ++ e ∷ []) _ h
 
--- the answer of a realm, as one of the conversation
+-- the response of a realm, as one of the conversation
 abbrev Answers : Entry → Memory → List Exchange → Result Got OciDistributionError → Type 0
 Answers x l c (Ok got) = Keeps x l c × ((token : RegistryTokenType) → token_read got.answer ≡ Ok (Some token) → GivenIn c token)
 Answers x l c (Err e) = Keeps x l c
@@ -227,13 +227,13 @@ realm_answers x s request limit l c may keeps = safe_once x s (Answers x) reques
   by_reply e before after TooLong h replies = safe_done x s (Answers x) l (c ++ e ∷ []) _ h
   by_reply e before after SinkFailed h replies = safe_done x s (Answers x) l (c ++ e ∷ []) _ h
 
--- a step with no request, after which as much is kept
+-- a step without a request, which leaves the client state unchanged
 kept_step : {A B : Type 0} (x : Entry) (s : Settings) (Q : Memory → List Exchange → Result B OciDistributionError → Type 0) (r : Result A OciDistributionError) (f : A → Row B) (l : Memory) (c : List Exchange) → ((e : OciDistributionError) → Q l c (Err e)) → ((a : A) → r ≡ Ok a → Safe (Carries x s) (Keeps x) Q l c (f a)) → Safe (Carries x s) (Keeps x) Q l c (Done r >>= f)
 unfolding bind
 kept_step x s Q (Ok a) f l c bad each = each a refl
 kept_step x s Q (Err e) f l c bad each = safe_done x s Q l c (Err e) (bad e)
 
--- a token that a realm's answer holds
+-- a token in a realm's response
 read_asked : (x : Entry) (l : Memory) (c : List Exchange) (got : Got) → Keeps x l c → ((token : RegistryTokenType) → token_read got.answer ≡ Ok (Some token) → GivenIn c token) → (r : Result (Option RegistryTokenType) OciDistributionError) → token_read got.answer ≡ r → Asked x l c r
 read_asked x l c got keeps given (Ok None) is = (keeps, tt)
 read_asked x l c got keeps given (Ok (Some token)) is = (keeps, inr (inr (given token is)))
@@ -243,12 +243,12 @@ realm_unless : (x : Entry) (s : Settings) (l : Memory) (c : List Exchange) (r : 
 realm_unless x s l c (Ok got) h = safe_done x s (Asked x) l c _ (read_asked x l c got h.0 h.1 (token_read got.answer) refl)
 realm_unless x s l c (Err e) h = safe_done x s (Asked x) l c _ h
 
--- the URL that a text was read as
+-- the URL that a text parses to
 read_is : (text : List ℕ) (o : Option Parts) (url : Parts) → request_url text ≡ o → url_or text o ≡ Ok url → request_url text ≡ Some url
 read_is text None url reads is = absurd (cc is)
 read_is text (Some other) url reads is = let same : other ≡ url = cc is in reads ∙ ap Some same
 
--- the credentials are shown to the realm that the exchange before names
+-- the credentials are sent to the realm that the exchange before names
 own_carried : (x : Entry) (s : Settings) (a : RegistryAuth) (c : List Exchange) (request : Request) (token : Option RegistryTokenType) → own_token a ≡ token → IsAuth x a → ToRealm s x.image x.operation c request → Each (MayCarry x s c request) (values_by token)
 own_carried x s a c request None is known realm = tt
 own_carried x s a c request (Some token) is known realm = (record { goes = inr realm; token = token; held = inl (a, known, is); value_is = refl }, tt)
@@ -269,7 +269,7 @@ realm_safe x s a challenge l c known named keeps = kept_step x s (Asked x) (url_
     Safe-bind (Carries x s) (Keeps x) (Answers x) (Asked x) (whole 0 request s.max_body_bytes) (unless_refused (λ got. Done (token_read got.answer))) l c
     (realm_answers x s request s.max_body_bytes l c (realm_confined x s a challenge url c request known named (read_is challenge.realm (request_url challenge.realm) url refl is) made) keeps) (realm_unless x s)))
 
--- the token of credentials that may be shown
+-- the token of credentials that may be sent
 own_shown : (x : Entry) (c : List Exchange) (a : RegistryAuth) (token : Option RegistryTokenType) → IsAuth x a → own_token a ≡ token → MayShow x c token
 own_shown x c a None known is = tt
 own_shown x c a (Some token) known is = inl (a, known, is)
@@ -311,7 +311,7 @@ step_safe x s (credentials.Bearer token) l c known keeps = safe_done x s (Asked 
 step_safe x s (credentials.Basic user password) l c known keeps = registry_safe x s (credentials.Basic user password) l c known keeps
 step_safe x s credentials.Anonymous l c known keeps = registry_safe x s credentials.Anonymous l c known keeps
 
--- ---- where it is made
+-- ---- the calls that make it
 
 over_cause : (x : Entry) (s : Settings) (types : List ℕ) (l : Memory) (c : List Exchange) (e : OciDistributionError) → Keeps x l c → Authorized x s types l c (passed_over e)
 over_cause x s types l c refusal.WantOfMemory keeps = tt
@@ -343,11 +343,11 @@ for_safe : (x : Entry) (s : Settings) (types : List ℕ) (l : Memory) (c : List 
 unfolding token_for Safe bind
 for_safe x s types l c keeps = by_auth x s types (map.get l.credentials (resolved_registry x.image)) (token_at l.tokens (key_of x.image x.operation) x.moment) l c refl keeps (kept_shown x l c (token_at l.tokens (key_of x.image x.operation) x.moment) keeps refl)
 
--- the URL goes to the image's registry
+-- the URL is at the image's registry
 abbrev pub GoesTo : Settings → Reference → Parts → Type 0
 GoesTo s image url = (registry : Parts) × (to : Parts) × (request_url (registry_text s image) ≡ Some registry) × (request_url (serialize url) ≡ Some to) × (targets to registry ≡ true)
 
--- the token, where there is one, may be shown there
+-- the token, if there is one, may be sent there
 abbrev pub MayShowAt : Entry → Settings → Parts → List Exchange → Option RegistryTokenType → Type 0
 MayShowAt x s url c None = Unit {0}
 MayShowAt x s url c (Some token) = GoesTo s x.image url × IsHeld x c token
@@ -381,7 +381,7 @@ pub authorized_safe : (x : Entry) (s : Settings) (types : List ℕ) (url : Parts
 unfolding authorized
 authorized_safe x s types url l c keeps = url_safe x s (AuthorizedAt x s types url) (registry_text s x.image) _ l c (request_url (registry_text s x.image)) refl tt (λ registry registry_is. where_safe x s types url registry (goes_to (request_url (serialize url)) registry) l c registry_is refl keeps)
 
--- the request goes to the registry with the token that it carries
+-- the request goes to the registry with the token that it contains
 abbrev pub Ready : Entry → Settings → List ℕ → Memory → List Exchange → Result Request OciDistributionError → Type 0
 Ready x s types l c (Ok request) = Keeps x l c × Sent x s c request
 Ready x s types l c (Err e) = HeaderCause x s types c e
@@ -413,16 +413,16 @@ ready_unless : {B : Type 0} (x : Entry) (s : Settings) (types : List ℕ) (f : R
 ready_unless x s types f each l c (Ok request) h = each l c request h.0 h.1
 ready_unless x s types f each l c (Err e) h = safe_done x s (Ended x s types) l c _ h
 
--- a request that is made ready, and what it leads to
+-- a request that is built, and what it leads to
 pub safe_ready : {B : Type 0} (x : Entry) (s : Settings) (types : List ℕ) (p : Row Request) (f : Request → Row B) (l : Memory) (c : List Exchange) → Safe (Carries x s) (Keeps x) (Ready x s types) l c p → ((l : Memory) (c : List Exchange) (request : Request) → Keeps x l c → Sent x s c request → Safe (Carries x s) (Keeps x) (Ended x s types) l c (f request)) → Safe (Carries x s) (Keeps x) (Ended x s types) l c (p >>= f)
 safe_ready x s types p f l c h each = Safe-bind (Carries x s) (Keeps x) (Ready x s types) (Ended x s types) p (unless_refused f) l c h (ready_unless x s types f each)
 
--- credentials that are handed in are stored
+-- credentials that are passed in are stored
 pub store_safe : (x : Entry) (s : Settings) (types : List ℕ) (a : RegistryAuth) (l : Memory) (c : List Exchange) → x.handed ≡ Some a → Keeps x l c → Safe (Carries x s) (Keeps x) (Ended x s types) l c (store x.image a)
 unfolding store Safe bind
 store_safe x s types a l c handed keeps = let kept = keeps_stored x l c a handed keeps in (kept, kept)
 
--- a step with no request, whose refusal is another one
+-- a step without a request, which is not refused for a header value
 pub plain_step : {A B : Type 0} (x : Entry) (s : Settings) (types : List ℕ) (r : Result A OciDistributionError) (f : A → Row B) (l : Memory) (c : List Exchange) → Plain r → ((a : A) → r ≡ Ok a → Safe (Carries x s) (Keeps x) (Ended x s types) l c (f a)) → Safe (Carries x s) (Keeps x) (Ended x s types) l c (Done r >>= f)
 unfolding bind
 plain_step x s types (Ok a) f l c plain each = each a refl

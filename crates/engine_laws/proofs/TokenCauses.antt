@@ -70,7 +70,7 @@ url_cause : (s : Settings) (image : Reference) (a : RegistryAuth) (now : ℕ) (c
 url_cause s image a now c text (Some url) e here found is = absurd (cc is)
 url_cause s image a now c text None e here found is = let same : refusal.UrlParseError text ≡ e = cc is in subst (TokenCause s image a c now) same (found, here)
 
--- a value cannot stand in a header of the request
+-- a value of the request is not a valid header value
 header_is : (headers : Fields) (name value : List ℕ) (e : OciDistributionError) → with_header headers name value ≡ Err e → e ≡ refusal.GenericError HeaderText
 header_is headers name value e = by_test _ where
   by_test : (b : Bool) → ◌≡◌ {A = Result Fields OciDistributionError} (if b then Ok (added headers name value) else Err (refusal.GenericError HeaderText)) (Err e) → e ≡ refusal.GenericError HeaderText
@@ -111,7 +111,7 @@ request_cause s image a now c method url token e own is = by_headers (into_err (
   by_headers (inl refused) = by_listing (into_err (agent into with_accept None) (with_token token) e refused)
   by_headers (inr (headers, made, refused)) = absurd (cc refused)
 
--- ---- ways to ask
+-- ---- ways to send a request
 
 abbrev Any : {A : Type 0} → ℕ → List Exchange → ℕ → A → Type 0
 Any m c n x = Unit {0}
@@ -156,7 +156,7 @@ head_shown : (s : Settings) (image : Reference) (a : RegistryAuth) (request : Re
 unfolding head_after
 head_shown s image a request = Shows-follow (ByAnswer LastHead (Refused s image a)) 0 request read_none head_reply (head_run s image a request)
 
--- the answer is that of the last exchange
+-- the response is that of the last exchange
 abbrev LastGot : ℕ → List Exchange → ℕ → Got → Type 0
 LastGot m c n got = LastIs (WithAnswer (λ answer. answer ≡ got.answer)) c
 
@@ -173,7 +173,7 @@ whole_shown : (s : Settings) (image : Reference) (a : RegistryAuth) (request : R
 unfolding whole
 whole_shown s image a request = Shows-follow (ByAnswer LastGot (Refused s image a)) 0 request (read_within s.max_body_bytes) whole_reply (whole_run s image a request)
 
--- ---- the realm's answer
+-- ---- the realm's response
 
 last_more : (P Q : Answer → Type 0) (c : List Exchange) → ((answer : Answer) → P answer → Q answer) → LastIs (WithAnswer P) c → LastIs (WithAnswer Q) c
 last_more P Q c more h = record { before = h.before; last = h.last; split = h.split; holds = (h.holds.0, h.holds.1, more h.holds.0 h.holds.2) }
@@ -215,7 +215,7 @@ next_shown s image a p f h each = Shows-each Any Any (Refused s image a) p f h (
 done_shown : {A : Type 0} (s : Settings) (image : Reference) (a : RegistryAuth) (x : A) → Shown s image a (Done (Ok x))
 done_shown s image a x = Shows-done (ByAnswer Any (Refused s image a)) (Ok x) (λ m. tt)
 
--- the realm is asked, after the answer that names it
+-- a token is requested from the realm, after the response that names it
 realm_later : (s : Settings) (image : Reference) (a : RegistryAuth) (op : RegistryOperation) (challenge : BearerChallenge) (c : List Exchange) (m : ℕ) → LastRealm c challenge.realm → Shows (λ start d o r. ByAnswer Any (Refused s image a) m (c ++ d) o r) (realm_asked s image a op challenge)
 unfolding realm_asked realm_request
 realm_later s image a op challenge c m named = Shows-step (λ start d o r. ByAnswer Any (Refused s image a) m (c ++ d) o r) (url_read challenge.realm) _

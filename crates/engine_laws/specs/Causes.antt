@@ -1,4 +1,4 @@
--- Why a call was refused. A refusal that speaks of an answer speaks of the last one of the call.
+-- Why a call was refused. A refusal about a response is about the last one of the call.
 use Rattle.std.specs.Prelude.{◌≡◌, ◌≢◌, ◌<◌, ◌⊎◌, ℕ, true, false, List, [], ◌∷◌, ◌++◌, Some, None, Result, Ok}
 use Rattle.std.specs.Prelude.{Err, length}
 use Rattle.std.specs.List.{Contains}
@@ -46,10 +46,9 @@ use Rattle.engine_rows.specs.Image.{is_accepted}
 use Rattle.engine_laws.specs.Answered.{Asks, Body, LastBody}
 use Rattle.engine_laws.specs.Held.{Entry, IsHeld}
 
--- ---- what a call reads and sends
+-- ---- what a call parses and sends
 
--- what a call does with a text, which it reads as a URL, or with a request of its own, which it sends: its token step
--- sends none of these
+-- a string that a call parses as a URL, or a request of its own that it sends; those of its token step are not its own
 pub data Act : Type 0 where
   Reads : (text : List ℕ) → Act
   Sends : (request : Request) → Act
@@ -76,7 +75,7 @@ pub record LastAsked (Own : Act → Type 0) (c : List Exchange) (last : Exchange
   pub count : ℕ
   pub trail : Trail 10 request before redirects left last.request count
 
--- it was answered so, from this address, and the answer is no redirect that is followed
+-- its response, from this address, is `answer`, which is not a redirect that is followed
 pub record LastAnswer (Own : Act → Type 0) (c : List Exchange) (address : List ℕ) (answer : Answer) : Type 0 where
   pub last : Exchange
   pub asked : LastAsked Own c last
@@ -84,13 +83,13 @@ pub record LastAnswer (Own : Act → Type 0) (c : List Exchange) (address : List
   pub answered : last.answer ≡ Some answer
   pub final : IsFinal asked.left last.request (head_part answer)
 
--- it failed: the count of faults, which is this now, rose since it was sent
+-- it failed: the fault count, which is `now`, increased since it was sent
 pub record LastFailed (Own : Act → Type 0) (c : List Exchange) (now : ℕ) : Type 0 where
   pub last : Exchange
   pub asked : LastAsked Own c last
   pub rose : Rose last.faults now
 
--- it was answered with more bytes than this
+-- the body of its response has more bytes than `limit`
 pub record LastTooLong (Own : Act → Type 0) (c : List Exchange) (limit : ℕ) : Type 0 where
   pub last : Exchange
   pub asked : LastAsked Own c last
@@ -100,19 +99,19 @@ pub record LastTooLong (Own : Act → Type 0) (c : List Exchange) (limit : ℕ) 
 
 -- ---- statuses (OCI distribution specification, "Error Codes")
 
--- an answer with the status of a client's error, other than 401
+-- a response with a 4xx status other than 401
 pub record IsClientError (answer : Answer) : Type 0 where
   pub status : is_client_error answer.status ≡ true
   pub other : answer.status ≢ 401
 
--- one with no list of errors in it, or an answer of no success and no client's error
+-- one without a list of errors in it, or a response whose status is neither 2xx nor 4xx
 abbrev pub IsServerError : Answer → Type 0
 IsServerError answer = (IsClientError answer × (envelope_in answer.body ≡ None))
     ⊎ ((is_success answer.status ≡ false) × (is_client_error answer.status ≡ false))
 
 -- ---- digests
 
--- the text is a digest that the call was given, or the one of the answer's header
+-- the text is a digest that the call was given, or the one of the response's header
 abbrev pub Claimed : (List ℕ → Type 0) → Answer → List ℕ → Type 0
 Claimed Given answer text = Given text ⊎ (header_digest answer.headers ≡ Ok (Some text))
 
@@ -139,7 +138,7 @@ DigestCause Given answer digest_refusal.WantOfMemory = ⊥
 
 -- ---- causes
 
--- what the last answer shows of a refusal: its status, its digests
+-- what the last response shows about a refusal: its status, its digests
 abbrev pub AnswerCause : (List ℕ → Type 0) → List ℕ → Answer → OciDistributionError → Type 0
 AnswerCause Given address answer (refusal.UnauthorizedError url) = (url ≡ address) × (answer.status ≡ 401)
 AnswerCause Given address answer (refusal.RegistryError envelope url) = (url ≡ address) × IsClientError answer
@@ -151,7 +150,7 @@ AnswerCause Given address answer (refusal.SpecViolationError (Status expected go
 AnswerCause Given address answer (refusal.DigestError e) = DigestCause Given answer e
 AnswerCause Given address answer _ = ⊥
 
--- and that its body does not read as a document, as the refusal says
+-- and its body does not parse as a document, as the refusal states
 abbrev pub IsNoDocument : Answer → OciDistributionError → Type 0
 IsNoDocument answer e = (answer.status ≡ 200) × (document_read answer.body ≡ Err e)
 
@@ -168,27 +167,27 @@ DocumentCause Given address answer (refusal.UnsupportedMediaTypeError kind) = Is
     (refusal.UnsupportedMediaTypeError kind)
 DocumentCause Given address answer e = AnswerCause Given address answer e
 
--- this is so of the last answer and its address
+-- P holds for the last response and its address
 pub record ByLast (Own : Act → Type 0) (P : List ℕ → Answer → Type 0) (c : List Exchange) : Type 0 where
   pub address : List ℕ
   pub answer : Answer
   pub last : LastAnswer Own c address answer
   pub holds : P address answer
 
--- a value of the request cannot stand in a header
+-- a value of the request is not a valid header value
 abbrev pub HasBadHeader : Settings → List ℕ → Type 0
 HasBadHeader s types = (is_header_value s.user_agent ≡ false) ⊎ (is_header_value types ≡ false)
 
--- nor can a token that the call may show
+-- a token that the call may send is not a valid header value
 abbrev pub HasBadToken : Entry → List Exchange → Type 0
 HasBadToken x c = (token : RegistryTokenType) × IsHeld x c token × (is_header_value (authorization_of token) ≡ false)
 
--- why a request could not be made: the user agent, the types or the token cannot stand in a header
+-- why a request could not be built: the user agent, the types or the token is not a valid header value
 abbrev pub BadHeader : Entry → Settings → List ℕ → List Exchange → Type 0
 BadHeader x s types c = HasBadHeader s types ⊎ HasBadToken x c
 
--- Why a call was refused. A text that is no URL is one of these, and so is the request that an answer came of; of an
--- answer the refusal speaks so, and of a value that cannot stand in a header so. Memory may be wanting anywhere.
+-- Why a call was refused: `Own` are the strings that it parses as URLs and the requests that it sends, `Of` what a
+-- refusal states about a response, `Bad` when a header value is invalid. Memory may run out anywhere.
 abbrev pub Cause : (Act → Type 0) → (List ℕ → Answer → OciDistributionError → Type 0)
     → (List Exchange → Type 0) → Settings → List Exchange → ℕ → OciDistributionError → Type 0
 Cause Own Of Bad s c now (refusal.UrlParseError text) = (request_url text ≡ None) × Own (Reads text)
@@ -198,22 +197,22 @@ Cause Own Of Bad s c now refusal.TransportFault = LastFailed Own c now
 Cause Own Of Bad s c now refusal.WantOfMemory = Unit {0}
 Cause Own Of Bad s c now e = ByLast Own (λ address answer. Of address answer e) c
 
--- the address of the registry or of the image's manifest is read, and the manifest is asked for
+-- the URL of the registry or of the image's manifest is parsed, and the manifest is requested
 abbrev pub ManifestUrl : Settings → Reference → Act → Type 0
 ManifestUrl s image (Reads text) = (text ≡ registry_text s image) ⊎ (text ≡ manifest_text s image)
 ManifestUrl s image (Sends request) = AsksText s (manifest_text s image) request
 
--- a URL that is listed and not asked: it does not read, or it has a user name or a password
+-- a URL that is listed and not requested: it is malformed, or it has a user name or a password
 abbrev pub UnfitUrl : List (List ℕ) → List ℕ → Type 0
 UnfitUrl urls text = Contains urls text × (place_of text ≡ Some (Unfit text))
 
--- a URL that is listed and asked
+-- a URL that is listed and requested
 abbrev pub AsksListed : Settings → List (List ℕ) → Request → Type 0
 AsksListed s urls request = (text : List ℕ) × Contains urls text × (url : Parts) × (place_of text ≡ Some (Web url))
     × AsksAt s url request
 
--- The address of the registry or of the blob is read, or a URL of its descriptor that is not asked; the blob is asked
--- for at its address or at another such URL.
+-- The URL of the registry or of the blob is parsed, or a URL of its descriptor that is not requested; the blob is
+-- requested from its URL or from another such URL.
 abbrev pub BlobUrl : Settings → Reference → Layer → Act → Type 0
 BlobUrl s image layer (Reads text) = (text ≡ registry_text s image) ⊎ ((text ≡ blob_text s image layer.digest)
     ⊎ UnfitUrl layer.urls text)
@@ -224,11 +223,11 @@ BlobUrl s image layer (Sends request) = AsksText s (blob_text s image layer.dige
 abbrev pub OwnDigest : Reference → List ℕ → Type 0
 OwnDigest image text = digest_of image ≡ Some text
 
--- the digest that was asked for
+-- the requested digest
 abbrev pub AskedDigest : List ℕ → List ℕ → Type 0
 AskedDigest digest text = text ≡ digest
 
--- only a call that has a sink can find that it failed; the count of its faults is not told here
+-- only a call with a sink can return that it failed; its fault count is not exposed here
 abbrev pub SinkMayFail : Destination → Type 0
 SinkMayFail IntoSink = Unit {0}
 SinkMayFail IntoMemory = ⊥
@@ -241,31 +240,30 @@ BlobCause Own to Bad s digest c now e = Cause Own (AnswerCause (AskedDigest dige
 
 -- ---- images of indexes
 
--- the index was read from an answer's body
+-- the index was parsed from a response's body
 pub record IndexRead (c : List Exchange) (index : OciImageIndex) : Type 0 where
   pub bytes : List ℕ
   pub body : Body c bytes
   pub reads : document_read bytes ≡ Ok (ImageIndex index)
 
--- the last answer's body is an index
+-- the last response's body is an index
 abbrev pub LastIsIndex : (Act → Type 0) → List Exchange → Type 0
 LastIsIndex Own c = ByLast Own
     (λ address answer. (index : OciImageIndex) × (document_read answer.body ≡ Ok (ImageIndex index))) c
 
--- the digest of an entry in an index that was read
+-- the digest of an entry in an index that was parsed
 pub record EntryDigest (c : List Exchange) (text : List ℕ) : Type 0 where
   pub index : OciImageIndex
   pub read : IndexRead c index
   pub listed : lists text index.manifests ≡ true
 
--- The promise leaves no answer, or it leaves this one, which no entry has or which is that of an
--- index again.
+-- The promise selects no digest, or it selects this one, which no entry has or which is that of another index.
 abbrev pub IsMissing : (Act → Type 0) → ResolverPromise → OciImageIndex → List Exchange → List ℕ → Type 0
 IsMissing Own promise index c text = ((resolved promise index.manifests ≡ None) × (text ≡ []))
     ⊎ ((resolved promise index.manifests ≡ Some text)
     × ((lists text index.manifests ≡ false) ⊎ ((lists text index.manifests ≡ true) × LastIsIndex Own c)))
 
--- an index was read in which the image was not found
+-- an index was parsed in which the image was not found
 pub record NotFound (Own : Act → Type 0) (s : Settings) (c : List Exchange) (text : List ℕ) : Type 0 where
   pub index : OciImageIndex
   pub read : IndexRead c index
@@ -277,12 +275,12 @@ pub record NotFound (Own : Act → Type 0) (s : Settings) (c : List Exchange) (t
 abbrev pub FoundDigest : Reference → List Exchange → List ℕ → Type 0
 FoundDigest image c text = OwnDigest image text ⊎ EntryDigest c text
 
--- what is read and asked for the image's document, or for an entry's
+-- what is parsed and requested for the image's document, or for an entry's
 abbrev pub FoundUrl : Settings → Reference → List Exchange → Act → Type 0
 FoundUrl s image c act = ManifestUrl s image act
     ⊎ ((digest : List ℕ) × EntryDigest c digest × ManifestUrl s (entry_reference image digest) act)
 
--- of a call that an index may lead on, with the addresses and digests that it has
+-- of a call that an index may redirect, with its addresses and digests
 abbrev pub IndexCause : (Act → Type 0) → (List ℕ → Type 0) → (List Exchange → Type 0) → Settings
     → List Exchange → ℕ → OciDistributionError → Type 0
 IndexCause Own Given Bad s c now refusal.ImageIndexParsingNoPlatformResolverError =
@@ -297,13 +295,13 @@ FoundCause Bad s image c now e = IndexCause (FoundUrl s image c) (FoundDigest im
 
 -- ---- images
 
--- the manifest was read from an answer's body
+-- the manifest was parsed from a response's body
 pub record ManifestRead (c : List Exchange) (manifest : OciImageManifest) : Type 0 where
   pub bytes : List ℕ
   pub body : Body c bytes
   pub reads : document_read bytes ≡ Ok (Image manifest)
 
--- a descriptor in a manifest that was read: that of its configuration, or of one of its layers
+-- a descriptor in a manifest that was parsed: that of its configuration, or of one of its layers
 pub record ReadDescriptor (c : List Exchange) (x : OciDescriptor) : Type 0 where
   pub manifest : OciImageManifest
   pub read : ManifestRead c manifest
@@ -317,13 +315,13 @@ ReadDigest c text = (x : OciDescriptor) × ReadDescriptor c x × (text ≡ x.dig
 abbrev pub ImageDigest : Reference → List Exchange → List ℕ → Type 0
 ImageDigest image c text = FoundDigest image c text ⊎ ReadDigest c text
 
--- what is read and asked for the image's document, for an entry's, or for a blob of a descriptor in a manifest that
--- was read
+-- what is parsed and requested for the image's document, for an entry's, or for a blob of a descriptor in a manifest
+-- that was parsed
 abbrev pub ImageUrl : Settings → Reference → List Exchange → Act → Type 0
 ImageUrl s image c act = FoundUrl s image c act
     ⊎ ((x : OciDescriptor) × ReadDescriptor c x × BlobUrl s image (described x) act)
 
--- of an image's manifest and its configuration, which is held: it is the body of the last answer, and no text
+-- of an image's manifest and configuration, which is held: it is the body of the last response, and not UTF-8
 abbrev pub ConfigCause : (List Exchange → Type 0) → Settings → Reference → List Exchange → ℕ
     → OciDistributionError → Type 0
 ConfigCause Bad s image c now (refusal.GenericError ConfigNotText) = (content : List ℕ) × LastBody c content
@@ -331,7 +329,7 @@ ConfigCause Bad s image c now (refusal.GenericError ConfigNotText) = (content : 
 ConfigCause Bad s image c now refusal.SinkFault = ⊥
 ConfigCause Bad s image c now e = IndexCause (ImageUrl s image c) (ImageDigest image c) Bad s c now e
 
--- a layer of a manifest that was read is of this media type, which is not accepted
+-- a layer of a manifest that was parsed has this media type, which is not accepted
 pub record NotAccepted (accepted : List (List ℕ)) (c : List Exchange) (kind : List ℕ) : Type 0 where
   pub manifest : OciImageManifest
   pub read : ManifestRead c manifest
@@ -340,7 +338,7 @@ pub record NotAccepted (accepted : List (List ℕ)) (c : List Exchange) (kind : 
   pub media_type : layer.media_type ≡ kind
   pub other : is_accepted accepted kind ≡ false
 
--- of a whole image, whose blobs are held
+-- of a whole image, whose blobs are held in memory
 abbrev pub ImageCause : (List Exchange → Type 0) → Settings → Reference → List (List ℕ) → List Exchange → ℕ
     → OciDistributionError → Type 0
 ImageCause Bad s image accepted c now refusal.PullNoLayersError = (manifest : OciImageManifest)
@@ -349,21 +347,20 @@ ImageCause Bad s image accepted c now (refusal.IncompatibleLayerMediaTypeError k
 ImageCause Bad s image accepted c now refusal.SinkFault = ⊥
 ImageCause Bad s image accepted c now e = IndexCause (ImageUrl s image c) (ImageDigest image c) Bad s c now e
 
--- ---- refusals that must come
+-- ---- refusals that must occur
 
--- the refusal is this one, unless memory was wanting
+-- the refusal is this one, unless memory ran out
 abbrev pub IsRefusedAs : {A : Type 0} → OciDistributionError → Result A OciDistributionError → Type 0
 IsRefusedAs e r = UnlessMemory is_memory (λ r. r ≡ Err e) r
 
--- refused before the request: a text is no URL, a value cannot stand in a header, or memory was
--- wanting
+-- refused before the request: a string is not a URL, a value is not a valid header value, or memory ran out
 abbrev pub IsEarlyRefusal : OciDistributionError → Type 0
 IsEarlyRefusal (refusal.UrlParseError text) = request_url text ≡ None
 IsEarlyRefusal (refusal.GenericError HeaderText) = Unit {0}
 IsEarlyRefusal refusal.WantOfMemory = Unit {0}
 IsEarlyRefusal _ = ⊥
 
--- the call was refused so
+-- the call was refused for such a cause
 abbrev pub IsEarly : {A : Type 0} → Result A OciDistributionError → Type 0
 IsEarly (Ok a) = ⊥
 IsEarly (Err e) = IsEarlyRefusal e

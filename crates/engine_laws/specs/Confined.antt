@@ -1,4 +1,4 @@
--- Where credentials and tokens go: to the registry that is asked, and to the realm that it names.
+-- Where credentials and tokens go: to the image's registry, and to the realm that it names.
 use Rattle.std.specs.Prelude.{◌≡◌, ◌⊎◌, ℕ, true, List, [], ◌∷◌, ◌++◌, Some, codes}
 use Rattle.std.specs.FinMap as map
 use Rattle.url.specs.Parts.{Parts, serialize}
@@ -34,7 +34,7 @@ pub record ToRegistry (s : Settings) (image : Reference) (request : Request) : T
   pub url_is : request_url request.url ≡ Some url
   pub goes : targets url registry ≡ true
 
--- It is the GET of the realm that the exchange directly before names, which asked the registry's `/v2/`.
+-- It is the GET of the realm that the exchange directly before it names, which requested the registry's `/v2/`.
 pub record ToRealm (s : Settings) (image : Reference) (op : RegistryOperation) (seen : List Exchange)
     (request : Request) : Type 0 where
   pub before : List Exchange
@@ -53,8 +53,8 @@ pub record ToRealm (s : Settings) (image : Reference) (op : RegistryOperation) (
   pub by_get : request.method ≡ Get
   pub asks : request.url ≡ serialize (realm_url image op challenge.service realm)
 
--- A value of `authorization` may be in the request: it goes to one of these two, and the value is that of a token or of
--- credentials that the call may show.
+-- A value of `authorization` may be in the request: the request goes to one of these two, and the value is that of a
+-- token or of credentials that the call may send.
 pub record MayCarry (x : Entry) (s : Settings) (seen : List Exchange) (request : Request) (value : List ℕ)
     : Type 0 where
   pub goes : ToRegistry s x.image request ⊎ ToRealm s x.image x.operation seen request
@@ -62,7 +62,7 @@ pub record MayCarry (x : Entry) (s : Settings) (seen : List Exchange) (request :
   pub held : IsHeld x seen token
   pub value_is : value ≡ authorization_of token
 
--- this is so of each value
+-- P holds for each value
 abbrev pub Each : (List ℕ → Type 0) → List (List ℕ) → Type 0
 Each P [] = Unit {0}
 Each P (value ∷ values) = P value × Each P values
@@ -71,33 +71,33 @@ Each P (value ∷ values) = P value × Each P values
 abbrev pub Confined : Entry → Settings → List Exchange → Request → Type 0
 Confined x s seen request = Each (MayCarry x s seen request) (values_of (codes "authorization") request.headers)
 
--- so it is of each request of these exchanges
+-- the same for each request of these exchanges
 abbrev pub AllConfined : Entry → Settings → List Exchange → Type 0
 AllConfined x s c = EachAfter (Confined x s) [] c
 
--- ---- what is kept
+-- ---- the client state
 
--- the token was kept before, or these exchanges added it under what the call is for, and the call may show it
+-- the token was stored before, or these exchanges added it under the key of the call, and the call may send it
 abbrev pub KeptOrAdded : Entry → List Exchange → Key → ℕ → RegistryTokenType → Type 0
 KeptOrAdded x c key moment token = (token_at x.kept.tokens key moment ≡ Some token)
     ⊎ ((key ≡ key_of x.image x.operation) × IsHeld x c token)
 
--- so it is of each token that is given now, under whatever key and at whatever moment
+-- the same for each token that is returned now, under any key and at any moment
 abbrev pub KeptWell : Entry → Memory → List Exchange → Type 0
 KeptWell x l c = (key : Key) (moment : ℕ) (token : RegistryTokenType)
     → token_at l.tokens key moment ≡ Some token → KeptOrAdded x c key moment token
 
--- the credentials were stored before under this registry, or they were handed in and it is the image's
+-- the credentials were stored before under this registry, or they were passed in and it is the image's
 abbrev pub StoredOrHanded : Entry → List ℕ → RegistryAuth → Type 0
 StoredOrHanded x registry a = (map.get x.kept.credentials registry ≡ Some a)
     ⊎ ((registry ≡ resolved_registry x.image) × (x.handed ≡ Some a))
 
--- so it is of all that are stored
+-- the same for all stored credentials
 abbrev pub StoredWell : Entry → Memory → Type 0
 StoredWell x l = (registry : List ℕ) (a : RegistryAuth)
     → map.get l.credentials registry ≡ Some a → StoredOrHanded x registry a
 
--- the requests of these exchanges carry what they may, and what is kept after them was kept before or came of them
+-- the requests contain what they may, and what is stored after them was stored before or results from them
 pub record Within (x : Entry) (s : Settings) (l : Memory) (c : List Exchange) : Type 0 where
   pub confined : AllConfined x s c
   pub kept : KeptWell x l c

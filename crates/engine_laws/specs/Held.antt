@@ -1,4 +1,4 @@
--- The tokens that a call may show a registry.
+-- The tokens that a call may send to a registry.
 use Rattle.std.specs.Prelude.{◌≡◌, ◌⊎◌, ℕ, List, ◌∷◌, ◌++◌, Option, Some, Ok}
 use Rattle.std.specs.FinMap as map
 use Rattle.oci_transport.specs.declared.message.Answer.{Answer}
@@ -15,8 +15,8 @@ use Rattle.oci_auth.specs.declared.token_type.RegistryTokenType.{RegistryTokenTy
 use Rattle.engine_terms.specs.Contexts.{Context}
 use Rattle.engine_requests.specs.Tokens.{token_read}
 
--- what a call begins with: what the client keeps, the image, what is done with it, the moment, and
--- the credentials that are handed in
+-- what a call begins with: the client state, the image, the operation, the moment, and the credentials that are passed
+-- in
 pub record Entry : Type 0 where
   pub kept : Memory
   pub image : Reference
@@ -38,7 +38,7 @@ asking kept s image op handed = record {
 abbrev pub pulling : Memory → Context → Reference → Option RegistryAuth → Entry
 pulling kept s image handed = asking kept s image Pull handed
 
--- credentials that are stored for the registry, or handed in
+-- credentials that are stored for the registry, or passed in
 abbrev pub IsAuth : Entry → RegistryAuth → Type 0
 IsAuth x a = (map.get x.kept.credentials (resolved_registry x.image) ≡ Some a) ⊎ (x.handed ≡ Some a)
 
@@ -46,11 +46,11 @@ IsAuth x a = (map.get x.kept.credentials (resolved_registry x.image) ≡ Some a)
 abbrev pub OfAuth : Entry → RegistryTokenType → Type 0
 OfAuth x token = (a : RegistryAuth) × IsAuth x a × (own_token a ≡ Some token)
 
--- a token that is kept, and given at the moment
+-- a token that is stored, and valid at the moment
 abbrev pub WasKept : Entry → RegistryTokenType → Type 0
 WasKept x token = token_at x.kept.tokens (key_of x.image x.operation) x.moment ≡ Some token
 
--- a token in the body of an answer
+-- a token in the body of a response
 pub record GivenIn (c : List Exchange) (token : RegistryTokenType) : Type 0 where
   pub before : List Exchange
   pub exchange : Exchange
@@ -60,6 +60,6 @@ pub record GivenIn (c : List Exchange) (token : RegistryTokenType) : Type 0 wher
   pub answered : exchange.answer ≡ Some answer
   pub read : token_read answer ≡ Ok (Some token)
 
--- the call may show this token: it is one of these
+-- the call may send this token: it is one of these
 abbrev pub IsHeld : Entry → List Exchange → RegistryTokenType → Type 0
 IsHeld x c token = OfAuth x token ⊎ (WasKept x token ⊎ GivenIn c token)

@@ -1,4 +1,4 @@
--- What a call for referrers shows, which asks a tag where the registry knows no list of them.
+-- The properties of a call for referrers, which requests a tag if the registry has no list of them.
 use Rattle.std.specs.Prelude.{◌≡◌, ◌≢◌, ◌⊎◌, ℕ, false, List, ◌++◌, Option, Some, None, Ok, Err}
 use Rattle.url.specs.Parts.{Parts}
 use Rattle.oci_transport.specs.Urls.{request_url}
@@ -24,7 +24,7 @@ use Rattle.engine_laws.specs.Confined.{Within}
 use Rattle.engine_laws.specs.Causes.{Act, Reads, Sends, AsksAt, Cause, AnswerCause, DocumentCause, ByLast, BadHeader}
 use Rattle.engine_laws.specs.Causes.{OwnDigest, ManifestUrl}
 
--- the call for the tag, by what is kept when it begins; nothing is handed in
+-- the call for the tag, by the client state when it begins; no credentials are passed in
 abbrev pub for_tag : Entry → List ℕ → Memory → Entry
 for_tag x digest between = record {
   kept = between;
@@ -34,15 +34,14 @@ for_tag x digest between = record {
   handed = None;
 }
 
--- the address of the registry or of the list is read, and the list is asked for, which may be restricted to a type of
--- artifacts
+-- the URL of the registry or of the list is parsed, and the list is requested, possibly restricted to an artifact type
 abbrev pub ListUrl : Settings → Reference → List ℕ → Act → Type 0
 ListUrl s image digest (Reads text) = (text ≡ registry_text s image) ⊎ (text ≡ referrers_text s image digest)
 ListUrl s image digest (Sends request) = (url : Parts) × (request_url (referrers_text s image digest) ≡ Some url)
     × (kind : Option (List ℕ)) × AsksAt s (with_artifact_type kind url) request
 
--- The list was answered with status 404. Up to there the exchanges keep to the image; of those after it this is so,
--- by the digest and what was kept between.
+-- The response for the list has status 404. The exchanges up to it are confined to the image; P holds for those after
+-- it, with the digest and the client state between.
 pub record AfterMissing (x : Entry) (s : Settings) (P : List ℕ → Memory → List Exchange → Type 0)
     (c : List Exchange) : Type 0 where
   pub digest : List ℕ
@@ -55,7 +54,7 @@ pub record AfterMissing (x : Entry) (s : Settings) (P : List ℕ → Memory → 
   pub first : Within x s between front
   pub after : P digest between rest
 
--- The exchanges keep to the image, and once the list was not there to the tag: that is another registry only where
+-- The exchanges are confined to the image and, after the list was missing, to the tag: that is another registry only if
 -- the image's mirror is `docker.io`.
 abbrev pub WithinReferrers : Entry → Settings → Memory → List Exchange → Type 0
 WithinReferrers x s l c = Within x s l c
@@ -63,18 +62,18 @@ WithinReferrers x s l c = Within x s l c
 
 -- ---- causes
 
--- the answer's body does not read as an index, as the refusal says
+-- the response's body does not parse as an index, as the refusal states
 abbrev pub IsNoIndex : Answer → OciDistributionError → Type 0
 IsNoIndex answer e = (answer.status ≡ 200) × (index_read answer.body ≡ Err e)
 
--- what the list's answer shows of a refusal: its body, or its status, which is not 404
+-- what the list's response shows about a refusal: its body, or its status, which is not 404
 abbrev pub ListAnswer : List ℕ → Answer → OciDistributionError → Type 0
 ListAnswer address answer (refusal.ManifestParsingError body) = IsNoIndex answer (refusal.ManifestParsingError body)
 ListAnswer address answer (refusal.AmbiguousManifest body) = IsNoIndex answer (refusal.AmbiguousManifest body)
 ListAnswer address answer (refusal.DigestError e) = ⊥
 ListAnswer address answer e = (answer.status ≢ 404) × AnswerCause (λ text. ⊥) address answer e
 
--- What the tag's answer shows: it is a manifest, or no document, and not that the tag is absent.
+-- What the tag's response shows: it is a manifest, or not a document, and does not state that the tag does not exist.
 abbrev pub TagAnswer : Reference → List ℕ → List ℕ → Answer → OciDistributionError → Type 0
 TagAnswer image digest address answer (refusal.SpecViolationError (ReferrersTag tag)) = (tag ≡ referrers_tag digest)
     × (manifest : OciImageManifest) × (document_read answer.body ≡ Ok (Image manifest))

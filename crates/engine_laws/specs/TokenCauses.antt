@@ -1,4 +1,4 @@
--- Why the call for a token was refused. Such a refusal speaks of the last exchange of the call.
+-- Why the call for a token was refused. Such a refusal is about the last exchange of the call.
 use Rattle.std.specs.Prelude.{◌≡◌, ◌≢◌, ◌<◌, ◌⊎◌, ℕ, false, List, [], ◌∷◌, ◌++◌, Some, None, length}
 use Rattle.json_values.specs.Counts.{Rose}
 use Rattle.oci_transport.specs.Headers.{is_header_value}
@@ -20,28 +20,28 @@ use Rattle.engine_terms.specs.declared.error.GenericCause.TheVariants.{HeaderTex
 use Rattle.engine_terms.specs.declared.error.OciDistributionError.{OciDistributionError}
 use Rattle.engine_terms.specs.declared.error.OciDistributionError.TheVariants as refusal
 
--- this is so of the last exchange
+-- P holds for the last exchange
 pub record LastIs (P : Exchange → Type 0) (c : List Exchange) : Type 0 where
   pub before : List Exchange
   pub last : Exchange
   pub split : c ≡ before ++ last ∷ []
   pub holds : P last
 
--- it was answered, and this is so of the answer
+-- it has a response, and P holds for the response
 abbrev pub WithAnswer : (Answer → Type 0) → Exchange → Type 0
 WithAnswer P e = (answer : Answer) × (e.answer ≡ Some answer) × P answer
 
--- the token of the credentials cannot stand in a header
+-- the token of the credentials is not a valid header value
 abbrev pub HasBadAuth : RegistryAuth → Type 0
 HasBadAuth a = (token : RegistryTokenType) × (own_token a ≡ Some token)
     × (is_header_value (authorization_of token) ≡ false)
 
--- the realm of the challenge in the last answer
+-- the realm of the challenge in the last response
 abbrev pub LastRealm : List Exchange → List ℕ → Type 0
 LastRealm c text = LastIs (WithAnswer (λ answer. (challenge : BearerChallenge)
     × (wanted (head_part answer) ≡ Token challenge) × (text ≡ challenge.realm))) c
 
--- the address at which the registry says what token it wants, or that realm
+-- the URL at which the registry states which token it requires, or that realm
 abbrev pub TokenUrl : Settings → Reference → List Exchange → List ℕ → Type 0
 TokenUrl s image c text = (text ≡ base_text s image) ⊎ LastRealm c text
 

@@ -15,7 +15,7 @@ use Rattle.engine_rows.specs.Rows.{Row}
 use Rattle.engine_rows.specs.declared.image.ImageData.{ImageData}
 use Rattle.engine_pull.specs.Parts.{Parts, with_parts, LeadsTo}
 
--- the image that they make, by its manifest and the digest of that
+-- the image that the parts form, with its manifest and the digest of that
 abbrev pub image_with : OciImageManifest → List ℕ → Parts → Row ImageData
 image_with manifest digest parts = Done (Ok (record { layers = parts.1; digest = Some digest; config = parts.0; manifest = Some manifest }))
 

@@ -21,7 +21,7 @@ use Rattle.engine_rows.specs.declared.image.ImageData.{ImageData}
 abbrev pub Parts : Type 0
 Parts = Config × List ImageLayer
 
--- a manifest's configuration, the media types of its layers looked at, its layers, and then what comes of them
+-- a manifest's configuration, a check of the media types of its layers, its layers, and then what follows from them
 abbrev pub with_parts : Context → Reference → List (List ℕ) → OciImageManifest → (Parts → Row ImageData) → Row ImageData
 with_parts s image accepted manifest next = do
   content ← held_blob s image (described manifest.config)

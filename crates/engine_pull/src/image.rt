@@ -1,4 +1,4 @@
-// Whole images.
+// Pulls whole images.
 ghost use Rattle.oci_auth.specs.declared.memory.Memory.{Memory};
 ghost use Rattle.oci_protocol.specs.Runs.{Meets};
 ghost use Rattle.engine_terms.specs.Contexts.{context_of};
@@ -21,7 +21,7 @@ use oci_manifests::{ImageLayer, OciImageManifest};
 use oci_transport::Transport;
 use std::alloc::Global;
 
-// Each descriptor's blob, behind the layers that are there.
+// Pulls each descriptor's blob, and appends it to the layers so far.
 fn pull_layers<T: Transport>(
     alloc: Global,
     transport: &mut T,
@@ -42,7 +42,7 @@ fn pull_layers<T: Transport>(
     Ok(layers)
 }
 
-// The configuration and the layers that a manifest leads to. The manifest is lent, so that it is let go in one place.
+// Pulls the configuration and the layers of a manifest. The manifest is borrowed, so that it is dropped in one place.
 fn pull_parts<T: Transport>(
     alloc: Global,
     transport: &mut T,
@@ -70,7 +70,7 @@ fn pull_parts<T: Transport>(
     Ok((config, layers))
 }
 
-/// An image whose layers are of these media types.
+/// Returns an image whose layers have these media types.
 pub fn pull<T: Transport>(
     alloc: Global,
     transport: &mut T,

@@ -1,4 +1,4 @@
-//! The calls of the registry's client that pull documents, blobs and images.
+//! The calls of the registry client that pull documents, blobs and images.
 #![tactic(auto)]
 
 mod image;

@@ -1,4 +1,4 @@
-// The manifests of images, to which indexes may lead.
+// Pulls the manifests of images, to which indexes may lead.
 ghost use Rattle.std.specs.Prelude.{◌≡◌};
 ghost use Rattle.oci_manifests.specs.declared.document.OciManifest.TheVariants.{ImageIndex};
 ghost use Rattle.oci_protocol.specs.Runs.{Meets};
@@ -19,7 +19,7 @@ use oci_manifests::{OciImageIndex, OciImageManifest, OciManifest};
 use oci_transport::Transport;
 use std::alloc::Global;
 
-// The manifest of the entry with this digest, which may not be an index again.
+// Returns the manifest of the entry with this digest, which may not be another index.
 fn pull_entry<T: Transport>(
     alloc: Global,
     transport: &mut T,
@@ -43,7 +43,7 @@ fn pull_entry<T: Transport>(
     Ok(manifest)
 }
 
-// The manifest of the entry of an index that is meant.
+// Returns the manifest of the selected entry of an index.
 fn index_manifest<T: Transport>(
     alloc: Global,
     transport: &mut T,
@@ -63,7 +63,7 @@ fn index_manifest<T: Transport>(
     Ok((manifest, entry, Some(digest)))
 }
 
-// A manifest as it is, or that of an index's entry.
+// Returns a manifest unchanged, or that of an index's entry.
 fn manifest_by<T: Transport>(
     alloc: Global,
     transport: &mut T,
@@ -84,9 +84,9 @@ fn manifest_by<T: Transport>(
     Ok(found)
 }
 
-/// The manifest of an image with its digest, and the digest of the index that led to it, where one did. The entry of
-/// an index is found as the settings say. Where none is found, or the entry is an index again, it is
-/// `ImageManifestNotFoundError`.
+/// Returns the manifest of an image with its digest, and the digest of the index that led to it, if one did. The
+/// resolver of the settings selects the entry of an index. `ImageManifestNotFoundError` if it selects none, or if the
+/// entry is another index.
 pub fn pull_image_manifest_and_list_digest<T: Transport>(
     alloc: Global,
     transport: &mut T,
@@ -103,7 +103,7 @@ pub fn pull_image_manifest_and_list_digest<T: Transport>(
     Ok(found)
 }
 
-/// The manifest of an image with its digest.
+/// Returns the manifest of an image with its digest.
 pub fn pull_image_manifest<T: Transport>(
     alloc: Global,
     transport: &mut T,
@@ -119,8 +119,8 @@ pub fn pull_image_manifest<T: Transport>(
     Ok((manifest, digest))
 }
 
-/// The manifest of an image with its digest, its configuration as text, and the digest of the index that led to it,
-/// where one did.
+/// Returns the manifest of an image with its digest, its configuration as text, and the digest of the index that led to
+/// it, if one did.
 pub fn pull_manifest_and_config_and_list_digest<T: Transport>(
     alloc: Global,
     transport: &mut T,
@@ -140,7 +140,7 @@ pub fn pull_manifest_and_config_and_list_digest<T: Transport>(
     Ok((manifest, digest, config, list_digest))
 }
 
-/// The manifest of an image with its digest, and its configuration as text.
+/// Returns the manifest of an image with its digest, and its configuration as text.
 pub fn pull_manifest_and_config<T: Transport>(
     alloc: Global,
     transport: &mut T,

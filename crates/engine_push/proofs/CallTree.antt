@@ -32,7 +32,7 @@ none_given f bytes link k none = Meets-refused f (said (Err refusal.PushNoDataEr
 pub some_given : (bytes : List ℕ) (link : Link) (k : Memory) → length bytes ≢ 0 → Meets is_memory (Done (not_empty bytes)) link link k k (Ok tt)
 some_given bytes link k some = said (Ok tt) (some_answered bytes some)
 
--- ---- bytes that are at hand
+-- ---- bytes in memory
 
 only_memory : (e : OciDistributionError) → is_memory e ≡ true → e ≡ refusal.WantOfMemory
 only_memory refusal.WantOfMemory is = refl

@@ -1,4 +1,4 @@
--- What the requests carried, one step behind the other.
+-- What the bodies of the requests contain, one step after another.
 use Rattle.std.proofs.Common.{◌≡◌, ℕ, List, [], ◌∷◌, ◌++◌, Result, Ok, Err, refl, sym, ap, subst, ◌∙◌, append_assoc, append-nil}
 use Rattle.std.specs.Result.{IsErrAnd}
 use Rattle.std.proofs.lemmas.Result.{err_from_is_err_and}
@@ -24,11 +24,11 @@ front_behind first bytes part h = (h.0, ap (λ rest. first ++ rest) h.1 ∙ sym 
 front_more : (part bytes rest : List ℕ) → IsFront part bytes → IsFront part (bytes ++ rest)
 front_more part bytes rest h = (h.0 ++ rest, ap (λ front. front ++ rest) h.1 ∙ append_assoc part h.0 rest)
 
--- these bytes were carried
+-- the bodies are these bytes
 abbrev pub Carries : List ℕ → Link → Link → Type 0
 Carries bytes old new = Told (λ c. bodies c ≡ bytes) old new
 
--- a front of them was
+-- the bodies are a prefix of them
 abbrev pub CarriesFront : List ℕ → Link → Link → Type 0
 CarriesFront bytes old new = Told (λ c. IsFront (bodies c) bytes) old new
 
@@ -38,7 +38,7 @@ carries_none link = record { conversation = []; told = Extends-none link; holds 
 pub carries_front : {bytes : List ℕ} {old new : Link} → Carries bytes old new → CarriesFront bytes old new
 carries_front {bytes} told = record { conversation = told.conversation; told = told.told; holds = subst (λ part. IsFront part bytes) (sym told.holds) (front_all bytes) }
 
--- nothing was, whatever there is
+-- the empty list is a prefix of any bytes
 pub none_front : {old new : Link} (bytes : List ℕ) → Carries [] old new → CarriesFront bytes old new
 none_front bytes told = record { conversation = told.conversation; told = told.told; holds = subst (λ part. IsFront part bytes) (sym told.holds) (front_none bytes) }
 
@@ -59,15 +59,15 @@ front_behind_more {first} {second} {old} {mid} {new} a b = record {
 pub front_of_more : {bytes : List ℕ} {old new : Link} (rest : List ℕ) → CarriesFront bytes old new → CarriesFront (bytes ++ rest) old new
 front_of_more {bytes} rest told = record { conversation = told.conversation; told = told.told; holds = front_more (bodies told.conversation) bytes rest told.holds }
 
--- behind requests without a body
+-- after requests without a body
 pub sends_behind : {A E : Type 0} (bytes : List ℕ) (old mid new : Link) (r : Result A E) → Carries [] old mid → Sends bytes mid new r → Sends bytes old new r
 sends_behind bytes old mid new (Ok a) first second = carries_more first second
 sends_behind bytes old mid new (Err e) first second = front_behind_more first second
 
--- a call that was refused behind them
+-- a call that was refused after them
 pub sends_nothing : {A E : Type 0} {old new : Link} (bytes : List ℕ) (r : Result A E) (e : E) → IsErrAnd r (λ x. x ≡ e) → Carries [] old new → Sends bytes old new r
 sends_nothing bytes r e is told = let at = err_from_is_err_and r is in rw at.1 (none_front bytes told)
 
--- one that was refused as a step of it was
+-- a call that was refused as a step of it was
 pub sends_as : {A E : Type 0} (bytes : List ℕ) {old new : Link} (r : Result A E) (e : E) → IsErrAnd r (λ x. x ≡ e) → CarriesFront bytes old new → Sends bytes old new r
 sends_as bytes r e is told = let at = err_from_is_err_and r is in rw at.1 told

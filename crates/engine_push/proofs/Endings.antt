@@ -1,5 +1,5 @@
--- What the steps of a push are refused for: for nothing that a source did, and for a body that is too long by the last
--- answer.
+-- Why the steps of a push are refused: not because of the source, and for a body that is too long only by the last
+-- response.
 use Rattle.std.proofs.Common.{◌≡◌, ◌<◌, ℕ, Bool, true, false, List, [], ◌∷◌, ◌++◌, Option, Some, None, Result, Ok, Err, codes, length, refl, sym, ap, subst, ◌∙◌, append-nil, append_assoc}
 use Rattle.std.specs.Prelude.{◌+◌, nat_lt, nat_eq, decimal, ◌&&◌, if◌then◌else◌}
 use Rattle.std.specs.FinMap as map
@@ -49,7 +49,7 @@ use Rattle.engine_push.specs.declared.content.Content.TheVariants.{Nothing, Whol
 
 -- ---- the token step
 
--- the registry's address is no URL, or memory was wanting
+-- the registry's URL is malformed, or memory ran out
 abbrev pub NoRegistry : Settings → Reference → {A : Type 0} → Result A OciDistributionError → Type 0
 NoRegistry s image (Ok a) = Unit {0}
 NoRegistry s image (Err (refusal.UrlParseError text)) = (request_url text ≡ None) × (text ≡ registry_text s image)
@@ -96,7 +96,7 @@ authorized_fine s image url = by_url (request_url (registry_text s.settings imag
   by_url (Some registry) is = where_fine s image (goes_to (request_url (serialize url)) registry)
   by_url None is = (is, refl)
 
--- a value cannot stand in a header
+-- a value is not a valid header value
 abbrev pub Textual : {A : Type 0} → Result A OciDistributionError → Type 0
 Textual (Ok a) = Unit {0}
 Textual (Err e) = e ≡ refusal.GenericError HeaderText
@@ -132,12 +132,12 @@ pub content_textual : (content : Content) (request : Request) → Textual (with_
 unfolding with_content
 content_textual content request = into_textual (with_fields content request.headers) _ (fields_textual content request.headers) (λ headers. tt)
 
--- ---- what a step is refused for
+-- ---- why a step is refused
 
 long_after : (limit : ℕ) (c : List Exchange) {d : List Exchange} → LastLong limit d → LastLong limit (c ++ d)
 long_after limit c h = record { before = c ++ h.before; last = h.last; split = ap (λ x. c ++ x) h.split ∙ sym (append_assoc c h.before (h.last ∷ [])); answer = h.answer; answered = h.answered; long = h.long }
 
--- also behind other exchanges
+-- also after other exchanges
 pub told_long : (limit : ℕ) (P : List Exchange → Type 0) {old mid new : Link} → Told P old mid → Told (LastLong limit) mid new → Told (LastLong limit) old new
 told_long limit P {old} {mid} {new} a b = record {
   conversation = a.conversation ++ b.conversation;
@@ -145,7 +145,7 @@ told_long limit P {old} {mid} {new} a b = record {
   holds = long_after limit a.conversation b.holds;
 }
 
--- for nothing that a source did; a body that is too long is the last answer's
+-- not because of the source; a body that is too long is the last response's
 abbrev StepCause : ℕ → List Exchange → OciDistributionError → Type 0
 StepCause limit c refusal.BodyTooLong = LastLong limit c
 StepCause limit c refusal.SourceFault = ⊥
@@ -267,7 +267,7 @@ unfolding chunks_sent
 chunks_step s image location start [] = step_done s.settings.max_body_bytes (Ok location) (λ e is. absurd (cc is))
 chunks_step s image location start (chunk ∷ rest) = step_next s.settings.max_body_bytes (chunk_sent s image location start chunk) _ (chunk_step s image location start chunk) (λ next. chunks_step s image next (start + length chunk) rest)
 
--- ---- what was told of it
+-- ---- what was exposed of it
 
 abbrev pub StepTold : ℕ → Link → Link → OciDistributionError → Type 0
 StepTold limit old new refusal.BodyTooLong = Told (LastLong limit) old new

@@ -1,4 +1,4 @@
--- From one row, what was done leads to another: whatever the other then does, the first did.
+-- What was done leads from one row to another: whatever the other then does, the first did.
 use Rattle.std.proofs.Common.{◌≡◌, ◌≤◌, ◌<◌, ◌+◌, ℕ, zero, suc, List, [], ◌∷◌, ◌++◌, Result, Ok, Err, length, take, drop, min, refl, sym, ap, subst, ◌∙◌, arith, append_assoc, append-nil, length-append}
 use Rattle.std.specs.Prelude.{◌^◌}
 use Rattle.std.specs.Result.{IsErrAnd}
@@ -91,7 +91,7 @@ module _ (s : Context) (image : Reference) (first : List ℕ) (from : ℕ) (byte
     by_nil [] none split = subst (λ all. Carries all old mid) (sym (split ∙ append-nil chunking.gone)) chunking.carried
     by_nil (x ∷ xs) none split = absurd (omega (arith, none))
 
-  -- memory was wanting before the next one
+  -- memory ran out before the next one
   pub chunking_wanting : (r : Result (List ℕ) OciDistributionError) → IsErrAnd r (λ e. e ≡ refusal.WantOfMemory) → Meets is_memory (chunks_sent s image first from (chunks bytes)) old mid k j r
   chunking_wanting r is = chunking.leads.met mid j r (wanting is)
 

@@ -1,4 +1,4 @@
--- The location that is answered, each outcome, and what its request carried.
+-- The location that is returned, each outcome, and what its request contained.
 use Rattle.std.proofs.Common.{◌≡◌, ◌≤◌, ℕ, zero, true, false, List, [], ◌∷◌, ◌++◌, Some, Result, Ok, Err, length, refl, sym, ap, subst, ◌∙◌, append-nil}
 use Rattle.std.specs.Prelude.{if◌then◌else◌}
 use Rattle.json_values.specs.Counts.{Rose}
@@ -71,7 +71,7 @@ module _ (s : Settings) (image : Reference) (expected : ℕ) (request : Request)
   unfolding location_after
   location_cut old new c = cut is_memory 0 request (unless_success s.max_body_bytes) (location_reply s image expected) k refusal.WantOfMemory c refl
 
--- ---- what the request carried
+-- ---- what the request contained
 
 reply_done : (s : Settings) (image : Reference) (expected : ℕ) (last : Request) (reply : Reply) → (a : Result (List ℕ) OciDistributionError) × (location_reply s image expected last reply ≡ Done a)
 reply_done s image expected last (Headed head) = (_, refl)
@@ -125,7 +125,7 @@ location_sends s image expected request {k = k} (Err e) met =
     let told = Meets-safe (Once request.body) (λ k c. Unit {0}) (λ k c a. Unit {0}) (location_once s image expected request k) met in
     record { conversation = told.conversation; told = told.told; holds = once_front request.body told.conversation told.holds }
 
--- the request is made with this content
+-- the request is built with this content
 pub as_sent : {A E : Type 0} (content : Content) (bare request : Request) (old new : Link) (r : Result A E) → with_content content bare ≡ Ok request → Sends request.body old new r → Sends (bytes_of content) old new r
 unfolding with_content
 as_sent {A} {E} content bare request old new r is sends = subst (λ bytes. Sends bytes old new r) (by_fields (with_fields content bare.headers) is) sends where

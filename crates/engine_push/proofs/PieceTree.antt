@@ -68,7 +68,7 @@ pub nil_of : (piece : List ℕ) → length piece ≡ 0 → piece ≡ []
 nil_of [] none = refl
 nil_of (x ∷ xs) none = absurd (omega (arith, none))
 
--- a piece that is not the last one leads on
+-- a piece that is not the last one continues
 on_piece : {A : Type 0} {p : Row A} (left : ℕ) (piece : List ℕ) (end : Row A) (next : List ℕ → Row A) {old mid : Link} {k j : Memory} → 0 < length piece → length piece ≤ left → LeadsTo p (Done (no_longer left piece) >>= λ piece. unless_last piece end (next piece)) old mid k j → LeadsTo p (next piece) old mid k j
 on_piece {p = p} left piece end next {mid = mid} {j = j} some small lead = record {
   met = λ new l r h. lead.met new l r (and_then (λ piece. unless_last piece end (next piece)) (said (Ok piece) (is_no_longer left piece small)) (subst (λ row. Meets is_memory row mid new j l r) (sym (not_last piece end (next piece) some)) h));
@@ -80,7 +80,7 @@ on_last left piece end next {mid = mid} {j = j} none lead = record {
   met = λ new l r h. lead.met new l r (and_then (λ piece. unless_last piece end (next piece)) (said (Ok piece) (is_no_longer left piece (omega (arith, none)))) (subst (λ row. Meets is_memory row mid new j l r) (sym (is_last piece end (next piece) none)) h));
 }
 
--- and one that is too long refuses it
+-- one that is too long is refused
 on_longer : {A : Type 0} {p : Row A} (left : ℕ) (piece : List ℕ) (f : List ℕ → Row A) {old mid : Link} {k j : Memory} → left < length piece → LeadsTo p (Done (no_longer left piece) >>= f) old mid k j → Meets is_memory p old mid k j (Err refusal.BodyTooLong)
 on_longer left piece f {mid = mid} {j = j} longer lead = lead.met mid j (Err refusal.BodyTooLong) (Meets-refused f (said (Err refusal.BodyTooLong) (is_longer left piece longer)))
 
@@ -176,7 +176,7 @@ module _ (s : Context) (image : Reference) (first location : List ℕ) (size : �
         count = omega (arith, pumping.count, rises);
       }
 
--- ---- pieces that are held
+-- ---- pieces that are held in memory
 
 pub record Holding (limit : ℕ) (held : List ℕ) (before now : Spring) : Type 0 where
   pub times : ℕ
@@ -261,14 +261,14 @@ front_of_left before now bytes taken told = record { conversation = told.convers
   by_left (Some all) None taken front = absurd taken
   by_left (Some all) (Some rest) taken front = (front.0 ++ rest, taken ∙ ap (λ xs. xs ++ rest) front.1 ∙ append_assoc (bodies told.conversation) front.0 rest)
 
--- nothing was carried
+-- nothing was sent
 pub none_of_left : (before : Spring) {old new : Link} → CarriesFront [] old new → Told (λ c. IsFrontOf (bodies c) before.left) old new
 none_of_left before told = front_of_left before before [] (Consumes-none before.left) told
 
 pub pushes_all : (before after : Spring) (bytes : List ℕ) {old new : Link} → Takes bytes before after → IsAtEnd after.left → Carries bytes old new → Told (λ c. Takes (bodies c) before after) old new × IsAtEnd after.left
 pushes_all before after bytes taken end told = (record { conversation = told.conversation; told = told.told; holds = subst (λ xs. Takes xs before after) (sym told.holds) taken }, end)
 
--- a call that was refused
+-- a call that returned an error
 pub pushes_refused : {A E : Type 0} (before after : Spring) {old new : Link} (r : Result A E) (e : E) → IsErrAnd r (λ x. x ≡ e) → Told (λ c. IsFrontOf (bodies c) before.left) old new → Pushes before after old new r
 pushes_refused before after r e is told = let at = err_from_is_err_and r is in rw at.1 told
 
@@ -280,7 +280,7 @@ rose_on a b c le rose = omega (arith, le, rose)
 
 -- ---- refusals
 
--- as a step was refused
+-- with the error of a step
 pub err_is : {A : Type 0} (P : OciDistributionError → Type 0) (r : Result A OciDistributionError) (e : OciDistributionError) → IsErrAnd r (λ x. x ≡ e) → P e → IfErr r P
 err_is P r e is h = let at = err_from_is_err_and r is in rw (at.1, at.2) h
 

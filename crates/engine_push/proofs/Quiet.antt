@@ -37,7 +37,7 @@ use Rattle.engine_requests.specs.declared.tokens.Wanted.TheVariants as wants
 use Rattle.engine_rows.specs.Rows.{Row, whole, whole_reply, head_after, head_reply, realm_asked, fetched, registry_asked, token_step, with_kept, taken, passed_over, token_asked, kept_or_asked, token_by, token_for, goes_to, token_where, authorized}
 use Rattle.engine_push.specs.Bodies.{bodies}
 
--- a request that is made of a URL has no body
+-- a request that is built from a URL has no body
 pub made_bodiless : (s : Settings) (method : Method) (url : Parts) (types : Option (List ℕ)) (token : Option RegistryTokenType) (request : Request) → request_of s method url types token ≡ Ok request → request.body ≡ []
 unfolding request_of
 made_bodiless s method url types token request is = by_headers (headers_of s types token) is where
@@ -86,7 +86,7 @@ quiet_unless f each (Err e) = quiet_done (Err e)
 quiet_next : {A B : Type 0} (p : Row A) (f : A → Row B) → Quiet p → ((a : A) → Quiet (f a)) → Quiet (p >>= f)
 quiet_next p f first each = quiet_bind p (unless_refused f) first (quiet_unless f each)
 
--- a step with no request
+-- a step without a request
 quiet_step : {A B : Type 0} (r : Result A OciDistributionError) (f : A → Row B) → ((a : A) → r ≡ Ok a → Quiet (f a)) → Quiet (Done r >>= f)
 unfolding bind
 quiet_step (Ok a) f each = each a refl
@@ -166,13 +166,13 @@ quiet_authorized : (s : Context) (image : Reference) (op : RegistryOperation) (u
 unfolding authorized
 quiet_authorized s image op url = quiet_step (url_read (registry_text s.settings image)) _ (λ registry read. quiet_where s image op (goes_to (request_url (serialize url)) registry))
 
--- ---- what was told
+-- ---- the exposed exchanges
 
 no_bodies : (seen c : List Exchange) → EachAfter (λ c request. request.body ≡ []) seen c → bodies c ≡ []
 no_bodies seen [] h = refl
 no_bodies seen (e ∷ c) h = ap (λ body. body ++ bodies c) h.0 ∙ no_bodies (seen ++ e ∷ []) c h.1
 
--- of a token step before a request
+-- those of a token step before a request
 pub token_bodiless : (s : Context) (image : Reference) (op : RegistryOperation) (url : Parts) {old new : Link} {k l : Memory} {r : Result (Option RegistryTokenType) OciDistributionError} → Meets is_memory (authorized s image op url) old new k l r → Told (λ c. bodies c ≡ []) old new
 token_bodiless s image op url {k = k} met =
     let told = Meets-safe (λ c request. request.body ≡ []) Anything AnyAnswer ((quiet_authorized s image op url).safe k []) met in

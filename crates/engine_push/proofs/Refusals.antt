@@ -1,4 +1,4 @@
--- Refusals and answers of steps that make no request, one behind the other.
+-- Results of steps that make no request, one after another.
 use Rattle.std.proofs.Common.{◌≡◌, ℕ, List, Bool, true, false, Result, Ok, Err, codes, refl}
 use Rattle.std.specs.Prelude.{MatchBool}
 use Rattle.std.specs.Result.{IsErrAnd}
@@ -10,18 +10,18 @@ use Rattle.engine_requests.specs.Requests.{with_header}
 use Rattle.engine_push.specs.Contents.{range_text, with_length, with_type, with_fields}
 use Rattle.engine_push.specs.declared.content.Content.TheVariants.{Chunk}
 
--- a refusal that is handed on
+-- a refusal that is passed on
 pub says_on : {A : Type 0} (r : Result A OciDistributionError) (e : OciDistributionError) (said : Result A OciDistributionError) → Says {A = A} (Err e) said → IsErrAnd r (λ x. x ≡ e) → Says r said
 says_on r e said says is = let at = err_from_is_err_and r is in rw (at.1, at.2) says
 
--- a step that was refused
+-- a step that returned an error
 pub says_first : {A B : Type 0} (e : OciDistributionError) (first : Result A OciDistributionError) (f : A → Result B OciDistributionError) → Says {A = A} (Err e) first → Says {A = B} (Err e) (first >>= f)
 says_first {A} {B} e first f says = by_memory (is_memory e) says where
   by_memory : (b : Bool) → MatchBool b (Unit {0}) (first ≡ Err e) → MatchBool b (Unit {0}) ((first >>= f) ≡ Err e)
   by_memory true h = tt
   by_memory false h = rw h refl
 
--- and one behind a step that was not
+-- and one after a step that did not
 pub says_next : {A B : Type 0} (a : A) (r : Result B OciDistributionError) (first : Result A OciDistributionError) (f : A → Result B OciDistributionError) → Says (Ok a) first → Says r (f a) → Says r (first >>= f)
 says_next a r first f is says = rw is says
 

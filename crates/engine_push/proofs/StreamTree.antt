@@ -31,7 +31,7 @@ use Rattle.engine_push.proofs.PieceTree.{nil_of, sent_source, front_of_left, pus
 pub size_unknown : {A : Type 0} (f : ℕ → Row A) (link : Link) (k : Memory) → Meets is_memory (Done (size_given None) >>= f) link link k k (Err (refusal.GenericError NoSize))
 size_unknown f link k = Meets-refused f (said (Err (refusal.GenericError NoSize)) refl)
 
--- ---- the row of an upload that is not ended yet
+-- ---- the row of an upload that is not finished yet
 
 pub sent_refused : {A : Type 0} (s : Context) (image : Reference) (f : Sent → Row A) {old new : Link} {k l : Memory} (e : OciDistributionError) (r : Result A OciDistributionError) → Meets is_memory (upload_begun s image) old new k l (Err e) → IsErrAnd r (λ x. x ≡ e) → Meets is_memory (stream_sent s image >>= f) old new k l r
 unfolding stream_sent
@@ -45,9 +45,9 @@ pub sent_met : (s : Context) (image : Reference) {old mid new : Link} {k j l : M
 unfolding stream_sent
 sent_met s image location sent first second = and_then (all_sent s image) first second
 
--- ---- what was carried
+-- ---- what was sent
 
--- behind requests that carried nothing
+-- after requests without a body
 told_behind : (P : List ℕ → Type 0) {old mid new : Link} → Carries [] old mid → Told (λ c. P (bodies c)) mid new → Told (λ c. P (bodies c)) old new
 told_behind P {old} {mid} {new} a b = record {
   conversation = a.conversation ++ b.conversation;
@@ -76,7 +76,7 @@ front_part before part after taken = by_left before.left after.left taken where
   by_left (Some all) None taken = absurd taken
   by_left (Some all) (Some rest) taken = (rest, taken)
 
--- ---- bytes that are held
+-- ---- bytes that are held in memory
 
 pub begun_pushes : (before after : Spring) (bytes : List ℕ) {old mid new : Link} → Takes bytes before after × IsAtEnd after.left → Carries [] old mid → Carries bytes mid new → Told (λ c. Takes (bodies c) before after) old new × IsAtEnd after.left
 begun_pushes before after bytes given first second = (told_behind (λ part. Takes part before after) first (record { conversation = second.conversation; told = second.told; holds = subst (λ part. Takes part before after) (sym second.holds) given.0 }), given.1)
@@ -98,7 +98,7 @@ ended_pushes before after first second third = told_before (λ part. IsFrontOf p
 pub some_sent : (before after : Spring) {old mid late new : Link} → Carries [] old mid → Told (λ c. Takes (bodies c) before after) mid late × IsAtEnd after.left → Carries [] late new → Told (λ c. Takes (bodies c) before after) old new × IsAtEnd after.left
 some_sent before after first second third = (told_before (λ part. Takes part before after) (told_behind (λ part. Takes part before after) first second.0) third, second.1)
 
--- ---- what is answered
+-- ---- the result
 
 pub response_met : (url digest bytes : List ℕ) (size : ℕ) (link : Link) (k : Memory) → digest ≡ digest_text Sha256 bytes → size ≡ length bytes → Meets is_memory (Done (Ok (response_of url bytes))) link link k k (Ok (record { blob_url = url; blob_digest = digest; size = size }))
 response_met url digest bytes size link k digest_is size_is = rw (digest_is, size_is) done

@@ -20,7 +20,7 @@ use Rattle.engine_push.specs.Uploads.{Sent, all_sent, all_read}
 use Rattle.engine_push.specs.declared.content.Content.TheVariants.{Nothing, Whole}
 use Rattle.engine_push.specs.declared.stream.PushBlobStreamChunkedResponse.{PushBlobStreamChunkedResponse}
 
--- ---- bytes that are at hand
+-- ---- bytes in memory
 
 -- in chunks
 unfoldable pub push_chunked : Context → Reference → List ℕ → List ℕ → Row (List ℕ)
@@ -40,7 +40,7 @@ push_whole s image content digest = do
   _ ← Done (not_empty content)
   upload_ended s image digest location (Whole content)
 
--- a registry that answers with another success than was expected may take the blob whole
+-- a registry that responds with another 2xx status than expected may accept the blob whole
 abbrev pub is_violation : OciDistributionError → Bool
 is_violation (refusal.SpecViolationError v) = true
 is_violation _ = false
@@ -64,7 +64,7 @@ size_given (Some size) = Ok size
 abbrev pub of_size : ℕ → List ℕ → Result (List ℕ) OciDistributionError
 of_size size bytes = if nat_eq (length bytes) size then Ok bytes else Err (refusal.GenericError SizeDiffers)
 
--- whole, where its count of bytes is given
+-- whole, if its size is given
 unfoldable pub stream_whole : Context → Reference → List ℕ → Option ℕ → Row (List ℕ)
 stream_whole s image digest size = do
   size ← Done (size_given size)
@@ -73,7 +73,7 @@ stream_whole s image digest size = do
   bytes ← Done (of_size size bytes)
   upload_ended s image digest location (Whole bytes)
 
--- the upload of all pieces, which is not ended yet
+-- the upload of all pieces, which is not finished yet
 unfoldable pub stream_sent : Context → Reference → Row Sent
 stream_sent s image = do
   location ← upload_begun s image
@@ -88,7 +88,7 @@ unfoldable pub push_blob_stream : Context → Reference → List ℕ → Option 
 push_blob_stream s image digest size =
     if s.settings.use_monolithic_push then stream_whole s image digest size else stream_chunked s image digest
 
--- what is answered of bytes that stand at this URL now
+-- the response for bytes that are at this URL now
 abbrev pub response_of : List ℕ → List ℕ → PushBlobStreamChunkedResponse
 response_of url bytes = record { blob_url = url; blob_digest = digest_text Sha256 bytes; size = length bytes }
 
@@ -101,7 +101,7 @@ push_blob_stream_chunked s image = do
 
 -- ---- a blob of another repository
 
--- the request for it names the blob and the repository
+-- the request names the blob and the other repository
 abbrev pub mount_url : Reference → List ℕ → Parts → Parts
 mount_url source digest url = append_query_pairs url
     ((codes "mount", digest) ∷ (codes "from", repository_of source) ∷ [])

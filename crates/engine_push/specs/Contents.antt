@@ -1,4 +1,4 @@
--- What a request of a push carries (OCI distribution specification, "Pushing blobs").
+-- What a request of a push contains (OCI distribution specification, "Pushing blobs").
 use Rattle.std.specs.Prelude.{ℕ, ◌+◌, ◌-◌, ◌<◌, ◌^◌, List, [], ◌++◌, length, Result, Ok, codes, decimal}
 use Rattle.oci_transport.specs.Headers.{Fields}
 use Rattle.oci_transport.specs.declared.message.Request.{Request}
@@ -14,12 +14,12 @@ bytes_of Nothing = []
 bytes_of (Whole bytes) = bytes
 bytes_of (Chunk start bytes) = bytes
 
--- the end of a chunk is a place
+-- the end of a chunk is at most 2^64 - 1
 abbrev pub IsWithin : Content → Type 0
 IsWithin (Chunk start bytes) = start + length bytes < 2 ^ 64
 IsWithin content = Unit {0}
 
--- the places of the first and of the last byte of a chunk
+-- the indexes of the first and of the last byte of a chunk
 abbrev pub range_text : ℕ → List ℕ → List ℕ
 range_text start bytes = decimal start ++ codes "-" ++ decimal (start + length bytes - 1)
 
@@ -29,14 +29,14 @@ with_length bytes headers = with_header headers (codes "content-length") (decima
 abbrev pub with_type : Fields → Result Fields OciDistributionError
 with_type headers = with_header headers (codes "content-type") (codes "application/octet-stream")
 
--- how many bytes there are, of which type where there are some, and of a chunk where it stands in the blob
+-- the number of bytes, their type if there are any, and the range of a chunk in the blob
 abbrev pub with_fields : Content → Fields → Result Fields OciDistributionError
 with_fields Nothing headers = with_length [] headers
 with_fields (Whole bytes) headers = with_length bytes headers >>= with_type
 with_fields (Chunk start bytes) headers =
     with_header headers (codes "content-range") (range_text start bytes) >>= with_length bytes >>= with_type
 
--- the request with it
+-- the request with this content
 unfoldable pub with_content : Content → Request → Result Request OciDistributionError
 with_content content request = with_fields content request.headers >>= λ headers. Ok (record request {
   headers = headers;

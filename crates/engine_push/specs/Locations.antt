@@ -1,4 +1,4 @@
--- Where an upload goes on, as an answer says it (OCI distribution specification, "Pushing blobs").
+-- Where an upload continues, as a response states (OCI distribution specification, "Pushing blobs").
 use Rattle.std.specs.Prelude.{ℕ, List, [], ◌∷◌, ◌++◌, Option, Some, None, Result, Ok, Err, codes, nat_eq}
 use Rattle.std.specs.Prelude.{if◌then◌else◌}
 use Rattle.oci_names.specs.declared.reference.Reference.{Reference}
@@ -21,7 +21,7 @@ location_of s image None = Err refusal.RegistryNoLocationError
 location_of s image (Some value) =
     if is_text value then Ok (resolved s image value) else Err (refusal.HeaderValueError value)
 
--- the location that an answer of success names, which has the expected status, and no other
+-- the location that a response names; only one with the expected status is accepted
 unfoldable pub located : Settings → Reference → ℕ → List ℕ → AnswerHead → Result (List ℕ) OciDistributionError
 located s image expected url head =
     if nat_eq head.status expected

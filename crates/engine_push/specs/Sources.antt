@@ -1,4 +1,4 @@
--- What is taken of a source, and what requests carry of it.
+-- What is taken from a source, and what requests contain of it.
 use Rattle.std.specs.Prelude.{◌≡◌, ◌≢◌, ◌<◌, ◌⊎◌, ℕ, List, [], Option, Some, None, is_some, length, Result, Ok}
 use Rattle.std.specs.Prelude.{Err}
 use Rattle.std.specs.Io.KnownBytes.{IsAtEnd}
@@ -16,12 +16,12 @@ use Rattle.engine_push.specs.Bodies.{bodies, IsFront, LastLong}
 use Rattle.engine_push.specs.Uploads.{Sent}
 use Rattle.engine_push.specs.declared.pieces.Upload.{Upload}
 
--- these bytes stand at the front of what is left, where that is told
+-- these bytes are a prefix of what is left, if that is exposed
 abbrev pub IsFrontOf : List ℕ → Option (List ℕ) → Type 0
 IsFrontOf first None = Unit {0}
 IsFrontOf first (Some left) = IsFront first left
 
--- Where exchanges are told, their requests carried all that the source had left, or a front of it where the call was
+-- If exchanges are exposed, their requests contained all that the source had left, or a prefix of it if the call was
 -- refused.
 abbrev pub Pushes : {A E : Type 0} → Spring → Spring → Link → Link → Result A E → Type 0
 Pushes before after old new (Ok a) = Told (λ c. Takes (bodies c) before after) old new × IsAtEnd after.left
@@ -35,25 +35,25 @@ TookAll bytes before after = Takes bytes before after × IsAtEnd after.left
 abbrev pub TookMore : ℕ → Spring → Spring → Type 0
 TookMore limit before after = (bytes : List ℕ) × Takes bytes before after × (limit < length bytes)
 
--- all that the source had left is given, unless the call was refused
+-- all that the source had left is returned, unless the call was refused
 abbrev pub Gives : {E : Type 0} → Spring → Spring → Result (List ℕ) E → Type 0
 Gives before after (Ok bytes) = TookAll bytes before after
 Gives before after (Err e) = Unit {0}
 
--- ---- why nothing more of a source was taken
+-- ---- why nothing more was taken from a source
 
--- it gave no piece: it failed
+-- it failed to give a piece
 abbrev pub NoPiece : Spring → Spring → OciDistributionError → Type 0
 NoPiece before after refusal.SourceFault = Rose before.faults after.faults
 NoPiece before after refusal.WantOfMemory = Unit {0}
 NoPiece before after _ = ⊥
 
--- or it gave more bytes than the limit
+-- it gave more bytes than the limit
 abbrev pub NotHeld : ℕ → Spring → Spring → OciDistributionError → Type 0
 NotHeld limit before after refusal.BodyTooLong = TookMore limit before after
 NotHeld limit before after e = NoPiece before after e
 
--- or a request was refused, with an answer of more bytes than the limit, or for a cause that is none of the source's
+-- a request was refused, for a response with more bytes than the limit, or for a cause other than the source
 abbrev pub NotSent : ℕ → Spring → Spring → Link → Link → OciDistributionError → Type 0
 NotSent limit before after old new refusal.SourceFault = Rose before.faults after.faults
 NotSent limit before after old new refusal.BodyTooLong = TookMore limit before after ⊎ Told (LastLong limit) old new
@@ -62,8 +62,8 @@ NotSent limit before after old new (refusal.GenericError NoSize) = ⊥
 NotSent limit before after old new (refusal.GenericError SizeDiffers) = ⊥
 NotSent limit before after old new _ = Unit {0}
 
--- Why a call was refused for what its source gave, or for the count of bytes that was handed in. A refusal that speaks
--- of an answer has its cause elsewhere.
+-- Why a call was refused for what its source gave, or for the size that was passed in. A refusal about a response has
+-- another cause.
 abbrev pub SourceCause : ℕ → Option ℕ → Spring → Spring → Link → Link → OciDistributionError → Type 0
 SourceCause limit size before after old new refusal.PushNoDataError = TookAll [] before after
 SourceCause limit size before after old new (refusal.GenericError NoSize) = size ≡ None
@@ -71,18 +71,18 @@ SourceCause limit size before after old new (refusal.GenericError SizeDiffers) =
     × (size ≡ Some n) × TookAll bytes before after × (length bytes ≢ n)
 SourceCause limit size before after old new e = NotSent limit before after old new e
 
--- the bytes were hashed, where they are hashed at all
+-- the bytes were hashed, if they are hashed at all
 abbrev pub Hashed : Option Digester → List ℕ → Type 0
 Hashed None bytes = Unit {0}
 Hashed (Some digester) bytes = Holds digester Sha256 bytes
 
--- the upload holds how many bytes these are, and their hash where this digester was given
+-- the upload holds the number of these bytes, and their hash if there is a digester
 pub record IsUpload (digester : Option Digester) (upload : Upload) (bytes : List ℕ) : Type 0 where
   pub size : upload.size ≡ length bytes
   pub hashed : Hashed upload.digester bytes
   pub given : is_some upload.digester ≡ is_some digester
 
--- an upload of these bytes, as rows have it
+-- an upload of these bytes, as rows represent it
 abbrev pub sent_in : {E : Type 0} → List ℕ → Result Upload E → Result Sent E
 sent_in bytes (Ok upload) = Ok (record { location = upload.location; bytes = bytes })
 sent_in bytes (Err e) = Err e

@@ -1,5 +1,5 @@
--- The rows of uploads, in the words of the OCI distribution specification ("Pushing blobs"). Each request of an upload
--- goes to the location that the answer before it named.
+-- The rows of uploads, in the terms of the OCI distribution specification ("Pushing blobs"). Each request of an upload
+-- goes to the location that the response before it named.
 use Rattle.std.specs.Prelude.{ℕ, zero, suc, ◌+◌, ◌-◌, List, [], ◌∷◌, ◌++◌, Option, Some, None}
 use Rattle.std.specs.Prelude.{Result, Ok, Err, length, take, drop, codes, nat_lt, if◌then◌else◌}
 use Rattle.url.specs.Parts.{Parts}
@@ -28,7 +28,7 @@ use Rattle.engine_push.specs.declared.content.Content.TheVariants.{Nothing, Chun
 
 -- ---- one request
 
--- the body is read of an answer that is no success
+-- the body of a response is read unless its status is 2xx
 unfoldable pub unless_success : ℕ → AnswerHead → Reading
 unless_success limit head = if is_success head.status then Unread else Within limit
 
@@ -38,15 +38,15 @@ location_reply s image expected last (Answered answer) =
     Done (Err (refusal.ServerError answer.status last.url answer.body))
 location_reply s image expected last TooLong = Done (Err refusal.BodyTooLong)
 location_reply s image expected last Failed = Done (Err refusal.TransportFault)
--- never: the body goes into no sink
+-- unreachable: the body is not read into a sink
 location_reply s image expected last SinkFailed = Done (Err refusal.SinkFault)
 
--- the location that the answer to a request names, whose redirects are not followed
+-- the location that the response to a request names, whose redirects are not followed
 unfoldable pub location_after : Settings → Reference → ℕ → Request → Row (List ℕ)
 location_after s image expected request =
     follow 0 request (unless_success s.max_body_bytes) (location_reply s image expected)
 
--- a request of an upload, with its token where it goes to the registry, and the location that is answered
+-- a request of an upload, with its token if it goes to the registry, and the location that the response names
 unfoldable pub sent : Context → Reference → Method → Parts → Content → ℕ → Row (List ℕ)
 sent s image method url content expected = do
   token ← authorized s image Push url
@@ -61,13 +61,13 @@ upload_begun s image = do
   url ← Done (url_read (uploads_text s.settings image))
   sent s image Post url Nothing 202
 
--- bytes of the blob, from this place of it on
+-- bytes of the blob, from this offset on
 unfoldable pub chunk_sent : Context → Reference → List ℕ → ℕ → List ℕ → Row (List ℕ)
 chunk_sent s image location start bytes = do
   url ← Done (url_read location)
   sent s image Patch url (Chunk start bytes) 202
 
--- the blob's digest, and the blob where it was not sent yet
+-- the blob's digest, and the blob if it was not sent yet
 unfoldable pub upload_ended : Context → Reference → List ℕ → List ℕ → Content → Row (List ℕ)
 upload_ended s image digest location content = do
   url ← Done (url_read location)
@@ -75,7 +75,7 @@ upload_ended s image digest location content = do
 
 -- ---- bytes, in chunks
 
--- how many bytes a chunk has at most
+-- the maximum size of a chunk, in bytes
 abbrev pub chunk_size : ℕ
 chunk_size = 4194304
 
@@ -95,14 +95,14 @@ chunks_sent s image location start (chunk ∷ rest) = do
   next ← chunk_sent s image location start chunk
   chunks_sent s image next (start + length chunk) rest
 
--- ---- the pieces of a source, as it gives them
+-- ---- the pieces of a source, in its order
 
--- bytes that were sent, and where the upload goes on
+-- bytes that were sent, and where the upload continues
 pub record Sent : Type 0 where
   pub location : List ℕ
   pub bytes : List ℕ
 
--- what comes of what the source says: its next piece, or that it failed
+-- the next piece from external input, or the failure of the source
 abbrev pub piece_of : Option (List ℕ) → Result (List ℕ) OciDistributionError
 piece_of None = Err refusal.SourceFault
 piece_of (Some piece) = Ok piece
@@ -113,13 +113,13 @@ next_piece = Consult (λ said. Done (piece_of said))
 abbrev pub no_longer : ℕ → List ℕ → Result (List ℕ) OciDistributionError
 no_longer left piece = if nat_lt left (length piece) then Err refusal.BodyTooLong else Ok piece
 
--- an empty piece is the last one
+-- an empty piece marks the end
 abbrev pub unless_last : {A : Type 0} → List ℕ → Row A → Row A → Row A
 unless_last [] end next = end
 unless_last (b ∷ bytes) end next = next
 
--- The pieces that follow these bytes, each in chunks, while so many bytes are left of the limit. Each piece has one at
--- least, so that the first number is never used up before the second.
+-- The pieces that follow these bytes, each in chunks, while `left` bytes of the limit are left. Each piece has at least
+-- one byte, so that the first number never runs out before the second.
 unfoldable pub pieces_sent : ℕ → ℕ → Context → Reference → List ℕ → List ℕ → Row Sent
 pieces_sent zero left s image location bytes = Done (Err refusal.BodyTooLong)
 pieces_sent (suc n) left s image location bytes = do
@@ -133,7 +133,7 @@ pieces_sent (suc n) left s image location bytes = do
 abbrev pub all_sent : Context → Reference → List ℕ → Row Sent
 all_sent s image location = pieces_sent (suc s.settings.max_body_bytes) s.settings.max_body_bytes s image location []
 
--- The same, where they are held, one behind the other.
+-- The same, if they are held in memory, one after another.
 unfoldable pub pieces_read : ℕ → ℕ → List ℕ → Row (List ℕ)
 pieces_read zero left bytes = Done (Err refusal.BodyTooLong)
 pieces_read (suc n) left bytes = do

@@ -1,4 +1,4 @@
-// Pushes of bytes that are at hand.
+// Pushes bytes in memory.
 ghost use Rattle.std.specs.Prelude.{◌≡◌};
 ghost use Rattle.oci_protocol.specs.Runs.{Meets};
 ghost use Rattle.engine_terms.specs.Contexts.{context_of};
@@ -59,8 +59,8 @@ fn is_violation(error: &OciDistributionError) -> bool
     matches!(error, OciDistributionError::SpecViolationError(_))
 }
 
-/// Pushes a blob to the image's repository: the URL at which it stands then. It goes in chunks, and by one request
-/// where the client's settings say so or the registry answers a chunk with another success than was expected.
+/// Pushes a blob to the image's repository, and returns the URL at which it is then. It is sent in chunks, or by one
+/// request if the client's settings say so or the registry responds to a chunk with another 2xx status than expected.
 #[tactic(none)]
 pub fn push_blob<T: Transport>(
     alloc: Global,

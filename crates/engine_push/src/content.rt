@@ -1,4 +1,4 @@
-// What a request of a push carries.
+// What a request of a push contains.
 ghost use Rattle.std.specs.Prelude.{◌≡◌, ◌+◌, ◌<◌, ◌^◌, length, IfOk};
 ghost use Rattle.engine_terms.specs.Error.{Says};
 ghost use Rattle.engine_push.specs.Contents.{IsWithin, bytes_of, range_text, with_length, with_type, with_fields, with_content};
@@ -9,7 +9,7 @@ use json_values::{Blob, Text, write_decimal};
 use oci_transport::{Headers, Request};
 use std::alloc::{AllocError, Global};
 
-/// What a request of a push carries: no bytes, a whole blob, or a chunk of one, whose first byte has this place.
+/// What a request of a push contains: no bytes, a whole blob, or a chunk of one, with the offset of its first byte.
 #[derive(Drop)]
 pub enum Content {
     Nothing,
@@ -84,7 +84,7 @@ fn into_bytes(alloc: Global, content: Content) -> Blob
     }
 }
 
-/// The request with this content, and the header fields that speak of it.
+/// Returns the request with this content, and the header fields that describe it.
 #[tactic(auto, unfolding(crate::specs::Contents::with_content))]
 pub(crate) fn with_content(
     alloc: Global,

@@ -1,4 +1,4 @@
-//! Pushes of blobs: uploads in chunks or whole, of bytes that are at hand or that a source gives piece by piece.
+//! Pushes of blobs: uploads in chunks or whole, of bytes in memory or from a source that gives them piece by piece.
 #![tactic(auto)]
 
 mod bytes;

@@ -1,4 +1,4 @@
-// Where an upload goes on, as an answer says it.
+// Where an upload continues, as a response states.
 ghost use Rattle.std.specs.Prelude.{◌≡◌, IfOk, option_copied};
 ghost use Rattle.engine_terms.specs.Error.{Says};
 ghost use Rattle.engine_push.specs.Locations.{resolved, location_of, located};
@@ -38,7 +38,7 @@ fn location_of(
     Ok(location)
 }
 
-/// The location that an answer of success names, which came from this URL and has to have the expected status.
+/// Returns the location that a response from this URL names, if it has the expected status.
 #[tactic(auto, unfolding(crate::specs::Locations::located))]
 pub(crate) fn located(
     alloc: Global,

@@ -1,4 +1,4 @@
-// Blobs that another repository has.
+// Mounts blobs of another repository.
 ghost use Rattle.std.specs.Prelude.{◌≡◌, [], ◌∷◌, IfOk};
 ghost use Rattle.oci_protocol.specs.Runs.{Meets};
 ghost use Rattle.engine_terms.specs.Contexts.{context_of};
@@ -25,7 +25,7 @@ fn mount_url(mut url: Url, source: &Reference, digest: &str) -> Result<Url, Allo
     }
 }
 
-/// Asks the registry to take a blob of another repository of its own into the image's.
+/// Asks the registry to mount a blob of another of its repositories in the image's.
 #[tactic(none)]
 pub fn mount_blob<T: Transport>(
     alloc: Global,

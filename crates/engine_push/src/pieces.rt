@@ -1,4 +1,4 @@
-// The pieces of a source, as it gives them.
+// Takes the pieces of a source, in its order.
 ghost use Rattle.std.specs.Prelude.{◌≡◌, ◌≤◌, ◌++◌, [], ℕ, List, IfOk, IfErr, is_some};
 ghost use Rattle.std.specs.Io.KnownBytes.{IsAtEnd};
 ghost use Rattle.json_values.specs.Counts.{Rose};
@@ -21,7 +21,7 @@ use oci_pieces::PieceSource;
 use oci_transport::{LinkError, Transport};
 use std::alloc::Global;
 
-/// Bytes that were sent: where the upload goes on, how many they are, and their hash where one is wanted.
+/// Bytes that were sent: where the upload continues, how many they are, and their hash if one is required.
 #[derive(Drop)]
 pub struct Upload {
     pub location: Text,
@@ -29,7 +29,7 @@ pub struct Upload {
     pub digester: Option<Digester>,
 }
 
-// The next piece of the source.
+// Takes the next piece of the source.
 fn next_piece<P: PieceSource>(alloc: Global, pieces: &mut P) -> Result<Blob, OciDistributionError>
     ensures run { (link : Link) (k : Memory) → Meets is_memory next_piece link link k k result }
     ensures front { IfOk result (λ piece. Takes piece (P.state pieces.old) (P.state pieces.new)) }
@@ -53,7 +53,7 @@ fn hash(digester: &mut Option<Digester>, piece: &[u8])
     }
 }
 
-/// Sends all pieces of the source in chunks, no more bytes than the settings allow.
+/// Sends all pieces of the source in chunks, at most as many bytes as the settings allow.
 pub(crate) fn pieces_sent<T: Transport, P: PieceSource>(
     alloc: Global,
     transport: &mut T,
@@ -96,7 +96,7 @@ pub(crate) fn pieces_sent<T: Transport, P: PieceSource>(
     }
 }
 
-/// All pieces of the source, one behind the other, no more than `limit` bytes.
+/// Returns all pieces of the source, concatenated, at most `limit` bytes.
 pub(crate) fn pieces_read<P: PieceSource>(
     alloc: Global,
     pieces: &mut P,

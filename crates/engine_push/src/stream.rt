@@ -1,4 +1,4 @@
-// Pushes of bytes that a source gives.
+// Pushes bytes from a source.
 ghost use Rattle.std.specs.Prelude.{◌≡◌, None, IfErr};
 ghost use Rattle.std.specs.Option.{option_copied};
 ghost use Rattle.oci_protocol.specs.Runs.{Meets};
@@ -18,8 +18,7 @@ use oci_pieces::PieceSource;
 use oci_transport::Transport;
 use std::alloc::Global;
 
-/// What a stream became that was pushed: the URL at which the blob stands, its digest by SHA-256, and how many bytes it
-/// has.
+/// The result of pushing a stream: the URL of the blob, its SHA-256 digest, and its size in bytes.
 #[derive(Debug, Drop)]
 pub struct PushBlobStreamChunkedResponse {
     pub blob_url: Text,
@@ -81,9 +80,9 @@ fn stream_chunked<T: Transport, P: PieceSource>(
     Ok(url)
 }
 
-/// Pushes what the source gives as the blob of this digest: the URL at which it stands then. It goes in chunks as it is
-/// given, or is read whole and goes by one request where the client's settings say so. That request needs its count of
-/// bytes: `NoSize` without it, `SizeDiffers` where the source gives another one.
+/// Pushes what the source gives as the blob of this digest, and returns the URL at which it is then. It is sent in
+/// chunks as it is given, or is read whole and sent by one request if the client's settings say so. That request needs
+/// its size: `NoSize` without it, `SizeDiffers` if the source gives another number of bytes.
 #[tactic(none)]
 pub fn push_blob_stream<T: Transport, P: PieceSource>(
     alloc: Global,
@@ -107,7 +106,7 @@ pub fn push_blob_stream<T: Transport, P: PieceSource>(
     stream_chunked(alloc, transport, memory, call, pieces, digest)
 }
 
-/// Pushes what the source gives in chunks, under the digest that its bytes turn out to have. `PushNoDataError` where it
+/// Pushes what the source gives in chunks, under the digest that is computed from its bytes. `PushNoDataError` if it
 /// gives none.
 #[tactic(none)]
 pub fn push_blob_stream_chunked<T: Transport, P: PieceSource>(

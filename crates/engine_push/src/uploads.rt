@@ -1,4 +1,4 @@
-// The requests of an upload.
+// Sends the requests of an upload.
 ghost use Rattle.std.specs.Prelude.{◌≡◌, ◌+◌, ◌<◌, ◌^◌, [], length};
 ghost use Rattle.oci_auth.specs.declared.memory.Memory.{Memory};
 ghost use Rattle.oci_protocol.specs.Runs.{Meets};
@@ -21,10 +21,10 @@ use oci_protocol::{Reached, reach};
 use oci_transport::{BodyError, LinkError, Method, Request, Transport, read_body};
 use std::alloc::Global;
 
-/// How many bytes a chunk has at most.
+/// The maximum size of a chunk, in bytes.
 const PUSH_CHUNK_MAX_SIZE: usize = 4194304;
 
-// The location that the answer to a request names.
+// Returns the location that the response to a request names.
 #[tactic(none)]
 fn location_after<T: Transport>(
     alloc: Global,
@@ -59,7 +59,7 @@ fn location_after<T: Transport>(
     }
 }
 
-/// Sends a request of an upload, with its token where it goes to the registry: the location that is answered.
+/// Sends a request of an upload, with its token if it goes to the registry, and returns the location in the response.
 #[tactic(none)]
 pub(crate) fn sent<T: Transport>(
     alloc: Global,
@@ -145,7 +145,7 @@ fn chunk_sent<T: Transport>(
     Ok(location)
 }
 
-/// Ends an upload: the location of the blob.
+/// Ends an upload, and returns the location of the blob.
 #[tactic(none)]
 pub(crate) fn upload_ended<T: Transport>(
     alloc: Global,
@@ -171,7 +171,7 @@ pub(crate) fn upload_ended<T: Transport>(
     Ok(location)
 }
 
-/// Sends bytes of a blob in chunks, from this place of it on: where the upload goes on.
+/// Sends bytes of a blob in chunks, from this offset on, and returns where the upload continues.
 #[tactic(none)]
 pub(crate) fn chunks_sent<T: Transport>(
     alloc: Global,

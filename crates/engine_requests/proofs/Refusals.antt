@@ -1,4 +1,4 @@
--- A refusal that is handed on.
+-- A refusal that is passed on.
 use Rattle.std.proofs.Common.{◌≡◌, Result, Err}
 use Rattle.std.specs.Result.{IsErrAnd}
 use Rattle.std.proofs.lemmas.Result.{err_from_is_err_and}

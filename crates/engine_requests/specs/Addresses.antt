@@ -21,7 +21,7 @@ manifest_name (Some digest) tag = digest
 manifest_name None (Some tag) = tag
 manifest_name None None = codes "latest"
 
--- a mirror is told the registry that it stands for
+-- a mirror gets the registry that it mirrors in its query
 abbrev pub mirrored : Option (List ℕ) → List ℕ
 mirrored None = []
 mirrored (Some registry) = codes "?ns=" ++ registry
@@ -43,6 +43,6 @@ abbrev pub url_or : List ℕ → Option Parts → Result Parts OciDistributionEr
 url_or text (Some url) = Ok url
 url_or text None = Err (refusal.UrlParseError text)
 
--- the URL of a text
+-- the URL that a text parses to
 abbrev pub url_read : List ℕ → Result Parts OciDistributionError
 url_read text = url_or text (request_url text)

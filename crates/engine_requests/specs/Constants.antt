@@ -1,4 +1,4 @@
--- The public constant is the types that definitions write out.
+-- The public constant is the list of types that the definitions write out.
 use Rattle.std.specs.Prelude.{◌≡◌, refl}
 use Rattle.engine_requests.specs.Requests.{manifest_types}
 use Rattle.engine_requests.specs.declared.requests.TheConstants as constant

@@ -11,7 +11,7 @@ use Rattle.engine_terms.specs.declared.error.OciDistributionError.TheVariants as
 use Rattle.engine_terms.specs.Error.{◌>>=◌}
 use Rattle.engine_requests.specs.Addresses.{base_text, url_read}
 
--- the digest whose referrers are asked for
+-- the digest whose referrers are requested
 abbrev pub digest_given : Option (List ℕ) → Result (List ℕ) OciDistributionError
 digest_given None = Err (refusal.GenericError NoDigest)
 digest_given (Some digest) = Ok digest
@@ -23,6 +23,6 @@ abbrev pub with_artifact_type : Option (List ℕ) → Parts → Parts
 with_artifact_type None url = url
 with_artifact_type (Some kind) url = append_query_pairs url ((codes "artifactType", kind) ∷ [])
 
--- the URL of the list, which the query restricts to a type of artifacts where one is asked for
+-- the URL of the list, whose query restricts it to an artifact type if one is requested
 abbrev pub referrers_url : Settings → Reference → List ℕ → Option (List ℕ) → Result Parts OciDistributionError
 referrers_url s image digest kind = url_read (referrers_text s image digest) >>= λ url. Ok (with_artifact_type kind url)

@@ -1,4 +1,4 @@
--- What a request carries (OCI distribution specification, "Pull").
+-- What a request contains (OCI distribution specification, "Pull").
 use Rattle.std.specs.Prelude.{ℕ, flat_map, List, [], ◌∷◌, ◌++◌, Option, Some, None, Result, Ok, Err, codes, nat_lt}
 use Rattle.std.specs.Prelude.{◌&&◌, if◌then◌else◌}
 use Rattle.url.specs.Parts.{Parts, serialize}
@@ -14,7 +14,7 @@ use Rattle.engine_terms.specs.declared.error.OciDistributionError.{OciDistributi
 use Rattle.engine_terms.specs.declared.error.OciDistributionError.TheVariants as refusal
 use Rattle.engine_terms.specs.Error.{◌>>=◌}
 
--- several types in one header
+-- one more type in a header
 abbrev pub behind : List ℕ → List ℕ
 behind kind = codes ", " ++ kind
 
@@ -30,7 +30,7 @@ manifest_types = listed (
     ∷ codes "application/vnd.oci.image.manifest.v1+json"
     ∷ codes "application/vnd.oci.image.index.v1+json" ∷ [])
 
--- a header is added, where its value can stand there
+-- a header is added if its value is a valid header value (RFC 9110, 5.5)
 abbrev pub with_header : Fields → List ℕ → List ℕ → Result Fields OciDistributionError
 with_header headers name value =
     if is_header_value value && nat_lt (held headers) 1000 then Ok (added headers name value)
@@ -44,8 +44,8 @@ abbrev pub with_token : Option RegistryTokenType → Fields → Result Fields Oc
 with_token None headers = Ok headers
 with_token (Some token) headers = with_header headers (codes "authorization") (authorization_of token)
 
--- Every request names the client, and one for a document or a blob the types that are accepted. A
--- token is shown where there is one.
+-- Every request names the client, and one for a document or a blob the accepted types. It contains a token if there is
+-- one.
 abbrev pub headers_of : Settings → Option (List ℕ) → Option RegistryTokenType → Result Fields OciDistributionError
 headers_of s types token =
     with_header map.empty (codes "user-agent") s.user_agent >>= with_accept types >>= with_token token

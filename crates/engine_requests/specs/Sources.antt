@@ -16,7 +16,7 @@ use Rattle.engine_requests.specs.declared.sources.LayerDescriptor.{LayerDescript
 use Rattle.engine_requests.specs.declared.sources.Place.{Place}
 use Rattle.engine_requests.specs.declared.sources.Place.TheVariants.{Web, Unfit}
 
--- the digest of a blob, and the URLs beside the registry's at which it may be, in order
+-- the digest of a blob, and the other URLs at which it may be, in order
 pub record Layer : Type 0 where
   pub digest : List ℕ
   pub urls : List (List ℕ)
@@ -29,18 +29,18 @@ named digest = record { digest = digest; urls = [] }
 abbrev pub described : OciDescriptor → Layer
 described x = record { digest = x.digest; urls = unwrap_or x.urls [] }
 
--- what the code carries of it
+-- the same, from what the code passes
 abbrev pub layer_in : LayerDescriptor → Layer
 layer_in x = record { digest = x.digest.now; urls = unwrap_or (option_copied x.urls) [] }
 
--- a URL of another scheme is passed over, and one with a user name or a password is not asked
+-- a URL of another scheme is skipped, and one with a user name or a password is `Unfit`
 abbrev pub by_scheme : List ℕ → Parts → Option Place
 by_scheme text url =
     if bytes_eq url.scheme (codes "http") || bytes_eq url.scheme (codes "https")
     then Some (if is_empty url.username && is_empty url.password then Web url else Unfit text)
     else None
 
--- nor is what does not read
+-- a malformed URL is `Unfit`
 abbrev pub taken_as : List ℕ → Parsed Parts → Option Place
 taken_as text (Ok url) = by_scheme text url
 taken_as text (Err e) = Some (Unfit text)

@@ -1,4 +1,4 @@
--- How a token is asked for (OCI distribution specification, "Authentication"; RFC 6750, section 3).
+-- How a token is requested (OCI distribution specification, "Authentication"; RFC 6750, section 3).
 use Rattle.std.specs.Prelude.{ℕ, List, [], ◌∷◌, ◌++◌, Option, Some, None, Result, Ok, Err, codes, nat_eq, if◌then◌else◌}
 use Rattle.url.specs.Parts.{Parts}
 use Rattle.url.specs.Setters.{append_query_pairs}
@@ -37,8 +37,8 @@ abbrev pub wanted_in : Option (List ℕ) → Wanted
 wanted_in None = Nothing
 wanted_in (Some value) = wanted_by (in_header value)
 
--- what the head of an answer asks for: by its first challenges a token of a realm, or the credentials
--- themselves, and nothing where there are none
+-- what the head of a response requires: by its first challenges a token of a realm, the credentials themselves, or
+-- nothing if there are none
 unfoldable pub wanted : AnswerHead → Wanted
 wanted head = wanted_in (first_of (codes "www-authenticate") head.headers)
 
@@ -58,22 +58,22 @@ abbrev pub with_service : Option (List ℕ) → Parts → Parts
 with_service None url = url
 with_service (Some service) url = append_query_pairs url ((codes "service", service) ∷ [])
 
--- the realm's URL with the scope that is asked for, and the service where the challenge names one
+-- the realm's URL with the requested scope, and the service if the challenge names one
 abbrev pub realm_url : Reference → RegistryOperation → Option (List ℕ) → Parts → Parts
 realm_url image op service url = with_service service (with_scope image op url)
 
--- the credentials are shown to the realm
+-- the credentials are sent to the realm
 unfoldable pub realm_request : Settings → Reference → RegistryAuth → RegistryOperation → Option (List ℕ) → Parts
     → Result Request OciDistributionError
 realm_request s image a op service url = request_of s Get (realm_url image op service url) None (own_token a)
 
--- ---- its answer
+-- ---- the realm's response
 
 abbrev pub decoded : List ℕ → Option RegistryToken → Result (Option RegistryTokenType) OciDistributionError
 decoded body None = Err (refusal.RegistryTokenDecodeError body)
 decoded body (Some token) = Ok (Some (Bearer token))
 
--- the token in the body of an answer of status 200
+-- the token in the body of a response of status 200
 abbrev pub token_read : Answer → Result (Option RegistryTokenType) OciDistributionError
 token_read answer = if nat_eq answer.status 200 then decoded answer.body (token_of answer.body) else Err
     (refusal.AuthenticationFailure answer.body)

@@ -1,4 +1,4 @@
-// The URLs of requests.
+// Builds the URLs of requests.
 ghost use Rattle.std.specs.Prelude.{◌≡◌, ◌++◌, IfOk, OnOk, OnErr, option_copied};
 ghost use Rattle.engine_terms.specs.Error.{Says};
 ghost use Rattle.engine_requests.specs.Addresses.{registry_text, base_text, manifest_name};
@@ -12,7 +12,7 @@ use oci_transport::{UrlError, request_url};
 use std::alloc::{AllocError, Global};
 use url::Url;
 
-/// The text of the registry itself: scheme, host and port.
+/// Returns the text of the registry's own URL: scheme, host and port.
 pub fn registry_text(
     alloc: Global,
     settings: &Settings,
@@ -51,7 +51,7 @@ fn manifest_name(image: &Reference) -> &str
     }
 }
 
-// A mirror is told the registry that it stands for.
+// Adds the registry that a mirror stands in for to the query.
 fn push_mirrored(text: &mut Text, image: &Reference) -> Result<(), AllocError>
     ensures { OnOk result (text.new ≡ text.old ++ mirrored (namespace_of image.now)) }
 {
@@ -102,7 +102,7 @@ fn uploads_text(alloc: Global, settings: &Settings, image: &Reference) -> Result
     Ok(text)
 }
 
-/// The URL of a text, which is refused where it is none.
+/// Parses the URL, or returns `UrlParseError` if it is malformed.
 pub fn read_url(alloc: Global, text: Text) -> Result<Url, OciDistributionError>
     ensures { Says result (url_read text) }
 {
@@ -113,7 +113,7 @@ pub fn read_url(alloc: Global, text: Text) -> Result<Url, OciDistributionError>
     }
 }
 
-/// The URL of the registry itself: scheme, host and port.
+/// Returns the URL of the registry itself: scheme, host and port.
 pub fn registry_address(
     alloc: Global,
     settings: &Settings,
@@ -126,7 +126,7 @@ pub fn registry_address(
     Ok(url)
 }
 
-/// The URL of the registry's `/v2/`.
+/// Returns the URL of the registry's `/v2/`.
 pub fn base_url(
     alloc: Global,
     settings: &Settings,
@@ -139,7 +139,7 @@ pub fn base_url(
     Ok(url)
 }
 
-/// The URL of the image's manifest.
+/// Returns the URL of the image's manifest.
 pub fn manifest_url(
     alloc: Global,
     settings: &Settings,
@@ -152,7 +152,7 @@ pub fn manifest_url(
     Ok(url)
 }
 
-/// The URL of a blob of the image's repository.
+/// Returns the URL of a blob of the image's repository.
 pub fn blob_url(
     alloc: Global,
     settings: &Settings,
@@ -166,7 +166,7 @@ pub fn blob_url(
     Ok(url)
 }
 
-/// The URL at which an upload of a blob to the image's repository begins.
+/// Returns the URL at which an upload of a blob to the image's repository begins.
 pub fn uploads_url(
     alloc: Global,
     settings: &Settings,

@@ -1,4 +1,4 @@
-//! Addresses, headers and requests of the registry's client.
+//! URLs, headers and requests of the registry client.
 #![tactic(auto)]
 
 mod addresses;

@@ -12,7 +12,7 @@ use oci_names::Reference;
 use std::alloc::{AllocError, Global};
 use url::Url;
 
-/// The digest of the reference, whose referrers are asked for, or `NoDigest`.
+/// Returns the digest of the reference, whose referrers are requested, or `NoDigest`.
 pub fn digest_given(alloc: Global, image: &Reference) -> Result<Text, OciDistributionError>
     ensures { Says result (digest_given (digest_of image.now)) }
 {
@@ -50,7 +50,7 @@ fn with_artifact_type(url: Url, artifact_type: Option<&str>) -> Result<Url, Allo
     }
 }
 
-/// The URL of the list of a digest's referrers, of this type of artifacts where one is given.
+/// Returns the URL of the list of a digest's referrers, restricted to an artifact type if one is given.
 pub fn referrers_url(
     alloc: Global,
     settings: &Settings,

@@ -1,4 +1,4 @@
-// What a request carries.
+// Builds requests without a body.
 ghost use Rattle.std.specs.Prelude.{◌≡◌, ◌++◌, flat_map, IfOk, OnOk, IsTrue, option_copied, Ok};
 ghost use Rattle.http_header.specs.FieldName.{is_header_name};
 ghost use Rattle.engine_terms.specs.Error.{Says};
@@ -18,7 +18,7 @@ pub const MANIFEST_TYPES: &str = "application/vnd.docker.distribution.manifest.v
     application/vnd.oci.image.manifest.v1+json, \
     application/vnd.oci.image.index.v1+json";
 
-// Further media types, each behind a comma.
+// Appends further media types, each after a comma.
 fn push_others(text: &mut Text, others: &[Text]) -> Result<(), AllocError>
     ensures { OnOk result (text.new ≡ text.old ++ flat_map behind others.now) }
 {
@@ -29,7 +29,7 @@ fn push_others(text: &mut Text, others: &[Text]) -> Result<(), AllocError>
     Ok(())
 }
 
-/// Several media types as one header lists them.
+/// Returns several media types as one header lists them.
 pub fn listed(alloc: Global, types: &[Text]) -> Result<Text, AllocError>
     ensures { IfOk result (λ text. text ≡ listed types.now) }
 {
@@ -41,8 +41,8 @@ pub fn listed(alloc: Global, types: &[Text]) -> Result<Text, AllocError>
     Ok(text)
 }
 
-/// The headers with one more field. A value that cannot stand in a header, or one more than a thousand fields, is
-/// `GenericError(HeaderText)`.
+/// Returns the headers with one more field, or `GenericError(HeaderText)` if the value is not a valid header value (RFC
+/// 9110, 5.5) or there are already 1000 fields.
 pub fn with_header(
     mut headers: Headers,
     name: &str,
@@ -108,7 +108,7 @@ fn headers_of(
     Ok(headers)
 }
 
-/// A request without a body, for these media types where some are given, with this token where there is one.
+/// Returns a request without a body, for these media types if any are given, with this token if there is one.
 #[tactic(auto, unfolding(crate::specs::Requests::request_of))]
 pub fn request_of(
     alloc: Global,

@@ -11,7 +11,7 @@ use oci_transport::{Method, Request};
 use std::alloc::{AllocError, Global};
 use url::{ParseError, Url};
 
-/// What a descriptor says of where its blob is: its digest, and URLs beside the registry's, in order.
+/// What a descriptor states about where its blob is: its digest, and other URLs than the registry's, in order.
 #[derive(Clone, Copy)]
 pub struct LayerDescriptor<'a> {
     pub digest: &'a str,
@@ -72,11 +72,11 @@ impl<L: AsLayerDescriptor> AsLayerDescriptor for &L {
     }
 }
 
-/// A place beside the registry at which a blob may be, as a URL of its descriptor says.
+/// Another place than the registry at which a blob may be, as a URL of its descriptor states.
 #[derive(Drop)]
 pub enum Place {
     Web(Url),
-    /// The text of a URL that is not asked: it does not read, or it has a user name or a password.
+    /// The text of a URL that is not requested: it is malformed, or it has a user name or a password.
     Unfit(Text),
 }
 
@@ -93,7 +93,7 @@ fn by_scheme(alloc: Global, text: &str, url: Url) -> Result<Option<Place>, Alloc
     Ok(Some(Place::Unfit(text)))
 }
 
-/// The place that a listed URL names. None where its scheme is neither `http` nor `https`: it is passed over.
+/// Returns the place that a listed URL names. `None` if its scheme is neither `http` nor `https`: it is skipped.
 #[tactic(auto, unfolding(crate::specs::Sources::place_of))]
 pub fn place_of(alloc: Global, text: &str) -> Result<Option<Place>, AllocError>
     ensures { IfOk result (λ place. place ≡ place_of text.now) }
@@ -109,7 +109,7 @@ pub fn place_of(alloc: Global, text: &str) -> Result<Option<Place>, AllocError>
     }
 }
 
-/// The request for a blob at a place, with no credentials. At an unfit one it is `UrlParseError`.
+/// Returns the request for a blob at a place, without credentials. `UrlParseError` if the place is `Unfit`.
 #[tactic(auto, unfolding(crate::specs::Sources::asked_at))]
 pub fn asked_at(
     alloc: Global,

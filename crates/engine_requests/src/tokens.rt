@@ -1,4 +1,4 @@
-// How a token is asked for.
+// Builds the requests for tokens, and parses the responses.
 ghost use Rattle.std.specs.Prelude.{◌≡◌, ◌∷◌, [], Some, IfOk};
 ghost use Rattle.url.specs.Setters.{append_query_pairs};
 ghost use Rattle.oci_auth.specs.Token.{token_of};
@@ -17,7 +17,7 @@ use oci_transport::{Answer, AnswerHead, Method, Request};
 use std::alloc::{AllocError, Global};
 use url::Url;
 
-/// What a registry asks for in the head of an answer.
+/// What a registry requires in the head of a response.
 #[derive(Drop)]
 pub enum Wanted {
     Nothing,
@@ -27,7 +27,7 @@ pub enum Wanted {
     Token(BearerChallenge),
 }
 
-// Any refusal but want of memory says that there is no challenge of the scheme Bearer with a realm.
+// Any refusal but out of memory means that there is no challenge of the scheme Bearer with a realm.
 fn wanted_by(alloc: Global, value: &[u8]) -> Result<Wanted, AllocError>
     ensures { IfOk result (λ found. found ≡ wanted_in (Some value.now)) }
 {
@@ -41,7 +41,7 @@ fn wanted_by(alloc: Global, value: &[u8]) -> Result<Wanted, AllocError>
     }
 }
 
-/// What the head of an answer asks for, by its first value of `www-authenticate`.
+/// Returns what the head of a response requires, by its first value of `www-authenticate`.
 #[tactic(auto, unfolding(crate::specs::Tokens::wanted))]
 pub fn read_challenge(alloc: Global, head: &AnswerHead) -> Result<Wanted, AllocError>
     ensures { IfOk result (λ found. found ≡ wanted head.now) }
@@ -73,7 +73,7 @@ fn scope_of(alloc: Global, image: &Reference, op: RegistryOperation) -> Result<T
     Ok(text)
 }
 
-/// The URL with one more pair in its query.
+/// Returns the URL with one more pair in its query.
 pub fn with_pair(mut url: Url, name: &str, value: &str) -> Result<Url, AllocError>
     ensures { IfOk result (λ made. made ≡ append_query_pairs url ((name.now, value.now) ∷ [])) }
 {
@@ -110,8 +110,8 @@ fn realm_url(
     Ok(url)
 }
 
-/// The request for a token: `url` is the realm's, whose query then says the scope and the service. Credentials of a
-/// user are shown to the realm.
+/// Returns the request for a token: `url` is the realm's, whose query then contains the scope and the service.
+/// Credentials of a user are sent to the realm.
 #[tactic(auto, unfolding(crate::specs::Tokens::realm_request))]
 pub fn realm_request(
     alloc: Global,
@@ -130,7 +130,7 @@ pub fn realm_request(
     Ok(request)
 }
 
-// The token in a body.
+// Parses the token in a body.
 fn decoded(alloc: Global, body: Blob) -> Result<Option<RegistryTokenType>, OciDistributionError>
     ensures { Says result (decoded body (token_of body)) }
 {
@@ -143,8 +143,8 @@ fn decoded(alloc: Global, body: Blob) -> Result<Option<RegistryTokenType>, OciDi
     }
 }
 
-/// The token that a realm answers: `AuthenticationFailure` where the status is not 200, `RegistryTokenDecodeError`
-/// where the body holds no token.
+/// Returns the token in a realm's response. `AuthenticationFailure` if the status is not 200,
+/// `RegistryTokenDecodeError` if the body contains no token.
 pub fn token_read(
     alloc: Global,
     answer: Answer,

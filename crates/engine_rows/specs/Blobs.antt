@@ -1,4 +1,4 @@
--- One request for a blob, and what a sink took of it.
+-- One request for a blob, and which of its bytes a sink holds.
 use Rattle.std.specs.Prelude.{◌≡◌, ◌≤◌, ◌⊎◌, ℕ, true, List, [], ◌∷◌, ◌++◌, Some, Result, Ok, Err}
 use Rattle.json_values.specs.Counts.{Rose}
 use Rattle.json_values.specs.Tray.{Tray, Adds}
@@ -39,18 +39,18 @@ reading_by to limit (plan.Pour given own) = reading_into to limit
 unfoldable pub blob_reading : Destination → ℕ → List ℕ → AnswerHead → Reading
 blob_reading to limit digest head = reading_by to limit (plan_of digest head)
 
--- what is made of an unread answer
+-- the result of a response whose body is unread
 abbrev pub unread_by : Plan → Result (List ℕ) OciDistributionError
 unread_by (plan.Refuse e) = Err (refusal.DigestError e)
--- never
+-- unreachable
 unread_by plan.Judge = Ok []
 unread_by (plan.Pour given own) = Ok []
 
--- what is made of an answer that was read
+-- the result of a response whose body was read
 abbrev pub read_by : List ℕ → Answer → Plan → Result (List ℕ) OciDistributionError
 read_by url answer plan.Judge = Err (refused_answer 200 url answer)
 read_by url answer (plan.Pour given own) = both_compared given own answer.body >> Ok answer.body
--- never
+-- unreachable
 read_by url answer (plan.Refuse e) = Err (refusal.DigestError e)
 
 abbrev pub blob_reply : List ℕ → Request → Reply → Row (List ℕ)
@@ -66,7 +66,7 @@ attempt to limit digest request = follow 10 request (blob_reading to limit diges
 
 -- ---- what a sink took
 
--- a front of the body of the last answer, whose status is one of success
+-- a prefix of the body of the last response, whose status is 2xx
 pub record IsFrontOfLast (bytes : List ℕ) (c : List Exchange) : Type 0 where
   pub before : List Exchange
   pub last : Exchange
@@ -81,13 +81,13 @@ pub record IsFrontOfLast (bytes : List ℕ) (c : List Exchange) : Type 0 where
 abbrev pub IsFront : List ℕ → List Exchange → Type 0
 IsFront bytes c = (bytes ≡ []) ⊎ IsFrontOfLast bytes c
 
--- what the protocol answers, by what the call answered and the bytes that were put
+-- the result of the protocol, from that of the call and the bytes that were written
 abbrev pub filled : List ℕ → Result Unit OciDistributionError → Result (List ℕ) OciDistributionError
 filled body (Ok u) = Ok body
 filled body (Err e) = Err e
 
--- A call that ran this protocol and put its bytes: those that the protocol answers, or after a
--- refusal a front of the last answer's body.
+-- A call that performed this protocol and wrote its bytes: those that the protocol returns or, after a refusal, a
+-- prefix of the last response's body.
 pub record Spills (p : Row (List ℕ)) (old new : Link) (k l : Memory) (before after : Tray)
     (r : Result Unit OciDistributionError) : Type 0 where
   pub body : List ℕ

@@ -18,7 +18,7 @@ use Rattle.engine_rows.specs.declared.image.ImageData.{ImageData}
 use Rattle.engine_rows.specs.Manifests.{pull_image_manifest_and_list_digest}
 use Rattle.engine_rows.specs.Pulls.{held_blob}
 
--- the manifest of an image, where no index is taken
+-- the manifest of an image; an index is refused
 abbrev pub image_manifest : OciManifest → Result OciImageManifest OciDistributionError
 image_manifest (Image manifest) = Ok manifest
 image_manifest (ImageIndex index) = Err refusal.ImageIndexParsingNoPlatformResolverError
@@ -33,7 +33,7 @@ all_accepted accepted [] = Ok tt
 all_accepted accepted (x ∷ xs) = if is_accepted accepted x.media_type then all_accepted accepted xs else Err
     (refusal.IncompatibleLayerMediaTypeError x.media_type)
 
--- there is a layer, and each one's media type is accepted
+-- there is at least one layer, and each one's media type is accepted
 abbrev pub layers_accepted : List (List ℕ) → List OciDescriptor → Result Unit OciDistributionError
 layers_accepted accepted [] = Err refusal.PullNoLayersError
 layers_accepted accepted (x ∷ xs) = all_accepted accepted (x ∷ xs)

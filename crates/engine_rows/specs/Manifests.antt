@@ -12,14 +12,14 @@ use Rattle.engine_requests.specs.Sources.{described}
 use Rattle.engine_rows.specs.Rows.{Row}
 use Rattle.engine_rows.specs.Pulls.{pull_manifest, held_blob}
 
--- the manifest of an index's entry, which may not be an index again
+-- the manifest of an index's entry, which may not be another index
 unfoldable pub pull_entry : Context → Reference → RegistryAuth → List ℕ → Row OciImageManifest
 pull_entry s image a digest = do
   found ← pull_manifest s (entry_reference image digest) a
   Done (entry_manifest digest found.0)
 
--- A manifest with its digest. Of an index it is the manifest of the entry that is meant, with the
--- entry's digest, and the digest of the index.
+-- A manifest with its digest. For an index it is the manifest of the selected entry, with the entry's digest, and the
+-- digest of the index.
 abbrev pub manifest_by : Context → Reference → RegistryAuth → OciManifest → List ℕ
     → Row (OciImageManifest × List ℕ × Option (List ℕ))
 manifest_by s image a (Image manifest) digest = Done (Ok (manifest, digest, None))
@@ -40,7 +40,7 @@ pull_image_manifest s image a = do
   found ← pull_image_manifest_and_list_digest s image a
   Done (Ok (found.0, found.1))
 
--- the same with its configuration as text, which stands before the digest of the index
+-- the same with its configuration as text, which comes before the digest of the index
 unfoldable pub pull_manifest_and_config_and_list_digest : Context → Reference → RegistryAuth
     → Row (OciImageManifest × List ℕ × List ℕ × Option (List ℕ))
 pull_manifest_and_config_and_list_digest s image a = do

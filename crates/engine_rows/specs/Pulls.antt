@@ -1,5 +1,5 @@
--- The calls that pull documents and blobs, each as the requests that it makes and what it answers
--- (OCI distribution specification, "Pull").
+-- The calls that pull documents and blobs, each as the requests that it makes and its result (OCI distribution
+-- specification, "Pull").
 use Rattle.std.specs.Prelude.{ℕ, List, Ok}
 use Rattle.url.specs.Parts.{Parts}
 use Rattle.oci_transport.specs.declared.message.Method.TheVariants.{Get, Head}
@@ -34,13 +34,13 @@ manifest_document s image types = do
   url ← Done (url_read (manifest_text s.settings image))
   document s image url types
 
--- the same, with credentials that are handed in
+-- the same, with credentials that are passed in
 unfoldable pub pull_manifest_raw : Context → Reference → RegistryAuth → List ℕ → Row (List ℕ × List ℕ)
 pull_manifest_raw s image a types = do
   store image a
   manifest_document s image types
 
--- the digest that the answer's header names, else that of the document
+-- the digest that the response's header names, else that of the document
 abbrev pub digest_by : Context → Reference → Parts → NamedAnswer → Row (List ℕ)
 digest_by s image url (ByHeader digest got) = do
   Done (accepted 200 got.url got.answer)
@@ -65,24 +65,24 @@ pull_manifest s image a = do
   document ← Done (document_read found.0)
   Done (Ok (document, found.1))
 
--- the same, where credentials are stored already
+-- the same, if credentials are already stored
 unfoldable pub manifest_asked : Context → Reference → Row (OciManifest × List ℕ)
 manifest_asked s image = do
   found ← manifest_document s image manifest_types
   document ← Done (document_read found.0)
   Done (Ok (document, found.1))
 
--- the bytes of a blob, which its digest names: at the registry, or else at the URLs of its descriptor
+-- the bytes of a blob, which its digest names: from the registry, or else from the URLs of its descriptor
 unfoldable pub blob_to : Destination → Context → Reference → Layer → Row (List ℕ)
 blob_to to s image layer = do
   url ← Done (url_read (blob_text s.settings image layer.digest))
   request ← prepared s image Pull Get url manifest_types
   tried to s.settings layer.digest (places_of layer.urls) request
 
--- of a blob that goes into a sink
+-- a blob that is written to a sink
 abbrev pub pull_blob : Context → Reference → Layer → Row (List ℕ)
 pull_blob = blob_to IntoSink
 
--- of a blob that is held in memory
+-- a blob that is held in memory
 abbrev pub held_blob : Context → Reference → Layer → Row (List ℕ)
 held_blob = blob_to IntoMemory

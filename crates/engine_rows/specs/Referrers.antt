@@ -14,24 +14,24 @@ use Rattle.engine_requests.specs.ReferrerLists.{digest_given, referrers_url}
 use Rattle.engine_rows.specs.Rows.{Row, whole, prepared}
 use Rattle.engine_rows.specs.Pulls.{manifest_asked}
 
--- the answer to the request for the list, of this type of artifacts where one is asked for
+-- the response to the request for the list, restricted to an artifact type if one is requested
 unfoldable pub referrers_asked : Context → Reference → List ℕ → Option (List ℕ) → Row Got
 referrers_asked s image digest kind = do
   url ← Done (referrers_url s.settings image digest kind)
   request ← prepared s image Pull Get url manifest_types
   whole 10 request s.settings.max_body_bytes
 
--- the index under the tag that stands for the list, or none where there is no such tag
+-- the index under the tag that replaces the list, or an empty one if the tag does not exist
 unfoldable pub referrers_tagged : Context → Reference → List ℕ → Option (List ℕ) → Row OciImageIndex
 referrers_tagged s image digest kind =
     bind (manifest_asked s (fallback_reference image digest)) (λ answer. Done (tagged_index digest kind answer))
 
--- a registry that knows no such list is asked for the tag
+-- the tag is requested from a registry without such a list
 abbrev pub referrers_by : Context → Reference → List ℕ → Option (List ℕ) → Got → Row OciImageIndex
 referrers_by s image digest kind got =
     if nat_eq got.answer.status 404 then referrers_tagged s image digest kind else Done (referrers_in got)
 
--- the index of what refers to the image's digest, of this type of artifacts where one is asked for
+-- the index of the referrers of the image's digest, restricted to an artifact type if one is requested
 unfoldable pub pull_referrers : Context → Reference → Option (List ℕ) → Row OciImageIndex
 pull_referrers s image kind = do
   digest ← Done (digest_given (digest_of image))

@@ -1,5 +1,5 @@
--- The steps of the client's calls, in the words of the OCI distribution specification. A row is a
--- protocol whose refusals end it.
+-- The steps of the client's calls, in the terms of the OCI distribution specification. A row is a protocol that ends at
+-- its first refusal.
 use Rattle.std.specs.Prelude.{ℕ, Bool, true, false, List, [], Option, Some, None, Result, Ok, Err}
 use Rattle.std.specs.FinMap as map
 use Rattle.url.specs.Parts.{Parts, serialize}
@@ -43,21 +43,21 @@ use Rattle.engine_rows.specs.declared.named.NamedAnswer.TheVariants.{ByHeader, U
 abbrev pub Row : Type 0 → Type 0
 Row A = Proto Memory (Result A OciDistributionError)
 
--- ---- the ways to ask
+-- ---- ways to send a request
 
--- the whole last answer, with its URL
+-- the whole last response, with its URL
 abbrev pub whole_reply : Request → Reply → Row Got
 whole_reply last (Answered answer) = Done (Ok (record { url = last.url; answer = answer }))
 whole_reply last TooLong = Done (Err refusal.BodyTooLong)
 whole_reply last Failed = Done (Err refusal.TransportFault)
--- never: the body is read, and into no sink
+-- unreachable: the body is read, and not into a sink
 whole_reply last (Headed head) = Done (Ok (record { url = last.url; answer = answer_of head [] }))
 whole_reply last SinkFailed = Done (Err refusal.SinkFault)
 
 unfoldable pub whole : ℕ → Request → ℕ → Row Got
 whole times request limit = follow times request (read_within limit) whole_reply
 
--- the head of the last answer
+-- the head of the last response
 abbrev pub head_reply : Request → Reply → Row AnswerHead
 head_reply last (Headed head) = Done (Ok head)
 head_reply last _ = Done (Err refusal.TransportFault)
@@ -65,7 +65,7 @@ head_reply last _ = Done (Err refusal.TransportFault)
 unfoldable pub head_after : ℕ → Request → Row AnswerHead
 head_after times request = follow times request read_none head_reply
 
--- an answer whose header names no digest, or a digest that is none, is not read
+-- a response whose header names no digest, or a malformed one, is not read
 abbrev pub reading_named : ℕ → Result (Option (List ℕ)) OciDistributionError → Reading
 reading_named limit (Ok (Some digest)) = Within limit
 reading_named limit (Ok None) = Unread
@@ -80,7 +80,7 @@ unread_named (Err e) = Err e
 
 abbrev pub read_named : Got → Result (Option (List ℕ)) OciDistributionError → Result NamedAnswer OciDistributionError
 read_named got (Ok (Some digest)) = Ok (ByHeader digest got)
--- never
+-- unreachable
 read_named got (Ok None) = Ok Unnamed
 read_named got (Err e) = Err e
 
@@ -92,11 +92,11 @@ named_reply last TooLong = Done (Err refusal.BodyTooLong)
 named_reply last Failed = Done (Err refusal.TransportFault)
 named_reply last SinkFailed = Done (Err refusal.SinkFault)
 
--- the whole last answer, where its header names a digest
+-- the whole last response, if its header names a digest
 unfoldable pub named_after : ℕ → Request → ℕ → Row NamedAnswer
 named_after times request limit = follow times request (named_reading limit) named_reply
 
--- ---- what is kept
+-- ---- the client state
 
 abbrev pub recalled : Row Memory
 recalled = Recall (λ k. Done (Ok k))
@@ -104,7 +104,7 @@ recalled = Recall (λ k. Done (Ok k))
 abbrev pub keep : Memory → Row Unit
 keep k = Keep k (Done (Ok tt))
 
--- credentials are stored for the registry, where none are
+-- credentials are stored for the registry, unless some are already
 unfoldable pub store : Reference → RegistryAuth → Row Unit
 store image a = do
   k ← recalled
@@ -112,7 +112,7 @@ store image a = do
 
 -- ---- tokens
 
--- the realm of a challenge is asked for a token
+-- a token is requested from the realm of a challenge
 unfoldable pub realm_asked : Settings → Reference → RegistryAuth → RegistryOperation → BearerChallenge
     → Row (Option RegistryTokenType)
 realm_asked s image a op challenge = do
@@ -121,13 +121,13 @@ realm_asked s image a op challenge = do
   got ← whole 0 request s.max_body_bytes
   Done (token_read got.answer)
 
--- what the registry asks for is got
+-- what the registry requires is obtained
 abbrev pub fetched : Settings → Reference → RegistryAuth → RegistryOperation → Wanted → Row (Option RegistryTokenType)
 fetched s image a op wants.Nothing = Done (Ok None)
 fetched s image a op wants.Credentials = Done (Ok (own_token a))
 fetched s image a op (wants.Token challenge) = realm_asked s image a op challenge
 
--- the registry's `/v2/` is asked, without credentials; the status and the body are not looked at
+-- `/v2/` of the registry is requested, without credentials; the status and the body are ignored
 unfoldable pub registry_asked : Settings → Reference → RegistryAuth → RegistryOperation → Row (Option RegistryTokenType)
 registry_asked s image a op = do
   url ← Done (url_read (base_text s image))
@@ -135,22 +135,22 @@ registry_asked s image a op = do
   head ← head_after 0 request
   fetched s image a op (wanted head)
 
--- the token step: a token that was handed in needs no request
+-- the token step: a token that was passed in needs no request
 abbrev pub token_step : Settings → Reference → RegistryAuth → RegistryOperation → Row (Option RegistryTokenType)
 token_step s image (auth.Bearer token) op = Done (Ok (own_token (auth.Bearer token)))
 token_step s image (auth.Basic user password) op = registry_asked s image (auth.Basic user password) op
 token_step s image auth.Anonymous op = registry_asked s image auth.Anonymous op
 
--- what is kept once this token was got
+-- the client state after this token was obtained
 abbrev pub with_kept : Memory → Key → RegistryTokenType → ℕ → Memory
 with_kept k key token moment = record k { tokens = with_token k.tokens key token moment }
 
--- a refusal other than want of memory gives no token
+-- a refusal other than out of memory gives no token
 abbrev pub passed_over : OciDistributionError → Result (Option RegistryTokenType) OciDistributionError
 passed_over refusal.WantOfMemory = Err refusal.WantOfMemory
 passed_over _ = Ok None
 
--- a token that was got is kept and used
+-- a token that was obtained is stored and used
 abbrev pub taken : ℕ → Key → Result (Option RegistryTokenType) OciDistributionError → Row (Option RegistryTokenType)
 taken moment key (Ok None) = Done (Ok None)
 taken moment key (Ok (Some token)) = Recall (λ k. Keep (with_kept k key token moment) (Done (Ok (Some token))))
@@ -159,7 +159,7 @@ taken moment key (Err e) = Done (passed_over e)
 unfoldable pub token_asked : Context → Reference → RegistryOperation → RegistryAuth → Row (Option RegistryTokenType)
 token_asked s image op a = bind (token_step s.settings image a op) (taken s.moment (key_of image op))
 
--- the kept token, or else one that is asked for
+-- the stored token, or else a newly requested one
 abbrev pub kept_or_asked : Context → Reference → RegistryOperation → RegistryAuth → Option RegistryTokenType
     → Row (Option RegistryTokenType)
 kept_or_asked s image op a (Some token) = Done (Ok (Some token))
@@ -170,7 +170,7 @@ abbrev pub token_by : Context → Reference → RegistryOperation → Option Reg
 token_by s image op None kept = Done (Ok None)
 token_by s image op (Some a) kept = kept_or_asked s image op a kept
 
--- only where credentials are stored for the registry
+-- only if credentials are stored for the registry
 unfoldable pub token_for : Context → Reference → RegistryOperation → Row (Option RegistryTokenType)
 token_for s image op = do
   k ← recalled
@@ -184,7 +184,7 @@ abbrev pub token_where : Context → Reference → RegistryOperation → Bool �
 token_where s image op false = Done (Ok None)
 token_where s image op true = token_for s image op
 
--- the token of a request, which goes to the registry and to no other
+-- the token of a request to the registry; no token for a request to another host
 unfoldable pub authorized : Context → Reference → RegistryOperation → Parts → Row (Option RegistryTokenType)
 authorized s image op url = do
   registry ← Done (url_read (registry_text s.settings image))
@@ -196,7 +196,7 @@ prepared s image op method url types = do
   token ← authorized s image op url
   Done (request_of s.settings method url (Some types) token)
 
--- the token of credentials that are handed in, which is kept; its text is answered where it is a realm's
+-- the token of credentials that are passed in, which is stored; its text is returned if it is a realm's
 abbrev pub shown_text : RegistryTokenType → Option (List ℕ)
 shown_text (token.Bearer given) = Some (token_text given)
 shown_text (token.Basic user password) = None

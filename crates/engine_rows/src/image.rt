@@ -1,4 +1,4 @@
-// A whole image: what is made of its documents and blobs.
+// The parts of an image that are computed from its documents and blobs.
 ghost use Rattle.std.specs.Prelude.{◌≡◌, IfOk};
 ghost use Rattle.engine_terms.specs.Error.{Says};
 ghost use Rattle.engine_rows.specs.Image.{image_manifest, is_accepted, all_accepted};
@@ -11,7 +11,7 @@ use oci_manifests::blob::Config;
 use oci_manifests::{ImageLayer, OciImageManifest, OciManifest};
 use std::alloc::{AllocError, Global};
 
-/// What a pull of an image answers.
+/// An image that was pulled.
 #[derive(Drop)]
 pub struct ImageData {
     /// In the manifest's order.
@@ -37,7 +37,7 @@ impl Copied for ImageData {
     }
 }
 
-/// The manifest of an image, where no index is taken.
+/// Returns the manifest of an image; an index is refused.
 pub fn image_manifest(document: OciManifest) -> Result<OciImageManifest, OciDistributionError>
     ensures { Says result (image_manifest document) }
 {
@@ -60,7 +60,7 @@ fn is_accepted(accepted: &[Text], kind: &str) -> bool
     false
 }
 
-/// There is a layer, and the media type of each is accepted.
+/// Checks that there is at least one layer, and that the media type of each is accepted.
 pub fn layers_accepted(
     alloc: Global,
     accepted: &[Text],
@@ -91,7 +91,7 @@ fn all_accepted(
     Ok(())
 }
 
-/// A descriptor's blob as a layer.
+/// Returns a descriptor's blob as a layer.
 pub fn layer_of(
     alloc: Global,
     descriptor: &OciDescriptor,
@@ -110,7 +110,7 @@ pub fn layer_of(
     })
 }
 
-/// A manifest's configuration.
+/// Returns a manifest's configuration.
 pub fn config_of(
     alloc: Global,
     manifest: &OciImageManifest,

@@ -1,5 +1,5 @@
-//! The rows of the registry's client: what each call asks for, in which order, and what it makes of the answers, as
-//! definitions. The code that meets them, and the laws of all their runs, stand on these alone.
+//! The rows of the registry client: what each call requests, in which order, and how it interprets the responses, as
+//! definitions. The code that meets them, and the laws of all their runs, depend on these alone.
 #![tactic(auto)]
 
 mod image;

@@ -2,7 +2,7 @@
 use engine_answers::Got;
 use json_values::Text;
 
-/// Whether an answer's header names a digest; where it does, the whole answer.
+/// Whether a response's header names a digest; if it does, the whole response.
 #[derive(Drop)]
 pub enum NamedAnswer {
     ByHeader(Text, Got),

@@ -1,4 +1,4 @@
-// What was got of an answer that was reached.
+// What was received of the last response.
 ghost use Rattle.std.specs.Prelude.{◌≡◌, IfOk};
 ghost use Rattle.oci_transport.specs.Link.{answer_of};
 
@@ -8,7 +8,7 @@ use oci_protocol::Reached;
 use oci_transport::Answer;
 use std::alloc::{AllocError, Global};
 
-/// The answer that was reached, with its body, for one that is still of use.
+/// Returns the last response with its body, and leaves `reached` usable.
 pub fn got_of(alloc: Global, reached: &Reached, body: Blob) -> Result<Got, AllocError>
     ensures { IfOk result (λ got. got ≡ record {
       url = reached.now.request.url;

@@ -1,4 +1,4 @@
--- The ways to ask, each outcome of them.
+-- Ways to send a request, each outcome of them.
 use Rattle.std.proofs.Common.{◌≡◌, ◌≤◌, ◌<◌, ℕ, List, ◌++◌, Some, Result, Ok, Err, IfOk, length, refl}
 use Rattle.std.specs.Result.{IsErrAnd}
 use Rattle.std.proofs.lemmas.Result.{err_from_is_err_and}

@@ -1,4 +1,4 @@
--- The answer that is read where its header names a digest, each outcome.
+-- The response that is read if its header names a digest, each outcome.
 use Rattle.std.proofs.Common.{◌≡◌, ◌≤◌, ◌<◌, ℕ, Bool, true, false, arith, List, Option, Some, Result, Ok, Err, length, refl, ap, ◌∙◌}
 use Rattle.std.specs.Prelude.{MatchBool}
 use Rattle.std.specs.Result.{IsErrAnd}
@@ -66,7 +66,7 @@ cut_at : (times : ℕ) (request : Request) (limit : ℕ) (head : AnswerHead) (la
 unfolding named_after
 cut_at times request limit head last old new k e reach of_memory = reached_cut is_memory times request (named_reading limit) named_reply head last k e reach (omega arith) refl (Steady-none new) of_memory
 
--- the header is refused, or memory was wanting to read it
+-- the header is refused, or memory ran out while reading it
 pub named_refused : (times : ℕ) (request : Request) (limit : ℕ) (head : AnswerHead) (last : Request) (old new : Link) (k : Memory) (e : OciDistributionError) (r : Result NamedAnswer OciDistributionError) → Reaches times request head last old new → Says {A = Option (List ℕ)} (Err e) (header_digest head.headers) → IsErrAnd r (λ x. x ≡ e) → Meets is_memory (named_after times request limit) old new k k r
 named_refused times request limit head last old new k e r reach says is = let at = err_from_is_err_and r is in rw (at.1, at.2) (by_memory (is_memory e) refl says) where
   by_memory : (b : Bool) → is_memory e ≡ b → MatchBool b (Unit {0}) (header_digest head.headers ≡ Err e) → Meets is_memory (named_after times request limit) old new k k (Err e)

@@ -1,4 +1,4 @@
--- What a realm answers is a token of its own, or a refusal.
+-- A realm's response results in a token of its own, or a refusal.
 use Rattle.std.specs.Prelude.{◌≡◌, ℕ, nat_eq, Bool, true, false, List, Option, Some, None, Ok, Err, if◌then◌else◌}
 use Rattle.std.proofs.Common.{◌∙◌, subst, sym}
 use Rattle.oci_auth.specs.Token.{token_of}
@@ -16,7 +16,7 @@ by_body : (body : List ℕ) (o : Option RegistryToken) (token : Option RegistryT
 by_body body (Some t) token h = let same : Some (Bearer t) ≡ token = cc h in subst (λ o. IfNoBearer ⊥ o) same tt
 by_body body None token h = absurd (cc h)
 
--- an answer of this status and this body
+-- a response with this status and this body
 pub realm_bearer : (status : ℕ) (body : List ℕ) (token : Option RegistryTokenType) → (if nat_eq status 200 then decoded body (token_of body) else Err (refusal.AuthenticationFailure body)) ≡ Ok token → IfNoBearer ⊥ token
 realm_bearer status body token h = by_status (nat_eq status 200) h where
   by_status : (b : Bool) → (if b then decoded body (token_of body) else Err (refusal.AuthenticationFailure body)) ≡ Ok token → IfNoBearer ⊥ token

@@ -1,4 +1,4 @@
--- Answers whose body is not taken.
+-- Responses whose body is not taken.
 use Rattle.std.specs.Prelude.{◌≡◌, List, [], ◌∷◌, ◌++◌, ℕ, Option, Some, None}
 use Rattle.oci_auth.specs.declared.token_type.RegistryTokenType.{RegistryTokenType}
 use Rattle.oci_auth.specs.declared.token_type.RegistryTokenType.TheVariants.{Bearer, Basic}
@@ -8,7 +8,7 @@ use Rattle.oci_transport.specs.declared.message.Exchange.{Exchange}
 use Rattle.engine_rows.specs.declared.named.NamedAnswer.{NamedAnswer}
 use Rattle.engine_rows.specs.declared.named.NamedAnswer.TheVariants.{ByHeader, Unnamed}
 
--- where exchanges are told, the last one was answered with this head, and its whole body is left
+-- if exchanges are exposed, the last one has a response with this head, and its whole body is left
 pub record Untaken (head : AnswerHead) (old new : Link) : Type 0 where
   pub body : List ℕ
   pub answered : (before : List Exchange) → old.told ≡ Some before
@@ -16,16 +16,16 @@ pub record Untaken (head : AnswerHead) (old new : Link) : Type 0 where
       × (last.answer ≡ Some (answer_of head body))
   pub rest : (before : List Exchange) → old.told ≡ Some before → new.rest ≡ Some body
 
--- nothing is taken of the last answer
+-- nothing is taken of the last response
 abbrev pub LastUntaken : Link → Link → Type 0
 LastUntaken old new = (head : AnswerHead) × Untaken head old new
 
--- nothing is taken of an answer whose header names no digest
+-- nothing is taken of a response whose header names no digest
 abbrev pub UntakenUnnamed : NamedAnswer → Link → Link → Type 0
 UntakenUnnamed (ByHeader digest got) old new = Unit {0}
 UntakenUnnamed Unnamed old new = LastUntaken old new
 
--- this, unless a token is a realm's
+-- P holds, unless the token is a realm's
 abbrev pub IfNoBearer : Type 0 → Option RegistryTokenType → Type 0
 IfNoBearer P None = P
 IfNoBearer P (Some (Basic user password)) = P

@@ -1,4 +1,4 @@
-// The ways to ask, as steps of a row.
+// Ways to send a request, as steps of a row.
 ghost use Rattle.std.specs.Prelude.{◌≡◌, IfOk};
 ghost use Rattle.oci_auth.specs.declared.memory.Memory.{Memory};
 ghost use Rattle.oci_transport.specs.Link.{answer_of};
@@ -15,7 +15,7 @@ use oci_protocol::{Reached, reach};
 use oci_transport::{Answer, AnswerHead, BodyError, LinkError, Request, Transport, read_body};
 use std::alloc::{AllocError, Global};
 
-// The last answer, with its body.
+// Returns the last response, with its body.
 pub(crate) fn with_body(reached: Reached, body: Blob) -> Got
     ensures { result ≡ record { url = reached.request.url; answer = answer_of reached.head body } }
 {
@@ -32,7 +32,7 @@ pub(crate) fn with_body(reached: Reached, body: Blob) -> Got
     }
 }
 
-/// The whole last answer to a request that may be followed so often.
+/// Sends a request, following at most `times` redirects, and returns the whole last response.
 #[tactic(auto, using(crate::proofs::HelperTrees::whole_answers))]
 pub fn whole<T: Transport>(
     alloc: Global,
@@ -57,7 +57,7 @@ pub fn whole<T: Transport>(
     }
 }
 
-/// The head of the last answer, whose body is not read.
+/// Returns the head of the last response, whose body is not read.
 #[tactic(auto, using(crate::proofs::HelperTrees::head_answers))]
 pub(crate) fn head_after<T: Transport>(
     alloc: Global,
@@ -76,7 +76,7 @@ pub(crate) fn head_after<T: Transport>(
     }
 }
 
-/// The whole last answer, where its header names a digest. Without one the body is not read.
+/// Returns the whole last response, if its header names a digest. Otherwise the body is not read.
 #[tactic(none)]
 pub fn named_after<T: Transport>(
     alloc: Global,

@@ -1,4 +1,4 @@
-// The token of credentials that are handed in.
+// The token of credentials that are passed in.
 ghost use Rattle.std.specs.Prelude.{◌≡◌, None, IfOk};
 ghost use Rattle.oci_auth.specs.Cache.{key_of};
 ghost use Rattle.oci_protocol.specs.Runs.{Meets};
@@ -26,8 +26,7 @@ fn shown_text(alloc: Global, token: &RegistryTokenType) -> Result<Option<Text>, 
     }
 }
 
-/// Stores the credentials and keeps the token that they give; its text is answered where it is a realm's or was handed
-/// in.
+/// Stores the credentials and the token that they give; returns its text if it is a realm's or was passed in.
 #[tactic(none)]
 pub fn token_given<T: Transport>(
     alloc: Global,

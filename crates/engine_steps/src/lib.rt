@@ -1,4 +1,4 @@
-//! The steps that calls of the registry's client share: ways to ask, and the token step.
+//! The steps that calls of the registry client share: ways to send a request, and the token step.
 #![tactic(auto)]
 
 mod asking;

@@ -1,4 +1,4 @@
-// The token step, and where it is made.
+// The token step, and the calls that make it.
 ghost use Rattle.std.specs.Prelude.{◌≡◌, IfOk};
 ghost use Rattle.url.specs.Parts.{serialize};
 ghost use Rattle.oci_auth.specs.declared.memory.Memory.{Memory};
@@ -23,7 +23,7 @@ use oci_transport::{Method, Request, Transport, UrlError, request_url, targets};
 use std::alloc::{AllocError, Global};
 use url::Url;
 
-// The realm of a challenge is asked for a token.
+// Requests a token from the realm of a challenge.
 #[tactic(none)]
 fn realm_asked<T: Transport>(
     alloc: Global,
@@ -46,7 +46,7 @@ fn realm_asked<T: Transport>(
     Ok(token)
 }
 
-// What the registry wants is got.
+// Obtains what the registry requires.
 #[tactic(none)]
 fn fetched<T: Transport>(
     alloc: Global,
@@ -74,7 +74,7 @@ fn fetched<T: Transport>(
     }
 }
 
-// The registry is asked what it wants.
+// Requests `/v2/`, and obtains what the registry requires.
 #[tactic(none)]
 fn registry_asked<T: Transport>(
     alloc: Global,
@@ -96,8 +96,8 @@ fn registry_asked<T: Transport>(
     Ok(token)
 }
 
-/// The token that the registry of an image is shown: credentials' own token without a request, or else the one that the
-/// registry's challenge asks for.
+/// Returns the token that is sent to the registry of an image: that of the credentials, without a request, or else the
+/// one that the registry's challenge requires.
 #[tactic(none)]
 pub fn token_step<T: Transport>(
     alloc: Global,
@@ -126,7 +126,7 @@ pub fn token_step<T: Transport>(
     }
 }
 
-// A token that was got is kept, and a refusal of the token step is passed over.
+// Stores a token that was obtained, and ignores a refusal of the token step.
 #[tactic(none)]
 fn token_asked<T: Transport>(
     alloc: Global,
@@ -150,7 +150,7 @@ fn token_asked<T: Transport>(
     }
 }
 
-// A refusal other than want of memory gives no token.
+// A refusal other than out of memory gives no token.
 fn passed_over(
     error: OciDistributionError,
 ) -> Result<Option<RegistryTokenType>, OciDistributionError>
@@ -162,7 +162,7 @@ fn passed_over(
     Ok(None)
 }
 
-// Only where credentials are stored for the registry.
+// Only if credentials are stored for the registry.
 #[tactic(none)]
 fn token_for<T: Transport>(
     alloc: Global,
@@ -187,7 +187,7 @@ fn token_for<T: Transport>(
     }
 }
 
-// Whether the URL, as a request has its text, goes to the registry.
+// Whether the URL, as a request has its text, is at the registry.
 fn goes_to(alloc: Global, url: &Url, registry: &Url) -> Result<bool, AllocError>
     ensures { IfOk result (λ goes. goes ≡ goes_to (request_url (serialize url.now)) registry.now) }
 {
@@ -198,8 +198,8 @@ fn goes_to(alloc: Global, url: &Url, registry: &Url) -> Result<bool, AllocError>
     }
 }
 
-/// The token of a request to this URL, which may be asked for; none where it does not go to the image's registry, or
-/// where no credentials are stored for that.
+/// Returns the token of a request to this URL, requesting one if needed. `None` if the URL is not at the image's
+/// registry, or if no credentials are stored for that.
 #[tactic(none)]
 pub fn authorized<T: Transport>(
     alloc: Global,
@@ -221,15 +221,15 @@ pub fn authorized<T: Transport>(
     Ok(token)
 }
 
-/// What a request asks for: the URL, by this method.
+/// The target of a request: the URL, and the method.
 #[derive(Clone, Copy)]
 pub struct Target<'a> {
     pub method: Method,
     pub url: &'a Url,
 }
 
-/// A request for this target and these types, as the header `accept` lists them, with its token, which may be asked for
-/// before it.
+/// Returns a request for this target and these types, as the header `accept` lists them, with its token, which may be
+/// requested before it.
 #[tactic(none)]
 pub fn prepared<T: Transport>(
     alloc: Global,

@@ -1,4 +1,4 @@
--- Decimal texts of a length.
+-- Lengths as decimal digits.
 use Rattle.std.proofs.Common.{◌≡◌, ◌&&◌, ◌<◌, ◌^◌, ℕ, Bool, true, false, List, length, get_or, Some, None, Result, Ok, Err, OkIff, IsUtf8, refl, sym, ap, ◌∙◌, arith, nat_le}
 use Rattle.std.specs.Prelude.{if◌then◌else◌, nat_lt}
 use Rattle.std.specs.Result.{result_ok}

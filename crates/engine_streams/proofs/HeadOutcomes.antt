@@ -1,4 +1,4 @@
--- A request whose answer is taken by its head, or read for its refusal: each outcome.
+-- A request whose response is used by its head, or read for its refusal: each outcome.
 use Rattle.std.proofs.Common.{◌≡◌, ◌≤◌, inl, inr, ℕ, Bool, true, false, List, Option, Some, None, Result, Ok, Err, refl, sym, ap, ◌∙◌}
 use Rattle.std.specs.Prelude.{MatchBool, ◌||◌, if◌then◌else◌}
 use Rattle.std.specs.Result.{IsErrAnd}
@@ -40,7 +40,7 @@ pub judged_cut : {A : Type 0} (limit : ℕ) (takes : AnswerHead → Bool) (made 
 unfolding judged
 judged_cut limit takes made request old new k c = cut is_memory 10 request (judged_reading limit takes) (judged_reply made) k refusal.WantOfMemory c refl
 
--- the answer is taken
+-- the response is used
 pub judged_taken : {A : Type 0} (limit : ℕ) (takes : AnswerHead → Bool) (made : AnswerHead → Result A OciDistributionError) (request : Request) (head : AnswerHead) (last : Request) (old new : Link) (k : Memory) (r : Result A OciDistributionError)
     → Reaches 10 request head last old new → takes head ≡ true → Says r (made head) → Meets is_memory (judged limit takes made request) old new k k r
 unfolding judged
@@ -55,7 +55,7 @@ unless_memory : (b : Bool) (P : Type 0) → P → MatchBool b (Unit {0}) P
 unless_memory true P p = tt
 unless_memory false P p = p
 
--- the answer is refused, and its body read
+-- the response is refused, and its body read
 pub judged_refused : {A : Type 0} (limit : ℕ) (takes : AnswerHead → Bool) (made : AnswerHead → Result A OciDistributionError) (request : Request) (head : AnswerHead) (last : Request) (old mid new : Link) (k : Memory) (e : OciDistributionError)
     → Reaches 10 request head last old mid → takes head ≡ false → mid.faults ≤ new.faults → new.told ≡ mid.told → Steady mid new → Refuses limit last.url head mid new e → Meets is_memory (judged limit takes made request) old new k k (Err e)
 unfolding judged
@@ -64,7 +64,7 @@ judged_refused limit takes made request head last old mid new k e reach is le sa
 judged_refused limit takes made request head last old mid new k e reach is le same steady (inr (inr (inl x))) = rw x.0 (reached_long 10 request (judged_reading limit takes) (judged_reply made) head last limit reach (read limit takes head is) le same steady x.1 (Meets-err is_memory new k refusal.BodyTooLong refl))
 judged_refused limit takes made request head last old mid new k e reach is le same steady (inr (inr (inr x))) = reached_answered 10 request (judged_reading limit takes) (judged_reply made) head last limit x.0 reach (read limit takes head is) le same steady x.1 x.2 x.3 (said (Err e) (unless_memory (is_memory e) _ (ap Err (sym x.4))))
 
--- ---- which answers are taken
+-- ---- which responses are used
 
 pub streams_is : (range : Option ByteRange) (head : AnswerHead) (b : Bool) → is_streamed range head.status ≡ b → streams range head ≡ b
 unfolding streams

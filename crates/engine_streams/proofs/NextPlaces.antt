@@ -25,7 +25,7 @@ use Rattle.engine_streams.specs.declared.range.ByteRange.{ByteRange}
 abbrev Anything : List Exchange → Type 0
 Anything c = Unit {0}
 
--- From one row, what was done leads to another: whatever the other then does, the first did.
+-- What was done leads from row p to row q: whatever q then does, p did.
 pub record Leads (p q : Row Opening) (old mid : Link) : Type 0 where
   pub met : (new : Link) (k l : Memory) (r : Result Opening OciDistributionError) → Meets is_memory q mid new k l r
       → Meets is_memory p old new k l r
@@ -37,7 +37,7 @@ leads_start p link = record { met = λ new k l r h. h; told = record { conversat
 told_more : {old mid new : Link} → Told Anything old mid → Told Anything mid new → Told Anything old new
 told_more {old} {mid} {new} a b = record { conversation = a.conversation ++ b.conversation; told = Extends-more old mid new a.conversation b.conversation a.told b.told; holds = tt }
 
--- the whole body is left, after what was asked before too
+-- the whole body is left, also after the requests before
 pub left_more : {range : Option ByteRange} {digest : List ℕ} {o : Opening} {old mid new : Link} → Told Anything old mid → IsLeft range digest o mid new → IsLeft range digest o old new
 left_more t l = record {
   head = l.head;

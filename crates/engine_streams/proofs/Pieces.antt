@@ -1,4 +1,4 @@
--- What a stream answers where the digests are compared.
+-- What a stream returns when the digests are compared.
 use Rattle.std.proofs.Common.{◌≡◌, ℕ, Bool, true, false, arith, List, [], ◌∷◌, Option, Some, None, Result, Ok, Err, length, refl, ap, ◌∙◌}
 use Rattle.std.specs.Prelude.{MatchBool, bytes_eq, if◌then◌else◌}
 use Rattle.std.specs.Result.{IsErrAnd}
@@ -20,7 +20,7 @@ memory_is : (e : OciDistributionError) → is_memory e ≡ true → e ≡ refusa
 memory_is refusal.WantOfMemory h = refl
 memory_is _ h = absurd (cc h)
 
--- a digest that does not name the bytes is refused as that
+-- a digest that does not name the bytes is refused as such
 abbrev IsOfDigest : OciDistributionError → Type 0
 IsOfDigest e = (d : DigestRefusal) × (e ≡ refusal.DigestError d)
 

@@ -1,4 +1,4 @@
--- What the code answers, as the rows answer it.
+-- The code returns what the rows return.
 use Rattle.std.proofs.Common.{◌≡◌, List, ℕ, Option, Some, Result, Ok, Err}
 use Rattle.std.specs.Result.{IsErrAnd}
 use Rattle.std.proofs.lemmas.Result.{err_from_is_err_and}

@@ -18,7 +18,7 @@ use Rattle.engine_streams.specs.Range.{onward, with_range}
 use Rattle.engine_streams.specs.declared.head.Opening.{Opening}
 use Rattle.engine_streams.specs.declared.range.ByteRange.{ByteRange}
 
--- an answer that is taken is not read; any other is, for its refusal
+-- a response that is used is not read; any other is, for its refusal
 abbrev pub reading_unless : ℕ → Bool → Reading
 reading_unless limit true = Unread
 reading_unless limit false = Within limit
@@ -31,10 +31,10 @@ judged_reply made last (Headed head) = Done (made head)
 judged_reply made last (Answered answer) = Done (Err (refused_answer 200 last.url answer))
 judged_reply made last TooLong = Done (Err refusal.BodyTooLong)
 judged_reply made last Failed = Done (Err refusal.TransportFault)
--- never: the body goes into no sink
+-- unreachable: the body is not read into a sink
 judged_reply made last SinkFailed = Done (Err refusal.SinkFault)
 
--- the last answer to a request, where this is so of its head; what is made of the head
+-- the last response to a request, if `takes` holds for its head; the result is computed from the head
 unfoldable pub judged : {A : Type 0} → ℕ → (AnswerHead → Bool) → (AnswerHead → Result A OciDistributionError)
     → Request → Row A
 judged limit takes made request = follow 10 request (judged_reading limit takes) (judged_reply made)
@@ -58,10 +58,10 @@ unfoldable pub opening_unless_error : Option ByteRange → List ℕ → AnswerHe
 opening_unless_error range digest head =
     if is_error head.status then Ok None else some_opening (opening range digest head)
 
--- the request while another place is left: an answer of an error is passed over
+-- the request while another place is left: a response with a 4xx or 5xx status is skipped
 abbrev pub offered : ℕ → Option ByteRange → List ℕ → Request → Row (Option Opening)
 offered limit range digest request = judged limit (streams_or_passes range) (opening_unless_error range digest) request
 
--- the request at a place beside the registry
+-- the request at another place than the registry
 abbrev pub ranged_at : Settings → Option ByteRange → Place → Result Request OciDistributionError
 ranged_at s range place = asked_at s place into with_range (onward range)

@@ -1,4 +1,4 @@
--- A blob whose bytes are left to be taken, in the words of the OCI distribution specification ("Pulling blobs").
+-- A blob whose bytes are left to be taken, in the terms of the OCI distribution specification ("Pulling blobs").
 use Rattle.std.specs.Prelude.{◌≡◌, ◌≤◌, ◌⊎◌, ℕ, true, List, [], ◌∷◌, length, Option, Some, None, Result, Ok, Err}
 use Rattle.json_values.specs.Counts.{Rose}
 use Rattle.oci_transport.specs.Link.{Link, answer_of, EndsUnbroken, TakesPast}
@@ -37,7 +37,7 @@ abbrev pub or_next : Row Opening → Option Opening → Row Opening
 or_next next (Some o) = Done (Ok o)
 or_next next None = next
 
--- the request, and while its answer is passed over the places in order
+-- the request and, while its response is skipped, the places in order
 unfoldable pub tried : Settings → Option ByteRange → List ℕ → List Place → Request → Row Opening
 tried s range digest [] request = asked s.max_body_bytes range digest request
 tried s range digest (p ∷ ps) request = do
@@ -57,7 +57,7 @@ opened s image layer range = do
 abbrev pub blob_stream : Context → Reference → Layer → Row Opening
 blob_stream s image layer = opened s image layer None
 
--- what was asked for is answered as a part, whose bytes are compared with nothing, or as the whole blob
+-- the response is a part, whose bytes are compared with nothing, or the whole blob
 pub data Response : Type 0 where
   Full : (opening : Opening) → Response
   Partial : (opening : Opening) → Response
@@ -72,7 +72,7 @@ blob_stream_partial s image layer range = do
   o ← opened s image layer (Some range)
   Done (Ok (by_digests o o.digests))
 
--- ---- what the code answers
+-- ---- what the code returns
 
 abbrev pub opening_in : Result SizedStream OciDistributionError → Result Opening OciDistributionError
 opening_in (Ok s) = Ok (opening_of s)
@@ -90,13 +90,13 @@ abbrev pub stream_in : BlobResponse → SizedStream
 stream_in (response.Full s) = s
 stream_in (response.Partial s) = s
 
--- where exchanges are told, the last answer's head says this of its body, and the whole body is left
+-- if exchanges are exposed, the last response's head states this about its body, and the whole body is left
 pub record IsLeft (range : Option ByteRange) (digest : List ℕ) (o : Opening) (old new : Link) : Type 0 where
   pub head : AnswerHead
   pub said : opening range digest head ≡ Ok o
   pub untaken : Untaken head old new
 
--- Why an answer of this head from this URL is refused, as its body is read.
+-- Why a response with this head from this URL is refused, as its body is read.
 abbrev pub Refuses : ℕ → List ℕ → AnswerHead → Link → Link → OciDistributionError → Type 0
 Refuses limit url head old new e =
     (is_memory e ≡ true)

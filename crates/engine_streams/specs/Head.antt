@@ -1,4 +1,4 @@
--- What the head of a blob's answer says of its body (OCI distribution specification, "Pulling blobs").
+-- What the head of a blob's response states about its body (OCI distribution specification, "Pulling blobs").
 use Rattle.std.specs.Prelude.{ℕ, ◌^◌, Bool, true, false, ◌&&◌, ◌||◌, ◌==◌, List, option_and_then}
 use Rattle.std.specs.Prelude.{Option, Some, None, Result, Ok, codes, length, nat_le, nat_lt, if◌then◌else◌}
 use Rattle.std.specs.List.{list_all}
@@ -18,11 +18,11 @@ use Rattle.engine_streams.specs.declared.range.ByteRange.{ByteRange}
 abbrev pub is_digit : ℕ → Bool
 is_digit b = nat_le 48 b && nat_le b 57
 
--- one digit or more, and nothing else
+-- at least one digit, and nothing else
 abbrev pub is_decimal : List ℕ → Bool
 is_decimal text = nat_le 1 (length text) && list_all is_digit text
 
--- the number that decimal digits write, below 2 ^ 64
+-- the number below 2^64 that decimal digits denote
 abbrev pub decimal_of : List ℕ → Option ℕ
 decimal_of text =
     if is_decimal text && nat_lt (digits_value 10 text) (2 ^ 64) then Some (digits_value 10 text) else None
@@ -34,7 +34,7 @@ content_length headers = option_and_then decimal_of (first_of (codes "content-le
 abbrev pub expected : List ℕ → Result Expected OciDistributionError
 expected text = or_digest_error (digest_expected text)
 
--- the header's digest, where there is one
+-- the header's digest, if there is one
 abbrev pub given : Option (List ℕ) → Result (Option Expected) OciDistributionError
 given None = Ok None
 given (Some text) = expected text >>= (λ x. Ok (Some x))
@@ -44,7 +44,7 @@ abbrev pub unless_part : Bool → Option Expected → Expected → Option Digest
 unless_part true given own = None
 unless_part false given own = Some (record { given = given; own = own })
 
--- the descriptor's digest is looked at, and then the header's
+-- the descriptor's digest is checked, and then the header's
 unfoldable pub opening : Option ByteRange → List ℕ → AnswerHead → Result Opening OciDistributionError
 opening range digest head = do
   own ← expected digest
@@ -56,7 +56,7 @@ opening range digest head = do
     digests = unless_part (is_part range head.status) header own;
   })
 
--- whether the body of an answer of this status is streamed: one of success, and of a part 200 and 206 alone
+-- whether the body of a response with this status is streamed: 2xx, and for a part only 200 and 206
 abbrev pub is_streamed : Option ByteRange → ℕ → Bool
 is_streamed None status = is_success status
 is_streamed (Some range) status = status == 200 || status == 206

@@ -1,4 +1,4 @@
-// Requests for a blob whose bytes are left to be taken.
+// Sends requests for a blob whose bytes are left to be taken.
 ghost use Rattle.std.specs.Prelude.{◌≡◌, ◌≤◌, IfOk, IfSome};
 ghost use Rattle.oci_auth.specs.declared.memory.Memory.{Memory};
 ghost use Rattle.oci_transport.specs.Link.{Steady};
@@ -18,7 +18,7 @@ use oci_protocol::{Reached, reach};
 use oci_transport::{Answer, AnswerHead, BodyError, LinkError, Request, Transport, read_body};
 use std::alloc::Global;
 
-// Why the answer is refused, whose body is read for it.
+// Reads the body of the response, and returns why it is refused.
 fn refused<T: Transport>(
     alloc: Global,
     transport: &mut T,
@@ -79,7 +79,7 @@ fn asked<T: Transport>(
     Ok(opening)
 }
 
-// Where another place is left. None where the answer is passed over.
+// If another place is left. `None` if the response is skipped.
 fn offered<T: Transport>(
     alloc: Global,
     transport: &mut T,
@@ -110,7 +110,7 @@ fn offered<T: Transport>(
     Ok(Some(opening))
 }
 
-// The request at a place beside the registry, with no credentials.
+// Returns the request at another place than the registry, without credentials.
 fn ranged_at(
     alloc: Global,
     settings: &Settings,
@@ -125,7 +125,7 @@ fn ranged_at(
     Ok(request)
 }
 
-/// The request, and while its answer is one of an error the URLs in their order.
+/// Sends the request and, while the status is 4xx or 5xx, requests the URLs in their order.
 pub(crate) fn tried<T: Transport>(
     alloc: Global,
     transport: &mut T,

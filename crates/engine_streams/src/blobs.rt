@@ -1,4 +1,4 @@
-// Blobs whose bytes are taken afterwards.
+// Opens blobs whose bytes are taken afterwards.
 ghost use Rattle.std.specs.Prelude.{◌≡◌, [], Some, None, IfOk};
 ghost use Rattle.oci_auth.specs.declared.memory.Memory.{Memory};
 ghost use Rattle.oci_protocol.specs.Runs.{Meets};
@@ -21,12 +21,12 @@ use oci_auth::{Memory, RegistryOperation};
 use oci_transport::{Method, Transport};
 use std::alloc::Global;
 
-/// What a registry answers where a part of a blob is asked for.
+/// The response to a request for a part of a blob.
 #[derive(Drop)]
 pub enum BlobResponse {
     /// The whole blob, with the status 200. Its bytes are compared with the digests.
     Full(SizedStream),
-    /// The bytes that were asked for, with the status 206. They are compared with nothing.
+    /// The requested bytes, with the status 206. They are compared with nothing.
     Partial(SizedStream),
 }
 
@@ -39,7 +39,7 @@ fn urls_of<'a>(layer: &LayerDescriptor<'a>) -> &'a [Text]
     }
 }
 
-// What the answer says of the bytes that are left.
+// Returns what the response states about the bytes that are left.
 fn opened<T: Transport>(
     alloc: Global,
     transport: &mut T,
@@ -81,8 +81,8 @@ fn opened<T: Transport>(
     Ok(opening)
 }
 
-/// A blob that is given piece by piece. Nothing of its body is taken yet: what is left is the whole body of the last
-/// answer, whose status is one of success.
+/// Returns a stream of a blob. Nothing of its body is taken yet: what is left is the whole body of the last response,
+/// whose status is 2xx.
 pub fn pull_blob_stream<T: Transport>(
     alloc: Global,
     transport: &mut T,
@@ -111,9 +111,9 @@ fn by_digests(opening: Opening, limit: u64) -> BlobResponse
     BlobResponse::Partial(SizedStream::new(opening, limit))
 }
 
-/// Bytes of a blob, which are given piece by piece.
+/// Returns a stream of a part of a blob.
 ///
-/// `RangeOverflow`, with no request, where the offset and the length pass the greatest place.
+/// `RangeOverflow`, without a request, if the sum of the offset and the length is beyond 2^64 - 1.
 pub fn pull_blob_stream_partial<T: Transport>(
     alloc: Global,
     transport: &mut T,

@@ -1,4 +1,4 @@
-// What the head of a blob's answer says of its body.
+// What the head of a blob's response states about its body.
 ghost use Rattle.std.specs.Prelude.{◌≡◌, IfOk};
 ghost use Rattle.std.specs.List.{list_all};
 ghost use Rattle.oci_transport.specs.Headers.{first_of};
@@ -14,7 +14,7 @@ use oci_transport::{AnswerHead, Headers};
 use std::alloc::Global;
 use std::str;
 
-/// The digests that the bytes of a blob have to have: that of the answer's header, where it names one, and the
+/// The digests that the bytes of a blob must have: that of the response's header, if it names one, and the
 /// descriptor's.
 #[derive(Drop)]
 pub struct Digests {
@@ -22,13 +22,13 @@ pub struct Digests {
     pub own: Expected,
 }
 
-/// What the head of an answer says of the body that is left.
+/// What the head of a response states about the body that is left.
 #[derive(Drop)]
 pub struct Opening {
-    /// In bytes, by the header `content-length`.
+    /// In bytes, from the header `content-length`.
     pub content_length: Option<u64>,
     pub digest_header_value: Option<Text>,
-    /// What the bytes are compared with. None where they are a part of the blob.
+    /// What the bytes are compared with. `None` if they are a part of the blob.
     pub digests: Option<Digests>,
 }
 
@@ -53,7 +53,7 @@ fn is_decimal(text: &[u8]) -> bool
     all_digits(text)
 }
 
-/// The number that decimal digits write, below 2 ^ 64.
+/// Returns the number below 2^64 that decimal digits denote.
 #[tactic(auto, using(crate::proofs::Decimals::decimal_rules))]
 pub fn decimal_of(text: &[u8]) -> Option<u64>
     ensures { result ≡ decimal_of text.now }
@@ -104,8 +104,8 @@ fn unless_part(part: bool, given: Option<Expected>, own: Expected) -> Option<Dig
     Some(Digests { given, own })
 }
 
-/// What is said of the body: the descriptor's digest is looked at, and then the header's. `DigestError` where one of
-/// them is none, or of an algorithm that is not known.
+/// Returns what the head states about the body: the descriptor's digest is checked, and then the header's.
+/// `DigestError` if one of them is malformed, or of an unknown algorithm.
 #[tactic(auto, unfolding(crate::specs::Head::opening))]
 pub(crate) fn read_head(
     alloc: Global,
@@ -125,7 +125,7 @@ pub(crate) fn read_head(
     })
 }
 
-/// Whether the body of an answer of this status is streamed.
+/// Returns whether the body of a response with this status is streamed.
 pub(crate) fn is_streamed(range: &Option<ByteRange>, status: u16) -> bool
     ensures { result ≡ is_streamed range.now status }
 {

@@ -1,8 +1,8 @@
-// What the pieces of a stream come to, as contracts of a function that does nothing.
+// The concatenation of a stream's pieces, as contracts of an empty function.
 ghost use Rattle.engine_streams.specs.Joined.{PiecesAreFront, PiecesAreWhole};
 
-/// The pieces that one `next` after another gives, joined, are the front of the body that was left. Once a `next`
-/// answers none they are that whole body, and the digests that are compared name it.
+/// The concatenation of the pieces that successive calls of `next` return is a prefix of the body that was left. Once a
+/// `next` returns `None`, it is that whole body, and the digests that are compared name it.
 pub fn pieces_are_the_body()
     ensures front { PiecesAreFront }
     ensures whole { PiecesAreWhole }

@@ -1,4 +1,4 @@
-//! Streams of blobs: the body of a blob's answer, given piece by piece as it is asked for.
+//! Streams of blobs: the body of a blob's response, returned piece by piece on request.
 #![tactic(auto)]
 
 mod asking;

@@ -1,4 +1,4 @@
-// Which bytes of a blob are asked for.
+// Which bytes of a blob are requested.
 ghost use Rattle.std.specs.Prelude.{◌≡◌, IfOk};
 ghost use Rattle.engine_terms.specs.Error.{Says};
 ghost use Rattle.engine_streams.specs.Range.{onward_text, text_by, range_text, onward, with_range, is_part};
@@ -9,7 +9,7 @@ use json_values::{Text, write_decimal};
 use oci_transport::Request;
 use std::alloc::{AllocError, Global};
 
-/// Bytes of a blob: those from the offset on, and no more than the length where one is given.
+/// Bytes of a blob: those from the offset on, at most as many as the length if one is given.
 #[derive(Clone, Copy)]
 pub struct ByteRange {
     pub offset: u64,
@@ -41,8 +41,8 @@ fn text_by(alloc: Global, offset: u64, length: Option<u64>) -> Result<Text, OciD
     Ok(text)
 }
 
-/// The header `range` of the registry's request, where a part is asked for. `RangeOverflow` where the range would end
-/// past the greatest place.
+/// Returns the header `range` of the registry's request, if a part is requested. `RangeOverflow` if the end of the
+/// range would be beyond 2^64 - 1.
 pub(crate) fn range_text(
     alloc: Global,
     range: &Option<ByteRange>,
@@ -56,7 +56,7 @@ pub(crate) fn range_text(
     Ok(Some(text))
 }
 
-/// The same of the requests at other places, which have no last byte.
+/// Returns the same for requests at other places, which have no last byte.
 pub(crate) fn onward(alloc: Global, range: &Option<ByteRange>) -> Result<Option<Text>, AllocError>
     ensures { IfOk result (λ text. text ≡ onward range.now) }
 {
@@ -67,7 +67,7 @@ pub(crate) fn onward(alloc: Global, range: &Option<ByteRange>) -> Result<Option<
     Ok(Some(text))
 }
 
-/// The request for these bytes.
+/// Returns the request for these bytes.
 pub(crate) fn with_range(
     request: Request,
     range: &Option<Text>,
@@ -92,7 +92,7 @@ pub(crate) fn with_range(
     })
 }
 
-/// Whether an answer of this status is a part of the blob.
+/// Returns whether a response with this status is a part of the blob.
 pub(crate) fn is_part(range: &Option<ByteRange>, status: u16) -> bool
     ensures { result ≡ is_part range.now status }
 {

@@ -1,4 +1,4 @@
-// A blob that is given piece by piece.
+// A stream of a blob's bytes.
 ghost use Rattle.std.specs.Prelude.{◌≡◌, ◌≤◌, ◌<◌, ◌++◌, [], List, ℕ, length, Ok, Err, None, IfOk, IfErr, OnErr, ◌⊎◌};
 ghost use Rattle.json_values.specs.Counts.{Rose};
 ghost use Rattle.oci_transport.specs.Link.{Steady, Takes};
@@ -14,7 +14,7 @@ use oci_digests::Digesters;
 use oci_transport::{LinkError, Transport};
 use std::alloc::Global;
 
-// What was given so far, hashed for these digests.
+// What was returned so far, hashed for these digests.
 #[derive(Drop)]
 struct Check {
     digesters: Digesters,
@@ -28,19 +28,19 @@ enum Stage {
     Failed,
 }
 
-/// The body of a blob's answer, of which each `next` gives a piece. It holds no connection: `next` is handed the
-/// transport of the call that made the stream, and nothing is sent over it before the stream's end.
+/// The body of a blob's response, of which each `next` returns a piece. It holds no connection: pass `next` the
+/// transport of the call that made the stream, and send nothing over it before the stream's end.
 #[derive(Drop)]
 pub struct SizedStream {
-    /// What the header `content-length` says, in bytes. None where it is no decimal number below 2 ^ 64. Nothing is
+    /// The value of the header `content-length`, in bytes. `None` if it is not a decimal number below 2^64. Nothing is
     /// compared with it.
     pub content_length: Option<u64>,
-    /// The digest that the header `docker-content-digest` names, where it names one.
+    /// The digest that the header `docker-content-digest` names, if it names one.
     pub digest_header_value: Option<Text>,
-    // How many bytes may still come.
+    // How many more bytes may be received.
     left: u64,
     stage: Stage,
-    // None where nothing is compared.
+    // `None` if nothing is compared.
     check: Option<Check>,
 }
 
@@ -77,7 +77,7 @@ fn compare(alloc: Global, check: &mut Option<Check>) -> Result<(), OciDistributi
     Ok(())
 }
 
-// The next piece of the last answer's body.
+// Takes the next piece of the last response's body.
 fn piece<T: Transport>(alloc: Global, transport: &mut T) -> Result<Blob, OciDistributionError>
     ensures told { (T.state transport.new).told ≡ (T.state transport.old).told }
     ensures steady { Steady (T.state transport.old) (T.state transport.new) }
@@ -95,7 +95,7 @@ fn piece<T: Transport>(alloc: Global, transport: &mut T) -> Result<Blob, OciDist
 }
 
 impl SizedStream {
-    // A stream that gave nothing yet, and may give so many bytes.
+    // Returns a stream that returned nothing yet, and may return at most `limit` bytes.
     pub(crate) fn new(opening: Opening, limit: u64) -> SizedStream
         ensures opening { opening_of result ≡ opening }
         ensures fresh { IsOpen limit [] result }
@@ -114,12 +114,12 @@ impl SizedStream {
         }
     }
 
-    /// The next piece of the body, none at its end. The end comes only where nothing is left and each digest that is
-    /// compared names the bytes that were given.
+    /// Returns the next piece of the body, `None` at its end. The end is only returned if nothing is left and each
+    /// digest that is compared names the bytes that were returned.
     ///
-    /// `VerificationError` at the end, for the header's digest and else the descriptor's, where it does not name the
-    /// bytes; `BodyTooLong` where more bytes came than the client's `max_body_bytes`; `TransportFault` where the
-    /// transport's count of faults rose; `StreamFailed` after a `next` that was refused.
+    /// `VerificationError` at the end, if the header's digest, else the descriptor's, does not name the bytes;
+    /// `BodyTooLong` if more bytes than the client's `max_body_bytes` were received; `TransportFault` if the
+    /// transport's fault count increased; `StreamFailed` after a `next` that returned an error.
     pub fn next<T: Transport>(
         &mut self,
         alloc: Global,
@@ -143,7 +143,7 @@ impl SizedStream {
             Stage::Failed => return Err(OciDistributionError::StreamFailed),
             Stage::Open => {}
         }
-        // Until the piece is known to be good.
+        // Stays `Failed` unless the piece turns out to be good.
         self.stage = Stage::Failed;
         let piece = piece(alloc, transport)?;
         let more = piece.as_slice().len() as u64;

@@ -1,4 +1,4 @@
--- What several writes of an inline text have written together.
+-- The text that several writes to an inline text have written together.
 use Rattle.std.proofs.Common.{◌≡◌, ℕ, List, [], ◌∷◌, ◌++◌, sym, ap, subst, ◌∙◌}
 use Rattle.std.proofs.lemmas.List.{append-nil, append_assoc}
 use Rattle.std.specs.List.{FoldsTo, concat}
@@ -16,7 +16,7 @@ module _ {n : ℕ} where
       let rest = after_calls calls.0 parts t calls.2 first.0 in
       (rest.0, rest.1 ∙ ap (λ l. l ++ concat parts) first.1 ∙ append_assoc (inline_text s) x (concat parts))
 
-  -- what calls wrote into a text that held nothing is the text
+  -- what the calls wrote to an empty inline text is the text
   pub written : (s : InlineText n) (bs : List ℕ) (t : InlineText n)
       → WritesInCalls AppendsIfIntact s bs t → IsIntact s → inline_text s ≡ [] → inline_text t ≡ bs
   written s bs t wrote intact empty =

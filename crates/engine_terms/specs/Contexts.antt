@@ -1,4 +1,4 @@
--- What the calls of a client are made by.
+-- The settings and the time of a client's call.
 use Rattle.std.specs.Prelude.{ℕ}
 use Rattle.engine_terms.specs.declared.settings.Settings.{Settings}
 use Rattle.engine_terms.specs.declared.call.Call.{Call}
@@ -11,6 +11,6 @@ pub record Context : Type 0 where
 abbrev pub within : Settings → ℕ → Context
 within settings moment = record { settings = settings; moment = moment }
 
--- what a call of the code carries of it
+-- the context of a call
 abbrev pub context_of : Call → Context
 context_of call = within call.settings.now call.moment

@@ -4,12 +4,12 @@ use Rattle.json_values.specs.Refusals as Refusals
 use Rattle.engine_terms.specs.declared.error.OciDistributionError.{OciDistributionError}
 use Rattle.engine_terms.specs.declared.error.OciDistributionError.TheVariants as refusal
 
--- which refusal says that memory was wanting
+-- whether the refusal is out of memory
 abbrev pub is_memory : OciDistributionError → Bool
 is_memory refusal.WantOfMemory = true
 is_memory _ = false
 
--- the name of the variant, which a refusal prints
+-- the name of the variant, which is printed for a refusal
 abbrev pub name_of : OciDistributionError → List ℕ
 name_of (refusal.AmbiguousManifest a) = codes "AmbiguousManifest"
 name_of (refusal.AuthenticationFailure a) = codes "AuthenticationFailure"
@@ -40,11 +40,11 @@ name_of (refusal.UrlParseError a) = codes "UrlParseError"
 name_of (refusal.VersionedParsingError a) = codes "VersionedParsingError"
 name_of refusal.WantOfMemory = codes "WantOfMemory"
 
--- what a step with no request answers, unless memory was wanting
+-- the result of a step without a request, unless memory ran out
 abbrev pub Says : {A : Type 0} → Result A OciDistributionError → Result A OciDistributionError → Type 0
 Says answer said = Refusals.Says is_memory answer said
 
--- the refusal is this one, unless memory was wanting
+-- the refusal is this one, unless memory ran out
 abbrev pub SaysError : OciDistributionError → OciDistributionError → Type 0
 SaysError e said = Refusals.SaysError is_memory e said
 

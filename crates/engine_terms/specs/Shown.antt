@@ -1,4 +1,4 @@
--- What is shown of the body of a realm's answer: how many bytes it has, and none of them.
+-- What `Debug` prints of the body of a realm's response: how many bytes it has, and none of them.
 use Rattle.std.specs.Prelude.{ℕ, List, ◌++◌, codes, decimal, length}
 
 abbrev pub shown_body : List ℕ → List ℕ

@@ -2,8 +2,7 @@
 use crate::settings::Settings;
 use oci_names::Reference;
 
-/// What no step of a call changes: the client's settings, the image that is asked for, and the moment in seconds since
-/// 1970.
+/// What no step of a call changes: the client's settings, the requested image, and the moment in seconds since 1970.
 #[derive(Clone, Copy)]
 pub struct Call<'a> {
     pub settings: &'a Settings,

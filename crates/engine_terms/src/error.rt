@@ -1,4 +1,4 @@
-// Why a call of the registry's client was refused.
+// Why a call of the registry client was refused.
 ghost use Rattle.std.specs.Prelude.{◌≡◌};
 ghost use Rattle.engine_terms.specs.Error.{is_memory, name_of};
 
@@ -10,99 +10,99 @@ use std::alloc::{AllocError, AllocFailed, Global};
 use std::error::Error;
 use std::fmt::{self, Display, Formatter};
 
-/// What a request could not be made of, or an answer could not be made into.
+/// What a request could not be built from, or a response could not be converted to.
 #[derive(Clone, Copy, Debug, PartialEq, Eq)]
 pub enum GenericCause {
-    /// A configuration that is no text in UTF-8.
+    /// The configuration is not UTF-8.
     ConfigNotText,
-    /// A value that cannot stand in a header: the user agent, an accepted type or a token.
+    /// The user agent, an accepted type or a token is not a valid header value (RFC 9110, 5.5).
     HeaderText,
-    /// Referrers of a reference without a digest.
+    /// Referrers were requested for a reference without a digest.
     NoDigest,
-    /// A stream that is pushed whole, without its count of bytes.
+    /// A stream is pushed whole, but its size is not given.
     NoSize,
-    /// A range of bytes whose end passes 2^64 - 1.
+    /// The end of a range of bytes is beyond 2^64 - 1.
     RangeOverflow,
-    /// A stream that is pushed whole, with another count of bytes than was given.
+    /// A stream is pushed whole, but its size is not the given one.
     SizeDiffers,
 }
 
-/// How an answer departs from the OCI distribution specification.
+/// How a response departs from the OCI distribution specification.
 #[derive(Debug, Drop)]
 pub enum SpecViolation {
-    /// The tag under which the referrers of a digest are listed holds a manifest. The tag is told.
+    /// The tag under which the referrers of a digest are listed holds a manifest. Contains the tag.
     ReferrersTag(Text),
-    /// A status of success other than the one that the request asks for.
+    /// A 2xx status other than the one that the request expects.
     Status { expected: u16, got: u16, url: Text },
 }
 
-/// Why a call of the registry's client was refused. A refusal that speaks of an answer holds the URL or
-/// the bytes that it came with.
+/// Why a call of the registry client was refused. A refusal about a response holds the URL or the bytes that it came
+/// with.
 #[derive(Debug, Drop)]
 pub enum OciDistributionError {
-    /// A document that reads both as a manifest and as an index.
+    /// The document parses both as a manifest and as an index.
     AmbiguousManifest(Blob),
-    /// The realm answered with another status than 200, and with this body.
+    /// The realm responded with a status other than 200, and with this body.
     AuthenticationFailure(TokenBody),
-    /// A body with more bytes than the settings allow.
+    /// The body has more bytes than the settings allow.
     BodyTooLong,
-    /// A configuration that does not read as a configuration file.
+    /// The configuration does not parse as a configuration file.
     ConfigConversionError(Blob),
-    /// A digest in a header, a reference or a descriptor that is none, or that does not name the body.
+    /// A digest in a header, a reference or a descriptor is malformed, or does not name the body.
     DigestError(DigestError),
     GenericError(GenericCause),
-    /// An answer of the status that was expected whose header `location` is no text.
+    /// The response has the expected status, but its header `location` is not text.
     HeaderValueError(Blob),
-    /// An index was read, and the client has no resolver of platforms.
+    /// The document is an index, and the client has no resolver of platforms.
     ImageIndexParsingNoPlatformResolverError,
-    /// An index was read in which the image is not found: the resolver answered a digest of no entry, or of an index
-    /// again, which is told here, or none, which is the empty text.
+    /// The image was not found in the index: the resolver returned the digest of no entry, or of another index; either
+    /// is contained here. If it returned `None`, the text is empty.
     ImageManifestNotFoundError(Text),
-    /// A layer of a media type that is not accepted.
+    /// The media type of a layer is not accepted.
     IncompatibleLayerMediaTypeError(Text),
-    /// A document that reads neither as a manifest nor as an index.
+    /// The document parses neither as a manifest nor as an index.
     ManifestParsingError(Blob),
-    /// A manifest without layers.
+    /// The manifest has no layers.
     PullNoLayersError,
-    /// Nothing was given to be pushed.
+    /// Nothing was given to push.
     PushNoDataError,
     /// A status from 400 to 499 other than 401, with the registry's own list of errors.
     RegistryError { envelope: OciEnvelope, url: Text },
-    /// An answer of the status that was expected without a header `location`.
+    /// The response has the expected status, but no header `location`.
     RegistryNoLocationError,
-    /// A body in which the realm names no token.
+    /// The realm's response contains no token.
     RegistryTokenDecodeError(TokenBody),
-    /// A status of an error without such a list.
+    /// A 4xx or 5xx status without such a list.
     ServerError { code: u16, url: Text, message: Blob },
-    /// The sink failed: the count of its faults rose.
+    /// The sink failed, and its fault count increased.
     SinkFault,
-    /// The source of what is pushed failed: the count of its faults rose.
+    /// The source of the pushed bytes failed, and its fault count increased.
     SourceFault,
     SpecViolationError(SpecViolation),
-    /// A piece was asked of a stream that had refused one.
+    /// A piece was requested from a stream that had returned an error before.
     StreamFailed,
-    /// The transport failed: the count of its faults rose.
+    /// The transport failed, and its fault count increased.
     TransportFault,
     /// The status 401.
     UnauthorizedError { url: Text },
     UnsupportedMediaTypeError(Text),
     UnsupportedSchemaVersionError(i32),
-    /// A text that is not the URL of a request.
+    /// The text is not the URL of a request.
     UrlParseError(Text),
-    /// A document that does not read as one with a schema version and a media type.
+    /// The document does not parse as one with a schema version and a media type.
     VersionedParsingError(Blob),
     WantOfMemory,
 }
 
 impl OciDistributionError {
-    /// Whether memory was wanting.
+    /// Returns whether memory ran out.
     pub fn is_memory(&self) -> bool
         ensures { result ≡ is_memory self.now }
     {
         matches!(self, Self::WantOfMemory)
     }
 
-    /// The name of the variant.
+    /// Returns the name of the variant.
     pub fn name(&self) -> &'static str
         ensures { result.now ≡ name_of self.now }
     {
@@ -141,8 +141,8 @@ impl OciDistributionError {
     }
 }
 
-// Copies an enum's value. Its variants are given as those that keep one value, those with named fields, and those that
-// keep nothing.
+// Copies an enum's value. Its variants are given as those with one value, those with named fields, and those without
+// fields.
 macro_rules! copied_variant {
     ($alloc:expr, $source:expr,
         { $($one:ident),* $(,)? },

@@ -1,4 +1,4 @@
-//! What all parts of the registry's client speak of: its settings, a call, and why it refuses.
+//! The terms that all parts of the registry client share: its settings, a call, and why it is refused.
 #![tactic(auto)]
 
 mod call;

@@ -1,4 +1,4 @@
-// What stays the same over a client's calls.
+// What is the same for all calls of a client.
 ghost use Rattle.std.specs.Prelude.{◌≡◌};
 ghost use Rattle.engine_terms.specs.Settings.{is_listed, scheme_for};
 ghost use Rattle.engine_terms.specs.declared.settings.ClientProtocol.TheVariants.{Https as https_alone};
@@ -16,17 +16,17 @@ pub enum ClientProtocol {
     HttpsExcept(List<Text>),
 }
 
-/// The settings that a client's requests are made by.
+/// The settings of a client's requests.
 #[derive(Debug, Drop)]
 pub struct Settings {
     pub protocol: ClientProtocol,
     /// The value of the header `user-agent`.
     pub user_agent: Text,
-    /// How many bytes one body may have.
+    /// The maximum size of one body, in bytes.
     pub max_body_bytes: u64,
-    /// Whether a blob is pushed by one request, and not in chunks.
+    /// Whether a blob is pushed by one request instead of in chunks.
     pub use_monolithic_push: bool,
-    /// Which image of an index is meant. Where nothing is said of it, an index is refused.
+    /// Which entry of an index is selected. If `None`, an index is refused.
     pub platform_resolver: Option<PlatformResolver>,
 }
 
@@ -42,14 +42,14 @@ fn is_listed(registries: &[Text], registry: &str) -> bool
 }
 
 impl ClientProtocol {
-    /// `https` for all registries.
+    /// Returns `https` for all registries.
     pub fn default() -> ClientProtocol
         ensures { result ≡ https_alone }
     {
         ClientProtocol::Https
     }
 
-    /// `http` or `https`, for this registry.
+    /// Returns `http` or `https`, for this registry.
     pub fn scheme_for(&self, registry: &str) -> &'static str
         ensures { result.now ≡ scheme_for self.now registry.now }
     {

@@ -1,10 +1,10 @@
-// The bytes that a realm answered in place of a token.
+// The bytes that a realm responded with instead of a token.
 use json_values::{Blob, Copied};
 use std::alloc::{AllocError, Global};
 use std::fmt::{self, InlineText, Write};
 use std::marker::Model;
 
-/// The body of a realm's answer. It may hold a token, so `Debug` shows how many bytes it has, and none of them.
+/// The body of a realm's response. It may hold a token, so `Debug` prints how many bytes it has, and none of them.
 #[derive(Drop)]
 pub struct TokenBody {
     bytes: Blob,
@@ -21,7 +21,7 @@ impl Model for TokenBody {
 impl TokenBody {
     ghost use Rattle.std.specs.Prelude.{◌≡◌};
 
-    /// These bytes of a body.
+    /// Returns a body of these bytes.
     pub fn new(bytes: Blob) -> TokenBody
         ensures { result ≡ bytes }
     {

@@ -12,7 +12,7 @@ use oci_transport::Script;
 use std::alloc::{AllocError, Global};
 use test_answers::{CONFIG_DIGEST, LAYER_DIGEST, LAYER_TYPE, MANIFEST, MANIFEST_DIGEST, script};
 
-// A client, and the image that it asks for.
+// A client, and the image that it requests.
 fn begun(alloc: Global) -> Option<(Client, Reference)> {
     let config = ClientConfig::default(alloc).ok()?;
     let image = Reference::parse(alloc, "localhost:5000/app:v1").ok()?;
@@ -60,7 +60,7 @@ fn is_raw(alloc: Global, named: &str) -> bool {
     }
 }
 
-// How many layers the document lists, where it is a manifest.
+// How many layers the document lists, if it is a manifest.
 fn listed(found: &Result<(OciManifest, Text), OciDistributionError>) -> Option<usize> {
     match found {
         Ok(found) => match &found.0 {
@@ -71,7 +71,7 @@ fn listed(found: &Result<(OciManifest, Text), OciDistributionError>) -> Option<u
     }
 }
 
-// What was found is let go where nothing is known of it.
+// Drops what was found if nothing is known of it.
 fn let_document_go(_found: Result<(OciManifest, Text), OciDistributionError>) {}
 
 fn layers_listed(alloc: Global, script: &mut Script) -> Option<usize> {
@@ -151,7 +151,7 @@ fn is_poured(alloc: Global, script: &mut Script) -> Option<bool> {
     Some(sink.into_blob().as_slice() == b"hello world".as_slice())
 }
 
-// A client that keeps no credentials asks for no token.
+// A client that stores no credentials requests no token.
 fn is_blob(alloc: Global, body: &str) -> bool {
     match script(alloc, &[(LAYER_DIGEST, body)]) {
         Ok(mut script) => is_poured(alloc, &mut script) == Some(true),
@@ -159,7 +159,7 @@ fn is_blob(alloc: Global, body: &str) -> bool {
     }
 }
 
-// The name of the refusal of a blob that goes into a sink that fails at once.
+// The name of the refusal of a blob that is written to a sink that fails at once.
 fn unpoured(alloc: Global, script: &mut Script) -> Option<&'static str> {
     let (mut client, image) = begun(alloc)?;
     let mut failing = List::new(alloc);
@@ -184,7 +184,7 @@ fn a_blob_goes_to_its_sink(rt: HostRuntime) {
     assert!(rt; sink_fails(rt.alloc()));
 }
 
-// Whether the blob came that was meant.
+// Whether the expected blob was received.
 fn is_meant(found: &Result<Blob, OciDistributionError>) -> bool {
     match found {
         Ok(blob) => blob.as_slice() == b"hello world".as_slice(),
@@ -214,7 +214,7 @@ fn a_blob_is_pulled_by_its_digest_or_a_descriptor(rt: HostRuntime) {
     assert!(rt; is_pulled(rt.alloc(), &&layer) == Some(true));
 }
 
-// Whether the registry asks for no token.
+// Whether the registry requires no token.
 fn is_open(alloc: Global, script: &mut Script) -> Option<bool> {
     let (mut client, image) = begun(alloc)?;
     let auth = RegistryAuth::Anonymous;
@@ -236,7 +236,7 @@ fn a_registry_without_a_challenge_asks_for_no_token(rt: HostRuntime) {
     assert!(rt; no_token(rt.alloc()));
 }
 
-// What is written as a part of a client stays there, and nothing else of it changes.
+// Writing to a part of a client leaves the rest unchanged.
 fn keep_tokens_for(client: &mut Client, seconds: u64)
     ensures settings { client.new.settings ≡ client.old.settings }
     ensures kept { client.new.tokens.default_expiration_secs ≡ seconds }

@@ -1,4 +1,4 @@
-// What clients are made of, and what they answer without a request.
+// How clients are built, and what they return without a request.
 use json_values::{Blob, List, Text};
 use oci_auth::RegistryAuth;
 use oci_engine::{

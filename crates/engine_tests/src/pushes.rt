@@ -1,4 +1,4 @@
-// Pushes over a registry that is recorded.
+// Pushes over a recorded registry.
 ghost use Rattle.std.specs.Prelude.{◌≡◌, IfOk};
 ghost use Rattle.oci_transport.specs.Pieces.{NoneEmpty};
 
@@ -10,7 +10,7 @@ use oci_transport::{Headers, Method, Recorded, Script};
 use std::alloc::{AllocError, Global};
 use test_answers::LAYER_DIGEST;
 
-// A registry that answers with these statuses and locations, in order, and no body.
+// A registry that responds with these statuses and locations, in order, and no body.
 fn registry(alloc: Global, given: &[(u16, &str)]) -> Result<Script, AllocError> {
     let mut answers = List::new(alloc);
     for (status, location) in given {
@@ -63,7 +63,7 @@ fn source(alloc: Global, given: &[&str]) -> Result<MemoryPieces, AllocError> {
     Ok(MemoryPieces::new(alloc, pieces, List::new(alloc)))
 }
 
-// Whether the request at a place is this one, with this body and this value of a header.
+// Whether the request at an index is this one, with this body and this value of a header.
 fn asked(
     script: &Script,
     place: usize,
@@ -138,7 +138,7 @@ fn a_stream_goes_in_chunks_to_the_locations_that_are_answered(rt: HostRuntime) {
     assert!(rt; in_chunks(rt.alloc()).unwrap_or(false));
 }
 
-// What a stream of this count of bytes comes to that goes by one request, with how many requests were made.
+// The result of pushing a stream of this size by one request, with how many requests were sent.
 fn whole(alloc: Global, size: Option<u64>) -> Result<(Text, usize), AllocError> {
     let mut script = registry(alloc, &[(202, "/up/1"), (201, "/b")])?;
     let mut client = client(alloc, true)?;
@@ -176,7 +176,7 @@ fn a_stream_goes_by_one_request_with_its_count_of_bytes(rt: HostRuntime) {
     assert!(rt; whole_says(alloc, None, "GenericError", 0));
 }
 
-// What bytes come to that are pushed over these answers.
+// The result of pushing bytes over these responses.
 fn bytes_say(
     alloc: Global,
     whole: bool,
@@ -255,7 +255,7 @@ fn has_range(script: &Script, place: usize, want: &str) -> bool {
     }
 }
 
-// Whether bytes that are one more than a chunk holds go in two.
+// Whether one byte more than a chunk holds is sent in two chunks.
 fn two_chunks(alloc: Global) -> Result<bool, AllocError> {
     let part = [7u8; 65536];
     let mut content = Blob::empty(alloc);
@@ -297,7 +297,7 @@ fn a_blob_of_another_repository_is_asked_for(rt: HostRuntime) {
     assert!(rt; mounts(rt.alloc()).unwrap_or(false));
 }
 
-// Whether a token is shown at the registry, and not at another host to which a location leads.
+// Whether a token is sent to the registry, and not to another host to which a location leads.
 fn token_stays(alloc: Global) -> Result<bool, AllocError> {
     let answers = [(202, "http://other.example/1"), (202, "/2"), (201, "/b")];
     let mut script = registry(alloc, &answers)?;

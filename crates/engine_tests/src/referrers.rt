@@ -1,4 +1,4 @@
-// What refers to a manifest.
+// The referrers of a manifest.
 ghost use Rattle.std.specs.Prelude.{IfOk};
 ghost use Rattle.oci_transport.specs.Pieces.{NoneEmpty};
 
@@ -10,7 +10,7 @@ use oci_transport::{Headers, Recorded, Script};
 use std::alloc::{AllocError, Global};
 use test_answers::{MANIFEST, MANIFEST_DIGEST};
 
-// Two entries, of which one has a type of artifacts.
+// Two entries, of which one has an artifact type.
 const INDEX: &str =
     "{\"schemaVersion\":2,\"manifests\":[{\"mediaType\":\"application/vnd.oci.image.manifest.v1+json\",\
         \"digest\":\"sha256:b94d27b9934d3e08a52e52d7da7dabfac484efe37a5380ee9088f7ace2efcde9\",\"size\":1,\
@@ -42,7 +42,7 @@ fn answers(alloc: Global, given: &[(u16, &str)]) -> Result<Script, AllocError> {
     Ok(Script::new(alloc, answers))
 }
 
-// A client, and the manifest whose referrers it asks for.
+// A client, and the manifest whose referrers it requests.
 fn begun(alloc: Global) -> Option<(Client, Reference)> {
     let config = ClientConfig::default(alloc).ok()?;
     let registry = Text::new(alloc, "localhost:5000").ok()?;
@@ -64,7 +64,7 @@ fn text_of(alloc: Global, found: &Result<OciImageIndex, OciDistributionError>) -
     }
 }
 
-// What was found is let go where nothing is known of it.
+// Drops what was found if nothing is known of it.
 fn let_go(_found: Result<OciImageIndex, OciDistributionError>) {}
 
 fn outcome(alloc: Global, kind: Option<&str>, given: &[(u16, &str)]) -> Option<Text> {

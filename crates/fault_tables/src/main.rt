@@ -1,9 +1,9 @@
 //! Pulls the image of a case whose registry is a shelf, once for each request that may fail and once for each piece of
-//! a body, until a pull meets no fault, and writes what each pull came to: the number of what failed, counted from 0,
-//! how many requests were made, and the outcome as a report has it.
+//! a body, until in a pull no fault occurs, and writes a line for each pull: the index of what failed, from 0, the
+//! number of requests, and the result as in a report.
 //!
-//! It ends with 3 where the input is no case with a shelf, with 4 and 5 where it could not be read or written, and with
-//! 6 where memory was wanting.
+//! The exit status is 3 if the input is not a case with a shelf, 4 if it could not be read, 5 if the output could not
+//! be written, and 6 if memory ran out.
 #![tactic(auto)]
 
 mod pulls;

@@ -9,7 +9,7 @@ use pull_report::{let_go, write_outcome};
 use sig_registry::{Auth, ClientConfig, ClientProtocol, OciReference};
 use std::alloc::{AllocError, Global};
 
-/// What each pull asks for, and over which shelf.
+/// The arguments and the terms of each pull, and the shelf.
 #[derive(Drop)]
 pub struct Terms<'a> {
     pub case: &'a Case,
@@ -20,7 +20,7 @@ pub struct Terms<'a> {
     pub verifier: TableVerifier,
 }
 
-/// What a pull came to: how many requests and faults, and its outcome as a report has it.
+/// The result of a pull: the number of requests and of faults, and the result as in a report.
 #[derive(Drop)]
 pub struct Pulled {
     pub requests: u64,
@@ -45,7 +45,7 @@ fn lines_of(
     Ok(lines)
 }
 
-// The outcome of a pull over this transport.
+// The result of a pull over this transport.
 fn outcome_over(
     alloc: Global,
     terms: &Terms<'_>,
@@ -69,8 +69,8 @@ fn outcome_over(
     lines
 }
 
-/// Pulls by a fresh client over the shelf, which fails at these numbers of sends and of calls for a piece. None where
-/// the redirects of the shelf do not lead.
+/// Pulls with a new client over the shelf, which fails at these indexes of sends and of calls for a piece. Returns
+/// `None` if a redirect of the shelf does not end.
 pub fn pull_over(
     alloc: Global,
     terms: &Terms<'_>,

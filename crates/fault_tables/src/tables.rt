@@ -1,4 +1,4 @@
-// What each pull came to, line by line.
+// The results of the pulls, line by line.
 ghost use Rattle.pull_case.specs.Case.{IsReady};
 
 use crate::pulls::{Pulled, Terms, pull_over};
@@ -11,7 +11,7 @@ use pull_setup::image_in;
 use sig_registry::Auth;
 use std::alloc::{AllocError, Global};
 
-/// How many pieces may fail, one a pull, before the table ends anyway.
+/// The maximum number of pieces that fail, one in each pull, before the table ends anyway.
 const MOST_PIECES: u64 = 1000;
 
 fn number_line(alloc: Global, out: &mut Blob, label: &str, number: u64) -> Result<(), AllocError> {
@@ -30,7 +30,7 @@ fn one(alloc: Global, number: u64) -> Result<List<u64>, AllocError> {
     Ok(numbers)
 }
 
-// A pull for each send that fails, of as many as a pull without faults makes.
+// A pull for each send that fails, for as many sends as a pull without faults makes.
 fn write_sends(alloc: Global, out: &mut Blob, terms: &Terms<'_>) -> Result<(), AllocError> {
     let Some(whole) = pull_over(alloc, terms, List::new(alloc), List::new(alloc))? else {
         return Ok(());
@@ -47,7 +47,7 @@ fn write_sends(alloc: Global, out: &mut Blob, terms: &Terms<'_>) -> Result<(), A
     Ok(())
 }
 
-// A pull for each piece that fails, until one meets no fault.
+// A pull for each piece that fails, until in one no fault occurs.
 fn write_pieces(alloc: Global, out: &mut Blob, terms: &Terms<'_>) -> Result<(), AllocError> {
     for number in 0..MOST_PIECES {
         let pieces = one(alloc, number)?;
@@ -93,7 +93,7 @@ fn tables_of(alloc: Global, case: &Case, shelf: &Shelf) -> Result<Blob, AllocErr
     tables_over(alloc, &terms)
 }
 
-/// Both tables, where the case's registry is in memory. They are of the case's first moment.
+/// Returns both tables for the case's first moment, or `None` if the case's registry is not a shelf.
 pub fn write_tables(alloc: Global, case: &Case) -> Result<Option<Blob>, AllocError>
     requires { IsReady case.now }
 {

@@ -7,7 +7,7 @@ use Rattle.serde_json.specs.Data.{Data, null, number, unsigned, string, array, o
 use Rattle.serde_json.specs.Written.{compact_text, items_text, members_text}
 use Rattle.generated_image.specs.Texts.{descriptor_text, manifest_around, joined, payload_text}
 
--- a text that stands as it is
+-- a text without escapes
 quoted_behind : (s rest : List ℕ) → escape s ≡ s → quoted s ++ rest ≡ 34 ∷ (s ++ 34 ∷ rest)
 quoted_behind s rest same = ap (λ (xs : List ℕ). 34 ∷ xs) (append_assoc (escape s) (34 ∷ []) rest ∙ ap (λ (e : List ℕ). e ++ 34 ∷ rest) same)
 
@@ -26,7 +26,7 @@ descriptor_spelled kind digest size more text plain_kind plain_digest ends =
     ∙ ap (λ (xs : List ℕ). codes "{\"mediaType\":\"" ++ (kind ++ (codes "\",\"digest\":" ++ xs))) (quoted_behind digest (size_part size more) plain_digest)
     ∙ ap (λ (xs : List ℕ). codes "{\"mediaType\":\"" ++ (kind ++ (codes "\",\"digest\":\"" ++ (digest ++ (codes "\",\"size\":" ++ (decimal size ++ xs)))))) ends
 
--- ---- lists of them
+-- ---- lists of descriptors
 
 abbrev pub items : List Data → Items
 items [] = no_items

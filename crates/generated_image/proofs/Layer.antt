@@ -1,4 +1,4 @@
--- The signature layer that is read of the payload.
+-- The signature layer that is read from the payload.
 use Rattle.std.proofs.Common.{◌≡◌, ℕ, Bool, true, false, List, [], ◌∷◌, codes, Option, Some, None, Result, Ok, Err, option_map, refl, sym, ap, ◌∙◌}
 use Rattle.std.specs.Prelude.{bytes_eq, ok_or, if◌then◌else◌}
 use Rattle.std.specs.Cmp.Lexicographic.{nat_list_eq_equiv}
@@ -68,7 +68,7 @@ checked_entry trust content =
 checked_certificate : (trust : Trust) → certificate_checked trust.vouched None (noted_certificate (get notes (codes "dev.sigstore.cosign/certificate"))) ≡ Ok None
 checked_certificate trust = ap (λ (o : Option (List ℕ)). certificate_checked trust.vouched None (noted_certificate o)) (none_at (codes "dev.sigstore.cosign/certificate") refl)
 
--- what is read of the payload of this image
+-- the layer that is read from the payload of this image
 abbrev pub layer_for : List ℕ → SignatureLayer
 layer_for image = layer_with (input_of image) (payload_shown notes (signing_of (sha256_text image))) (codes "c2lnMQ==") None None
 

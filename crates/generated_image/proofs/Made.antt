@@ -1,4 +1,4 @@
--- What was made is the generated shelf.
+-- The shelf that the code builds is the generated shelf.
 use Rattle.std.proofs.Common.{◌≡◌, ℕ, List, [], map, Result, IfOk, OnOk, refl}
 use Rattle.std.specs.FinMap.{FinMap, empty}
 use Rattle.json_values.specs.Places.{by_bytes}

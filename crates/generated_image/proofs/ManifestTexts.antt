@@ -1,4 +1,4 @@
--- The texts of the two manifests are read as manifests.
+-- The texts of the two manifests parse as manifests.
 use Rattle.std.proofs.Common.{◌≡◌, ◌<◌, ◌≤◌, ◌^◌, ◌==◌, ◌||◌, ◌&&◌, ℕ, Bool, true, false, List, [], ◌∷◌, ◌++◌, length, map, flat_map, codes, Some, Ok, IsUtf8, refl, sym, ap, subst, ◌∙◌, arith}
 use Rattle.std.specs.Prelude.{decimal, nat_le}
 use Rattle.std.specs.List.{concat}
@@ -20,7 +20,7 @@ use Rattle.generated_image.proofs.Plain.{AllShow, concat_shows, digest_shows, de
 use Rattle.generated_image.proofs.PlainTexts.{json_compact}
 use Rattle.generated_image.proofs.ImageTexts.{descriptor_data, items, manifest_data, descriptor_spelled, joined_spelled, manifest_spelled}
 
--- ---- what can stand in a header
+-- ---- valid header values
 
 abbrev note_of : Bool → List ℕ
 note_of false = []

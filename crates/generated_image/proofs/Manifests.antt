@@ -1,4 +1,4 @@
--- What the texts of manifests are read as.
+-- What the texts of manifests parse as.
 use Rattle.std.proofs.Common.{◌≡◌, ◌<◌, ◌≤◌, ◌^◌, ◌||◌, ◌&&◌, ℕ, pos, Bool, true, false, List, [], ◌∷◌, map, codes, Option, Some, None, Result, Ok, Err, option_map, option_and_then, max, refl, sym, ap, ◌∙◌, arith}
 use Rattle.std.specs.Prelude.{decimal, nat_lt, not, is_some, if◌then◌else◌}
 use Rattle.std.specs.FinMap as map_of
@@ -86,7 +86,7 @@ descriptor_is true kind digest size small = ap (λ b. (if b then Some (pos size)
 
 -- ---- lists of descriptors
 
--- this is so of each
+-- the property holds for each
 abbrev pub Each : {X : Type 0} → (X → Type 0) → List X → Type 0
 Each P [] = Unit {0}
 Each P (x ∷ xs) = P x × Each P xs

@@ -1,4 +1,4 @@
--- What is so of all that a map has, and what it has.
+-- Properties of all values of a map, and which keys it has.
 use Rattle.std.proofs.Common.{◌≡◌, ◌↔◌, ℕ, Bool, true, false, cond, List, [], ◌∷◌, Option, Some, None, IsTrue, true≢false, refl, sym, ap, subst, ◌∙◌}
 use Rattle.std.specs.declared.cmp.Ordering.{Ordering}
 use Rattle.std.specs.declared.cmp.Ordering.TheVariants.{Less, Equal, Greater}
@@ -22,7 +22,7 @@ same_name x y h = slice_cmp-IsAntisymmetric nat_cmp-IsAntisymmetric x y (tied (b
 is_itself : (x : List ℕ) → eq_by_cmp by_bytes x x ≡ true
 is_itself x = ap is_eq (tied_itself nat_list_cmp_total x)
 
--- ---- what is there
+-- ---- which keys are present
 
 abbrev pub Has : {A : Type 0} → FinMap by_bytes A → List ℕ → Type 0
 Has {A} m q = (a : A) × (get m q ≡ Some a)
@@ -45,7 +45,7 @@ still_has {A} m k v q has = by_test (eq_by_cmp by_bytes q k) (sym (get-insert na
   by_test true is = (v, sym is)
   by_test false is = (has.0, sym is ∙ has.1)
 
--- ---- what is so of all
+-- ---- properties of all values
 
 abbrev pub Kept : {A : Type 0} → (List ℕ → A → Type 0) → FinMap by_bytes A → Type 0
 Kept {A} P m = (k : List ℕ) (a : A) → get m k ≡ Some a → P k a

@@ -1,4 +1,4 @@
--- One layer more.
+-- One more layer.
 use Rattle.std.proofs.Common.{◌≡◌, ◌+◌, ℕ, suc, arith, List, [], ◌∷◌, ◌++◌, map, refl, sym, ap, ◌∙◌}
 use Rattle.std.specs.FinMap.{FinMap, insert, empty}
 use Rattle.json_values.specs.Places.{by_bytes}

@@ -1,4 +1,4 @@
--- What the payload is read as, and the layer that is read of it.
+-- What the payload parses as, and the layer that is read from it.
 use Rattle.std.proofs.Common.{◌≡◌, ℕ, Bool, true, false, List, [], ◌∷◌, ◌++◌, codes, Option, Some, None, option_map, IsUtf8, refl, sym, ap, subst, ◌∙◌, arith}
 use Rattle.std.specs.Prelude.{if◌then◌else◌, option_and_then}
 use Rattle.std.specs.List.{concat}

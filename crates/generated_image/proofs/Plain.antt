@@ -1,4 +1,4 @@
--- Texts of which nothing is escaped, and which are UTF-8.
+-- Texts that need no escapes and are UTF-8.
 use Rattle.std.proofs.Common.{◌≡◌, ◌≢◌, ◌&&◌, ◌||◌, ◌==◌, ◌<◌, ◌≤◌, ◌^◌, ℕ, Bool, true, false, List, [], ◌∷◌, ◌++◌, IsUtf8, refl, sym, ap, ◌∙◌, arith}
 use Rattle.std.specs.Prelude.{nat_lt, nat_le, codes, decimal}
 use Rattle.std.specs.List.{list_all, concat}
@@ -14,7 +14,7 @@ use Rattle.engine_streams.specs.Head.{is_digit}
 use Rattle.engine_streams.proofs.Decimals.{numeral}
 use Rattle.generated_image.specs.Texts.{sha256_text}
 
--- ---- what can stand in a string as it is
+-- ---- bytes that need no escape in a string
 
 abbrev pub is_plain_byte : ℕ → Bool
 is_plain_byte b = nat_le 35 b && (nat_le b 91 || nat_le 93 b)
@@ -37,7 +37,7 @@ hex_plain b h = grind (arith, nat_tests, h)
 pub digest_stays : (bytes : List ℕ) → escape (sha256_text bytes) ≡ sha256_text bytes
 digest_stays bytes = plain_stays (sha256_text bytes) (digest_all is_plain_byte Sha256 bytes refl hex_plain)
 
--- ---- what can stand in a header is UTF-8
+-- ---- valid header values are UTF-8
 
 abbrev is_text_byte : ℕ → Bool
 is_text_byte b = b == 9 || (nat_le 32 b && nat_le b 126)
@@ -54,7 +54,7 @@ digest_shows bytes = digest_all is_text_byte Sha256 bytes refl hex_text
 pub decimal_shows : (n : ℕ) → n < 2 ^ 64 → is_header_text (decimal n) ≡ true
 decimal_shows n small = all_more is_digit is_text_byte (decimal n) digit_text (digits_decimal numeral n small)
 
--- each of these texts can stand in a header
+-- each of these texts is a valid header value (RFC 9110, 5.5)
 abbrev pub AllShow : List (List ℕ) → Type 0
 AllShow [] = Unit {0}
 AllShow (x ∷ xs) = (is_header_text x ≡ true) × AllShow xs

@@ -1,4 +1,4 @@
--- A text with no space is read as its JSON.
+-- A text without spaces parses as its JSON.
 use Rattle.std.proofs.Common.{◌≡◌, ◌≤◌, ℕ, List, [], ◌∷◌, ◌++◌, Option, Some, None, IsUtf8, refl, sym, ap, ◌∙◌, append-nil}
 use Rattle.std.specs.Prelude.{option_and_then}
 use Rattle.json.specs.Json as json
@@ -22,6 +22,6 @@ whole j numbers shallow = ap (json.value max_depth) (tokens-print (json_tokens j
 read_print : (j : json.Json) → HasNumbers j → tree.depth j ≤ max_depth → read (print (json_tokens j)) ≡ of_json j
 read_print j numbers shallow = ap (λ (o : Option (json.Json × List Token)). option_and_then of_json (option_and_then (λ p. json.if_last p.0 p.1) o)) (whole j numbers shallow)
 
--- the text of data in any order, and what it is read as
+-- the text of data in any order, and what it parses as
 pub json_compact : (d e : Data) → HasNumbers (outline d) → tree.depth (outline d) ≤ max_depth → IsUtf8 (compact_text d) → of_json (outline d) ≡ Some e → json_of (compact_text d) ≡ Some e
 json_compact d e numbers shallow text reads = json_of-read (compact_text d) e text (ap read (sym (print-outline d)) ∙ read_print (outline d) numbers shallow ∙ reads)

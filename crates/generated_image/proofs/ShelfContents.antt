@@ -1,4 +1,4 @@
--- What the generated shelf has.
+-- The contents of the generated shelf.
 use Rattle.std.proofs.Common.{◌≡◌, ◌<◌, ◌≤◌, ◌+◌, ◌*◌, ◌^◌, ℕ, Bool, true, false, List, [], ◌∷◌, ◌++◌, length, map, codes, Some, Ok, IsTrue, Contains, refl, sym, ap, subst, ◌∙◌, arith, length-append}
 use Rattle.std.specs.Prelude.{decimal, slice_index}
 use Rattle.std.specs.List.{All, concat}
@@ -71,7 +71,7 @@ signatures_within payload short =
 
 -- ---- blobs
 
--- the bytes are those of their digest, and few
+-- the bytes have this digest, and are few
 abbrev Fits : List ℕ → List ℕ → Type 0
 Fits digest bytes = (digest ≡ sha256_text bytes) × (length bytes ≤ 17000)
 

@@ -13,7 +13,7 @@ use Rattle.generated_image.specs.Texts.{signatures_text}
 abbrev pub Blobs : Type 0
 Blobs = FinMap by_bytes (List ℕ)
 
--- each of these bytes under its digest
+-- each of these byte strings under its digest
 abbrev pub with_each : Blobs → List (List ℕ) → Blobs
 with_each blobs [] = blobs
 with_each blobs (bytes ∷ more) = with_each (insert blobs (sha256_text bytes) bytes) more
@@ -24,7 +24,7 @@ manifest_document content = record {
   content = content;
 }
 
--- the tag of the signatures of what these bytes are
+-- the tag of the signatures of these bytes
 abbrev pub tag_for : List ℕ → List ℕ
 tag_for bytes = codes "sha256-" ++ encode_lower (sha256 bytes) ++ codes ".sig"
 
@@ -43,7 +43,7 @@ shelf_with image payload signatures layers = record {
 abbrev pub payload_of : ℕ → List ℕ
 payload_of n = payload_text (sha256_text (image_text n))
 
--- the image with so many layers under the tag `v1`, and under the tag of its signatures one payload of it
+-- the image with `n` layers under the tag `v1`, and one payload of it under the tag of its signatures
 unfoldable pub generated_shelf : ℕ → Shelf
 generated_shelf n =
     shelf_with (image_text n) (payload_of n) (signatures_text (payload_of n)) (with_each empty (layer_contents n))

@@ -13,11 +13,11 @@ sha256_text bytes = digest_text Sha256 bytes
 unfoldable pub thousandfold : List ℕ → List ℕ
 thousandfold line = repeat 1000 line
 
--- the layer at this place, counted from 0
+-- the layer at this index, from 0
 unfoldable pub layer_content : ℕ → List ℕ
 layer_content place = thousandfold (concat (codes "layer " ∷ decimal place ∷ codes "\n" ∷ []))
 
--- the layers before this place
+-- the layers before this index
 unfoldable pub layer_contents : ℕ → List (List ℕ)
 layer_contents zero = []
 layer_contents (suc n) = layer_contents n ++ layer_content n ∷ []
@@ -45,7 +45,7 @@ descriptor_around media_type digest size more =
 abbrev pub descriptor_text : List ℕ → List ℕ → ℕ → List ℕ → List ℕ
 descriptor_text media_type digest size more = descriptor_around media_type digest (decimal size) more
 
--- that of these bytes
+-- the descriptor of these bytes
 abbrev pub descriptor_of : List ℕ → List ℕ → List ℕ → List ℕ
 descriptor_of media_type more bytes = descriptor_text media_type (sha256_text bytes) (length bytes) more
 
@@ -62,7 +62,7 @@ joined texts = join_by (λ one. one) (codes ",") texts
 abbrev pub plain_manifest : List (List ℕ) → List ℕ
 plain_manifest layers = manifest_around (descriptor_of config_type [] config_content) (joined layers)
 
--- the manifest of the image with so many layers
+-- the manifest of the image with `n` layers
 unfoldable pub image_text : ℕ → List ℕ
 image_text n = plain_manifest (map (descriptor_of layer_type []) (layer_contents n))
 

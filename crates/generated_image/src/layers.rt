@@ -17,7 +17,7 @@ pub(crate) struct Layers {
     pub descriptors: List<Text>,
 }
 
-// Adds the layer at this place.
+// Adds the layer at this index.
 fn add_layer(alloc: Global, layers: &mut Layers, place: u32) -> Result<(), AllocError>
     ensures blobs { OnOk result (layers.new.blobs
         ≡ map.insert layers.old.blobs (sha256_text (layer_content place)) (layer_content place)) }
@@ -34,7 +34,7 @@ fn add_layer(alloc: Global, layers: &mut Layers, place: u32) -> Result<(), Alloc
     Ok(())
 }
 
-/// So many layers.
+/// Returns `count` layers.
 #[tactic(auto, unfolding(crate::specs::Texts::layer_contents))]
 pub(crate) fn first_layers(alloc: Global, count: u32) -> Result<Layers, AllocError>
     ensures blobs { IfOk result (λ made. made.blobs ≡ with_each map.empty (layer_contents count)) }

@@ -15,7 +15,7 @@ use oci_link::{Shelf, ShelfBlobs, ShelfDocument, ShelfDocuments};
 use sha2::{Digest, Sha256};
 use std::alloc::{AllocError, Global};
 
-// The tag of the signatures of what these bytes are.
+// The tag of the signatures of these bytes.
 fn tag_for(alloc: Global, bytes: &[u8]) -> Result<Text, AllocError>
     ensures { IfOk result (λ tag. tag ≡ tag_for bytes.now) }
 {
@@ -112,9 +112,9 @@ fn shelf_with(
     })
 }
 
-/// The image with so many layers, its configuration and a signature of it, in a repository of its own.
+/// Returns a shelf with the image of `layers` layers, its configuration and a signature of it, in its own repository.
 ///
-/// Its two manifests have two digests: if SHA-256 gave them one, this would answer as if memory was wanting.
+/// Its two manifests have two digests: if SHA-256 gave them the same one, this would return `AllocError`.
 #[tactic(auto, unfolding(crate::specs::Shelf::generated_shelf, crate::specs::Texts::image_text))]
 pub fn generated_shelf(alloc: Global, layers: u32) -> Result<Shelf, AllocError>
     ensures exact { IfOk result (λ shelf. shelf ≡ generated_shelf layers) }
@@ -128,7 +128,7 @@ pub fn generated_shelf(alloc: Global, layers: u32) -> Result<Shelf, AllocError>
     shelf_with(alloc, &image, &payload, &signatures, blobs)
 }
 
-/// The digest of the payload that the signature of the image with so many layers signs.
+/// Returns the digest of the payload that the signature of the image with `layers` layers signs.
 pub fn payload_digest(alloc: Global, layers: u32) -> Result<Text, AllocError>
     ensures { IfOk result (λ digest. digest ≡ sha256_text (payload_of layers)) }
 {

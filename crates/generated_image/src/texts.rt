@@ -16,7 +16,7 @@ fn thousandfold(alloc: Global, line: &str) -> Result<Blob, AllocError>
     Blob::new(alloc, lines.as_bytes())
 }
 
-/// The layer at this place.
+/// Returns the layer at this index.
 #[tactic(auto, unfolding(crate::specs::Texts::layer_content))]
 pub(crate) fn layer_content(alloc: Global, place: u32) -> Result<Blob, AllocError>
     ensures { IfOk result (λ content. content ≡ layer_content place) }
@@ -49,7 +49,7 @@ fn descriptor_around(
     Text::new(alloc, text.as_str())
 }
 
-/// The descriptor of a blob, with these members at its end.
+/// Returns the descriptor of a blob, with these members at its end.
 pub(crate) fn descriptor_text(
     alloc: Global,
     media_type: &str,
@@ -63,7 +63,7 @@ pub(crate) fn descriptor_text(
     descriptor_around(alloc, media_type, digest, size.as_str(), more)
 }
 
-// The texts with a comma between each two.
+// The texts, separated by commas.
 fn joined(alloc: Global, texts: &[Text]) -> Result<Text, AllocError>
     ensures { IfOk result (λ text. text ≡ joined texts.now) }
 {
@@ -83,7 +83,7 @@ fn push_one(text: &mut Text, one: &Text) -> Result<(), AllocError>
     Ok(())
 }
 
-// Adds each text behind a comma.
+// Appends a comma and each text.
 fn push_behind(text: &mut Text, others: &[Text]) -> Result<(), AllocError>
     ensures { OnOk result (text.new ≡ text.old ++ flat_map (λ one. codes "," ++ one) others.now) }
 {
@@ -109,7 +109,7 @@ fn manifest_around(alloc: Global, config: &str, layers: &str) -> Result<Text, Al
 
 const CONFIG: &str = "{}";
 
-/// A manifest with these texts of descriptors, whose configuration is `{}`.
+/// Returns a manifest with these texts of descriptors, whose configuration is `{}`.
 pub(crate) fn plain_manifest(alloc: Global, layers: &[Text]) -> Result<Text, AllocError>
     ensures { IfOk result (λ text. text ≡ plain_manifest layers.now) }
 {
@@ -120,7 +120,7 @@ pub(crate) fn plain_manifest(alloc: Global, layers: &[Text]) -> Result<Text, All
     manifest_around(alloc, config.as_str(), layers.as_str())
 }
 
-/// The payload that the signature of an image signs.
+/// Returns the payload that the signature of an image signs.
 #[tactic(auto, unfolding(crate::specs::Texts::payload_text))]
 pub(crate) fn payload_text(alloc: Global, digest: &str) -> Result<Text, AllocError>
     ensures { IfOk result (λ text. text ≡ payload_text digest.now) }
@@ -135,7 +135,7 @@ pub(crate) fn payload_text(alloc: Global, digest: &str) -> Result<Text, AllocErr
     Text::new(alloc, text.as_str())
 }
 
-/// The manifest of a payload, with its signature.
+/// Returns the manifest of a payload, with its signature.
 #[tactic(auto, unfolding(crate::specs::Texts::signatures_text))]
 pub(crate) fn signatures_text(alloc: Global, payload: &str) -> Result<Text, AllocError>
     ensures { IfOk result (λ text. text ≡ signatures_text payload.now) }

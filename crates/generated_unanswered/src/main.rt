@@ -1,7 +1,7 @@
 //! Pulls the generated image with three layers over a script without answers, and writes the report: its two requests,
-//! and the refusal.
+//! and the error.
 //!
-//! It ends with 5 where the report could not be written, and with 6 where memory was wanting.
+//! The exit status is 5 if the report could not be written, and 6 if memory ran out.
 #![tactic(auto)]
 
 use json_values::{Blob, List, put_all};

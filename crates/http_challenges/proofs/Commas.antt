@@ -13,7 +13,7 @@ use Rattle.http_challenges.specs.declared.element.Element.{Element}
 use Rattle.http_challenges.specs.Element.{element_of, whole}
 use Rattle.http_challenges.specs.Split.{split_from, is_comma, place_after, split_rest}
 
--- this in front of the first element
+-- prepends these bytes to the first element
 abbrev pub onto_front : List ℕ → List (List ℕ) → List (List ℕ)
 onto_front xs [] = xs ∷ []
 onto_front xs (part ∷ parts) = (xs ++ part) ∷ parts
@@ -66,6 +66,6 @@ abbrev pub bytes_left : Option (List ℕ) → ℕ
 bytes_left None = 0
 bytes_left (Some text) = suc (length text)
 
--- the element that was taken, and those behind it
+-- the element that was split off, and those after it
 pub taken : (text rest element : List ℕ) (now left : Option (List ℕ)) (found : List Challenge) (last : Option Challenge) → whole None (map element_of (split_from Outside text)) ≡ found ++ whole last (elements_left now) → now ≡ Some rest → split_from Outside rest ≡ element ∷ split_rest left → whole None (map element_of (split_from Outside text)) ≡ found ++ whole last (element_of element ∷ elements_left left)
 taken text rest element now left found last so is split = so ∙ ap (λ o. found ++ whole last (elements_left o)) is ∙ ap (λ parts. found ++ whole last (map element_of parts)) split

@@ -1,4 +1,4 @@
--- A front whose bytes pass a test, and what follows it.
+-- A prefix whose bytes pass a test, and the rest.
 use Rattle.std.proofs.Common.{◌≡◌, ◌≢◌, ℕ, ◌+◌, suc, Bool, true, false, cond, ◌&&◌, ◌||◌, ◌==◌, List, [], ◌∷◌, ◌++◌, length, drop, refl, sym, ap, ◌∙◌, arith, true≢false}
 use Rattle.std.specs.List.{list_all, prefix_len, take_while}
 use Rattle.std.proofs.lemmas.List.{take_at, drop_at, take-append-drop}
@@ -34,7 +34,7 @@ front_is p xs ys all stops = take_at xs ys _ (sym (front_len p xs ys all stops))
 pub rest_is : (p : ℕ → Bool) (xs ys : List ℕ) → list_all p xs ≡ true → begins p ys ≡ false → drop (prefix_len p (xs ++ ys)) (xs ++ ys) ≡ ys
 rest_is p xs ys all stops = drop_at xs ys _ (sym (front_len p xs ys all stops))
 
--- a text cut behind its front
+-- a text cut after its prefix
 record Cut (p : ℕ → Bool) (text : List ℕ) : Type 0 where
   front : List ℕ
   rest : List ℕ
@@ -62,21 +62,21 @@ pub all_append : (p : ℕ → Bool) (xs ys : List ℕ) → list_all p xs ≡ tru
 all_append p [] ys h k = k
 all_append p (x ∷ xs) ys h k = both_true (p x) (list_all p (xs ++ ys)) (and_left (p x) (list_all p xs) h) (all_append p xs ys (and_right (p x) (list_all p xs) h) k)
 
--- a text does not begin so where neither of its parts does
+-- a text does not begin with such a byte if neither of its parts does
 pub begins_append : (p : ℕ → Bool) (xs ys : List ℕ) → begins p xs ≡ false → begins p ys ≡ false → begins p (xs ++ ys) ≡ false
 begins_append p [] ys h k = k
 begins_append p (x ∷ xs) ys h k = h
 
--- a front that is not empty decides how a text begins
+-- a non-empty prefix decides how a text begins
 pub begins_front : (p : ℕ → Bool) (xs ys : List ℕ) (v : Bool) → xs ≢ [] → begins p xs ≡ v → begins p (xs ++ ys) ≡ v
 begins_front p [] ys v some h = absurd (some refl)
 begins_front p (x ∷ xs) ys v some h = h
 
--- bytes that pass one test fail another
+-- bytes that pass one test fail the other
 abbrev pub AreApart : (ℕ → Bool) → (ℕ → Bool) → Type 0
 AreApart p q = (b : ℕ) → p b ≡ true → q b ≡ false
 
--- where all bytes pass one test, the text does not begin with one that passes the other
+-- if all bytes pass one test, the text does not begin with one that passes the other
 pub begins_apart : (p q : ℕ → Bool) (xs : List ℕ) → AreApart p q → list_all p xs ≡ true → begins q xs ≡ false
 begins_apart p q [] apart all = refl
 begins_apart p q (x ∷ xs) apart all = apart x (and_left (p x) (list_all p xs) all)

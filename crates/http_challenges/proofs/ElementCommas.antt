@@ -11,7 +11,7 @@ use Rattle.http_challenges.specs.Words.{Blanks, Token, Says, Quoted, Value, IsPa
 use Rattle.http_challenges.proofs.Commas.{onto_front}
 use Rattle.http_challenges.proofs.Cuts.{and_left, and_right, is_other}
 
--- no comma of the text is one of the list, which goes from one place to another
+-- no comma of the text separates elements; the scan moves from one place to another
 pub data Walks : Place → List ℕ → Place → Type 0 where
   stays : (place : Place) → Walks place [] place
   steps : (from to : Place) (b : ℕ) (text : List ℕ) → is_comma from b ≡ false → Walks (place_after from b) text to → Walks from (b ∷ text) to
@@ -48,7 +48,7 @@ split_tail : (tail : Option (List ℕ)) → split_from Outside (behind_comma tai
 split_tail None = refl
 split_tail (Some text) = refl
 
--- the first element, and those behind it
+-- the first element, and those after it
 pub split_closed : (part : List ℕ) (tail : Option (List ℕ)) → Walks Outside part Outside → split_from Outside (part ++ behind_comma tail) ≡ part ∷ split_rest tail
 split_closed part tail walk = split_walk part (behind_comma tail) Outside Outside walk ∙ ap (onto_front part) (split_tail tail) ∙ only_front part (split_rest tail)
 

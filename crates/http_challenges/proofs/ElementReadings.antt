@@ -1,4 +1,4 @@
--- Each element of a list is read as what it is.
+-- Each element of a list is parsed correctly.
 use Rattle.std.proofs.Common.{◌≡◌, ◌≢◌, inl, inr, ℕ, Bool, true, false, cond, not, ◌&&◌, ◌==◌, List, [], ◌∷◌, ◌++◌, Some, None, refl, sym, ap, ◌∙◌, append_assoc, append-nil, true≢false, arith}
 use Rattle.std.specs.Prelude.{option_map}
 use Rattle.std.specs.List.{list_all}
@@ -15,7 +15,7 @@ pub not_empty : (text : List ℕ) → text ≢ [] → is_empty text ≡ false
 not_empty [] some = absurd (some refl)
 not_empty (b ∷ text) some = refl
 
--- a token in front decides that a text does not begin with other bytes
+-- a leading token decides that a text does not begin with other bytes
 pub token_apart : (q : ℕ → Bool) (name rest : List ℕ) → ((b : ℕ) → is_token_byte b ≡ true → q b ≡ false) → Token name → begins q (name ++ rest) ≡ false
 token_apart q name rest apart token = begins_front q name rest false token.0 (begins_apart is_token_byte q name apart token.1)
 
@@ -59,7 +59,7 @@ value_read written back value (inr quoted) blanks =
     ap (λ t. string_or_token (t ++ back) (after_byte 34 (t ++ back))) quoted.is
     ∙ ap unquoted (append_assoc quoted.inner (34 ∷ []) back) ∙ says_read quoted.inner value back quoted.says blanks
 
--- a parameter with white space behind it
+-- a parameter followed by white space
 spelled : (word back : List ℕ) (parameter : List ℕ × List ℕ) (is : IsParameter word parameter) → word ++ back ≡ parameter.0 ++ (is.gap ++ 61 ∷ (is.written ++ back))
 spelled word back parameter is = ap (λ t. t ++ back) is.is ∙ append_assoc parameter.0 (is.gap ++ 61 ∷ is.written) back ∙ ap (λ t. parameter.0 ++ t) (append_assoc is.gap (61 ∷ is.written) back)
 

@@ -1,4 +1,4 @@
--- Where a text may be cut: behind a front of ASCII bytes, and before an ASCII byte.
+-- Where UTF-8 may be cut: after a prefix of ASCII bytes, and before an ASCII byte.
 use Rattle.std.proofs.Common.{◌≡◌, ℕ, ◌<◌, suc, Bool, true, false, cond, ◌||◌, ◌&&◌, ◌==◌, List, [], ◌∷◌, Some, None, length, get_or, refl, sym, subst, arith}
 use Prim.Native.Nat.{zero}
 use Rattle.std.specs.Prelude.{codes, nat_lt, All}
@@ -46,7 +46,7 @@ token_below b h = by (is_ascii_alphanumeric b) refl h where
 plain_stops : (b : ℕ) → has Plain b ≡ false → b < 128
 plain_stops b h = grind (arith, nat_tests, h)
 
--- behind a front of ASCII bytes
+-- after a prefix of ASCII bytes
 after_front : (p : ℕ → Bool) (text : List ℕ) → ((b : ℕ) → p b ≡ true → b < 128) → IsUtf8 text → (n : ℕ) → n ≡ prefix_len p text → IsCharBoundary text n
 after_front p text below u zero is = IsCharBoundary-start text u
 after_front p text below u (suc n) is =

@@ -1,4 +1,4 @@
--- Which challenges a text has.
+-- The challenges of a text.
 use Rattle.std.proofs.Common.{◌≡◌, inl, inr, ◌⊎◌, ℕ, ◌+◌, suc, Bool, true, false, cond, ◌==◌, List, [], ◌∷◌, ◌++◌, length, drop, Option, Some, None, Err, map, refl, sym, ap, subst, ◌∙◌, append_assoc, append-nil, arith, length-append}
 use Rattle.std.specs.List.{onto_first, prefix_len}
 use Rattle.std.specs.Option.{option_to_list}
@@ -42,11 +42,11 @@ first_part place (b ∷ text) = by (is_comma place b) refl (first_part (place_af
     split = ap (λ v. cond v ([] ∷ split_from Outside text) (onto_first b (split_from (place_after place b) text))) is ∙ ap (onto_first b) first.split;
   }
 
--- an element whose commas are its own, and those behind it
+-- an element that contains no separating comma, and those after it
 read_part : (part : List ℕ) (tail : Option (List ℕ)) (element : Element) → Walks Outside part Outside → element_of part ≡ element → elements_left (Some (part ++ behind_comma tail)) ≡ element ∷ elements_left tail
 read_part part tail element walk is = ap (map element_of) (split_closed part tail walk) ∙ ap (λ x. x ∷ elements_left tail) is
 
--- a challenge begins, whether or not what follows its scheme reads
+-- a challenge begins, whether or not the rest after its scheme parses
 abbrev BeginsOne : Element → Type 0
 BeginsOne element = ((challenge : Challenge) × (element ≡ Begins challenge)) ⊎ (element ≡ BreaksOff)
 
@@ -78,7 +78,7 @@ front_passed q (x ∷ xs) ys h = ap (begins q) (passed_step x xs) ∙ by (is_bla
   by true h rest = rest h
   by false h rest = h
 
--- the elements of a text that begins with a scheme
+-- the elements of a string that begins with a scheme
 record SchemeFirst (text : List ℕ) : Type 0 where
   element : Element
   others : List Element
@@ -101,7 +101,7 @@ scheme_first text it =
       one = subst BeginsOne (sym element) (scheme_one it.scheme (past_blanks first.part) no_value);
     }
 
--- these challenges, and maybe more
+-- these challenges, and possibly more
 abbrev Longer : List Challenge → List Challenge → Type 0
 Longer all found = (more : List Challenge) × (all ≡ found ++ more)
 
@@ -109,7 +109,7 @@ longer_last : (last : Option Challenge) (element : Element) (others : List Eleme
 longer_last last element others (inl (challenge, is)) = (whole (Some challenge) others, ap (λ x. whole last (x ∷ others)) is)
 longer_last last element others (inr is) = ([], ap (λ x. whole last (x ∷ others)) is ∙ sym (append-nil (option_to_list last)))
 
--- what stands whole is found
+-- complete challenges are found
 longer : (last : Option Challenge) (tail : Option (List ℕ)) (found : List Challenge) → Whole last tail found → Longer (whole last (elements_left tail)) found
 longer _ _ _ (Whole.at_end last) = ([], sym (append-nil (option_to_list last)))
 longer _ _ _ (Whole.at_scheme last text it) =
@@ -126,7 +126,7 @@ longer _ _ _ (Whole.next last challenge part tail found it rest) =
     let more = longer (Some challenge) tail found rest in
     (more.0, ap (whole last) (read_part part tail (Begins challenge) (walk_challenge part challenge it) (challenge_element part challenge it)) ∙ ap (λ cs. option_to_list last ++ cs) more.1 ∙ sym (append_assoc (option_to_list last) found more.0))
 
--- what is found stands whole, or nothing is
+-- found challenges are complete, or none is found
 abbrev Stands : Option Challenge → Option (List ℕ) → List Challenge → Type 0
 Stands last tail found = (found ≡ []) ⊎ Whole last tail found
 

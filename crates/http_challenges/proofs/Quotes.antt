@@ -1,4 +1,4 @@
--- How a quoted string is read by parts.
+-- How a quoted string is parsed by parts.
 use Rattle.std.proofs.Common.{◌≡◌, ℕ, ◌+◌, ◌<◌, suc, Bool, true, false, cond, not, ◌&&◌, ◌||◌, ◌==◌, List, [], ◌∷◌, ◌++◌, length, take, drop, Option, Some, None, refl, sym, ap, subst, ◌∙◌, arith, append_assoc, append-nil}
 use Rattle.std.specs.Prelude.{option_map, nat_lt}
 use Rattle.std.proofs.lemmas.List.Sums.{prefix_len-drop_no, prefix_len-drop_all, prefix_len_stops}
@@ -40,7 +40,7 @@ front_step b text n true is so =
     rw (one_more n) (plain_byte b text q s ∙ one_behind b (unquoted text) ∙ ap (behind (b ∷ [])) so ∙ behind-behind (b ∷ []) (take n text) (unquoted (drop n text)))
 front_step b text n false is so = sym (behind-nil (unquoted (b ∷ text)))
 
--- a front of bytes that are plain
+-- a prefix of plain bytes
 pub plain_front : (text : List ℕ) → unquoted text ≡ behind (take (prefix_len (has Plain) text) text) (unquoted (drop (prefix_len (has Plain) text) text))
 plain_front [] = sym (behind-nil (unquoted []))
 plain_front (b ∷ text) = front_step b text (prefix_len (has Plain) text) (has Plain b) refl (plain_front text)
@@ -52,13 +52,13 @@ escape_step c text false is =
     let s : (c == 92) ≡ false = grind (arith, nat_tests, is) in
     sym (plain_byte c text q s) ∙ sym (behind-nil (unquoted (c ∷ text)))
 
--- what a backslash makes literal
+-- the character that a backslash escapes
 pub escaped_front : (text : List ℕ) → unquoted (92 ∷ text) ≡ behind (take (literal_len text) text) (unquoted (drop (literal_len text) text))
 unfolding unquoted
 escaped_front [] = refl
 escaped_front (c ∷ text) = escape_step c text (c == 34 || c == 92) refl
 
--- a text that begins with no byte but a quote or a backslash, and with neither, is empty
+-- a string that begins with neither a plain byte, a quote nor a backslash is empty
 pub no_mark : (text : List ℕ) → prefix_len (has Plain) text ≡ 0 → after_byte 34 text ≡ None → after_byte 92 text ≡ None → text ≡ []
 no_mark [] plain quote slash = refl
 no_mark (b ∷ text) plain quote slash = by (b == 34) (b == 92) refl refl where
@@ -81,7 +81,7 @@ unfolding unquoted
 read_nothing [] content h = refl
 read_nothing (b ∷ rest) content h = let none : length (b ∷ rest) ≡ 0 = grind (arith, nat_tests, h) in absurd (omega (arith, none))
 
--- the content so far, and the last part of it
+-- the content so far, and its last part
 pub read_out : (text content rest plain left : List ℕ) → unquoted text ≡ behind content (unquoted rest) → unquoted rest ≡ behind plain (unquoted (34 ∷ left)) → is_blank left ≡ true → unquoted text ≡ Some (content ++ plain)
 read_out text content rest plain left so by blank = so ∙ ap (behind content) (by ∙ ap (behind plain) (quote_full left blank)) ∙ ap (λ x. Some (content ++ x)) {y = plain} (append-nil plain)
 
@@ -92,7 +92,7 @@ pub unquoted-nil : unquoted [] ≡ None
 unfolding unquoted
 unquoted-nil = refl
 
--- a part of a quoted string, of which so much was read
+-- one more part of a quoted string is parsed
 pub read_on : (text content rest plain mark literal left : List ℕ) → unquoted text ≡ behind content (unquoted rest) → unquoted rest ≡ behind plain (unquoted mark) → unquoted mark ≡ behind literal (unquoted left) → unquoted text ≡ behind ((content ++ plain) ++ literal) (unquoted left)
 read_on text content rest plain mark literal left so by then_by = so ∙ ap (behind content) (by ∙ ap (behind plain) then_by) ∙ behind-behind content plain _ ∙ behind-behind (content ++ plain) literal _
 
@@ -102,7 +102,7 @@ plain_stops_here text = by (nat_lt (prefix_len (has Plain) text) (length text)) 
   by true lt = let less : prefix_len (has Plain) text < length text = grind (arith, nat_tests, lt) in prefix_len-drop_no (has Plain) text _ 0 less (prefix_len_stops (has Plain) text 0 less)
   by false ge = prefix_len-drop_all (has Plain) text _ (grind (arith, nat_tests, ge))
 
--- a backslash makes the next byte literal
+-- a backslash escapes the next byte
 pub literal_byte : (c : ℕ) (text : List ℕ) → unquoted (92 ∷ c ∷ text) ≡ option_map (λ content. c ∷ content) (unquoted text)
 unfolding unquoted
 literal_byte c text = refl

@@ -1,4 +1,4 @@
--- What an element was read as, it is.
+-- A parsed element is in the grammar.
 use Rattle.std.proofs.Common.{◌≡◌, ◌≢◌, inl, inr, ℕ, Bool, true, false, cond, not, ◌&&◌, ◌==◌, List, [], ◌∷◌, ◌++◌, Option, Some, None, refl, sym, ap, subst, ◌∙◌, append_assoc, append-nil, true≢false, arith}
 use Rattle.std.specs.Prelude.{option_map}
 use Rattle.std.specs.List.{list_all, take_while}
@@ -20,7 +20,7 @@ given : {A : Type 0} (v : Bool) (x w : A) → cond v (Some x) None ≡ Some w �
 given true x w h = (refl, cc h)
 given false x w h = cc h
 
--- the content of a quoted string, and what follows its last quote
+-- the content of a quoted string, and what follows its closing quote
 record StringFront (text content : List ℕ) : Type 0 where
   inner : List ℕ
   back : List ℕ
@@ -63,7 +63,7 @@ string_front (b ∷ c ∷ text) content h = by (b == 34) (b == 92) refl refl (λ
   by false true is_q is_s later next = string_literal b c text content (grind (arith, nat_tests, is_s)) later h
   by false false is_q is_s later next = string_plain b (c ∷ text) content is_q is_s next h
 
--- a value, and white space behind it
+-- a value followed by white space
 record ValueFront (text value : List ℕ) : Type 0 where
   written : List ℕ
   back : List ℕ
@@ -106,7 +106,7 @@ value_front (b ∷ text) value h = by (b == 34) refl h where
       }
   by false is h = token_front (b ∷ text) value h
 
--- a parameter, and white space behind it
+-- a parameter followed by white space
 record ParameterFront (text : List ℕ) (parameter : List ℕ × List ℕ) : Type 0 where
   word : List ℕ
   back : List ℕ
@@ -137,7 +137,7 @@ after_is c (b ∷ text) rest h = by (b == c) refl h where
   by true is h = let same : b ≡ c = grind (arith, nat_tests, is) in cc (same, h)
   by false is h = cc h
 
--- a text by its token, the white space behind it, and what follows
+-- a text split into its token, the white space after it, and the rest
 token_gap : (text : List ℕ) → text ≡ token_in text ++ (take_while is_blank_byte (past_token text) ++ past_blanks (past_token text))
 token_gap text = cut_whole is_token_byte text ∙ ap (λ t. token_in text ++ t) (cut_whole is_blank_byte (past_token text))
 
@@ -175,7 +175,7 @@ scheme_begun front token gap rest before is blanks ends no_blank no_value tail =
       no_value = ap (begins (λ b. b == 61)) passed ∙ begins_append (λ b. b == 61) rest back no_value (behind_stops (λ b. b == 61) tail refl);
     }
 
--- what an element says of its text
+-- what an element means for its text
 abbrev pub IsRead : Element → List ℕ → Type 0
 IsRead Empty part = Blanks part
 IsRead (Parameter parameter) part = AddsParameter part parameter
@@ -183,7 +183,7 @@ IsRead (Begins challenge) part = BeginsChallenge part challenge × IsBegun part
 IsRead BreaksOff part = IsBegun part
 IsRead Unreadable part = Unit {0}
 
--- a parameter in front of which no white space stands goes on the scheme
+-- a parameter without white space before it continues the scheme
 spaced : (gap rest : List ℕ) (parameter : List ℕ × List ℕ) → Blanks gap → begins is_token_byte (gap ++ rest) ≡ false → ParameterFront rest parameter → FirstParameter (gap ++ rest) (parameter ∷ [])
 spaced [] rest parameter blanks ends front =
     let name = front.parameter_is.name in
@@ -206,7 +206,7 @@ spaced (b ∷ gap) rest parameter blanks ends front =
 adds_here : (front token gap rest : List ℕ) (parameter : List ℕ × List ℕ) → Blanks front → ParameterFront (token ++ (gap ++ 61 ∷ rest)) parameter → AddsParameter (front ++ (token ++ (gap ++ 61 ∷ rest))) parameter
 adds_here front token gap rest parameter before it = record { front = front; word = it.word; back = it.back; is = ap (λ t. front ++ t) it.is; before = before; parameter_is = it.parameter_is; behind = it.behind }
 
--- a token, white space, and what is neither
+-- a token, white space, and a byte that is neither
 after_gap : (front token gap rest : List ℕ) → Blanks front → Token token → Blanks gap → begins is_token_byte (gap ++ rest) ≡ false → begins is_blank_byte rest ≡ false → IsRead (after_token token rest) (front ++ (token ++ (gap ++ rest)))
 after_gap front token gap [] before is blanks ends no_blank = (
   record { front = front; rest = gap ++ []; is = refl; before = before; scheme = is; params = inl (subst Blanks (sym (append-nil gap)) blanks, refl) },

@@ -1,4 +1,4 @@
--- Which bytes a class has.
+-- The bytes of each class.
 use Rattle.std.specs.Prelude.{ℕ, ◌==◌, Bool, ◌&&◌, not}
 use Rattle.http_challenges.specs.declared.grammar.Class.{Class}
 use Rattle.http_challenges.specs.declared.grammar.Class.TheVariants.{Blank, Token, Plain}

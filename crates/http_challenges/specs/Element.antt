@@ -1,5 +1,5 @@
 -- Challenges are a list of elements, separated by commas: each begins a challenge, or adds a parameter
--- to the one begun last.
+-- to the last one.
 use Rattle.std.specs.Prelude.{ℕ, ◌+◌, List, [], ◌∷◌, ◌++◌, Option, Some, None, map, if◌then◌else◌}
 use Rattle.std.specs.Option.{option_to_list}
 use Rattle.http_challenges.specs.declared.challenge.Challenge.{Challenge}
@@ -10,7 +10,7 @@ use Rattle.http_challenges.specs.Grammar.{is_empty, past_blanks, token_in, past_
 use Rattle.http_challenges.specs.Grammar.{parameter_in}
 use Rattle.http_challenges.specs.Split.{split_from}
 
--- a challenge with this parameter, or one that breaks off
+-- a challenge with this parameter, or one that is malformed after its scheme
 abbrev pub begun : List ℕ → Option (List ℕ × List ℕ) → Element
 begun scheme (Some parameter) = Begins (record { scheme = scheme; params = parameter ∷ [] })
 begun scheme None = BreaksOff
@@ -30,7 +30,7 @@ after_token token text =
     then Begins (record { scheme = token; params = [] })
     else scheme_or_parameter token text (after_byte 61 text)
 
--- an element without the white space in front
+-- an element without its leading white space
 abbrev pub element_in : List ℕ → Element
 element_in text =
     if is_empty text then Empty
@@ -40,12 +40,12 @@ element_in text =
 unfoldable pub element_of : List ℕ → Element
 element_of text = element_in (past_blanks text)
 
--- the challenge with this parameter behind the others
+-- the challenge with this parameter added last
 abbrev pub with_parameter : Challenge → List ℕ × List ℕ → Challenge
 with_parameter challenge parameter = record challenge { params = challenge.params ++ parameter ∷ [] }
 
--- reading goes from the left and stops at the first place that does not read; a challenge is whole where
--- the next one begins or the text ends
+-- parsing goes from left to right and stops at the first malformed element; a challenge is complete if the next one
+-- begins or the text ends
 abbrev pub whole : Option Challenge → List Element → List Challenge
 whole last [] = option_to_list last
 whole last (Empty ∷ elements) = whole last elements

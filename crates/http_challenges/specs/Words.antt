@@ -19,19 +19,19 @@ Token text = (text ≢ []) × IsTrue (list_all is_token_byte text)
 abbrev pub is_plain_byte : ℕ → Bool
 is_plain_byte b = not (b == 34) && not (b == 92)
 
--- what stands between two quotes, and what it says: `\` makes the next byte literal
+-- the text between two quotes, and its content: `\` escapes the next byte
 pub data Says : List ℕ → List ℕ → Type 0 where
   nothing : Says [] []
   plain : (b : ℕ) (text content : List ℕ) → IsTrue (is_plain_byte b) → Says text content → Says (b ∷ text) (b ∷ content)
   literal : (b : ℕ) (text content : List ℕ) → Says text content → Says (92 ∷ b ∷ text) (b ∷ content)
 
--- a quoted string, and what it says
+-- a quoted string, and its content
 pub record Quoted (text content : List ℕ) : Type 0 where
   pub inner : List ℕ
   pub is : text ≡ 34 ∷ (inner ++ 34 ∷ [])
   pub says : Says inner content
 
--- the value of a parameter: a token, or what a quoted string says
+-- the value of a parameter: a token, or the content of a quoted string
 abbrev pub Value : List ℕ → List ℕ → Type 0
 Value text value = (Token text × (value ≡ text)) ⊎ Quoted text value
 
@@ -44,7 +44,7 @@ pub record IsParameter (text : List ℕ) (parameter : List ℕ × List ℕ) : Ty
   pub blanks : Blanks gap
   pub value : Value written parameter.1
 
--- a parameter in white space
+-- a parameter surrounded by white space
 pub record AddsParameter (text : List ℕ) (parameter : List ℕ × List ℕ) : Type 0 where
   pub front : List ℕ
   pub word : List ℕ
@@ -54,14 +54,14 @@ pub record AddsParameter (text : List ℕ) (parameter : List ℕ × List ℕ) : 
   pub parameter_is : IsParameter word parameter
   pub behind : Blanks back
 
--- no parameter, or one behind white space
+-- no parameter, or one after white space
 abbrev pub FirstParameter : List ℕ → List (List ℕ × List ℕ) → Type 0
 FirstParameter text params =
     (Blanks text × (params ≡ []))
     ⊎ ((b : ℕ) × (rest : List ℕ) × (parameter : List ℕ × List ℕ) × (text ≡ b ∷ rest)
     × IsTrue (is_blank_byte b) × AddsParameter rest parameter × (params ≡ parameter ∷ []))
 
--- a scheme in white space, with its first parameter where it has one
+-- a scheme surrounded by white space, with its first parameter if it has one
 pub record BeginsChallenge (text : List ℕ) (challenge : Challenge) : Type 0 where
   pub front : List ℕ
   pub rest : List ℕ
@@ -70,12 +70,12 @@ pub record BeginsChallenge (text : List ℕ) (challenge : Challenge) : Type 0 wh
   pub scheme : Token challenge.scheme
   pub params : FirstParameter rest challenge.params
 
--- the first byte, where there is one, passes
+-- the first byte, if there is one, passes the test
 abbrev pub begins : (ℕ → Bool) → List ℕ → Bool
 begins p [] = false
 begins p (b ∷ text) = p b
 
--- a scheme begins the text: a whole token, that is not followed, behind white space, by `=`
+-- the text begins with a scheme: a complete token that is not followed by optional white space and `=`
 pub record BeginsScheme (text : List ℕ) : Type 0 where
   pub front : List ℕ
   pub scheme : List ℕ
@@ -86,14 +86,14 @@ pub record BeginsScheme (text : List ℕ) : Type 0 where
   pub ends : begins is_token_byte rest ≡ false
   pub no_value : begins (λ b. b == 61) (past_blanks rest) ≡ false
 
--- a comma with this text behind it, or nothing
+-- a comma followed by this text, or nothing
 abbrev pub behind_comma : Option (List ℕ) → List ℕ
 behind_comma None = []
 behind_comma (Some text) = 44 ∷ text
 
--- These challenges stand whole in a list, of which the first may have begun before this text: the
--- elements of the list stand between commas, each is empty, adds a parameter, or begins a challenge,
--- and a challenge is whole where the next one begins or the text ends.
+-- These challenges are complete in a list, of which the first may have begun before this text: the
+-- elements of the list are separated by commas, each is empty, adds a parameter, or begins a challenge,
+-- and a challenge is complete if the next one begins or the text ends.
 pub data Whole : Option Challenge → Option (List ℕ) → List Challenge → Type 0 where
   at_end : (last : Option Challenge) → Whole last None (option_to_list last)
   at_scheme : (last : Option Challenge) (text : List ℕ) → BeginsScheme text
@@ -108,8 +108,8 @@ pub data Whole : Option Challenge → Option (List ℕ) → List Challenge → T
       (found : List Challenge) → BeginsChallenge part challenge → Whole (Some challenge) tail found
       → Whole last (Some (part ++ behind_comma tail)) (option_to_list last ++ found)
 
--- the challenges of a text: they stand whole in it, and are as many as may be, so that no other stands
--- whole before the first place that does not read
+-- the challenges of a text: they are complete in it, and as many as possible, so that no other one is
+-- complete before the first malformed element
 pub record AreChallenges (text : List ℕ) (found : List Challenge) : Type 0 where
   pub whole : (found ≡ []) ⊎ Whole None (Some text) found
   pub most : (others : List Challenge) → Whole None (Some text) others

@@ -1,4 +1,4 @@
-// What a challenge of the scheme Bearer asks for.
+// Challenges of the scheme Bearer.
 ghost use Rattle.std.specs.Prelude.{◌≡◌, true, List, Some, None, Ok, Err, IfOk, IfErr, option_copied};
 ghost use Rattle.http_challenges.specs.Bearer.{is_named, last_value, bearer_of, first_bearer, is_text, text_of};
 ghost use Rattle.http_challenges.specs.Bearer.{in_header};
@@ -12,31 +12,31 @@ use json_values::{Copied, Text, copied};
 use std::alloc::{AllocError, Global};
 use thiserror::Error;
 
-/// Where a token is to be asked for (RFC 6750, section 3).
+/// Where to request a token (RFC 6750, section 3).
 #[derive(Drop)]
 pub struct BearerChallenge {
-    /// The text of the URL to ask.
+    /// The URL of the token service.
     pub realm: Text,
-    /// The service that the token is for, where it is named.
+    /// The service that the token is for, if it is named.
     pub service: Option<Text>,
 }
 
-/// Why no Bearer challenge was read.
+/// Why a Bearer challenge could not be parsed.
 #[derive(Clone, Copy, Debug, PartialEq, Eq, Error)]
 pub enum ChallengeError {
     /// The header has a byte that is neither a tab nor from 0x20 to 0x7E.
     #[error("the header of challenges is not text: ask the registry for visible ASCII")]
     NotText,
-    /// No challenge of the header is of the scheme Bearer and has a realm.
+    /// No challenge in the header has the scheme Bearer and a realm.
     #[error("no challenge is of the scheme Bearer and has a realm: show credentials in another way")]
     NoBearer,
-    /// The challenge is of another scheme than Bearer.
+    /// The challenge has another scheme than Bearer.
     #[error("the challenge is of another scheme than Bearer: show credentials in another way")]
     OtherScheme,
     /// The challenge has no parameter `realm`.
     #[error("the challenge has no realm: there is no URL to ask for a token")]
     NoRealm,
-    /// The allocator had no memory.
+    /// The allocator is out of memory.
     #[error("out of memory: free some and try again")]
     WantOfMemory,
 }
@@ -67,7 +67,7 @@ fn is_named(name: &str, text: &str) -> bool
     text.eq_ignore_ascii_case(name)
 }
 
-// The last value of this name.
+// Returns the last value with this name.
 fn last_value<'a>(name: &str, params: &'a [(Text, Text)]) -> Option<&'a str>
     ensures { option_copied result ≡ last_value name.now params.now }
 {
@@ -100,7 +100,7 @@ fn is_text(value: &[u8]) -> bool
         .all(|byte| *byte == 9 || (32 <= *byte && *byte <= 126))
 }
 
-// The first challenge of these that is of the scheme Bearer and has a realm.
+// Returns the first of these challenges that has the scheme Bearer and a realm.
 fn first_bearer(alloc: Global, challenges: &[Challenge]) -> Result<BearerChallenge, ChallengeError>
     ensures ok { IfOk result (λ bearer. first_bearer challenges.now ≡ Ok bearer) }
     ensures refused { IfErr result (IsRefusal (first_bearer challenges.now)) }
@@ -116,9 +116,9 @@ fn first_bearer(alloc: Global, challenges: &[Challenge]) -> Result<BearerChallen
 }
 
 impl BearerChallenge {
-    /// The first challenge of the scheme Bearer that has a realm, in the value of a header `www-authenticate`.
+    /// Parses the first challenge with the scheme Bearer and a realm in the value of a `www-authenticate` header.
     ///
-    /// `NotText` where the value is not text, and else `NoBearer` where no challenge is such.
+    /// Returns `NotText` if the value is not text, otherwise `NoBearer` if there is no such challenge.
     #[tactic(auto, using(crate::proofs::HeaderChallenges::header_list), unfolding(crate::specs::Bearer::in_header))]
     pub fn from_header(alloc: Global, value: &[u8]) -> Result<BearerChallenge, ChallengeError>
         ensures ok { IfOk result (λ bearer. in_header value.now ≡ Ok bearer) }
@@ -134,10 +134,10 @@ impl BearerChallenge {
         Ok(bearer)
     }
 
-    /// The last realm and the last service of a challenge of the scheme Bearer. The case of the scheme and of the
-    /// parameters' names does not matter.
+    /// Returns the last realm and the last service of a Bearer challenge. The case of the scheme and of parameter names
+    /// is ignored.
     ///
-    /// `OtherScheme` where the scheme is another one, and else `NoRealm` where there is no realm.
+    /// Returns `OtherScheme` if the scheme is another one, otherwise `NoRealm` if there is no realm.
     #[tactic(auto, unfolding(crate::specs::Bearer::bearer_of))]
     pub fn from_challenge(
         alloc: Global,
@@ -158,7 +158,7 @@ impl BearerChallenge {
     }
 }
 
-// The value as text.
+// Returns the value as text.
 fn text_of(value: &[u8]) -> Option<&str>
     ensures { option_copied result ≡ text_of value.now }
 {

@@ -10,12 +10,12 @@ use crate::split::cut_element;
 use json_values::{Copied, List, Text, copied};
 use std::alloc::{AllocError, Global};
 
-/// A challenge: its scheme, and its parameters by name, in their order.
+/// A challenge: its scheme, and its parameters in order.
 #[derive(Drop)]
 pub struct Challenge {
-    /// The scheme as it is written.
+    /// The scheme verbatim.
     pub scheme: Text,
-    /// Names and values, the values without their quotes.
+    /// Names and values, the values unquoted.
     pub params: List<(Text, Text)>,
 }
 
@@ -25,7 +25,7 @@ impl Copied for Challenge {
     }
 }
 
-// Whether reading goes on behind the element.
+// Takes an element, and returns whether parsing continues.
 fn take(
     found: &mut List<Challenge>,
     last: &mut Option<Challenge>,
@@ -60,7 +60,7 @@ fn take(
     }
 }
 
-// The challenges of a text, read element by element.
+// Parses the challenges of a text, element by element.
 #[tactic(auto, unfolding(crate::specs::Element::challenges_of))]
 fn listed(alloc: Global, text: &str) -> Result<List<Challenge>, AllocError>
     ensures { IfOk result (λ found. found ≡ challenges_of text.now) }
@@ -82,8 +82,8 @@ fn listed(alloc: Global, text: &str) -> Result<List<Challenge>, AllocError>
     Ok(found)
 }
 
-/// The challenges of a list (RFC 9110, section 11.6.1), up to the first place that does not read: a challenge is whole
-/// where the next one begins or the text ends.
+/// Parses a list of challenges (RFC 9110, section 11.6.1) up to the first malformed element. A challenge is complete
+/// if the next one begins or the text ends.
 pub fn challenges(alloc: Global, text: &str) -> Result<List<Challenge>, AllocError>
     ensures ok { IfOk result (λ found. found ≡ challenges_of text.now) }
     ensures grammar { IfOk result (λ found. AreChallenges text.now found) }

@@ -7,14 +7,14 @@ use crate::grammar::{after_byte, assigned, cut_token, parameter_in, past_blanks}
 use json_values::{List, Text};
 use std::alloc::{AllocError, Global};
 
-/// What stands between two commas.
+/// The text between two commas.
 #[derive(Drop)]
 pub enum Element {
     Empty,
     Parameter((Text, Text)),
-    /// A challenge, with its first parameter where it has one.
+    /// A challenge, with its first parameter if it has one.
     Begins(Challenge),
-    /// A challenge begins, and what follows its scheme does not read.
+    /// A challenge that is malformed after its scheme.
     BreaksOff,
     Unreadable,
 }
@@ -67,7 +67,7 @@ fn after_token(alloc: Global, token: &str, text: &str) -> Result<Element, AllocE
     }
 }
 
-/// Reads one element.
+/// Parses one element.
 #[tactic(auto, unfolding(crate::specs::Element::element_of))]
 pub fn read_element(alloc: Global, text: &str) -> Result<Element, AllocError>
     ensures { IfOk result (λ element. element ≡ list.element_of text.now) }

@@ -8,7 +8,7 @@ ghost use Rattle.http_challenges.specs.Classes.{has};
 use json_values::Text;
 use std::alloc::{AllocError, Global};
 
-/// The bytes that a part of the grammar is made of.
+/// The classes of bytes in the grammar.
 #[derive(Clone, Copy)]
 pub enum Class {
     Blank,
@@ -39,7 +39,7 @@ fn has(class: Class, byte: u8) -> bool
     }
 }
 
-// How many bytes of the class stand in front.
+// Returns the length of the prefix with bytes of this class.
 fn front_len(class: Class, bytes: &[u8]) -> usize
     ensures { result ≡ prefix_len (has class) bytes.now }
 {
@@ -51,7 +51,7 @@ fn front_len(class: Class, bytes: &[u8]) -> usize
     bytes.len()
 }
 
-// The bytes of the class in front, and what follows.
+// Splits off the prefix with bytes of this class.
 fn cut_front(class: Class, text: &str) -> (&str, &str)
     ensures front { result.0.now ≡ take (prefix_len (has class) text.now) text.now }
     ensures rest { result.1.now ≡ drop (prefix_len (has class) text.now) text.now }
@@ -59,14 +59,14 @@ fn cut_front(class: Class, text: &str) -> (&str, &str)
     text.split_at(front_len(class, text.as_bytes()))
 }
 
-/// The text without the white space in front.
+/// Skips leading white space.
 pub fn past_blanks(text: &str) -> &str
     ensures { result.now ≡ words.past_blanks text.now }
 {
     cut_front(Class::Blank, text).1
 }
 
-/// The token in front, and what follows it.
+/// Splits off the leading token.
 pub fn cut_token(text: &str) -> (&str, &str)
     ensures token { result.0.now ≡ words.token_in text.now }
     ensures rest { result.1.now ≡ words.past_token text.now }
@@ -80,7 +80,7 @@ fn is_blank(text: &str) -> bool
     text.bytes().all(is_blank_byte)
 }
 
-/// What follows, where the text begins with this byte.
+/// Returns the rest after this byte, if the text begins with it.
 pub fn after_byte(byte: u8, text: &str) -> Option<&str>
     requires { byte < 128 }
     ensures { option_copied result ≡ words.after_byte byte text.now }
@@ -91,7 +91,7 @@ pub fn after_byte(byte: u8, text: &str) -> Option<&str>
     }
 }
 
-// The bytes in front that are neither a quote nor a backslash, and what follows.
+// Splits off the leading bytes that are neither a quote nor a backslash.
 fn cut_plain(text: &str) -> (&str, &str)
     ensures reads { words.unquoted text.now
         ≡ words.behind result.0.now (words.unquoted result.1.now) }
@@ -101,7 +101,7 @@ fn cut_plain(text: &str) -> (&str, &str)
     cut_front(Class::Plain, text)
 }
 
-// How many bytes of a quote or a backslash stand in front.
+// Returns the length of a leading quote or escaped byte.
 fn literal_len(bytes: &[u8]) -> usize
     ensures { result ≡ words.literal_len bytes.now }
 {
@@ -112,7 +112,7 @@ fn literal_len(bytes: &[u8]) -> usize
     }
 }
 
-// What a backslash in front makes literal, and what follows. A character that is plain anyway is left to what follows.
+// Splits off the character that a leading backslash escapes. A character that is plain anyway is left in the rest.
 fn cut_literal(text: &str) -> (&str, &str)
     requires plain { prefix_len (has Class.Plain) text.now ≡ 0 }
     requires open { words.after_byte 34 text.now ≡ None }
@@ -126,7 +126,7 @@ fn cut_literal(text: &str) -> (&str, &str)
     }
 }
 
-// What a quoted string says, whose first quote stands before this text.
+// Returns the content of a quoted string, whose opening quote is before this text.
 fn unquoted(alloc: Global, text: &str) -> Result<Option<Text>, AllocError>
     ensures { IfOk result (λ content. content ≡ words.unquoted text.now) }
 {
@@ -148,7 +148,7 @@ fn unquoted(alloc: Global, text: &str) -> Result<Option<Text>, AllocError>
     Ok(None)
 }
 
-// A token, with only white space behind it.
+// Parses a token followed by white space only.
 fn token_value(alloc: Global, text: &str) -> Result<Option<Text>, AllocError>
     ensures { IfOk result (λ value. value ≡ words.token_value text.now) }
 {
@@ -176,7 +176,7 @@ fn value_in(alloc: Global, text: &str) -> Result<Option<Text>, AllocError>
     }
 }
 
-/// A parameter: this name, and the value that follows its `=`.
+/// Returns the parameter with this name, and the value after its `=`.
 pub fn assigned(alloc: Global, name: &str, text: &str) -> Result<Option<(Text, Text)>, AllocError>
     ensures { IfOk result (λ parameter. parameter ≡ words.assigned name.now (Some text.now)) }
 {
@@ -192,7 +192,7 @@ pub fn assigned(alloc: Global, name: &str, text: &str) -> Result<Option<(Text, T
     }
 }
 
-/// The parameter that the text is, with white space round it.
+/// Parses a parameter surrounded by white space.
 #[tactic(auto, unfolding(crate::specs::Grammar::parameter_in))]
 pub fn parameter_in(alloc: Global, text: &str) -> Result<Option<(Text, Text)>, AllocError>
     ensures { IfOk result (λ parameter. parameter ≡ words.parameter_in text.now) }

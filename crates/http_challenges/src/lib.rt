@@ -1,4 +1,4 @@
-//! Challenges of a registry, as the header `www-authenticate` lists them (RFC 9110, section 11.6.1).
+//! Parses the challenges in a `www-authenticate` header (RFC 9110, section 11.6.1).
 #![tactic(auto)]
 
 mod bearer;

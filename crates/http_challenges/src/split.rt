@@ -1,15 +1,15 @@
-// Where a list of challenges is split into its elements.
+// Splits a list of challenges into its elements.
 ghost use Rattle.std.specs.Prelude.{◌≡◌, ◌∷◌, [], ◌<◌, length, MatchOption, IfSome};
 ghost use Rattle.std.specs.Option.{option_copied};
 ghost use Rattle.http_challenges.specs.Split as list;
 
-/// Where a byte stands.
+/// The place of a byte relative to quoted strings.
 #[derive(Clone, Copy)]
 pub enum Place {
     Outside,
     /// In a quoted string.
     Quoted,
-    /// Behind a backslash in one.
+    /// After a backslash in one.
     Escaped,
 }
 
@@ -36,7 +36,7 @@ fn is_comma(place: Place, byte: u8) -> bool
     }
 }
 
-// Where the first comma stands that is in no quoted string.
+// Returns the index of the first comma outside of quoted strings.
 fn comma_in(bytes: &[u8]) -> Option<usize>
     ensures { MatchOption result
         (list.split_from Place.Outside bytes.now ≡ bytes.now ∷ [])
@@ -52,7 +52,7 @@ fn comma_in(bytes: &[u8]) -> Option<usize>
     None
 }
 
-/// The first element of a list, and what follows its comma.
+/// Splits off the first element of a list. Returns also the rest after its comma, if there is one.
 pub fn cut_element(text: &str) -> (&str, Option<&str>)
     ensures split { list.split_from Place.Outside text.now
         ≡ result.0.now ∷ list.split_rest (option_copied result.1) }

@@ -52,7 +52,7 @@ object_compact : (ms : Members) → compact_text (object ms) ≡ object_text (te
 object_compact no_members = refl
 object_compact (member k d ms) = ap (λ s. 123 ∷ s) (members_joined k d ms)
 
--- ---- members that are placed are the same, in order
+-- ---- inserting members keeps them, in order
 
 two_swapped : (e x : Entry) (xs : List Entry) → IsPermutation (e ∷ x ∷ xs) (x ∷ e ∷ xs)
 two_swapped e x xs = IsPermutation-append (e ∷ x ∷ []) (x ∷ e ∷ []) xs xs (IsPermutation-to_front (e ∷ []) x) (IsPermutation-refl xs)
@@ -68,7 +68,7 @@ placed : (k : List ℕ) (d : Data) (ms : Members) → Apart k ms → IsPermutati
 placed k d no_members apart = IsPermutation-refl _
 placed k d (member l e ms) apart = placed_at (by_units k l) k l d e ms refl apart.0.1 (placed k d ms apart.1)
 
--- the name is before those of the members
+-- the name is less than those of the members
 abbrev Above : List ℕ → Members → Type 0
 Above k ms = AllByRecursion (λ l. by_units k l ≡ Less) (map (λ e. e.0) (texts_of ms))
 

@@ -93,7 +93,7 @@ fed_then xs ys (Ok v) u old mid new before tray after first up second = (ran_mor
 fed_then xs ys (Err e) u old mid new before tray after first up (inl second) = inl (ran_more xs ys old mid new before tray after first.0 second.0, second.1)
 fed_then xs ys (Err e) u old mid new before tray after first up (inr second) = inr (breaks_more xs ys e old mid before tray after first.0 up second)
 
--- the first ones were refused or broken off
+-- the first events were refused or failed
 pub fed_stop : (xs ys : List Event) (e : CanonError) (old new : Stage) (before after : Tray) → Fed {X = Unit {0}} xs (Err e) old new before after → Fed {X = Unit {0}} (xs ++ ys) (Err e) old new before after
 fed_stop xs ys e old new before after (inl first) =
     let all = run-append xs ys old in
@@ -112,7 +112,7 @@ fed_stop xs ys e old new before after (inr broken) =
       | inr wanted ↦ inr (inr (record { is = wanted.is; front = subst (λ o. AddsFront o before after) (sym all) (front_longer (run xs old).out _ before after wanted.front) }))
     ]
 
--- all events but those that are left were taken
+-- all events but those that are left were accepted
 pub record FedUpTo (all left : List Event) (old now : Stage) (before tray : Tray) : Type 0 where
   pub done : List Event
   pub parts : all ≡ done ++ left
@@ -138,7 +138,7 @@ up_to_stop all xs rest left e old now new before tray after is so fed =
 pub up_to_end : (all left : List Event) (r : Result (Unit {0}) CanonError) (old now new : Stage) (before tray after : Tray) → FedUpTo all left old now before tray → Fed left r now new tray after → Fed all r old new before after
 up_to_end all left r old now new before tray after so fed = subst (λ l. Fed l r old new before after) (sym so.parts) (fed_then so.done left r tt old now new before tray after so.fed so.count fed)
 
--- what is left of an array and of an object
+-- the rest of an array and of an object
 abbrev pub items_left : Items → List Event
 items_left ds = spelled_items ds ++ end_array ∷ []
 
@@ -169,7 +169,7 @@ pub all_three : (xs ys zs : List Event) (r : Result (Unit {0}) CanonError) (u v 
 all_three xs ys zs r u v old mid more new before tray late after first up second higher third =
     fed_then xs (ys ++ zs) r u old mid new before tray after first up (fed_then ys zs r v mid more new tray late after second higher third)
 
--- the refusal is handed on
+-- the error is propagated
 pub handed : (xs : List Event) (r : Result (Unit {0}) CanonError) (e : CanonError) (old new : Stage) (before after : Tray) → IsErrAnd r (λ x. x ≡ e) → Fed {X = Unit {0}} xs (Err e) old new before after → Fed xs r old new before after
 handed xs (Ok u) e old new before after is fed = absurd is
 handed xs (Err c) e old new before after is fed = subst (λ x. Fed {X = Unit {0}} xs (Err x) old new before after) (sym is) fed

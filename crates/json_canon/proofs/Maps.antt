@@ -1,4 +1,4 @@
--- A value and its objects as maps, in whatever order.
+-- A value and its objects as maps, in any order.
 use Rattle.std.proofs.Common.{◌≡◌, ◌≢◌, ℕ, List, Ordering, Less, Equal, Greater, refl, sym, ap, ◌∙◌, pos, negsuc, IsUtf8}
 use Rattle.std.specs.Cmp.{IsTotalOrder, tied_back}
 use Rattle.std.specs.Cmp.Lexicographic.{slice_cmp, nat_list_cmp_total}
@@ -15,7 +15,7 @@ use Rattle.json_events.proofs.Utf16.{same_units}
 use Rattle.json_canon.specs.AsMaps.{whole_or, put_all, as_maps, items_as_maps, members_as_maps}
 use Rattle.json_canon.proofs.MemberOrders.{Order, place, arranged, arranged_items, arranged_members, commute}
 
--- names that both orders tell apart
+-- names that both orders distinguish
 abbrev pub Told : List ℕ → List ℕ → Type 0
 Told k l = (by_bytes k l ≢ Equal) × (by_units k l ≢ Equal)
 
@@ -24,7 +24,7 @@ Apart k no_members = ⊤
 Apart k (member l e ms) = Told k l × Apart k ms
 
 abbrev mutual
-  -- the names of each object are told apart
+  -- both orders distinguish the names of each object
   pub AreApart : Data → Type 0
   AreApart null = ⊤
   AreApart (boolean b) = ⊤
@@ -41,7 +41,7 @@ abbrev mutual
   MembersApart no_members = ⊤
   MembersApart (member k d ms) = Apart k ms × AreApart d × MembersApart ms
 
--- an order that tells them apart
+-- an order that distinguishes them
 pub record IsTelling (R : Order) : Type 0 where
   pub total : IsTotalOrder R
   pub tells : (k l : List ℕ) → Told k l → R k l ≢ Equal
@@ -112,7 +112,7 @@ module _ {S : Order} (telling : IsTelling S) where
   placed_apart k d (member l e ms) apart one all = placed_apart_at (S k l) k l d e ms refl apart.0 apart.1 one all (placed_apart k d ms apart.1 one all.2)
 
   mutual
-    -- arranging tells apart what was
+    -- arranging keeps names distinguished
     pub still_apart : (d : Data) → AreApart d → AreApart (arranged S d)
     still_apart null a = tt
     still_apart (boolean b) a = tt
@@ -149,7 +149,7 @@ module _ {R S : Order} (over : IsTelling R) (under : IsTelling S) where
   across k d (member l e ms) apart = across_at (S k l) k l d e ms refl apart.0 (across k d ms apart.1)
 
   mutual
-    -- arranging by one order leaves nothing of another
+    -- arranging by one order leaves no trace of another
     pub again : (d : Data) → AreApart d → arranged R (arranged S d) ≡ arranged R d
     again null a = refl
     again (boolean b) a = refl
@@ -167,13 +167,13 @@ module _ {R S : Order} (over : IsTelling R) (under : IsTelling S) where
     members_again (member k d ms) a =
         across k (arranged S d) (arranged_members S ms) (apart_arranged S k ms a.0) ∙ (λ i. place R k (again d a.1 i) (members_again ms a.2 i))
 
--- ---- members that are put one after another are in the order of their bytes
+-- ---- members that are inserted one after another are in the order of their bytes
 
 put_place : (k : List ℕ) (d : Data) (ms : Members) → put k d ms ≡ place by_bytes k d ms
 put_place k d no_members = refl
 put_place k d (member l e ms) = ap (λ rest. match_ordering (slice_cmp nat_cmp k l) (member k d (member l e ms)) (member l d ms) (member l e rest)) (put_place k d ms)
 
--- the members as they are put, after those that were found
+-- the members as inserted, after those that were found
 abbrev pub taken : Members → Members → Members
 taken no_members found = found
 taken (member k d ms) found = taken ms (put k (arranged by_bytes d) found)

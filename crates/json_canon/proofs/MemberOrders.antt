@@ -1,4 +1,4 @@
--- Members in an order of their names, whatever order they came in.
+-- Members in an order of their names, whatever their order in the input.
 use Rattle.std.proofs.Common.{◌≡◌, ◌≢◌, ℕ, List, Ordering, Less, Equal, Greater, refl, ap, ◌∙◌}
 use Rattle.std.specs.Cmp.{IsTotalOrder, alike_right}
 use Rattle.std.specs.Ordering.{match_ordering, ordering_reverse}
@@ -10,7 +10,7 @@ use Rattle.json_canon.specs.AsMaps.{whole_or}
 abbrev pub Order : Type 0
 Order = List ℕ → List ℕ → Ordering
 
--- the members, with d at k
+-- the members with value d at name k
 abbrev pub place : Order → List ℕ → Data → Members → Members
 place R k d no_members = member k d no_members
 place R k d (member l e ms) = match_ordering (R k l) (member k d (member l e ms)) (member l d ms) (member l e (place R k d ms))
@@ -34,7 +34,7 @@ abbrev mutual
   arranged_members R (member k d ms) = place R k (arranged R d) (arranged_members R ms)
 
 module _ {R : Order} (total : IsTotalOrder R) where
-  -- of three names, where two stand to the third
+  -- of three names, two compared to the third
   between_less : (k l m : List ℕ) → R k m ≡ Less → R l m ≡ Greater → R k l ≡ Less
   between_less k l m p q = total.trans k m l p (total.antisymm m l ∙ ap ordering_reverse q)
 
@@ -74,7 +74,7 @@ module _ {R : Order} (total : IsTotalOrder R) where
   commute_at k l m d e f ms Greater Equal apart a b more = rw (a, b, a)
   commute_at k l m d e f ms Greater Greater apart a b more = rw (a, b, a, more)
 
-  -- names that are told apart may be placed in either order
+  -- distinguished names may be inserted in either order
   pub commute : (k l : List ℕ) (d e : Data) (ms : Members) → R k l ≢ Equal → place R k d (place R l e ms) ≡ place R l e (place R k d ms)
   commute k l d e no_members apart = first_two k l d e _ refl apart
   commute k l d e (member m f ms) apart = commute_at k l m d e f ms _ _ apart refl refl (commute k l d e ms apart)

@@ -1,4 +1,4 @@
--- What is read of a canonical text, and what `pipe` gives of it.
+-- What a canonical text parses to, and what `pipe` returns for it.
 use Rattle.std.proofs.Common.{◌≡◌, ℕ, ◌≤◌, ◌<◌, List, inl, inr, Some, None, Result, Ok, Err, sym, ap, subst, ◌∙◌, IsUtf8}
 use Rattle.std.specs.Prelude.{if◌then◌else◌}
 use Rattle.std.proofs.lemmas.Bool.Decides.{leb_tells}
@@ -20,7 +20,7 @@ use Rattle.json_canon.proofs.Maps.{AreApart, value_apart, still_apart, again, by
 use Rattle.json_canon.proofs.ReadBack.{spells, one_value, read_shallow, read_deep, maps_unrefused}
 use Rattle.json_canon.proofs.Texts.{canonical_utf8}
 
--- the order of the names' units is the same, whatever order was before
+-- arranging by the names' units gives the same result from any order
 named_maps : (d : Data) → AreApart d → by_names (as_maps d) ≡ by_names d
 named_maps d a = ap by_names (maps_in_order d a) ∙ again by_units_tells by_bytes_tells d a
 

@@ -1,4 +1,4 @@
--- The events of a value put its text.
+-- The events of a value write its text.
 use Rattle.std.proofs.Common.{◌≡◌, ℕ, List, [], Option, Some, None, Result, Ok, Err, refl, sym, ap, subst, ◌∙◌, inl, inr, arith}
 use Rattle.std.specs.Result.{IsErrAnd}
 use Rattle.serde_json.specs.Data.{Data}
@@ -46,7 +46,7 @@ plain_refusal Unreadable d before after p q r = absurd r
 plain_refusal SinkFault d before after p q r = let rose = r.1 in absurd (omega (arith, rose))
 plain_refusal WantOfMemory d before after p q r = tt
 
--- what was put into a sink that was empty
+-- the output of a sink that was empty
 pub put_into_none : (d : Data) (before after : Tray) (t : List ℕ) → PutsText d before after → before.taken ≡ Some [] → after.taken ≡ Some t → Canonical d t
 put_into_none d before after t put none all =
     let both : Some put.text ≡ Some t = sym (put.whole.took [] none) ∙ all in
@@ -63,7 +63,7 @@ nothing_put Unreadable d tray r = absurd r
 nothing_put SinkFault d tray r = absurd r
 nothing_put WantOfMemory d tray r = inl refl
 
--- a number was refused before anything was put
+-- a number was refused before anything was written
 pub refused_first : (e : CanonError) (d : Data) (tray : Tray) → refused d ≡ Some e → RefusesWriting e d tray tray
 refused_first e d tray is = nothing_put e d tray (refuses e d is)
 

@@ -1,4 +1,4 @@
--- A canonical text is read as its value.
+-- A canonical text parses to its value.
 use Rattle.std.proofs.Common.{◌≡◌, ◌≢◌, ℕ, suc, ◌+◌, ◌<◌, ◌≤◌, ℤ, pos, negsuc, List, [], ◌∷◌, IsTrue, Ordering, Less, Equal, Greater, Option, Some, None, option_map, option_and_then, refl, sym, ap, subst, ◌∙◌, arith, append-nil}
 use Rattle.std.specs.Ordering.{match_ordering}
 use Rattle.std.specs.Prelude.{⊤, max, if◌then◌else◌}
@@ -31,7 +31,7 @@ use Rattle.json_canon.proofs.Compact.{by_names, by_names_text}
 use Rattle.json_canon.proofs.Maps.{Apart, AreApart, ItemsApart, MembersApart, IsTelling, by_bytes_tells, by_units_tells, apart_arranged, still_apart, again, taken, taken_all, maps_in_order}
 use Rattle.json_canon.proofs.Texts.{small}
 
--- ---- numbers that are read as they stand
+-- ---- numbers that parse to themselves
 
 abbrev IsPlainNumber : Num → Type 0
 IsPlainNumber n = (z : ℤ) × (n ≡ whole z) × IsTrue (in_range z)
@@ -133,7 +133,7 @@ mutual
 pub maps_unrefused : (d : Data) (t : List ℕ) → AreApart d → Canonical d t → refused (as_maps d) ≡ None
 maps_unrefused d t a is = ap refused (maps_in_order d a) ∙ unrefused (arranged by_bytes d) (plain_arranged by_bytes d t is)
 
--- ---- what is read of the JSON
+-- ---- what the JSON parses to
 
 read_whole : (z : ℤ) → IsTrue (in_range z) → option_map number (number_of (number_text (whole z))) ≡ Some (number (whole_or (whole z) (as_integer (whole z))))
 read_whole (pos n) is = let fits = small (pos n) is in ap (option_map number) (number_of-decimal n (omega (arith, fits)))
@@ -229,11 +229,11 @@ spells d t a is =
 some_same : {A : Type 0} (x y : A) → Some x ≡ Some y → x ≡ y
 some_same x y e = cc
 
--- the whole text is this JSON, at any depth that is enough
+-- the whole text is this JSON, at any sufficient depth
 value_is : (n : ℕ) (d : Data) (t : List ℕ) (s : Spells d t) → tree.depth s.json ≤ n → json.value n (tokens t) ≡ Some (s.json, [])
 value_is n d t s enough = ap (json.value n) (s.tokens ∙ sym (append-nil _)) ∙ value-json_tokens s.json n [] enough
 
--- values of one text are one value as maps
+-- values with one text are equal as maps
 pub one_value : (d e : Data) (t : List ℕ) → Spells d t → Spells e t → as_maps d ≡ as_maps e
 one_value d e t s u =
     let n = tree.depth s.json + tree.depth u.json in

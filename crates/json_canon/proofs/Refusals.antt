@@ -1,4 +1,4 @@
--- A value is refused for its numbers alone.
+-- A value is refused only for its numbers.
 use Rattle.std.proofs.Common.{◌≡◌, ℤ, Bool, true, false, Option, Some, None, subst, if◌then◌else◌}
 use Rattle.std.specs.Bool.{⊤}
 use Rattle.serde_json.specs.Data.{Data, null, boolean, number, string, array, object, Items, no_items, item, Members, no_members, member}

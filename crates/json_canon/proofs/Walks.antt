@@ -1,4 +1,4 @@
--- A walk through what is left of a list or an object.
+-- Iteration over the rest of a list or an object.
 use Rattle.std.proofs.Common.{◌≡◌, ◌≢◌, ℕ, List, [], ◌∷◌, map, Some, None, sym, ap, ◌∙◌, Less, string_bytes, String, ◌+◌, suc, ◌<◌, ◌≤◌, length, get_or, drop, add-one}
 use Rattle.std.proofs.Math.Seq.{drop-cons}
 use Rattle.std.proofs.Math.ListN.{drop_of_length-le}
@@ -17,7 +17,7 @@ use Rattle.json_events.specs.declared.error.CanonError.{CanonError}
 use Rattle.json_events.specs.Refused.{refused, refused_items, refused_members, first_of_two}
 use Rattle.json_events.specs.Values.{IsValue, AreValues, AreMembers, IsOther}
 
--- nothing was refused before what is left
+-- nothing before the rest was refused
 pub record ItemsLeft (all left : Items) : Type 0 where
   pub first : refused_items all ≡ refused_items left
   pub values : AreValues left → AreValues all

@@ -5,7 +5,7 @@ use Rattle.serde_json.specs.Data.{array, object, Items, no_items, item, Members,
 use Rattle.serde_json.specs.Data.{put}
 use Rattle.serde_json.specs.Find.{as_integer}
 
--- a whole number as it is read: unsigned, unless it is negative
+-- an integer as it is parsed: unsigned, unless it is negative
 abbrev pub whole : ℤ → Num
 whole (pos n) = unsigned n
 whole (negsuc n) = negative (negsuc n)
@@ -14,14 +14,14 @@ abbrev pub whole_or : Num → Option ℤ → Num
 whole_or n None = n
 whole_or n (Some z) = whole z
 
--- the members put into a map one after another: of a name that comes twice, the last member stays
+-- the members inserted into a map one after another: of a duplicate name, the last member is kept
 abbrev pub put_all : Members → Members → Members
 put_all no_members found = found
 put_all (member k d ms) found = put_all ms (put k d found)
 
 abbrev mutual
-  -- the value as `serde_json` reads it: the names of each object once, in the order of their bytes, and whole numbers
-  -- as they are read
+  -- the value as `serde_json` parses it: the names of each object once, in the order of their bytes, and integers
+  -- as they are parsed
   pub as_maps : Data → Data
   as_maps null = null
   as_maps (boolean b) = boolean b

@@ -1,4 +1,4 @@
--- What the calls on whole values answer.
+-- What the calls on complete values return.
 use Rattle.std.specs.Prelude.{◌≡◌, ℕ, List, Some, None, Result, Ok, Err, ⊤, ◌⊎◌}
 use Rattle.serde_json.specs.Data.{Data}
 use Rattle.json_values.specs.Counts.{Rose}
@@ -12,7 +12,7 @@ use Rattle.json_events.specs.Canonical.{Canonical}
 use Rattle.json_events.specs.Refused.{refused}
 use Rattle.json_events.specs.Values.{IsValue}
 
--- the refusal is that of the first number with no text, unless memory ran out
+-- the refusal is that of the first number without a text, or memory ran out
 abbrev pub RefusesValue : CanonError → Data → Type 0
 RefusesValue Float d = refused d ≡ Some Float
 RefusesValue IntegerOutOfRange d = refused d ≡ Some IntegerOutOfRange
@@ -24,13 +24,13 @@ abbrev pub GivesText : Result (List ℕ) CanonError → Data → Type 0
 GivesText (Ok t) d = Canonical d t
 GivesText (Err e) d = RefusesValue e d
 
--- a text of the value, of which a front went out
+-- a prefix of a text of the value was written
 pub record PutsFront (d : Data) (old new : Tray) : Type 0 where
   pub text : List ℕ
   pub canonical : Canonical d text
   pub front : AddsFront text old new
 
--- the value's whole text went out
+-- the whole text of the value was written
 pub record PutsText (d : Data) (old new : Tray) : Type 0 where
   pub text : List ℕ
   pub canonical : Canonical d text
@@ -43,12 +43,12 @@ RefusesWriting SinkFault d old new = PutsFront d old new × Rose old.faults new.
 RefusesWriting WantOfMemory d old new = (new ≡ old) ⊎ PutsFront d old new
 RefusesWriting e d old new = ⊥
 
--- the text went out, or nothing of it before a refused number, or a front before the sink failed or memory ran out
+-- the text was written; or nothing, if a number is refused; or a prefix, if the sink failed or memory ran out
 abbrev pub WritesText : {X : Type 0} → Result X CanonError → Data → Tray → Tray → Type 0
 WritesText (Ok x) d old new = PutsText d old new
 WritesText (Err e) d old new = RefusesWriting e d old new
 
--- the JSON that these bytes are has this text
+-- the JSON in these bytes has this text
 pub record Pipes (bytes text : List ℕ) : Type 0 where
   pub value : Data
   pub read : json_of bytes ≡ Some value

@@ -1,4 +1,4 @@
--- What a serializer holds.
+-- The state of a serializer.
 use Rattle.json_canon.specs.declared.serializer.JcsSerializer.{JcsSerializer}
 
 abbrev pub sink_of : {K : Type 0} → JcsSerializer K → K

@@ -7,7 +7,7 @@ use json_events::CanonError;
 use json_values::{Sink, ToValue};
 use std::alloc::Global;
 
-/// Writes canonical texts one after another into its sink.
+/// Writes canonical texts one after another to its sink.
 #[derive(Drop)]
 pub struct JcsSerializer<K> {
     alloc: Global,
@@ -17,14 +17,14 @@ pub struct JcsSerializer<K> {
 impl<K: Sink> JcsSerializer<K> {
     ghost use Rattle.json_canon.specs.Serializers.{sink_of};
 
-    /// A serializer that puts into this sink.
+    /// Creates a serializer that writes to this sink.
     pub fn new(alloc: Global, sink: K) -> JcsSerializer<K>
         ensures { sink_of result ≡ sink }
     {
         JcsSerializer { alloc, sink }
     }
 
-    /// As `to_writer`, whatever the calls before it answered.
+    /// Writes one value as `to_writer` does, whatever the calls before it returned.
     pub fn serialize<V: ToValue>(&mut self, value: &V) -> Result<(), CanonError>
         ensures text { WritesText result (V.written value.now) (K.state (sink_of self.old))
             (K.state (sink_of self.new)) }
@@ -34,7 +34,7 @@ impl<K: Sink> JcsSerializer<K> {
         to_writer(self.alloc, value, &mut self.sink)
     }
 
-    /// The sink, with what was put.
+    /// Returns the sink.
     pub fn into_inner(self) -> K
         ensures { result ≡ sink_of self }
     {

@@ -1,4 +1,4 @@
-// The first number of a value that has no canonical text.
+// Finds the first number of a value that has no canonical text.
 ghost use Rattle.std.specs.Prelude.{◌≡◌, IfNone};
 ghost use Rattle.serde_json.specs.View.{view, number_view, items_view, members_view};
 ghost use Rattle.json_events.specs.Refused.{refused, refused_items, refused_members, refused_by};
@@ -8,7 +8,7 @@ ghost use Rattle.serde_json.specs.Find.{as_integer};
 use json_events::{CanonError, refused_integer};
 use serde_json::{Map, Number, Value};
 
-/// Items are looked at by place, and members by the bytes of their names.
+/// Inspects items by index, and members by the bytes of their names.
 #[cycle(walk)]
 pub(crate) fn refusal(value: &Value) -> Option<CanonError>
     ensures first { result ≡ refused (view value.now) }

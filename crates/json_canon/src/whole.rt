@@ -1,4 +1,4 @@
-// The canonical text of a whole value, by its events.
+// The canonical text of a complete value, by its events.
 ghost use Rattle.std.specs.Prelude.{◌≤◌, IfOk, OnOk, IsUtf8};
 ghost use Rattle.serde_json.specs.View.{view};
 ghost use Rattle.json_canon.specs.Outcomes.{GivesText, WritesText, PipesText};
@@ -12,8 +12,8 @@ use json_values::{Blob, Json, PlainSink, Sink, Text, ToValue, read_json};
 use serde_json::Value;
 use std::alloc::Global;
 
-/// The canonical text of a value (RFC 8785, 3.2). `Float` or `IntegerOutOfRange` is that of the first
-/// number that has no text: items by place, members by the bytes of their names.
+/// Returns the canonical text of a value (RFC 8785, 3.2). Returns `Float` or `IntegerOutOfRange` for the first number
+/// that has no text: items by index, members by the bytes of their names.
 pub fn to_vec<V: ToValue>(alloc: Global, value: &V) -> Result<Blob, CanonError>
     ensures text { GivesText result (V.written value.now) }
     ensures value { OnOk result (IsValue (V.written value.now)) }
@@ -23,7 +23,7 @@ pub fn to_vec<V: ToValue>(alloc: Global, value: &V) -> Result<Blob, CanonError>
     Ok(text)
 }
 
-/// As `to_vec`, of a JSON value that is there already: none of it is copied.
+/// Does the same as `to_vec` for a parsed JSON value, without copying it.
 pub fn json_to_vec(alloc: Global, json: &Json) -> Result<Blob, CanonError>
     ensures text { GivesText result json.now }
     ensures value { OnOk result (IsValue json.now) }
@@ -32,7 +32,7 @@ pub fn json_to_vec(alloc: Global, json: &Json) -> Result<Blob, CanonError>
     Ok(text)
 }
 
-/// As `to_vec`.
+/// Does the same as `to_vec`, but returns a text.
 pub fn to_string<V: ToValue>(alloc: Global, value: &V) -> Result<Text, CanonError>
     ensures text { GivesText result (V.written value.now) }
     ensures value { OnOk result (IsValue (V.written value.now)) }
@@ -42,8 +42,8 @@ pub fn to_string<V: ToValue>(alloc: Global, value: &V) -> Result<Text, CanonErro
     Ok(text)
 }
 
-/// Puts the canonical text of a value. A refused number is found before anything is put. `SinkFault`
-/// comes only where the sink's count of faults rose, and then a front of the text was put.
+/// Writes the canonical text of a value. A refused number is found before anything is written. Returns `SinkFault`
+/// only if the sink's fault count increased; then a prefix of the text was written.
 pub fn to_writer<V: ToValue, K: Sink>(
     alloc: Global,
     value: &V,
@@ -58,8 +58,8 @@ pub fn to_writer<V: ToValue, K: Sink>(
     written
 }
 
-/// The canonical text of a JSON text. `Unreadable` exactly where it is no JSON, or nests deeper than 127. A
-/// canonical text is given back as it stands.
+/// Returns the canonical text of a JSON text. Returns `Unreadable` if and only if the text is not JSON or nests deeper
+/// than 127. A canonical text is returned verbatim.
 pub fn pipe(alloc: Global, json: &str) -> Result<Text, CanonError>
     ensures text { PipesText result json.now }
     ensures canonical { PipesBack result json.now }
@@ -81,7 +81,7 @@ fn piped(alloc: Global, json: &str) -> Result<Text, CanonError>
     }
 }
 
-/// Puts the text of a value as its events, once no number of it is refused.
+/// Writes the text of a value as its events, once none of its numbers is refused.
 fn put_text<K: Sink>(alloc: Global, sink: &mut K, value: &Value) -> Result<(), CanonError>
     ensures text { WritesText result (view value.now) (K.state sink.old) (K.state sink.new) }
     ensures value { OnOk result (IsValue (view value.now)) }

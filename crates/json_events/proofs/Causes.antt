@@ -1,4 +1,4 @@
--- An event is refused exactly where it has a cause.
+-- An event is refused if and only if it has a cause.
 use Rattle.std.proofs.Common.{◌≡◌, ℕ, ℤ, List, [], ◌∷◌, ◌++◌, Bool, true, false, if◌then◌else◌, Option, Some, None, refl, sym, ap, subst, ◌∙◌, ◌⊎◌, inl, inr, append_assoc, append-nil, codes}
 use Rattle.std.specs.BTreeSet.{insert_key}
 use Rattle.std.specs.Fmt.{signed_decimal}
@@ -20,9 +20,9 @@ use Rattle.json_events.proofs.ValueTexts.{going, written, run-append}
 use Rattle.json_events.proofs.TreeEvents.{after, after-append, stays, run_refused, front_passes, ties, Passes, and_then, NoMembers, object_begin, FieldsIn, fields_passes, tree_passes, field_ready}
 use Rattle.json_events.proofs.EventPlaces.{Opens, Fits, Within, arrives, same_spot, act_fits, fits, TurnFits, longer_array, longer_object}
 
--- ---- events that fit go on to a well-nested list
+-- ---- events that fit can be continued to a well-nested list
 
--- the events of a container go on to a value
+-- the events of a container can be continued to a value
 record Ends (xs : List Event) : Type 0 where
   tree : Tree
   rest : List Event
@@ -86,7 +86,7 @@ outside_begins Named n ms xs so = absurd so
 outside_begins ValueDue n ms xs so = absurd so
 outside_begins ValueDone n ms xs so = absurd so
 
--- a container that goes on to a value, where a value is due
+-- a container that can be continued to a value, at a place where a value is due
 ends_begins : (before mid : List Event) → ((t : Tree) → Begins (before ++ nested t)) → Ends mid → Begins (before ++ mid)
 ends_begins before mid around e = begins_more (before ++ mid) e.rest (subst Begins (sym (append_assoc before mid e.rest ∙ ap (λ l. before ++ l) e.is)) (around e.tree))
 
@@ -174,7 +174,7 @@ act_why end_object_value d xs so = only_why xs end_object_value d ValueDone (end
 act_why end_object d xs so = only_why xs end_object d Names (ends_object d) (λ is. around_why xs end_object d.outer _ (λ l ls. write_why xs end_object (kept_object d.inner.members) (record { text = d.inner.around; inner = l; outer = ls })))
 act_why finish d xs so = only_why xs finish d Whole (moves (at Finished d) []) (λ is. tt)
 
--- ---- the event after events that were taken
+-- ---- the event after accepted events
 
 pub going_is : (s : Stage) → s.refusal ≡ None → s ≡ going s.draft
 going_is s is = ap (λ o. record { refusal = o; draft = s.draft }) is
@@ -226,7 +226,7 @@ unnested xs x none never =
     is_refused xs x none NotWellNested
     (unnested_turn (act x d) xs x (act_why x d xs (fits xs none)) (λ new out is. subst (λ t. TurnFits (xs ++ x ∷ []) t) is (act_fits x d xs (fits xs none))) never)
 
--- an event that is refused for nesting or for this alone
+-- an event that is refused for nesting or for this cause only
 settled : (xs : List Event) (x : Event) (e : CanonError) → (after xs fresh).refusal ≡ None → Begins (xs ++ x ∷ []) → (act x (after xs fresh).draft ≡ refused NotWellNested) ⊎ (act x (after xs fresh).draft ≡ refused e) → (after (xs ++ x ∷ []) fresh).refusal ≡ Some e
 settled xs x e none front (inl is) = absurd (front_passes (xs ++ x ∷ []) front (is_refused xs x none NotWellNested is))
 settled xs x e none front (inr is) = is_refused xs x none e is
@@ -240,7 +240,7 @@ past_range z d past =
     let turn : act (write_integer z) d ≡ where_due (after_value d.inner.spot) (λ s. refused IntegerOutOfRange) = ap (λ b. where_due (after_value d.inner.spot) (λ s. if b then writes (signed_decimal z) (at s d) else refused IntegerOutOfRange)) past in
     elim (one_of (after_value d.inner.spot) IntegerOutOfRange) [ inl is ↦ inl (turn ∙ is) | inr is ↦ inr (turn ∙ is) ]
 
--- ---- a name that comes twice
+-- ---- a duplicate name
 
 unrefused_at : (o : Option CanonError) (ys : List Event) (s : Stage) → s.refusal ≡ o → (after ys s).refusal ≡ None → o ≡ None
 unrefused_at None ys s is none = refl
@@ -253,7 +253,7 @@ due_at : (o : Option Spot) (turn : Spot → Turn) (d : Draft) (ys : List Event) 
 due_at None turn d ys none = let all : Some NotWellNested ≡ None = sym (ap (λ t. t.refusal) (stays ys (record { refusal = Some NotWellNested; draft = d }) NotWellNested refl)) ∙ none in cc
 due_at (Some s) turn d ys none = (s, refl)
 
--- a member whose value is there
+-- a member whose value is complete
 record Ready (fs : Fields) (k : List ℕ) (l : Level) : Type 0 where
   spot : l.spot ≡ ValueDone
   name : l.name ≡ k

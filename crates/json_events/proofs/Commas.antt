@@ -6,7 +6,7 @@ use Rattle.serde_json.specs.Written.{comma_if}
 use Rattle.json_events.specs.declared.property.JsonProperty.{JsonProperty}
 use Rattle.json_events.specs.Members.{kept_text, kept_object}
 
--- whether something stands in the list
+-- whether the list is not empty
 abbrev pub some : {X : Type 0} → List X → Bool
 some [] = false
 some (x ∷ xs) = true
@@ -20,7 +20,7 @@ pub some-snoc : {X : Type 0} (xs : List X) (x : X) → some (xs ++ x ∷ []) ≡
 some-snoc [] x = refl
 some-snoc (y ∷ xs) x = refl
 
--- what is written so far, after an opening byte
+-- the text written so far, after an opening byte
 pub record Joined (before now : List ℕ) (b : ℕ) (ts : List (List ℕ)) (later : Bool) : Type 0 where
   pub text : now ≡ before ++ b ∷ join_with_byte 44 ts
   pub begun : later ≡ some ts
@@ -41,7 +41,7 @@ joined_more before now mid new b ts t later so comma text = record {
 pub joined_end : (before now new : List ℕ) (b e : ℕ) (ts : List (List ℕ)) (later : Bool) → Joined before now b ts later → new ≡ now ++ e ∷ [] → new ≡ before ++ b ∷ (join_with_byte 44 ts ++ e ∷ [])
 joined_end before now new b e ts later so text = text ∙ ap (λ n. n ++ e ∷ []) so.text ∙ append_assoc before (b ∷ join_with_byte 44 ts) (e ∷ [])
 
--- members are written up to those that are left
+-- the members are written up to those that are left
 pub record Writing (before now : List ℕ) (all left : List JsonProperty) (later : Bool) : Type 0 where
   pub done : List JsonProperty
   pub parts : all ≡ done ++ left

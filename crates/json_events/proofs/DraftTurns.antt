@@ -1,4 +1,4 @@
--- Turns and what they answer, over plain drafts.
+-- Turns and their results, over plain drafts.
 use Rattle.std.proofs.Common.{◌≡◌, ℕ, List, [], ◌∷◌, Bool, true, if◌then◌else◌, Option, Some, None, Result, Ok, Err, refl, sym, ap, subst, ◌∙◌, inl, inr}
 use Rattle.json_values.specs.Tray.{Tray, Adds, AddsFront}
 use Rattle.json_values.proofs.Sinks.{adds_none}
@@ -71,7 +71,7 @@ answered x (Err e) d new before after (inl bar) = inl (barred_taken x e d new be
 answered x (Err e) d new before after (inr (inl faulted)) = inr (inl (broken_as x e _ d new before after faulted.is faulted.front, faulted.rose))
 answered x (Err e) d new before after (inr (inr want)) = inr (inr (broken_as x e _ d new before after want.is want.front))
 
--- an array and an object that end
+-- closing an array and an object
 pub closes_array : (s : Spot) (d new : Draft) (l : Level) → is_at d.inner.spot s ≡ true → Closes l d new
     → only_at s d (ends_array d) ≡ writes (93 ∷ []) new
 closes_array s d new l here c =
@@ -84,7 +84,7 @@ closes_object s d new l here c =
     at_spot _ (ends_object d) here ∙ ap (λ ls. where_around ls (λ m ms. writes (kept_object d.inner.members) (record { text = d.inner.around; inner = m; outer = ms }))) c.around
     ∙ ap (λ m. writes (kept_object m.members) (record new { text = m.around })) (sym c.is)
 
--- a name that is there already
+-- a name that is already present
 pub duplicate : (d : Draft) (m : JsonProperty) → is_at d.inner.spot ValueDone ≡ true → m.sorting_key ≡ units d.inner.name
     → list_any (λ p. is_eq (by_key m p)) d.inner.members ≡ true → only_at ValueDone d (ends_member d) ≡ refused DuplicateKey
 duplicate d m here key has =
@@ -93,7 +93,7 @@ duplicate d m here key has =
     ∙ ap (λ b. if b then refused DuplicateKey else moves (record d { text = []; inner = record d.inner { spot = Names; members = insert_key by_key d.inner.members new } }) [])
     (ap (λ k. list_any (λ p. is_eq (slice_cmp nat_cmp k p.sorting_key)) d.inner.members) (sym key) ∙ has)
 
--- a refused formatter answers its refusal, and nothing is written
+-- a formatter with a refusal returns it, and nothing is written
 pub refused_again : (x : Event) (e : CanonError) (d : Draft) (tray : Tray) → Answers x (Err e) (record { refusal = Some e; draft = d }) (record { refusal = Some e; draft = d }) tray tray
 refused_again x e d tray = inl (record { stage = refl; added = adds_nothing tray; answers = refl })
 

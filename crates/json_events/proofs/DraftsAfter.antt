@@ -1,4 +1,4 @@
--- What events leave, and what a formatter holds after them.
+-- The draft that events leave, and the formatter's state after them.
 use Rattle.std.proofs.Common.{◌≡◌, [], ◌∷◌, ◌++◌, refl, sym, ap, subst, ◌∙◌, append-nil, append_assoc}
 use Rattle.json_events.specs.Canonical.{Canonical}
 use Rattle.json_events.specs.Drafts.{run, fresh, step, at}

@@ -1,4 +1,4 @@
--- Where events that were taken stand among the well-nested lists.
+-- Accepted events as prefixes of well-nested lists.
 use Rattle.std.proofs.Common.{◌≡◌, ℕ, List, [], ◌∷◌, ◌++◌, Bool, true, false, ◌||◌, if◌then◌else◌, Option, Some, None, refl, sym, ap, subst, ◌∙◌, append_assoc, append-nil, codes, ◌==◌}
 use Rattle.std.specs.BTreeSet.{insert_key}
 use Rattle.std.specs.Fmt.{signed_decimal}
@@ -20,14 +20,14 @@ use Rattle.json_events.proofs.SortedMembers.{by_key}
 use Rattle.json_events.proofs.ValueTexts.{going, with_text, sent, written}
 use Rattle.json_events.proofs.TreeEvents.{ties, ties_more, after, stays}
 
--- the events, where no container is unclosed
+-- the events, if no container is unclosed
 abbrev pub Outside : Spot → List Event → Type 0
 Outside Start xs = xs ≡ []
 Outside Whole xs = (t : Tree) × (xs ≡ nested t)
 Outside Finished xs = (t : Tree) × (xs ≡ nested t ++ finish ∷ [])
 Outside q xs = ⊥
 
--- the members so far, whose names these are
+-- the members so far, with these names
 abbrev pub Has : List JsonProperty → Fields → Type 0
 Has ms fs = (k : List ℕ) → ties k ms ≡ has_field k fs
 
@@ -58,12 +58,12 @@ Opens q n ms (l ∷ ls) xs = (before : List Event) × (mid : List Event) × (due
 abbrev pub Fits : List Event → Draft → Type 0
 Fits xs d = Opens d.inner.spot d.inner.name d.inner.members d.outer xs
 
--- what a turn leaves fits, if it was made
+-- the draft that a turn leaves fits, if the turn was made
 abbrev pub TurnFits : List Event → Turn → Type 0
 TurnFits xs (refused e) = Unit {0}
 TurnFits xs (moves d out) = Fits xs d
 
--- ---- a value in its place
+-- ---- a value where one is due
 
 abbrev AtSome : Option Spot → (Spot → Type 0) → Type 0
 AtSome None P = Unit {0}
@@ -161,7 +161,7 @@ piece_fits piece t d xs so =
     where_fits (xs ++ nested t) d.inner.spot (after_value d.inner.spot) (λ s. writes piece (at s d)) refl
     (λ s due. wrote (xs ++ nested t) piece (at s d) (arrives d.inner.spot s d.inner.name d.inner.members d.outer xs t due so))
 
--- the events of a container go on, its next event after them
+-- the events of a container continue with its next event
 goes_on : (q r : Spot) (n m : List ℕ) (ms ns : List JsonProperty) (x : Event) (ls : List Level) (xs : List Event) → (Outside q xs → Outside r (xs ++ x ∷ [])) → ((mid : List Event) → Within q n ms mid → Within r m ns (mid ++ x ∷ []))
     → Opens q n ms ls xs → Opens r m ns ls (xs ++ x ∷ [])
 goes_on q r n m ms ns x [] xs out step so = out so
@@ -170,7 +170,7 @@ goes_on q r n m ms ns x (l ∷ ls) xs out step so = (so.0, so.1 ++ x ∷ [], so.
 from : (q : Spot) (d : Draft) (xs : List Event) → d.inner.spot ≡ q → Fits xs d → Opens q d.inner.name d.inner.members d.outer xs
 from q d xs is so = subst (λ r. Opens r d.inner.name d.inner.members d.outer xs) is so
 
--- a container that ends is a value of the one around it
+-- a container that ends is a value of the enclosing one
 closed : (t : Tree) (x : Event) (q due s : Spot) (n m : List ℕ) (ms ns : List JsonProperty) (ls : List Level) (before mid xs : List Event) → xs ≡ before ++ mid → mid ++ x ∷ [] ≡ nested t → after_value due ≡ Some s → Opens due m ns ls before
     → Opens s m ns ls (xs ++ x ∷ [])
 closed t x q due s n m ms ns ls before mid xs parts ends is so =

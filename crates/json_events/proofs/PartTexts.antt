@@ -1,4 +1,4 @@
--- What the events of a part of a value leave.
+-- The draft that the events of a part of a value leave.
 use Rattle.std.proofs.Common.{◌≡◌, ℕ, List, [], ◌∷◌, ◌++◌, Bool, true, false, if◌then◌else◌, Some, None, refl, sym, ap, subst, ◌∙◌, append_assoc, append-nil}
 use Rattle.std.specs.Prelude.{⊤}
 use Rattle.std.specs.List.{join_with_byte}
@@ -26,8 +26,8 @@ IsPlainPart (item_part vs p) = (refused_items vs ≡ None) × AreValues vs × Is
 IsPlainPart (members_part ms n) = (refused_members ms ≡ None) × AreMembers ms
 IsPlainPart (member_part ms k p) = (refused_members ms ≡ None) × AreMembers ms × IsPlainPart p
 
--- the text after these events and what they put out, where an object around is unclosed or not, and where one of
--- the part is
+-- the text after these events and their output, depending on whether an enclosing object is unclosed, and
+-- whether one of the part is
 abbrev pub Leaving : Bool → Bool → Part → List ℕ → List ℕ → List ℕ → Type 0
 Leaving false false p before after out = TextSoFar p out × (after ≡ before)
 Leaving false true p before after out = TextSoFar p out × MemberTextSoFar p after

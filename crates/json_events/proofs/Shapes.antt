@@ -1,4 +1,4 @@
--- Events that were taken are those of a part of a value.
+-- Accepted events are those of a part of a value.
 use Rattle.std.proofs.Common.{◌≡◌, ℕ, List, [], ◌∷◌, ◌++◌, Bool, true, false, Some, None, refl, sym, ap, subst, ◌∙◌, ◌⊎◌, inl, inr, append_assoc, append-nil, if◌then◌else◌}
 use Rattle.json_events.specs.declared.error.CanonError.TheVariants.{NotWellNested}
 use Rattle.json_events.specs.declared.property.JsonProperty.{JsonProperty}
@@ -122,7 +122,7 @@ opens_shape (l ∷ ls) q n ms xs so =
     let all = plug ls so.2 l.spot l.name l.members so.0 inner.shape so.5 so.6 in
     unended xs (record { shape = all.shape; is = so.3 ∙ ap (λ l. so.0 ++ l) inner.is ∙ all.is })
 
--- ---- a shape that was taken spells a part
+-- ---- an accepted shape spells a part
 
 record SpellsPart (xs : List Event) : Type 0 where
   part : Part

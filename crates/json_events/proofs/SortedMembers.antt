@@ -1,4 +1,4 @@
--- Members in the order of their names' units, one inserted after another.
+-- Members inserted one after another in the order of their names' UTF-16 units.
 use Rattle.std.proofs.Common.{◌≡◌, ℕ, List, [], ◌∷◌, ◌++◌, map, Bool, true, false, ◌||◌, refl, sym, ap, subst, ◌∙◌, IsUtf8, Ordering, Less, Equal, Greater}
 use Rattle.std.specs.BTreeSet.{insert_key}
 use Rattle.std.specs.Cmp.Lexicographic.{slice_cmp, texts_ties, same_text, nat_list_cmp_total, nat_list_eq_equiv}
@@ -48,14 +48,14 @@ either : (a b : Bool) → (a || b) ≡ false → (a ≡ false) × (b ≡ false)
 either true b e = cc
 either false b e = (refl, e)
 
--- a name that ties with none only moves the members
+-- inserting a name that ties with none only moves the members
 pub placed_moves : (xs : List Entry) (e : Entry) → list_any (λ x. is_eq (by_name e x)) xs ≡ false → IsPermutation (e ∷ xs) (placed xs e)
 placed_moves [] e apart = IsPermutation-refl (e ∷ [])
 placed_moves (x ∷ xs) e apart =
     let parts = either _ _ apart in
     placed_moves_at (by_name e x) e x xs parts.0 (placed_moves xs e parts.1)
 
--- units tie exactly where names are equal
+-- units tie if and only if the names are equal
 tied : (a b : List ℕ) → IsUtf8 a → IsUtf8 b → is_eq (by_units a b) ≡ bytes_eq a b
 tied a b text other = sym (texts_ties (units a) (units b)) ∙ both_ways (bytes_eq (units a) (units b)) (bytes_eq a b)
     (λ e. subst (λ y. bytes_eq a y ≡ true) (same_units a b text other (same_text (units a) (units b) (sym e))) (nat_list_eq_equiv.refl a))
@@ -134,7 +134,7 @@ insert_sorted_at Less p x xs is apart up rest = ((is, below_both p x xs is up.0)
 insert_sorted_at Equal p x xs is apart up rest = cc
 insert_sorted_at Greater p x xs is apart up rest = (below_insert x p xs (by_key_total.antisymm x p ∙ ap ordering_reverse is) up.0, rest)
 
--- a key that ties with none keeps the order
+-- inserting a key that ties with none keeps the order
 pub insert_sorted : (xs : List JsonProperty) (p : JsonProperty) → list_any (λ q. is_eq (by_key p q)) xs ≡ false → IsStrictlySortedBy by_key xs → IsStrictlySortedBy by_key (insert_key by_key xs p)
 unfolding IsStrictlySortedBy
 insert_sorted [] p apart up = (tt, tt)

@@ -1,4 +1,4 @@
--- What the events of a tree leave: the next place, or a refusal that is no fault of nesting.
+-- The result of the events of a tree: the next place, or a refusal that is not a nesting fault.
 use Rattle.std.proofs.Common.{◌≡◌, ◌≢◌, ℕ, List, [], ◌∷◌, ◌++◌, Bool, true, false, ◌||◌, if◌then◌else◌, Some, None, refl, sym, ap, subst, ◌∙◌, ◌⊎◌, inl, inr, codes, Ordering, Less, Equal, Greater}
 use Rattle.std.specs.BTreeSet.{insert_key}
 use Rattle.std.specs.Cmp.Lexicographic.{slice_cmp}
@@ -79,7 +79,7 @@ either : (P : Level → Type 0) (ls : List Level) (b : Bool) (t u : Turn) (d : D
 either P ls true t u d first second = first
 either P ls false t u d first second = second
 
--- the level where a value comes
+-- the level where a value is due
 abbrev pub InPlace : Draft → Spot → Level → Type 0
 InPlace d s l = l ≡ (at s d).inner
 
@@ -192,7 +192,7 @@ field_passes fs k t e ls value so outer =
     (λ g inner out. member_end_by _ fs k t g ls refl (ap (λ l. l.spot) inner) (ap (λ l. l.name) inner ∙ ap (λ l. l.name) begun)
     (λ q. ap (ties q) (ap (λ l. l.members) inner ∙ ap (λ l. l.members) begun) ∙ so.has q) (out ∙ around)))
 
--- a member whose value is there
+-- a member whose value is complete
 pub field_ready : (k : List ℕ) (t : Tree) (e : Draft) (ls : List Level) (P : Level → Type 0) → ((f : Draft) → f.inner.spot ≡ ValueDue → Passes (InPlace f ValueDone) f.outer (after (nested t) (going f))) → e.inner.spot ≡ Names → e.outer ≡ ls
     → ((l : Level) → l.spot ≡ ValueDone → l.name ≡ k → l.members ≡ e.inner.members → P l) → Passes P ls (after (name_events k ++ nested t) (going e))
 field_ready k t e ls P value spot outer ready =
@@ -247,7 +247,7 @@ no_refusal : (P : Level → Type 0) (ls : List Level) (s : Stage) → Passes P l
 no_refusal P ls s (inl goes) is = let all : None ≡ Some NotWellNested = sym (ap (λ t. t.refusal) goes.is) ∙ is in cc
 no_refusal P ls s (inr stop) is = let all : Some stop.why ≡ Some NotWellNested = sym stop.is ∙ is in stop.other cc
 
--- where a well-nested list goes on, nesting is no fault
+-- a prefix of a well-nested list is not refused for nesting
 pub front_passes : (xs : List Event) → Begins xs → (after xs fresh).refusal ≢ Some NotWellNested
 front_passes xs front is =
     let whole : after (nested front.value ++ finish ∷ []) fresh ≡ after xs fresh = ap (λ l. after l fresh) (sym front.is) ∙ after-append xs front.rest fresh ∙ stays front.rest (after xs fresh) NotWellNested is in

@@ -14,7 +14,7 @@ use Rattle.json_events.specs.declared.error.CanonError.{CanonError}
 use Rattle.json_events.specs.declared.error.CanonError.TheVariants.{IntegerOutOfRange}
 use Rattle.json_events.specs.Units.{units, by_units}
 
--- a name that is before all of a list is none of them
+-- a name that is less than all of a list is not among them
 abbrev Before : Entry → List Entry → Type 0
 Before e es = AllByRecursion (λ f. by_units e.0 f.0 ≡ Less) es
 
@@ -49,7 +49,7 @@ tail_within e xs ys all within f among =
       | inr rest ↦ rest
     ]
 
--- lists that rise and hold the same are the same
+-- ascending lists with the same members are equal
 same_rising : (xs ys : List Entry) → Rises xs → Rises ys → Within xs ys → Within ys xs → xs ≡ ys
 unfolding IsStrictlySortedBy
 same_rising [] [] up also there back = refl
@@ -81,7 +81,7 @@ among_all : (P : Entry → Type 0) (e : Entry) (es : List Entry) → AllByRecurs
 among_all P e [] all among = absurd among
 among_all P e (f ∷ es) all among = elim among [ inl is ↦ subst P is all.0 | inr rest ↦ among_all P e es all.1 rest ]
 
--- a list in another order holds the same
+-- a permutation of a list has the same members
 within_permutation : (xs ys : List Entry) → IsPermutation xs ys → Within ys xs
 within_permutation xs ys moved e among =
     among_all (λ f. Among f xs) e ys
@@ -127,7 +127,7 @@ in_range_is b is = ap (λ c. if c then None else Some IntegerOutOfRange) is
 none_both : (a b : Option CanonError) → a ≡ None → b ≡ None → first_of_two a b ≡ None
 none_both a b p q = ap (λ o. first_of_two o b) p ∙ q
 
--- a value that has a text is not refused
+-- if a value has a text, it is not refused
 mutual
   pub plain : (d : Data) (t : List ℕ) → Canonical d t → refused d ≡ None
   plain null t p = refl

@@ -1,4 +1,4 @@
--- How units are made, and that they tell names apart.
+-- How UTF-16 units are computed, and that they distinguish names.
 use Rattle.std.proofs.Common.{◌≡◌, ℕ, ◌+◌, ◌-◌, ◌/◌, ◌%◌, ◌<◌, ◌≤◌, ◌⊎◌, Bool, true, false, ◌&&◌, List, [], ◌∷◌, ◌++◌, map, flat_map, refl, sym, ap, ◌∙◌, append_assoc, append-nil, IsUtf8, length, get_or, Some, arith}
 use Rattle.std.proofs.lemmas.Bool.{cases_lt}
 use Rattle.std.proofs.lemmas.Str.{chars_past_char, encodes-chars, scalars-chars, utf16_chars-nil, utf16_chars_lone, utf16_chars_pair}
@@ -22,7 +22,7 @@ pub units_of_empty : (bs : List ℕ) → length bs ≡ 0 → units bs ≡ []
 unfolding units
 units_of_empty bs none = ap (flat_map encode_utf16) (chars_of_empty bs none)
 
--- one character more was taken from what is left
+-- one more character was read from the rest
 pub units_more : (all made bs rest : List ℕ) (c : ℕ) → IsUtf8 bs → bs ≡ encode_utf8 c ++ rest → made ++ units bs ≡ all → (made ++ encode_utf16 c) ++ units rest ≡ all
 units_more all made bs rest c text parts so = append_assoc made (encode_utf16 c) (units rest) ∙ ap (λ us. made ++ us) (sym (units_past_char bs rest c text parts)) ∙ so
 

@@ -1,4 +1,4 @@
--- What the events of a value leave: its canonical text, in its place.
+-- The result of the events of a value: its canonical text, where the value is due.
 use Rattle.std.proofs.Common.{◌≡◌, ℕ, ℤ, List, [], ◌∷◌, ◌++◌, Bool, true, false, if◌then◌else◌, Option, Some, None, refl, sym, ap, subst, ◌∙◌, append_assoc, append-nil, codes}
 use Rattle.std.specs.BTreeSet.{insert_key}
 use Rattle.std.specs.Fmt.{signed_decimal}
@@ -26,7 +26,7 @@ use Rattle.json_events.proofs.Written.{none_first, none_later, absent, others_mo
 abbrev pub going : Draft → Stage
 going d = record { refusal = None; draft = d }
 
--- a piece of text, where it goes
+-- a piece of text, and where it is written
 abbrev pub with_text : List ℕ → Draft → Draft
 with_text t d = record d { text = if d.inner.held then d.text ++ t else d.text }
 
@@ -75,7 +75,7 @@ run-append (x ∷ xs) ys s =
     ap (λ r. record { stage = r.stage; out = first.out ++ r.out }) (run-append xs ys first.stage)
     ∙ ap (λ o. record { stage = (run ys (run xs first.stage).stage).stage; out = o }) (sym (append_assoc first.out (run xs first.stage).out (run ys (run xs first.stage).stage).out))
 
--- these events leave this, and this goes out
+-- these events leave this draft, with this output
 abbrev pub Leaves : List Event → Draft → Draft → List ℕ → Type 0
 Leaves xs d new out = run xs (going d) ≡ record { stage = going new; out = out }
 
@@ -92,7 +92,7 @@ joins xs ys d mid new out more first second =
     run-append xs ys (going d) ∙ ap (λ r. record { stage = (run ys r.stage).stage; out = r.out ++ (run ys r.stage).out }) first
     ∙ ap (λ r. record { stage = r.stage; out = out ++ r.out }) second
 
--- the value's text comes to its place
+-- the text of the value is written where it is due
 pub record Comes (v : Data) (d : Draft) (s : Spot) : Type 0 where
   pub text : List ℕ
   pub canonical : Canonical v text

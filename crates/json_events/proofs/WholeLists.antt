@@ -1,4 +1,4 @@
--- A list of events that was taken to its end is that of a value.
+-- A list of events that was accepted to its end is that of a value.
 use Rattle.std.proofs.Common.{◌≡◌, ◌≢◌, ℕ, ℤ, pos, List, [], ◌∷◌, ◌++◌, Bool, true, false, ◌||◌, if◌then◌else◌, Option, Some, None, refl, sym, ap, subst, ◌∙◌, inl, inr, append_assoc, IsUtf8}
 use Rattle.std.specs.Cmp.{tied_itself}
 use Rattle.std.specs.Cmp.Lexicographic.{nat_list_cmp_total}
@@ -38,7 +38,7 @@ pub texts_rest : (xs ys : List Event) → AreTexts (xs ++ ys) → AreTexts ys
 texts_rest [] ys texts = texts
 texts_rest (x ∷ xs) ys texts = texts_rest xs ys texts.1
 
--- ---- events that were taken, one part after another
+-- ---- accepted events, one part after another
 
 pub record Parts (P : Level → Type 0) (ls : List Level) (xs ys : List Event) (d : Draft) : Type 0 where
   pub new : Draft
@@ -93,7 +93,7 @@ pub record SpellsItems (xs : List Event) : Type 0 where
   pub plain : refused_items values ≡ None
   pub good : AreValues values
 
--- none of the names is this one
+-- this name differs from all of the names
 abbrev Apart : List ℕ → Members → Type 0
 Apart k no_members = Unit {0}
 Apart k (member l v ms) = (l ≢ k) × Apart k ms

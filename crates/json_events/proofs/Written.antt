@@ -1,4 +1,4 @@
--- Members of a value, one after another.
+-- The members of a value, one after another.
 use Rattle.std.proofs.Common.{◌≡◌, ◌≢◌, ℕ, List, [], ◌∷◌, ◌++◌, Bool, true, false, map, refl, sym, ap, ◌∙◌, Option, Some, None, ◌||◌}
 use Rattle.std.specs.List.{AllByRecursion, join_with_byte}
 use Rattle.std.specs.Str.{bytes_eq}
@@ -35,7 +35,7 @@ kept_texts : (es : List Entry) → map kept_text (map property es) ≡ map entry
 kept_texts [] = refl
 kept_texts (e ∷ es) = ap (λ r. entry_text e ∷ r) (kept_texts es)
 
--- what is kept writes the object of the members
+-- the stored members write the text of the object
 pub kept_is_object : (kept : List JsonProperty) (es : List Entry) → Keeps kept es → IsObjectText es (kept_object kept)
 kept_is_object kept es keeps = record {
   order = keeps.order;

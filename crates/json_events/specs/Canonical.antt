@@ -10,7 +10,7 @@ use Rattle.serde_json.specs.Find.{as_integer}
 use Rattle.json_values.specs.Canon.{quoted_text}
 use Rattle.json_events.specs.Units.{by_units}
 
--- the whole numbers that every reader keeps (3.2.2.3): up to 2 ^ 53 - 1 on either side
+-- the integers that every JSON parser represents exactly (3.2.2.3): magnitude at most 2 ^ 53 - 1
 abbrev pub in_range : ℤ → Bool
 in_range z = int_le (negsuc 9007199254740990) z && int_le z (pos 9007199254740991)
 
@@ -31,11 +31,11 @@ array_text ts = 91 ∷ (join_with_byte 44 ts ++ 93 ∷ [])
 abbrev pub object_text : List Entry → List ℕ
 object_text es = 123 ∷ (join_with_byte 44 (map entry_text es) ++ 125 ∷ [])
 
--- each name is before those after it
+-- the names are ascending
 abbrev pub Rises : List Entry → Type 0
 Rises es = IsStrictlySortedBy by_units (map (λ e. e.0) es)
 
--- the text of an object of these members: each once, and the names rise
+-- the text of an object with these members: each once, names ascending
 pub record IsObjectText (es : List Entry) (t : List ℕ) : Type 0 where
   pub order : List Entry
   pub same : IsPermutation es order

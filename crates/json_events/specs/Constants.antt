@@ -1,4 +1,4 @@
--- The greatest whole number that every reader of JSON keeps (RFC 8785, 3.2.2.3): the public constant is its number.
+-- The greatest safe integer (RFC 8785, 3.2.2.3): the value of the public constant.
 use Rattle.std.specs.Prelude.{◌≡◌, ◌-◌, ◌^◌, ℤ, pos, refl}
 use Rattle.json_events.specs.declared.scalars.TheConstants as constant
 

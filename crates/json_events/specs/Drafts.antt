@@ -1,4 +1,4 @@
--- What a formatter has after its events.
+-- The formatter's state after its events.
 use Rattle.std.specs.Prelude.{ℕ, ℤ, List, [], ◌∷◌, ◌++◌, Bool, true, false, ◌==◌, Option, Some}
 use Rattle.std.specs.Prelude.{None, if◌then◌else◌, codes}
 use Rattle.std.specs.BTreeSet.{insert_key}
@@ -26,16 +26,16 @@ use Rattle.json_events.specs.Events.{begin_object_key, end_object_key, begin_obj
 use Rattle.json_events.specs.Events.{end_object_value, end_object, finish}
 use Rattle.json_events.specs.Members.{property, kept_object}
 
--- an unclosed container, or what is outside all of them
+-- an unclosed container, or the level outside all containers
 pub record Level : Type 0 where
-  -- where its next event stands
+  -- where the next event is due
   pub spot : Spot
-  -- whether an object is unclosed, here or around
+  -- whether an object is unclosed, at this level or around it
   pub held : Bool
-  -- of an array: whether an item began
+  -- in an array: whether an item began
   pub begun : Bool
-  -- of an object: its closed members in the order of their sorting keys, the name of the one that is being
-  -- written, and the text so far of the member around it
+  -- in an object: its closed members in the order of their sorting keys, the name of the member that is being
+  -- written, and the text so far of the enclosing member
   pub members : List JsonProperty
   pub name : List ℕ
   pub around : List ℕ
@@ -44,10 +44,10 @@ pub record Draft : Type 0 where
   -- the text so far of the member that is being written in the innermost unclosed object
   pub text : List ℕ
   pub inner : Level
-  -- the levels around it, from the inside outward
+  -- the enclosing levels, innermost first
   pub outer : List Level
 
--- what an event does: it is refused, or it leaves a draft and some text goes out
+-- the effect of an event: a refusal, or a new draft and some output
 pub data Turn : Type 0 where
   refused : CanonError → Turn
   moves : Draft → List ℕ → Turn
@@ -56,7 +56,7 @@ pub data Turn : Type 0 where
 abbrev pub by_key : JsonProperty → JsonProperty → Ordering
 by_key p q = slice_cmp nat_cmp p.sorting_key q.sorting_key
 
--- where a value may come, and where the next event stands after it
+-- where a value may come, and where the next event is due after it
 abbrev pub after_value : Spot → Option Spot
 after_value Start = Some Whole
 after_value ItemDue = Some ItemDone
@@ -66,7 +66,7 @@ after_value s = None
 abbrev pub at : Spot → Draft → Draft
 at s d = record d { inner = record d.inner { spot = s } }
 
--- a piece of text goes to the member that is being written, or out where no object is unclosed
+-- a piece of text is appended to the member that is being written, or to the output if no object is unclosed
 abbrev pub writes : List ℕ → Draft → Turn
 writes piece d = if d.inner.held then moves (record d { text = d.text ++ piece }) [] else moves d piece
 
@@ -76,7 +76,7 @@ level s held around = record { spot = s; held = held; begun = false; members = [
 abbrev pub opened : Level → Draft → Draft
 opened l d = record d { inner = l; outer = d.inner ∷ d.outer }
 
--- the level around the innermost one, and those around it
+-- the level that encloses the innermost one, and those around it
 abbrev pub where_around : List Level → (Level → List Level → Turn) → Turn
 where_around [] turn = refused NotWellNested
 where_around (l ∷ ls) turn = turn l ls
@@ -85,7 +85,7 @@ abbrev pub where_due : Option Spot → (Spot → Turn) → Turn
 where_due None turn = refused NotWellNested
 where_due (Some s) turn = turn s
 
--- a value that has this text
+-- a value with this text
 abbrev pub places : List ℕ → Draft → Turn
 places piece d = where_due (after_value d.inner.spot) (λ s. writes piece (at s d))
 
@@ -106,7 +106,7 @@ spot_index ValueDone = 11
 abbrev pub is_at : Spot → Spot → Bool
 is_at s t = spot_index s == spot_index t
 
--- an event that comes at one spot alone
+-- an event that is valid at one spot only
 abbrev pub only_at : Spot → Draft → Turn → Turn
 only_at s d turn = if is_at d.inner.spot s then turn else refused NotWellNested
 
@@ -164,7 +164,7 @@ act end_object_value d = only_at ValueDone d (ends_member d)
 act end_object d = only_at Names d (ends_object d)
 act finish d = only_at Whole d (moves (at Finished d) [])
 
--- what a formatter has: its first refusal, and its draft
+-- the formatter's state: its first refusal, and its draft
 pub record Stage : Type 0 where
   pub refusal : Option CanonError
   pub draft : Draft

@@ -11,13 +11,13 @@ abbrev pub refused_by : Option ℤ → Option CanonError
 refused_by None = Some Float
 refused_by (Some z) = refused_integer z
 
--- the first one, and else the second
+-- the first refusal, or else the second
 abbrev pub first_of_two : Option CanonError → Option CanonError → Option CanonError
 first_of_two None later = later
 first_of_two (Some e) later = Some e
 
 abbrev mutual
-  -- the first number that is a float or past the range: items by place, members by the bytes of their names
+  -- the first number that is a float or out of range: items by index, members by the bytes of their names
   pub refused : Data → Option CanonError
   refused null = None
   refused (boolean b) = None

@@ -30,7 +30,7 @@ abbrev mutual
   spelled_members (member k d ms) = begin_object_key ∷ write_string k ∷ end_object_key ∷ begin_object_value
       ∷ (spelled d ++ end_object_value ∷ spelled_members ms)
 
--- its string is UTF-8
+-- the string of the event is UTF-8
 abbrev pub IsText : Event → Type 0
 IsText (write_string s) = IsUtf8 s
 IsText x = ⊤

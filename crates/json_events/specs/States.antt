@@ -1,4 +1,4 @@
--- The draft that a state is.
+-- The draft that a state represents.
 use Rattle.std.specs.Prelude.{map, reverse, string_bytes}
 use Rattle.json_events.specs.declared.state.Container.{Container}
 use Rattle.json_events.specs.declared.state.State.{State}

@@ -1,4 +1,4 @@
--- The text so far of a value of which a front of the events came.
+-- The text so far of a value of which a prefix of the events was received.
 use Rattle.std.specs.Prelude.{◌≡◌, ◌⊎◌, ℕ, List, [], ◌∷◌, ◌++◌, Bool, true, false}
 use Rattle.std.specs.List.{join_with_byte}
 use Rattle.serde_json.specs.Data.{Data, Items, Members}
@@ -8,15 +8,15 @@ use Rattle.json_events.specs.Events.{begin_object, begin_object_key, end_object_
 use Rattle.json_events.specs.Events.{begin_object_value, finish}
 use Rattle.json_events.specs.Spelling.{spelled, spelled_items, spelled_members}
 
--- how much of a member's name came
+-- how much of a member's name was received
 pub data NamePart : Type 0 where
   no_name : NamePart
   due_name : NamePart
   told_name : List ℕ → NamePart
   whole_name : List ℕ → NamePart
 
--- how much of a value came: nothing, all, an array after some items or in the next one, an object after some
--- members or in the value of the next one
+-- how much of a value was received: nothing, all, an array after some items or in the next one, an object after
+-- some members or in the value of the next one
 pub data Part : Type 0 where
   no_part : Part
   whole_part : Data → Part
@@ -34,7 +34,7 @@ name_part_events (whole_name k) = begin_object_key ∷ write_string k ∷ end_ob
 abbrev pub value_due : List ℕ → List Event
 value_due k = begin_object_key ∷ write_string k ∷ end_object_key ∷ begin_object_value ∷ []
 
--- the events that came
+-- the events that were received
 abbrev pub part_events : Part → List Event
 part_events no_part = []
 part_events (whole_part v) = spelled v
@@ -43,7 +43,7 @@ part_events (item_part vs p) = begin_array ∷ (spelled_items vs ++ begin_array_
 part_events (members_part ms n) = begin_object ∷ (spelled_members ms ++ name_part_events n)
 part_events (member_part ms k p) = begin_object ∷ (spelled_members ms ++ (value_due k ++ part_events p))
 
--- a begun array: a bracket and its items' texts, with a comma between them, and before an item that is due
+-- an unclosed array: a bracket and its items' texts, with a comma between them, and one before an item that is due
 abbrev pub begun_array : List (List ℕ) → List ℕ
 begun_array ts = 91 ∷ join_with_byte 44 ts
 
@@ -51,8 +51,8 @@ abbrev pub begun_item : List (List ℕ) → List ℕ
 begun_item [] = begun_array []
 begun_item (t ∷ ts) = begun_array (t ∷ ts) ++ 44 ∷ []
 
--- the text of what came before the outermost unclosed object: whole values and begun arrays, as canonical texts
--- spell them
+-- the text before the outermost unclosed object: complete values and unclosed arrays, in their canonical
+-- spelling
 abbrev pub TextSoFar : Part → List ℕ → Type 0
 TextSoFar no_part t = t ≡ []
 TextSoFar (whole_part v) t = Canonical v t
@@ -75,7 +75,7 @@ abbrev pub inner_text : Bool → Type 0 → Type 0 → Type 0
 inner_text true inner here = inner
 inner_text false inner here = here
 
--- the text so far of the value that the innermost unclosed object's member has, and else none
+-- the text so far of the value of the innermost unclosed object's member, or none without an unclosed object
 abbrev pub MemberTextSoFar : Part → List ℕ → Type 0
 MemberTextSoFar no_part t = t ≡ []
 MemberTextSoFar (whole_part v) t = t ≡ []
@@ -84,8 +84,8 @@ MemberTextSoFar (item_part vs p) t = MemberTextSoFar p t
 MemberTextSoFar (members_part ms n) t = t ≡ []
 MemberTextSoFar (member_part ms k p) t = inner_text (has_object p) (MemberTextSoFar p t) (TextSoFar p t)
 
--- the events are those of this much of a value, with the end after it or not. This much went out, and this is the
--- text of the member that is being written
+-- the events are those of a part of a value, with the end after it or not; `out` was written out, and `text` is
+-- the text of the member that is being written
 pub record SoFar (xs : List Event) (out text : List ℕ) : Type 0 where
   pub part : Part
   pub end : List Event

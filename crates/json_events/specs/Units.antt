@@ -6,10 +6,10 @@ use Rattle.std.specs.Ordering.{nat_cmp}
 use Rattle.std.specs.Str.{chars}
 use Rattle.std.specs.declared.cmp.Ordering.{Ordering}
 
--- the UTF-16 units of a name: one for a character below U+10000, and else a pair of surrogates
+-- the UTF-16 units of a name: one for a character below U+10000, otherwise a surrogate pair
 unfoldable pub units : List ℕ → List ℕ
 units name = flat_map encode_utf16 (chars name)
 
--- names in the order of their units, compared one by one, a prefix first
+-- names are compared unit by unit; a prefix is less
 abbrev pub by_units : List ℕ → List ℕ → Ordering
 by_units a b = slice_cmp nat_cmp (units a) (units b)

@@ -1,9 +1,9 @@
--- What every value of `serde_json` has: its texts are UTF-8, and an object has no name twice.
+-- Properties of every value of `serde_json`: its strings are UTF-8, and an object has no duplicate name.
 use Rattle.std.specs.Prelude.{◌≢◌, ℕ, List, IsUtf8, ⊤}
 use Rattle.serde_json.specs.Data.{Data, null, boolean, number, string, array, object, Items}
 use Rattle.serde_json.specs.Data.{no_items, item, Members, no_members, member}
 
--- the name is none of these
+-- the name differs from all of these
 abbrev pub IsOther : List ℕ → Members → Type 0
 IsOther k no_members = ⊤
 IsOther k (member l d ms) = (k ≢ l) × IsOther k ms

@@ -14,7 +14,7 @@ use Rattle.json_events.specs.Events.{begin_object_key, end_object_key, begin_obj
 use Rattle.json_events.specs.Events.{end_object_value, end_object, finish}
 use Rattle.json_events.specs.Units.{by_units}
 
--- a value that comes whole
+-- a scalar, or a raw fragment, in one event
 pub data Scalar : Type 0 where
   a_null : Scalar
   a_truth : Bool → Scalar
@@ -23,7 +23,7 @@ pub data Scalar : Type 0 where
   a_string : List ℕ → Scalar
   a_fragment : Scalar
 
--- what events may spell: any scalars, and names that may come twice
+-- the trees that events may spell: any scalars, and possibly duplicate names
 mutual
   pub data Tree : Type 0 where
     scalar : Scalar → Tree
@@ -46,7 +46,7 @@ scalar_event a_float = write_float
 scalar_event (a_string s) = write_string s
 scalar_event a_fragment = write_raw_fragment
 
--- up to a member's value
+-- the events of a member up to its value
 abbrev pub name_events : List ℕ → List Event
 name_events k = begin_object_key ∷ write_string k ∷ end_object_key ∷ begin_object_value ∷ []
 
@@ -65,18 +65,18 @@ abbrev mutual
   nested_fields no_fields = []
   nested_fields (and_field fs k t) = nested_fields fs ++ (name_events k ++ (nested t ++ end_object_value ∷ []))
 
--- a well-nested list, or one with the end after it, goes on so
+-- a well-nested list, with the end after it or not, begins with these events
 pub record Begins (xs : List Event) : Type 0 where
   pub value : Tree
   pub rest : List Event
   pub is : xs ++ rest ≡ nested value ++ finish ∷ []
 
--- whether a member has the name. Names are told apart by their units
+-- whether a member has the name. Names are compared by their units
 abbrev pub has_field : List ℕ → Fields → Bool
 has_field k no_fields = false
 has_field k (and_field fs l t) = is_eq (by_units k l) || has_field k fs
 
--- the member that is being written has a value, and its object has its name already
+-- the member that is being written has a value, and its name is a duplicate
 pub record ComesTwice (xs : List Event) : Type 0 where
   pub before : List Event
   pub fields : Fields
@@ -95,12 +95,12 @@ Cause IntegerOutOfRange xs x =
 Cause DuplicateKey xs x = (x ≡ end_object_value) × ComesTwice xs
 Cause e xs x = ⊥
 
--- no event of these has a cause of refusal after those before it
+-- no event of these has a cause for a refusal after those before it
 abbrev pub IsGood : List Event → Type 0
 IsGood xs =
     (before later : List Event) (x : Event) (e : CanonError) → xs ≡ before ++ x ∷ later → Cause e before x → ⊥
 
--- the first event that has a cause of refusal
+-- the first event that has a cause for a refusal
 pub record IsBad (xs : List Event) (e : CanonError) : Type 0 where
   pub before : List Event
   pub bad : Event
@@ -109,7 +109,7 @@ pub record IsBad (xs : List Event) (e : CanonError) : Type 0 where
   pub good : IsGood before
   pub cause : Cause e before bad
 
--- none of these events is refused, or the first that is has this refusal
+-- no event is refused, or the first refused event has this refusal
 abbrev pub first_bad : List Event → Option CanonError → Type 0
 first_bad xs None = IsGood xs
 first_bad xs (Some e) = IsBad xs e

@@ -13,7 +13,7 @@ impl JcsFormatter {
     ghost use Rattle.json_events.specs.Formatters.{stage_of};
     ghost use Rattle.json_events.specs.Turns.{Answers};
 
-    /// An array begins.
+    /// Begins an array.
     pub fn begin_array<K: Sink>(&mut self, sink: &mut K) -> Result<(), CanonError>
         ensures answers { Answers begin_array result (stage_of self.old) (stage_of self.new)
             (K.state sink.old) (K.state sink.new) }
@@ -27,7 +27,7 @@ impl JcsFormatter {
         answer
     }
 
-    /// An array ends, after any number of items.
+    /// Ends an array, after any number of items.
     pub fn end_array<K: Sink>(&mut self, sink: &mut K) -> Result<(), CanonError>
         ensures answers { Answers end_array result (stage_of self.old) (stage_of self.new)
             (K.state sink.old) (K.state sink.new) }
@@ -41,7 +41,7 @@ impl JcsFormatter {
         answer
     }
 
-    /// An item of an array begins. Its value comes next.
+    /// Begins an item of an array. Its value comes next.
     pub fn begin_array_value<K: Sink>(&mut self, sink: &mut K) -> Result<(), CanonError>
         ensures answers { Answers begin_array_value result (stage_of self.old) (stage_of self.new)
             (K.state sink.old) (K.state sink.new) }
@@ -55,7 +55,7 @@ impl JcsFormatter {
         answer
     }
 
-    /// An item of an array ends, after its value.
+    /// Ends an item of an array, after its value.
     pub fn end_array_value<K: Sink>(&mut self, _sink: &mut K) -> Result<(), CanonError>
         ensures answers { Answers end_array_value result (stage_of self.old) (stage_of self.new)
             (K.state _sink.old) (K.state _sink.new) }

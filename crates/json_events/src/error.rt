@@ -5,22 +5,22 @@ use thiserror::Error;
 /// Why a value, a text or an event has no canonical text (RFC 8785).
 #[derive(Clone, Copy, Debug, PartialEq, Eq, Error)]
 pub enum CanonError {
-    /// The value holds a float.
+    /// The value contains a float.
     #[error("a float has no canonical text here: give whole numbers or texts")]
     Float,
-    /// The value holds a whole number past 9007199254740991 on either side.
+    /// The value contains an integer of a magnitude greater than 9007199254740991.
     #[error("a whole number is past 9007199254740991: give it as a text")]
     IntegerOutOfRange,
-    /// An object has a name twice.
+    /// An object has a duplicate name.
     #[error("an object has a name twice: give each name once")]
     DuplicateKey,
-    /// A fragment of JSON was to be written as it is.
+    /// A fragment of JSON was to be written verbatim.
     #[error("a raw fragment has no canonical text: give its value")]
     RawFragment,
-    /// The event stands in no value.
+    /// The event is not part of a value at this place.
     #[error("the event stands in no value: begin arrays, objects and members before what is in them")]
     NotWellNested,
-    /// The text is no JSON.
+    /// The text is not JSON.
     #[error("the text is no JSON: give one value of JSON")]
     Unreadable,
     /// The sink failed.

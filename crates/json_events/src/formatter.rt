@@ -8,10 +8,10 @@ use crate::state::State;
 use json_values::Blob;
 use std::alloc::Global;
 
-/// Writes the canonical text of a value that comes as events (RFC 8785, 3.2): the text of what stands in no
-/// object goes out at once, and that of an object at its end, when all its members are known.
+/// Writes the canonical text of a value that is received as events (RFC 8785, 3.2). Text outside of objects is
+/// written at once, that of an object at its end, when all its members are known.
 ///
-/// After a refusal each call answers the first one, and writes nothing.
+/// After a refusal each call returns the first one, and writes nothing.
 #[derive(Drop)]
 pub struct JcsFormatter {
     pub(crate) alloc: Global,
@@ -37,14 +37,14 @@ impl JcsFormatter {
         }
     }
 
-    /// The first refusal, if a call was refused.
+    /// Returns the first refusal, if a call was refused.
     pub fn first_refusal(&self) -> Option<CanonError>
         ensures { result ≡ (stage_of self.now).refusal }
     {
         self.refusal
     }
 
-    /// The text so far of the member that is being written in the innermost unclosed object.
+    /// Returns the text so far of the member that is being written in the innermost unclosed object.
     pub fn member_text(&self) -> &[u8]
         ensures { result.now ≡ (stage_of self.now).draft.text }
     {
@@ -52,7 +52,7 @@ impl JcsFormatter {
     }
 }
 
-// The refusal of an answer.
+// Returns the refusal in a result.
 pub(crate) fn kept(answer: &Result<(), CanonError>) -> Option<CanonError>
     ensures { result ≡ kept answer.now }
 {

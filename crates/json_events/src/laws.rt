@@ -1,4 +1,4 @@
-// Laws of canonical texts, as contracts of functions that do nothing.
+// Laws of canonical texts, as contracts of functions without effect.
 ghost use Rattle.std.specs.Prelude.{◌≡◌};
 ghost use Rattle.std.specs.Cmp.{IsTotalOrder};
 ghost use Rattle.std.specs.Cmp.Lexicographic.{slice_cmp};
@@ -9,13 +9,13 @@ ghost use Rattle.json_events.specs.Laws.{HoldsNext, FinishedSpells, FirstBad, Re
 ghost use Rattle.json_events.specs.Laws.{TextsSoFar, TiesEqualNames, dalet, grin};
 ghost use Rattle.json_events.specs.Units.{by_units};
 
-/// A value has at most one canonical text, and has one exactly where no number of it is refused.
+/// A value has at most one canonical text, and has one if and only if none of its numbers is refused.
 pub fn one_text()
     ensures one { OneText }
     ensures has { HasText }
 {}
 
-/// Names are in one order, in which only equal names tie. It is not that of their bytes.
+/// The order of names is total, and only equal names tie. It is not the order of their bytes.
 pub fn order_of_names()
     ensures total { IsTotalOrder by_units }
     ensures ties { TiesEqualNames }
@@ -23,9 +23,9 @@ pub fn order_of_names()
     ensures bytes { slice_cmp nat_cmp dalet grin ≡ Less }
 {}
 
-/// The events of a value write its text, whatever order its members come in, and events that are taken to the
-/// end are those of a value. At each moment the text of what stands before the outermost unclosed object went out,
-/// and the member that is being written has the text of its events. A formatter holds what the events so far leave.
+/// The events of a value write its text, in any order of its members, and events that are accepted to the end
+/// are those of a value. At each moment the text before the outermost unclosed object is written out, and the
+/// member that is being written has the text of its events. A formatter holds the stage of the events so far.
 pub fn events_write()
     ensures values { EventsWrite }
     ensures front { FrontGoesOut }
@@ -35,7 +35,7 @@ pub fn events_write()
     ensures next { HoldsNext }
 {}
 
-/// A list of events is refused for the first event that has a cause, and for no other. What comes after it changes
+/// A list of events is refused for the first event that has a cause, and for no other. Later events change
 /// nothing.
 pub fn first_refusal_has_its_cause()
     ensures first { FirstBad }

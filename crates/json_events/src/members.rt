@@ -10,7 +10,7 @@ use std::collections::BTreeSet;
 
 pub(crate) type Members = BTreeSet<JsonProperty>;
 
-/// A text, and the object of these members after it.
+/// Appends the object of these members to a text.
 pub(crate) fn with_object(text: Blob, members: Members) -> Result<Blob, AllocError>
     ensures { IfOk result (λ t. t ≡ text ++ kept_object members.keys) }
 {
@@ -26,7 +26,7 @@ pub(crate) fn with_object(text: Blob, members: Members) -> Result<Blob, AllocErr
     Ok(whole)
 }
 
-/// A comma, where something stands before.
+/// Appends a comma, if it follows another member.
 fn append_comma(out: &mut Blob, later: bool) -> Result<(), AllocError>
     ensures { OnOk result (out.new ≡ out.old ++ comma_if later) }
 {

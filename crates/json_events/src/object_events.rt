@@ -13,7 +13,7 @@ impl JcsFormatter {
     ghost use Rattle.json_events.specs.Formatters.{stage_of};
     ghost use Rattle.json_events.specs.Turns.{Answers};
 
-    /// An object begins.
+    /// Begins an object.
     pub fn begin_object<K: Sink>(&mut self, sink: &mut K) -> Result<(), CanonError>
         ensures answers { Answers begin_object result (stage_of self.old) (stage_of self.new)
             (K.state sink.old) (K.state sink.new) }
@@ -27,7 +27,7 @@ impl JcsFormatter {
         answer
     }
 
-    /// An object ends, after any number of members. Its text is written.
+    /// Ends an object, after any number of members, and writes its text.
     pub fn end_object<K: Sink>(&mut self, sink: &mut K) -> Result<(), CanonError>
         ensures answers { Answers end_object result (stage_of self.old) (stage_of self.new)
             (K.state sink.old) (K.state sink.new) }
@@ -41,7 +41,7 @@ impl JcsFormatter {
         answer
     }
 
-    /// A member's name begins. A string comes next.
+    /// Begins the name of a member. A string comes next.
     pub fn begin_object_key<K: Sink>(&mut self, _sink: &mut K) -> Result<(), CanonError>
         ensures answers { Answers begin_object_key result (stage_of self.old) (stage_of self.new)
             (K.state _sink.old) (K.state _sink.new) }
@@ -55,7 +55,7 @@ impl JcsFormatter {
         answer
     }
 
-    /// A member's name ends.
+    /// Ends the name of a member.
     pub fn end_object_key<K: Sink>(&mut self, _sink: &mut K) -> Result<(), CanonError>
         ensures answers { Answers end_object_key result (stage_of self.old) (stage_of self.new)
             (K.state _sink.old) (K.state _sink.new) }
@@ -69,7 +69,7 @@ impl JcsFormatter {
         answer
     }
 
-    /// A member's value begins.
+    /// Begins the value of a member.
     pub fn begin_object_value<K: Sink>(&mut self, _sink: &mut K) -> Result<(), CanonError>
         ensures answers { Answers begin_object_value result (stage_of self.old) (stage_of self.new)
             (K.state _sink.old) (K.state _sink.new) }
@@ -83,7 +83,7 @@ impl JcsFormatter {
         answer
     }
 
-    /// A member ends, after its value. `DuplicateKey` where the object has its name already.
+    /// Ends a member, after its value. Returns `DuplicateKey` if the object already has the name.
     pub fn end_object_value<K: Sink>(&mut self, _sink: &mut K) -> Result<(), CanonError>
         ensures answers { Answers end_object_value result (stage_of self.old) (stage_of self.new)
             (K.state _sink.old) (K.state _sink.new) }

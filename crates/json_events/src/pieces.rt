@@ -1,4 +1,4 @@
-// Text that goes into a member or out, and containers that open and close.
+// Writes text to a member or the sink, and opens and closes containers.
 ghost use Rattle.std.specs.Prelude.{◌≡◌, ◌≤◌, [], OnOk, IfSome, IfNone};
 ghost use Rattle.json_events.specs.Drafts.{level, opened, writes};
 ghost use Rattle.json_events.specs.Members.{kept_object};
@@ -13,7 +13,7 @@ use json_values::{Blob, Sink, SinkError, put_all};
 use std::alloc::{AllocError, Global};
 use std::mem;
 
-/// Writes a piece of text: into the member that is being written, or out where no object is unclosed.
+/// Writes a piece of text to the member that is being written, or to the sink if no object is unclosed.
 pub(crate) fn write_piece<K: Sink>(
     state: &mut State,
     sink: &mut K,
@@ -66,7 +66,7 @@ pub(crate) fn write_object<K: Sink>(
     }
 }
 
-/// A container of which nothing is written yet.
+/// Returns a container of which nothing is written yet.
 pub(crate) fn empty_container(alloc: Global, spot: Spot, held: bool, around: Blob) -> Container
     ensures { level_of result ≡ level spot held around }
 {
@@ -89,7 +89,7 @@ pub(crate) fn open(state: &mut State, container: Container) -> Result<(), AllocE
     Ok(())
 }
 
-/// Closes the innermost container, if something is around it, and gives it.
+/// Closes the innermost container, if another one encloses it, and returns it.
 pub(crate) fn close(state: &mut State) -> Option<Container>
     ensures none { IfNone result
         (((draft_of state.old).outer ≡ []) × (draft_of state.new ≡ draft_of state.old)) }

@@ -6,7 +6,7 @@ use json_values::{Blob, List};
 use std::alloc::{AllocError, Global};
 use std::cmp::Ordering;
 
-/// A member of an object. Members are compared by their sorting keys alone (RFC 8785, 3.2.3).
+/// A member of an object. Members are compared by their sorting keys only (RFC 8785, 3.2.3).
 #[derive(Debug, Drop)]
 pub struct JsonProperty {
     /// The UTF-16 units of the name.
@@ -18,7 +18,7 @@ pub struct JsonProperty {
 }
 
 impl JsonProperty {
-    /// A member of this name. The key and the value are kept as they are.
+    /// Creates a member with this name. Key and value are stored verbatim.
     pub fn new(
         alloc: Global,
         name: &str,

@@ -1,4 +1,4 @@
-// The texts of numbers, truth values and strings (RFC 8785, 3.2.2).
+// The texts of numbers, `bool` and strings (RFC 8785, 3.2.2).
 ghost use Rattle.std.specs.Prelude.{◌≡◌, IfOk};
 ghost use Rattle.std.specs.Fmt.{signed_decimal};
 ghost use Rattle.json_values.specs.Canon.{quoted_text};
@@ -10,10 +10,10 @@ use itoa::Buffer;
 use json_values::{Blob, write_quoted};
 use std::alloc::{AllocError, Global};
 
-/// The greatest whole number that every reader of JSON keeps, on either side of zero (RFC 8785, 3.2.2.3).
+/// The greatest magnitude of an integer that every JSON parser represents exactly (RFC 8785, 3.2.2.3).
 pub const MAX_SAFE_INTEGER: i64 = 9007199254740991;
 
-/// `IntegerOutOfRange` for a number past 9007199254740991 on either side.
+/// Returns `IntegerOutOfRange` if the magnitude of the number is greater than 9007199254740991.
 pub fn refused_integer(z: i128) -> Option<CanonError>
     ensures { result ≡ refused_integer z }
 {

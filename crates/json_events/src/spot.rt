@@ -1,6 +1,6 @@
 ghost use Rattle.std.specs.Prelude.{◌≡◌};
 
-/// Where the next event stands in its innermost unclosed container.
+/// The place of the next event in its innermost unclosed container.
 #[derive(Clone, Copy, Debug, PartialEq, Eq)]
 pub(crate) enum Spot {
     // Outside all containers: before the value, after it, and after the end.
@@ -11,7 +11,7 @@ pub(crate) enum Spot {
     Items,
     ItemDue,
     ItemDone,
-    // In an object: between members, before and after a member's name, before its value begins, and
+    // In an object: between members, before and after the name of a member, before its value begins, and
     // before and after the value.
     Names,
     NameDue,
@@ -24,7 +24,7 @@ pub(crate) enum Spot {
 impl Spot {
     ghost use Rattle.json_events.specs.Drafts.{after_value, is_at, spot_index};
 
-    /// Where the next event stands after a value that comes here, if one may.
+    /// Returns the place after a value, or `None` if no value may come here.
     pub(crate) fn after_value(self) -> Option<Spot>
         ensures { result ≡ after_value self }
     {

@@ -1,9 +1,9 @@
-// The unclosed containers of a formatter, and the texts that it holds.
+// The unclosed containers of a formatter, and the texts it holds.
 use crate::members::Members;
 use crate::spot::Spot;
 use json_values::Blob;
 
-/// An unclosed container, or what is outside all of them.
+/// An unclosed container, or the level outside all containers.
 #[derive(Drop)]
 pub(crate) struct Container {
     pub(crate) spot: Spot,
@@ -11,8 +11,8 @@ pub(crate) struct Container {
     pub(crate) held: bool,
     // Whether an item of the array began.
     pub(crate) begun: bool,
-    // The closed members of the object, the name of the one that is being written, and the text so far of
-    // the member around it.
+    // The closed members of the object, the name of the member that is being written, and the text so far of
+    // the enclosing member.
     pub(crate) members: Members,
     pub(crate) name: String,
     pub(crate) around: Blob,

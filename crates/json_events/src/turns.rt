@@ -1,4 +1,4 @@
-// What each event does to a state.
+// The effect of each event on a state.
 ghost use Rattle.std.specs.Prelude.{◌≡◌, ◌≤◌, [], IsErr, IfErr};
 ghost use Rattle.json_events.specs.Drafts.{places, begins_array, begins_object, begins_item};
 ghost use Rattle.json_events.specs.Drafts.{ends_array, ends_object, ends_member, takes_string};
@@ -19,7 +19,7 @@ use json_values::{Blob, Sink};
 use std::alloc::Global;
 use std::mem;
 
-/// A value of this text.
+/// Places a value with this text.
 pub(crate) fn place<K: Sink>(
     state: &mut State,
     sink: &mut K,
@@ -37,7 +37,7 @@ pub(crate) fn place<K: Sink>(
     written
 }
 
-/// An array begins.
+/// Begins an array.
 pub(crate) fn begin_array<K: Sink>(
     alloc: Global,
     state: &mut State,
@@ -57,7 +57,7 @@ pub(crate) fn begin_array<K: Sink>(
     written
 }
 
-/// An item of an array begins.
+/// Begins an item of an array.
 pub(crate) fn begin_item<K: Sink>(state: &mut State, sink: &mut K) -> Result<(), CanonError>
     ensures turns { Turns (only_at Items (draft_of state.old) (begins_item (draft_of state.old)))
         result (draft_of state.old) (draft_of state.new) (K.state sink.old) (K.state sink.new) }
@@ -73,7 +73,7 @@ pub(crate) fn begin_item<K: Sink>(state: &mut State, sink: &mut K) -> Result<(),
     written
 }
 
-/// An array ends.
+/// Ends an array.
 pub(crate) fn end_array<K: Sink>(state: &mut State, sink: &mut K) -> Result<(), CanonError>
     ensures turns { Turns (only_at Items (draft_of state.old) (ends_array (draft_of state.old)))
         result (draft_of state.old) (draft_of state.new) (K.state sink.old) (K.state sink.new) }
@@ -89,7 +89,7 @@ pub(crate) fn end_array<K: Sink>(state: &mut State, sink: &mut K) -> Result<(), 
     written
 }
 
-/// An object begins. Nothing of it is written before it ends.
+/// Begins an object. Nothing of it is written before it ends.
 pub(crate) fn begin_object<K: Sink>(
     alloc: Global,
     state: &mut State,
@@ -109,7 +109,7 @@ pub(crate) fn begin_object<K: Sink>(
     Ok(())
 }
 
-/// An object ends, and its text is written.
+/// Ends an object, and writes its text.
 pub(crate) fn end_object<K: Sink>(
     alloc: Global,
     state: &mut State,
@@ -138,7 +138,7 @@ pub(crate) fn end_object<K: Sink>(
     written
 }
 
-/// A member of an object ends. A name that is there already is refused.
+/// Ends a member of an object. Returns `DuplicateKey` if the name is already present.
 pub(crate) fn end_member(alloc: Global, state: &mut State) -> Result<(), CanonError>
     ensures { Ends (only_at ValueDone (draft_of state.old) (ends_member (draft_of state.old)))
         result (draft_of state.old) (draft_of state.new) }
@@ -157,7 +157,7 @@ pub(crate) fn end_member(alloc: Global, state: &mut State) -> Result<(), CanonEr
     Ok(())
 }
 
-/// A string: a member's name, or a value.
+/// Takes a string: the name of a member, or a value.
 pub(crate) fn take_string<K: Sink>(
     alloc: Global,
     state: &mut State,
@@ -178,7 +178,7 @@ pub(crate) fn take_string<K: Sink>(
     placed
 }
 
-/// A whole number.
+/// Takes an integer.
 pub(crate) fn take_whole<K: Sink>(
     alloc: Global,
     state: &mut State,
@@ -201,7 +201,7 @@ pub(crate) fn take_whole<K: Sink>(
     written
 }
 
-/// A value that has no canonical text.
+/// Refuses a value that has no canonical text.
 pub(crate) fn refuse_value(state: &State, refusal: CanonError) -> Result<(), CanonError>
     ensures refusal { IfErr result
         (λ e. where_due (after_value (draft_of state.now).inner.spot) (λ s. refused refusal) ≡ refused e) }
@@ -213,7 +213,7 @@ pub(crate) fn refuse_value(state: &State, refusal: CanonError) -> Result<(), Can
     }
 }
 
-/// An event that comes at one spot alone, and leaves another.
+/// Moves from the only spot at which the event is valid to another.
 pub(crate) fn move_on(state: &mut State, from: Spot, to: Spot) -> Result<(), CanonError>
     ensures { Ends (only_at from (draft_of state.old) (moves (at to (draft_of state.old)) []))
         result (draft_of state.old) (draft_of state.new) }

@@ -1,4 +1,4 @@
-// The events of values that are no containers, and the end.
+// The events of scalars, and the end.
 ghost use Rattle.std.specs.Prelude.{◌≤◌};
 
 use crate::error::CanonError;
@@ -14,7 +14,7 @@ impl JcsFormatter {
     ghost use Rattle.json_events.specs.Formatters.{stage_of};
     ghost use Rattle.json_events.specs.Turns.{Answers};
 
-    /// The value null.
+    /// Writes null.
     pub fn write_null<K: Sink>(&mut self, sink: &mut K) -> Result<(), CanonError>
         ensures answers { Answers write_null result (stage_of self.old) (stage_of self.new)
             (K.state sink.old) (K.state sink.new) }
@@ -28,7 +28,7 @@ impl JcsFormatter {
         answer
     }
 
-    /// A truth value.
+    /// Writes a `bool`.
     pub fn write_bool<K: Sink>(&mut self, sink: &mut K, value: bool) -> Result<(), CanonError>
         ensures answers { Answers (write_bool value) result (stage_of self.old) (stage_of self.new)
             (K.state sink.old) (K.state sink.new) }
@@ -42,7 +42,7 @@ impl JcsFormatter {
         answer
     }
 
-    /// A whole number. `IntegerOutOfRange` past 9007199254740991 on either side.
+    /// Writes an integer. Returns `IntegerOutOfRange` if its magnitude is greater than 9007199254740991.
     pub fn write_integer<K: Sink>(&mut self, sink: &mut K, value: i128) -> Result<(), CanonError>
         ensures answers { Answers (write_integer value) result (stage_of self.old)
             (stage_of self.new) (K.state sink.old) (K.state sink.new) }
@@ -56,7 +56,7 @@ impl JcsFormatter {
         answer
     }
 
-    /// A float, which has no text: `Float`.
+    /// Refuses a float, which has no canonical text: returns `Float`.
     pub fn write_float<K: Sink>(&mut self, _sink: &mut K) -> Result<(), CanonError>
         ensures answers { Answers write_float result (stage_of self.old) (stage_of self.new)
             (K.state _sink.old) (K.state _sink.new) }
@@ -70,7 +70,7 @@ impl JcsFormatter {
         answer
     }
 
-    /// A string, or the name of a member.
+    /// Writes a string, or the name of a member.
     pub fn write_string<K: Sink>(&mut self, sink: &mut K, text: &str) -> Result<(), CanonError>
         ensures answers { Answers (write_string text.now) result (stage_of self.old)
             (stage_of self.new) (K.state sink.old) (K.state sink.new) }
@@ -84,7 +84,7 @@ impl JcsFormatter {
         answer
     }
 
-    /// JSON that is to be written as it is: `RawFragment`.
+    /// Refuses JSON that is to be written verbatim: returns `RawFragment`.
     pub fn write_raw_fragment<K: Sink>(
         &mut self,
         _sink: &mut K,
@@ -102,7 +102,7 @@ impl JcsFormatter {
         answer
     }
 
-    /// The end. `NotWellNested` unless the events are one whole value.
+    /// Ends the value. Returns `NotWellNested` unless the events are exactly one complete value.
     pub fn finish<K: Sink>(&mut self, _sink: &mut K) -> Result<(), CanonError>
         ensures answers { Answers finish result (stage_of self.old) (stage_of self.new)
             (K.state _sink.old) (K.state _sink.new) }

@@ -1,4 +1,4 @@
--- A list shorter than two is no pair.
+-- A list of length 0 or 1 is not a pair.
 use Rattle.std.proofs.Common.{◌≡◌, ◌<◌, List, [], ◌∷◌, length, Option, None, refl, arith}
 use Rattle.serde_json.specs.declared.value.Value.{Value}
 use Rattle.serde_json.specs.Data.{Data}

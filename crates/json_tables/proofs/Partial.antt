@@ -1,4 +1,4 @@
--- A list read in part.
+-- A partly read list.
 use Rattle.std.proofs.Common.{◌≡◌, List, [], ◌∷◌, ◌++◌, Option, Some, None, refl, sym, ap, ◌∙◌, append_assoc}
 use Rattle.serde_json.specs.Data.{Data, Items, item}
 use Rattle.json_tables.specs.Reading.{◌>>=◌, items_by}
@@ -19,11 +19,11 @@ one_moved : {X : Type 0} (xs : List X) (x : X) (r : Option (List X)) → with_fr
 one_moved xs x None = refl
 one_moved xs x (Some ys) = ap Some (sym (append_assoc xs (x ∷ []) ys))
 
--- one more item was read
+-- one more item is read
 pub items_step : {X : Type 0} (f : Data → Option X) (xs : List X) (x : X) (d : Data) (ds : Items) → f d ≡ Some x → with_front xs (items_by f (item d ds)) ≡ with_front (xs ++ x ∷ []) (items_by f ds)
 items_step f xs x d ds e = ap (λ o. with_front xs (o >>= λ y. items_by f ds >>= λ ys. Some (y ∷ ys))) e ∙ one_moved xs x (items_by f ds)
 
--- an item was refused, so the list is
+-- if an item is refused, the list is
 pub items_refused : {X : Type 0} (f : Data → Option X) (xs : List X) (e : ReadError) (d : Data) (ds : Items) → Refuses e (f d) → Refuses e (with_front xs (items_by f (item d ds)))
 items_refused f xs Float d ds h = h
 items_refused f xs Shape d ds h = ap (λ o. with_front xs (o >>= λ y. items_by f ds >>= λ ys. Some (y ∷ ys))) h

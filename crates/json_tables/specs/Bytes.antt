@@ -1,4 +1,4 @@
--- Bytes that are given as JSON.
+-- Bytes encoded in JSON.
 use Rattle.std.specs.Prelude.{ℕ, List, [], ◌∷◌, Option, Some, codes}
 use Rattle.base64.specs.Engines.{standard}
 use Rattle.base64.specs.GeneralPurpose.{decoded_of}
@@ -7,11 +7,11 @@ use Rattle.json_tables.specs.Reading.{◌>>=◌, text_of}
 use Rattle.json_tables.specs.Objects.{only}
 use Rattle.json_tables.specs.Member.{required}
 
--- the bytes of a text in padded standard base64 (RFC 4648, 4)
+-- the bytes of a string in padded standard base64 (RFC 4648, 4)
 abbrev pub base64_of : Data → Option (List ℕ)
 base64_of d = text_of d >>= decoded_of standard
 
--- a text stands for its UTF-8, an object with the one member `base64` for the bytes of that text
+-- a string denotes its UTF-8, an object with only the member `base64` the bytes that its string decodes to
 abbrev pub bytes_of : Data → Option (List ℕ)
 bytes_of (string text) = Some text
 bytes_of d = only (codes "base64" ∷ []) d >>= λ known. required base64_of (codes "base64") d

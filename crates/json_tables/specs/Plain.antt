@@ -4,6 +4,6 @@ use Rattle.serde_json.specs.Data.{Data}
 use Rattle.json_values.specs.JsonText.{plain_json_of}
 use Rattle.json_tables.specs.Reading.{◌>>=◌}
 
--- what f reads from the JSON that the bytes say, where no float stands in it
+-- what f reads from the JSON in the bytes, if it contains no float
 abbrev pub read_plain : {X : Type 0} → (Data → Option X) → List ℕ → Option X
 read_plain f bytes = plain_json_of bytes >>= f

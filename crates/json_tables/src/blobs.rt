@@ -1,4 +1,4 @@
-// Bytes that are given as JSON.
+// Bytes encoded in JSON.
 ghost use Rattle.std.specs.Prelude.{◌≡◌, IfOk};
 ghost use Rattle.serde_json.specs.View.{view};
 ghost use Rattle.base64.specs.Engines.{standard};
@@ -37,7 +37,7 @@ impl Member for Blob {
     }
 }
 
-/// A member that must be there: a text in padded standard base64 (RFC 4648, 4).
+/// Reads a member that must be present: a string in padded standard base64 (RFC 4648, 4).
 pub fn required_base64(alloc: Global, value: &Value, name: &str) -> Result<Blob, ReadError>
     ensures { Gives result (required base64_of name.now (view value.now)) }
 {
@@ -50,7 +50,7 @@ pub fn required_base64(alloc: Global, value: &Value, name: &str) -> Result<Blob,
     }
 }
 
-/// The bytes of a text in padded standard base64 (RFC 4648, 4), or none where it is not.
+/// Decodes padded standard base64 (RFC 4648, 4). Returns `None` if the text is malformed.
 #[tactic(auto, unfolding(base64::specs::GeneralPurpose::decoded_of))]
 pub fn decode_base64(alloc: Global, text: &str) -> Result<Option<Blob>, AllocError>
     ensures { IfOk result (λ found. found ≡ decoded_of standard text.now) }

@@ -8,7 +8,7 @@ use crate::reads::Reads;
 use serde_json::Value;
 use std::alloc::{AllocError, Global};
 
-/// Reads a document in which no float may stand.
+/// Reads a document that must not contain a float.
 pub fn read_document<T: Reads + Drop>(alloc: Global, value: &Value) -> Result<T, ReadError>
     ensures { ReadsDocument result T.reading (view value.now) }
 {
@@ -18,7 +18,7 @@ pub fn read_document<T: Reads + Drop>(alloc: Global, value: &Value) -> Result<T,
     T::read_value(alloc, value)
 }
 
-/// What is read from a value, or none where its table does not read it.
+/// Reads a value. Returns `None` if its table does not match it.
 pub fn read_or_none<T: Reads + Drop>(alloc: Global, value: &Value) -> Result<Option<T>, AllocError>
     ensures { IfOk result (λ found. found ≡ T.reading (view value.now)) }
 {

@@ -5,13 +5,13 @@ use thiserror::Error;
 /// Why a value is not the document.
 #[derive(Clone, Copy, Debug, PartialEq, Eq, Error)]
 pub enum ReadError {
-    /// A float stands in it.
+    /// The value contains a float.
     #[error("a float stands in the value: write its numbers as whole ones")]
     Float,
-    /// Its table does not read it.
+    /// The value does not match its table.
     #[error("the value has another shape: compare its members with those of the document")]
     Shape,
-    /// The tables of two documents read it.
+    /// The value matches the tables of two documents.
     #[error("the value reads as two documents: leave out the members of one of them")]
     Ambiguous,
     #[error("out of memory: free some and try again")]

@@ -1,4 +1,4 @@
-//! Documents read from JSON by tables.
+//! Reads documents from JSON by tables.
 #![tactic(auto)]
 
 mod blobs;

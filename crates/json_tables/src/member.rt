@@ -10,12 +10,12 @@ use json_values::Json;
 use serde_json::Value;
 use std::alloc::{AllocError, Global};
 
-/// What is read where a member may stand: a value that must be there, or an option, which absence and null leave empty.
+/// A type that is read from a member: a value that must be present, or an option that is empty if missing or null.
 pub trait Member: Sized {
-    /// What is read from what was found.
+    /// What is read from the member.
     ghost found: { Option Data → Option Self };
 
-    /// `Shape` exactly where the member does not read.
+    /// Returns `Shape` if and only if the member does not match.
     fn read_member(alloc: Global, member: Option<&Value>) -> Result<Self, ReadError>
         ensures { Gives result (found (option_map (λ v. view v.now) member.entry)) };
 }
@@ -31,7 +31,7 @@ impl<T: Reads + Drop> Member for Option<T> {
     }
 }
 
-/// Any value; null where none is there.
+/// Any value; null if the member is missing.
 impl Member for Json {
     ghost found = { or_null };
 
@@ -43,7 +43,7 @@ impl Member for Json {
     }
 }
 
-/// A value that must be there.
+/// Reads a value that must be present.
 pub fn present<T: Reads + Drop>(alloc: Global, member: Option<&Value>) -> Result<T, ReadError>
     ensures { Gives result (present T.reading (option_map (λ v. view v.now) member.entry)) }
 {
@@ -53,7 +53,7 @@ pub fn present<T: Reads + Drop>(alloc: Global, member: Option<&Value>) -> Result
     }
 }
 
-/// A copy of the value; null where none is there.
+/// Copies the value, or returns null if it is missing.
 pub fn or_null(member: Option<&Value>) -> Result<Json, AllocError>
     ensures { IfOk result (λ json. or_null (option_map (λ v. view v.now) member.entry) ≡ Some json) }
 {
@@ -63,14 +63,14 @@ pub fn or_null(member: Option<&Value>) -> Result<Json, AllocError>
     }
 }
 
-/// A member that must be there.
+/// Reads a member that must be present.
 pub fn required<T: Reads + Drop>(alloc: Global, value: &Value, name: &str) -> Result<T, ReadError>
     ensures { Gives result (required T.reading name.now (view value.now)) }
 {
     present(alloc, value.get(name))
 }
 
-/// A member that may be absent or null.
+/// Reads a member that may be missing or null.
 pub fn optional<T: Reads + Drop>(
     alloc: Global,
     value: &Value,

@@ -1,4 +1,4 @@
-// Numbers and truth values.
+// Numbers and `bool`.
 ghost use Rattle.json_tables.specs.Reading.{bool_of, u8_of, u16_of, u32_of, u64_of, i32_of, i64_of};
 ghost use Rattle.json_tables.specs.Member.{present};
 

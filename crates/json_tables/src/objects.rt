@@ -8,7 +8,7 @@ ghost use Rattle.json_tables.specs.Objects.{an_object, only, names_within};
 use crate::error::ReadError;
 use serde_json::{Map, Value};
 
-/// An object, whatever its members.
+/// Accepts an object with any members.
 pub fn an_object(value: &Value) -> Result<(), ReadError>
     ensures { Gives result (an_object (view value.now)) }
 {
@@ -19,7 +19,7 @@ pub fn an_object(value: &Value) -> Result<(), ReadError>
     }
 }
 
-/// An object with no members but these.
+/// Accepts an object with no other members than these.
 pub fn only(value: &Value, names: &[&str]) -> Result<(), ReadError>
     ensures { Gives result (only (map (λ name. name.now) names.now) (view value.now)) }
 {

@@ -4,7 +4,7 @@ ghost use Rattle.json_tables.specs.Paths.{text_at};
 
 use serde_json::Value;
 
-/// The text at the end of a path of members.
+/// Returns the string at the end of a path of members.
 pub fn text_at<'a>(value: &'a Value, names: &[&str]) -> Option<&'a str>
     ensures { option_map (λ text. text.now) result ≡ text_at (map (λ name. name.now) names.now) (view value.now) }
 {

@@ -1,4 +1,4 @@
-// Bytes read as JSON in which no float stands.
+// Bytes read as JSON without floats.
 ghost use Rattle.std.specs.Prelude.{◌≡◌, IfOk};
 ghost use Rattle.json_values.specs.JsonText.{plain_json_of};
 ghost use Rattle.json_tables.specs.Plain.{read_plain};
@@ -9,8 +9,8 @@ use crate::reads::Reads;
 use json_values::{Json, read_json};
 use std::alloc::{AllocError, Global};
 
-/// Reads JSON (RFC 8259) in which no float stands. None where the bytes are not UTF-8, or no JSON, or nest deeper than
-/// 127, or where a float stands anywhere.
+/// Parses JSON (RFC 8259) without floats. Returns `None` if the bytes are not UTF-8, are not JSON, nest deeper than
+/// 127, or contain a float.
 pub fn read_plain_json(alloc: Global, bytes: &[u8]) -> Result<Option<Json>, AllocError>
     ensures { IfOk result (λ json. json ≡ plain_json_of bytes.now) }
 {
@@ -23,8 +23,8 @@ pub fn read_plain_json(alloc: Global, bytes: &[u8]) -> Result<Option<Json>, Allo
     Ok(Some(json))
 }
 
-/// Reads a document from JSON in which no float stands. None where the bytes are no such JSON, or where the document's
-/// table does not read it.
+/// Reads a document from JSON without floats. Returns `None` if the bytes are not such JSON, or do not match the
+/// document's table.
 pub fn read_plain<T: Reads + Drop>(alloc: Global, bytes: &[u8]) -> Result<Option<T>, AllocError>
     ensures { IfOk result (λ found. found ≡ read_plain T.reading bytes.now) }
 {

@@ -7,12 +7,12 @@ use crate::error::ReadError;
 use serde_json::Value;
 use std::alloc::Global;
 
-/// What is read from a JSON value.
+/// A type that is read from JSON values.
 pub trait Reads: Sized {
-    /// What a value reads as.
+    /// What is read from a value.
     ghost reading: { Data → Option Self };
 
-    /// `Shape` exactly where the value does not read.
+    /// Returns `Shape` if and only if the value does not match.
     fn read_value(alloc: Global, value: &Value) -> Result<Self, ReadError>
         ensures { Gives result (reading (view value.now)) };
 }

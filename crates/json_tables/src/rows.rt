@@ -1,4 +1,4 @@
-//! Members in a row, so that a document is read with one exit.
+//! Members in a row, so that the reader of a document has one exit.
 ghost use Rattle.std.specs.Prelude.{ℕ, List, Option, IfOk, ⊤, map};
 ghost use Rattle.serde_json.specs.Data.{Data};
 ghost use Rattle.serde_json.specs.View.{view};
@@ -9,18 +9,18 @@ use crate::member::Member;
 use serde_json::Value;
 use std::alloc::Global;
 
-/// Members of an object in a row: none, or a member and the rest of the row. `json_values::row!` writes one.
+/// Members of an object in a row: none, or a member and the rest of the row. `json_values::row!` builds one.
 pub trait Row: Sized {
-    /// What takes the members, one after another, and makes an `X` of them or none.
+    /// Takes the members one after another, and builds an `X` or none.
     ghost Maker: { Type 0 → Type 0 };
 
-    /// What is made of the members under these names.
+    /// The value that is built from the members under these names.
     ghost made: { (X : Type 0) → List (List ℕ) → Data → Maker X → Option X };
 
-    /// Each member by itself.
+    /// Each member separately.
     ghost Each: { List (List ℕ) → Data → Self → Type 0 };
 
-    /// `Shape` only where nothing can be made of the members: one of them does not read, or has no name.
+    /// Returns `Shape` only if no value can be built: a member does not match, or has no name.
     fn read_row<X>(alloc: Global, value: &Value, names: &[&str]) -> Result<Self, ReadError>
         ensures refused { (make : Maker X)
             → IfRefused result (made X (map (λ name. name.now) names.now) (view value.now) make) }
@@ -56,7 +56,7 @@ impl<A: Member + Drop, B: Row> Row for (A, B) {
     }
 }
 
-/// The members under these names, of which an `X` is made.
+/// Reads the members under these names, from which an `X` is built.
 pub fn read_row<X, R: Row>(alloc: Global, value: &Value, names: &[&str]) -> Result<R, ReadError>
     ensures refused { (make : R.Maker X)
         → IfRefused result (R.made X (map (λ name. name.now) names.now) (view value.now) make) }

@@ -11,7 +11,7 @@ use json_values::{Text, TextSet};
 use serde_json::{Map, Value};
 use std::alloc::Global;
 
-/// An object whose values are objects.
+/// A set is read from an object with objects as values.
 impl Reads for TextSet {
     ghost reading = { set_of };
 

@@ -1,4 +1,4 @@
-// Texts, and values that are kept as they are.
+// Strings, and values that are stored verbatim.
 ghost use Rattle.std.specs.Prelude.{Some};
 ghost use Rattle.json_tables.specs.Reading.{text_of};
 ghost use Rattle.json_tables.specs.Member.{present};

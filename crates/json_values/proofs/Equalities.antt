@@ -1,4 +1,4 @@
--- Lists and maps are the same exactly where they are equal, if so are their items and values.
+-- Equality of lists, maps and sets is decided, given that equality of items and values is.
 use Rattle.std.proofs.Common.{◌≡◌, ◌↔◌, ℕ, List, Bool, true, IsTrue, ◌&&◌, refl, ap, ◌∙◌}
 use Rattle.std.specs.Str.{bytes_eq}
 use Rattle.std.specs.FinMap.{FinMap, entries, same_entries_map}

@@ -1,4 +1,4 @@
--- The escapes of canonical strings are those of compact ones.
+-- Canonical strings have the same escapes as compact ones.
 use Rattle.std.proofs.Common.{◌≡◌, ℕ, List, [], ◌∷◌, ◌++◌, flat_map, refl, ap, arith}
 use Rattle.std.proofs.lemmas.Bool.Decides.{nat_tests}
 use Rattle.json.specs.Print.{escape_byte}

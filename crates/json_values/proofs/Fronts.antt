@@ -11,7 +11,7 @@ use Rattle.json_values.specs.Places.{by_bytes, Sorted}
 use Rattle.json_values.specs.Writing.{members_list}
 use Rattle.json_values.proofs.Maps.{Entries}
 
--- the front that is one item longer
+-- the prefix that is one item longer
 pub front_more : {X : Type 0} (xs : List X) (i : ℕ) (x : X) → i < length xs → x ≡ get_or xs i x → take (i + 1) xs ≡ take i xs ++ x ∷ []
 front_more xs i x h is = take_more xs i x h ∙ ap (λ y. take i xs ++ y ∷ []) (sym is)
 
@@ -19,7 +19,7 @@ pub map_push : {A B : Type 0} (f : A → B) (xs : List A) (x : A) → map f (xs 
 map_push f [] x = refl
 map_push f (y ∷ xs) x = ap (λ ys. f y ∷ ys) (map_push f xs x)
 
--- one more value was written
+-- one more value is written
 pub values_written : {X : Type 0} (w : X → Data) (values : List Value) (v : Value) (xs : List X) (i : ℕ) (x : X) → i < length xs → x ≡ get_or xs i x
     → map view values ≡ map w (take i xs) → view v ≡ w x → map view (values ++ v ∷ []) ≡ map w (take (i + 1) xs)
 values_written w values v xs i x h is so_far made =
@@ -49,7 +49,7 @@ pub below_last : {V : Type 0} (x : List ℕ) (es : Entries V) (e : List ℕ × V
 below_last x [] e h = both_0 _ _ h
 below_last x (y ∷ es) e h = below_last x es e (both_1 (is_lt (by_bytes x y.0)) _ h)
 
--- a name above the others goes last
+-- a name greater than all others is inserted last
 pub put_last : {V : Type 0} (f : V → Data) (es : Entries V) (e : List ℕ × V) → Sorted (es ++ e ∷ []) → put e.0 (f e.1) (members_list f es) ≡ members_list f (es ++ e ∷ [])
 put_last f [] e h = refl
 put_last f (y ∷ es) e h =
@@ -69,7 +69,7 @@ sorted_take [] (suc n) h = tt
 sorted_take (y ∷ es) zero h = tt
 sorted_take (y ∷ es) (suc n) h = both _ _ (below_front y.0 es n (both_0 _ _ h)) (sorted_take es n (both_1 (below_all by_bytes y.0 es) _ h))
 
--- one more member was written
+-- one more member is written
 pub members_written : {V : Type 0} (w : V → Data) (es : Entries V) (i : ℕ) (e : List ℕ × V) (d : Data) → Sorted es → i < length es → e ≡ get_or es i e → d ≡ w e.1
     → put e.0 d (members_list w (take i es)) ≡ members_list w (take (i + 1) es)
 members_written w es i e d sorted h is made =

@@ -1,4 +1,4 @@
--- The place of a name among sorted entries, by one entry in their middle.
+-- Binary search for a name among sorted entries: the step at the middle entry.
 use Rattle.std.proofs.Common.{◌≡◌, ℕ, zero, suc, ◌+◌, ◌/◌, ◌<◌, ◌≤◌, Bool, true, false, cond, ◌&&◌, ◌==◌, T, List, [], ◌∷◌, ◌++◌, length, get_or, take, drop, Some, None, Result, Ok, Err, Ordering, Less, Equal, Greater, refl, sym, ap, subst, ◌∙◌, arith, drop-cons, add-one, length-drop}
 use Rattle.std.proofs.lemmas.List.{take-append-drop, length-take-le}
 use Rattle.std.specs.FinMap.Entries.{below_all, find}
@@ -43,7 +43,7 @@ sorted_back : {V : Type 0} (xs : Entries V) (x : List ℕ × V) (ys : Entries V)
 sorted_back [] x ys h = second _ _ h
 sorted_back (e ∷ xs) x ys h = sorted_back xs x ys (second _ _ h)
 
--- a name at or past x is past what stands before x
+-- a name equal to x or greater is greater than every name that is less than x
 past_equal : (k x e : List ℕ) → by_bytes e x ≡ Less → by_bytes k x ≡ Equal → by_bytes k e ≡ Greater
 past_equal k x e before is =
     nat_list_cmp_total.congr k x e is ∙ nat_list_cmp_total.antisymm x e ∙ ap ordering_reverse before
@@ -81,7 +81,7 @@ place_greater k (e ∷ xs) x ys h is =
     ap (λ o. match_ordering o (Err 0) (Ok 0) (later (place_of k (xs ++ x ∷ ys)))) (past_greater k x.0 e.0 (below_at e.0 xs x ys (first _ _ h)) is)
     ∙ ap later (place_greater k xs x ys (second _ _ h) is) ∙ later_shifted (length xs) (place_of k ys)
 
--- the entries, around the one at a place
+-- the entries split around the entry at index m
 around : {V : Type 0} (es : Entries V) (m : ℕ) (x : List ℕ × V) → m < length es → x ≡ get_or es m x → es ≡ take m es ++ x ∷ drop (m + 1) es
 around es m x h is =
     sym (take-append-drop m es)
@@ -109,7 +109,7 @@ place_after k es m x h is sorted order =
     ap (place_of k) (around es m x h is) ∙ place_greater k (take m es) x _ (subst Sorted (around es m x h is) sorted) order
     ∙ ap (λ n. shifted (n + 1) (place_of k (drop (m + 1) es))) (short_front es m h)
 
--- a place in the part that is left, b entries in
+-- the index in the left part, offset by b entries
 pub left_before : {V : Type 0} (k : List ℕ) (r : Result ℕ ℕ) (b : ℕ) (es : Entries V) (m : ℕ) (x : List ℕ × V) → r ≡ shifted b (place_of k es) → m < length es → x ≡ get_or es m x → by_bytes k x.0 ≡ Less → r ≡ shifted b (place_of k (take m es))
 left_before k r b es m x so_far h is order = so_far ∙ ap (shifted b) (place_before k es m x h is order)
 
@@ -124,7 +124,7 @@ pub left_nothing : {V : Type 0} (k : List ℕ) (r : Result ℕ ℕ) (b : ℕ) (e
 left_nothing k r b [] so_far none = so_far ∙ (let e : b + 0 ≡ b = omega arith in ap Err e)
 left_nothing k r b (e ∷ es) so_far none = absurd (omega arith)
 
--- what is found at the place
+-- the result of the search at the entry
 found_by : {V : Type 0} (o : Ordering) (k : List ℕ) (x : List ℕ × V) (es : Entries V) (i : ℕ) (d : List ℕ × V) → match_ordering o (Err 0) (Ok 0) (later (place_of k es)) ≡ Ok i
     → ((j : ℕ) → place_of k es ≡ Ok j → find by_bytes k es ≡ Some (get_or es j d).1)
     → cond (is_eq o) (Some x.1) (find by_bytes k es) ≡ Some (get_or (x ∷ es) i d).1
@@ -155,7 +155,7 @@ pub find_gap : {V : Type 0} (k : List ℕ) (es : Entries V) (i : ℕ) → Sorted
 find_gap k [] i h e = refl
 find_gap k (x ∷ es) i h e = gap_by (by_bytes k x.0) k x es i refl (first _ _ h) e (λ j g. find_gap k es j (second _ _ h) g)
 
--- what a search knows of the part that is left, b entries in: it tells the place among n entries
+-- the search invariant: the part that is left, offset by b entries, decides the index among n entries
 abbrev pub Searching : {V : Type 0} → List ℕ → Result ℕ ℕ → ℕ → ℕ → Entries V → Type 0
 Searching k r n b es = (r ≡ shifted b (place_of k es)) × Sorted es × (b + length es ≤ n)
 

@@ -1,4 +1,4 @@
--- Entries in the order of their names, beside the finite map that they are.
+-- Sorted entries beside the finite map that they represent.
 use Rattle.std.proofs.Common.{◌≡◌, ℕ, zero, suc, ◌+◌, ◌<◌, ◌≤◌, List, [], ◌∷◌, length, get_or, set, map, Some, None, option_map, slice_get, Result, Ok, Err, Ordering, Less, Equal, Greater, refl, sym, ap, subst, ◌∙◌, arith}
 use Rattle.std.specs.List.{insert}
 use Rattle.std.specs.FinMap as map
@@ -8,7 +8,7 @@ use Rattle.std.specs.Ordering.{match_ordering}
 use Rattle.std.specs.Cmp.Lexicographic.{nat_list_cmp_total}
 use Rattle.json_values.specs.Places.{place_of, later, by_bytes, Sorted}
 
--- a place among the entries that are left, as one among all
+-- an index in the remaining entries, as an index in all of them
 abbrev pub shifted : ℕ → Result ℕ ℕ → Result ℕ ℕ
 shifted n (Ok i) = Ok (n + i)
 shifted n (Err i) = Err (n + i)
@@ -45,7 +45,7 @@ gap_at Greater k v x es i e below =
     let later = gap_later (place_of k es) i e in
     subst (λ n. x ∷ put by_bytes k v es ≡ insert (x ∷ es) n (k, v)) (sym later.2) (ap (λ fs. x ∷ fs) (below later.0 later.1))
 
--- a name that is not there goes to its place
+-- a missing name is inserted at its index
 pub put_gap : {V : Type 0} (k : List ℕ) (v : V) (es : Entries V) (i : ℕ) → place_of k es ≡ Err i → put by_bytes k v es ≡ insert es i (k, v)
 put_gap k v [] i e = let z : 0 ≡ i = cc in subst (λ n. put by_bytes k v [] ≡ insert [] n (k, v)) z refl
 put_gap k v (x ∷ es) i e = gap_at (by_bytes k x.0) k v x es i e (λ j h. put_gap k v es j h)
@@ -59,7 +59,7 @@ found_at Greater k v x es i d e below =
     let later = found_later (place_of k es) i e in
     subst (λ n. x ∷ put by_bytes k v es ≡ set (x ∷ es) n ((get_or (x ∷ es) n d).0, v)) (sym later.2) (ap (λ fs. x ∷ fs) (below later.0 later.1))
 
--- a name that is there has its value replaced
+-- the value of a present name is replaced
 pub put_found : {V : Type 0} (k : List ℕ) (v : V) (es : Entries V) (i : ℕ) (d : List ℕ × V) → place_of k es ≡ Ok i → put by_bytes k v es ≡ set es i ((get_or es i d).0, v)
 put_found k v [] i d e = cc
 put_found k v (x ∷ es) i d e = found_at (by_bytes k x.0) k v x es i d e (λ j h. put_found k v es j d h)

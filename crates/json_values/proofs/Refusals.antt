@@ -1,15 +1,15 @@
--- What follows of an answer that only want of memory leaves free.
+-- Consequences of results that are fixed up to running out of memory.
 use Rattle.std.proofs.Common.{◌≡◌, Bool, true, false, true≢false, Result, Ok, Err, MatchBool, sym, ap, subst}
 use Rattle.std.specs.Result.{IsErrAnd}
 use Rattle.std.proofs.lemmas.Result.{err_from_is_err_and}
 use Rattle.json_values.specs.Refusals.{Says, ◌>>=◌}
 
--- a refusal that `?` hands on
+-- an error propagated by `?`
 pub says_on : {A E : Type 0} (is_memory : E → Bool) (r : Result A E) (e : E) (said : Result A E)
     → Says {A = A} is_memory (Err e) said → IsErrAnd r (λ x. x ≡ e) → Says is_memory r said
 says_on is_memory r e said says is = let at = err_from_is_err_and r is in rw (at.1, at.2) says
 
--- what was not want of memory was said
+-- an error other than out of memory is the stated one
 pub said_by : {E : Type 0} (is_memory : E → Bool) (e : E) (P : Type 0)
     → MatchBool (is_memory e) (Unit {0}) P → is_memory e ≡ false → P
 said_by is_memory e P said not_memory = by_test (is_memory e) said not_memory where
@@ -17,12 +17,12 @@ said_by is_memory e P said not_memory = by_test (is_memory e) said not_memory wh
   by_test true said is = absurd (true≢false is)
   by_test false said is = said
 
--- an answer other than want of memory is the one that was said
+-- a result other than out of memory is the stated one
 pub says_exactly : {A E : Type 0} (is_memory : E → Bool) (e : E) (said : Result A E)
     → Says {A = A} is_memory (Err e) said → is_memory e ≡ false → said ≡ Err e
 says_exactly is_memory e said says not_memory = said_by is_memory e (said ≡ Err e) says not_memory
 
--- a step's refusal is the refusal of all steps
+-- if the first step fails, both steps together fail with its error
 pub says_first : {A B E : Type 0} (is_memory : E → Bool) (e : E) (first : Result A E) (next : A → Result B E)
     → Says {A = A} is_memory (Err e) first → Says {A = B} is_memory (Err e) (first >>= next)
 says_first {A} {B} {E} is_memory e first next says = by_test (is_memory e) says where
@@ -30,7 +30,7 @@ says_first {A} {B} {E} is_memory e first next says = by_test (is_memory e) says 
   by_test true said = tt
   by_test false said = ap (λ r. r >>= next) said
 
--- the next step's answer is the answer of both, where the first step gave this
+-- if the first step returned this value, the result of the next step is the result of both
 pub says_next : {A B E : Type 0} (is_memory : E → Bool) (first : Result A E) (a : A) (next : A → Result B E) (r : Result B E)
     → first ≡ Ok a → Says is_memory r (next a) → Says is_memory r (first >>= next)
 says_next is_memory first a next r gave says = subst (λ f. Says is_memory r (f >>= next)) (sym gave) says

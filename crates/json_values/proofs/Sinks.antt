@@ -3,7 +3,7 @@ use Rattle.std.proofs.Math.Seq.{take-add}
 use Rattle.std.proofs.lemmas.List.{take-append-drop, take_all}
 use Rattle.json_values.specs.Tray.{Tray, Adds, AddsFront, AddsPart}
 
--- these first bytes of the piece were put
+-- the first `at` bytes of the piece were written
 pub record PutSoFar (piece : List ℕ) (at : ℕ) (old new : Tray) : Type 0 where
   pub within : at ≤ length piece
   pub steady : new.faults ≡ old.faults
@@ -12,7 +12,7 @@ pub record PutSoFar (piece : List ℕ) (at : ℕ) (old new : Tray) : Type 0 wher
 pub put_none : (piece : List ℕ) (tray : Tray) → PutSoFar piece 0 tray tray
 put_none piece tray = record { within = omega arith; steady = refl; added = record { took = λ before h. h ∙ ap Some (sym (append-nil before)) } }
 
--- no bytes came
+-- adding no bytes
 pub adds_none : (old new : Tray) → new.taken ≡ old.taken → Adds [] old new
 adds_none old new is = record { took = λ before h. is ∙ h ∙ ap Some (sym (append-nil before)) }
 

@@ -2,7 +2,7 @@
 use Rattle.std.specs.Prelude.{ℕ, ◌/◌, ◌%◌, List, [], ◌∷◌, ◌++◌, ◌==◌, nat_lt, if◌then◌else◌, flat_map, codes}
 use Rattle.std.specs.Char.{digit_char}
 
--- what stands in a canonical string for a byte of the text. Each byte of a character past ASCII stands for itself
+-- the bytes of a canonical string for one byte of the text. Bytes of non-ASCII characters are copied verbatim
 abbrev pub escaped : ℕ → List ℕ
 escaped b =
     if b == 34 then codes "\\\""
@@ -15,6 +15,6 @@ escaped b =
     else (if nat_lt b 32 then codes "\\u00" ++ digit_char (b / 16) ∷ digit_char (b % 16) ∷ []
     else b ∷ [])))))))
 
--- a text between quotes, with its escapes
+-- the text between quotes, with its escapes
 abbrev pub quoted_text : List ℕ → List ℕ
 quoted_text text = 34 ∷ (flat_map escaped text ++ 34 ∷ [])

@@ -1,4 +1,4 @@
--- A code of JSON data, so that it can be a model's `Value`.
+-- An encoding as JSON data, for models of type `Value`.
 use Rattle.std.specs.Prelude.{◌≡◌, refl}
 use Rattle.std.specs.Coded.{Coded, coded_ℕ, coded_bool, coded_list, coded_ℤ}
 use base.Stored.{Gv, gnil, gnum, gcons, coded_float}

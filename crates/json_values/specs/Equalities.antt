@@ -8,11 +8,11 @@ use Rattle.std.specs.Cmp.Derive.{point_equiv}
 use Rattle.std.specs.Cmp.Lexicographic.{pointwise, nat_list_eq_equiv, lists_equiv, lists_per}
 use Rattle.json_values.specs.Places.{by_bytes}
 
--- only what is equal is the same
+-- the function returns true if and only if its arguments are equal
 abbrev pub IsEquality : {A : Type 0} → (A → A → Bool) → Type 0
 IsEquality {A} E = (x y : A) → IsTrue (E x y) ↔ (x ≡ y)
 
--- the same names, each with values that are the same
+-- the same names, each with equal values
 abbrev pub is_same_map : {V : Type 0} → (V → V → Bool)
     → FinMap by_bytes V → FinMap by_bytes V → Bool
 is_same_map E a b = pointwise (λ x y. bytes_eq x.0 y.0 && E x.1 y.1) (entries a) (entries b)

@@ -1,4 +1,4 @@
--- What the sinks in memory show.
+-- The state of the in-memory sinks.
 use Rattle.std.specs.Prelude.{ℕ, List, Some}
 use Rattle.json_values.specs.declared.memory_sink.MemorySink.{MemorySink}
 use Rattle.json_values.specs.declared.plain_sink.PlainSink.{PlainSink}
@@ -7,7 +7,7 @@ use Rattle.json_values.specs.Tray.{Tray}
 abbrev pub memory_tray : MemorySink → Tray
 memory_tray s = record { taken = Some s.bytes.items; faults = s.faults }
 
--- how often it was asked, up to the greatest count
+-- the number of calls so far, saturating at `u64::MAX`
 abbrev pub calls_of : MemorySink → ℕ
 calls_of s = s.calls
 

@@ -1,23 +1,23 @@
--- What a sink shows.
+-- What a contract sees of a sink.
 use Rattle.std.specs.Prelude.{◌≡◌, ◌<◌, ℕ, List, ◌++◌, length, Option, Some}
 
--- the bytes that it took, where it tells them, and how many faults it had
+-- the bytes that the sink holds, if it exposes them, and its fault count
 pub record Tray : Type 0 where
   pub taken : Option (List ℕ)
   pub faults : ℕ
 
--- where the bytes are told, these came after those
+-- if the sink exposes its bytes, these bytes were appended
 pub record Adds (bytes : List ℕ) (old new : Tray) : Type 0 where
   pub took : (before : List ℕ) → old.taken ≡ Some before → new.taken ≡ Some (before ++ bytes)
 
--- a front of these bytes came
+-- a prefix of these bytes was appended
 pub record AddsFront (bytes : List ℕ) (old new : Tray) : Type 0 where
   pub front : List ℕ
   pub left : List ℕ
   pub split : bytes ≡ front ++ left
   pub added : Adds front old new
 
--- a front of these bytes came, and not all of them
+-- a proper prefix of these bytes was appended
 pub record AddsPart (bytes : List ℕ) (old new : Tray) : Type 0 where
   pub front : List ℕ
   pub left : List ℕ

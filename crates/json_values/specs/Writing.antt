@@ -5,7 +5,7 @@ use Rattle.serde_json.specs.Data.{Data, null, array, object, Members, no_members
 use Rattle.serde_json.specs.View.{items_of}
 use Rattle.json_values.specs.Places.{by_bytes}
 
--- an option: none is null
+-- an option, none being null
 abbrev pub null_or : {X : Type 0} → (X → Data) → Option X → Data
 null_or f None = null
 null_or f (Some x) = f x

@@ -5,13 +5,13 @@ use std::alloc::{AllocError, Global};
 use std::fmt;
 use std::marker::Model;
 
-// A text up to this length is copied sooner than room is made before it.
+// Texts up to this length in bytes are copied instead of reserving room before them.
 const SHORT: usize = 256;
 
-/// Bytes. A contract sees the list of them.
+/// Bytes. A contract sees a list of bytes.
 #[derive(Drop)]
 pub struct Blob {
-    // The bytes stand from `start` on. What is before is room for bytes that come in front of them.
+    // The bytes start at index `start`. The room before it is for bytes that are prepended.
     inner: Vec<u8>,
     start: usize,
 }
@@ -27,7 +27,7 @@ impl Model for Blob {
 }
 
 impl Blob {
-    /// A copy of these bytes.
+    /// Copies these bytes.
     pub fn new(alloc: Global, bytes: &[u8]) -> Result<Blob, AllocError>
         ensures { IfOk result (λ b. b ≡ bytes.now) }
     {
@@ -37,7 +37,7 @@ impl Blob {
         })
     }
 
-    /// No bytes.
+    /// Returns an empty `Blob`.
     pub fn empty(alloc: Global) -> Blob
         ensures { result ≡ [] }
     {
@@ -47,7 +47,7 @@ impl Blob {
         }
     }
 
-    /// The bytes of a vector, with no copy.
+    /// Wraps a vector without copying it.
     pub fn from_vec(bytes: Vec<u8>) -> Blob
         ensures { result ≡ bytes.items }
     {
@@ -57,7 +57,7 @@ impl Blob {
         }
     }
 
-    /// Adds bytes at the end.
+    /// Appends bytes.
     pub fn append(&mut self, bytes: &[u8]) -> Result<(), AllocError>
         ensures ok { OnOk result (self.new ≡ self.old ++ bytes.now) }
         ensures err { OnErr result (self.new ≡ self.old) }
@@ -65,15 +65,15 @@ impl Blob {
         self.inner.extend_from_slice(bytes)
     }
 
-    /// The bytes.
+    /// Returns the bytes.
     pub fn as_slice(&self) -> &[u8]
         ensures { result.now ≡ self.now }
     {
         &self.inner[self.start..]
     }
 
-    /// These bytes, and those of `next` after them. Of two long ones the shorter is copied, so that bytes
-    /// that are joined to others again and again are not copied each time.
+    /// Appends the bytes of `next` to these. Of two long operands the shorter one is copied, so that repeated joins
+    /// do not copy the same bytes each time.
     pub fn join(self, next: Blob) -> Result<Blob, AllocError>
         ensures { IfOk result (λ b. b ≡ self ++ next) }
     {
@@ -88,7 +88,7 @@ impl Blob {
         Ok(second)
     }
 
-    // Where the room is too small, the bytes move, and leave room for as many again.
+    // Prepends bytes. If the room is too small, moves the bytes and leaves room for as many again.
     fn prepend(&mut self, bytes: &[u8]) -> Result<(), AllocError>
         requires { length bytes.now ≤ length self.old }
         ensures { OnOk result (self.new ≡ bytes.now ++ self.old) }

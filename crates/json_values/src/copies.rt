@@ -1,15 +1,15 @@
-//! Several values copied by one call, so that a struct's copy has one exit.
+//! Copies several values in one call, so that the copy of a struct has one exit.
 ghost use Rattle.std.specs.Prelude.{◌≡◌, IfOk};
 
 use crate::copied::Copied;
 use std::alloc::{AllocError, Global};
 
-/// References in a row: none, or a reference to what can be copied and the rest of the row. `row!` writes one,
+/// A row of references: empty, or a reference to a copyable value and the rest of the row. `row!` builds a row
 /// of any length.
 pub trait CopyRow {
     type Copies;
 
-    /// What they refer to.
+    /// The values that they refer to.
     ghost sources: { Self → Self.Copies };
 
     fn copy_row(self, alloc: Global) -> Result<Self::Copies, AllocError>
@@ -41,14 +41,14 @@ impl<'a, A: Copied + Drop, B: CopyRow + Drop> CopyRow for (&'a A, B) {
     }
 }
 
-/// Copies of what the references in a row refer to.
+/// Copies the values that the row refers to.
 pub fn copy_all<R: CopyRow>(alloc: Global, row: R) -> Result<R::Copies, AllocError>
     ensures { IfOk result (λ copies. copies ≡ R.sources row) }
 {
     row.copy_row(alloc)
 }
 
-/// A row as a value or a pattern: `row![a, b]` is `(a, (b, ()))`.
+/// Builds or matches a row: `row![a, b]` is `(a, (b, ()))`.
 #[macro_export]
 macro_rules! row {
     () => { () };
@@ -56,7 +56,7 @@ macro_rules! row {
     ($first:expr $(, $rest:expr)* $(,)?) => { ($first, $crate::row!($($rest),*)) };
 }
 
-/// Copies the fields of a struct, and answers the copy: `copied!(alloc, self, Point { x, y })`.
+/// Copies the fields of a struct and returns the copy: `copied!(alloc, self, Point { x, y })`.
 #[macro_export]
 macro_rules! copied {
     ($alloc:expr, $source:expr, $name:ident { $($field:ident),* $(,)? }) => {{

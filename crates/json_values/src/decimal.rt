@@ -3,7 +3,7 @@ ghost use Rattle.std.specs.Prelude.{◌≡◌, IfOk, decimal};
 use crate::text::Text;
 use std::alloc::{AllocError, Global};
 
-/// The plain decimal of a number.
+/// Formats a number in decimal, without leading zeros.
 pub fn write_decimal(alloc: Global, number: u64) -> Result<Text, AllocError>
     ensures { IfOk result (λ text. text ≡ decimal number) }
 {

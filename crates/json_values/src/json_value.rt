@@ -6,7 +6,7 @@ use serde_json::Value;
 use std::alloc::{AllocError, Global};
 use std::marker::Model;
 
-/// A JSON value. A contract sees the data that it stands for.
+/// A JSON value. A contract sees its data.
 #[derive(Debug, Drop)]
 pub struct Json {
     inner: Value,
@@ -25,14 +25,14 @@ impl Model for Json {
 }
 
 impl Json {
-    /// Takes the value as it stands.
+    /// Wraps the value unchanged.
     pub fn new(value: Value) -> Json
         ensures { result ≡ view value }
     {
         Json { inner: value }
     }
 
-    /// The value, to be read.
+    /// Returns the value.
     pub fn value(&self) -> &Value
         ensures { view result.now ≡ self.now }
     {

@@ -1,4 +1,4 @@
-//! The values that all crates share, where bytes go, and the canonical text of a text.
+//! The value types that all crates share, byte sinks, and canonical strings.
 #![tactic(auto)]
 
 mod blob;

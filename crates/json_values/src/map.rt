@@ -11,7 +11,7 @@ use std::alloc::{AllocError, Global};
 use std::cmp::Ordering;
 use std::marker::Model;
 
-/// A map from texts. A contract sees a finite map from lists of bytes.
+/// A map keyed by texts. A contract sees a finite map keyed by lists of bytes.
 #[derive(Debug, Drop)]
 pub struct TextMap<V> {
     entries: Vec<(Text, V)>,
@@ -37,7 +37,7 @@ impl<V> Model for TextMap<V> {
 }
 
 impl<V: Drop> TextMap<V> {
-    /// No names.
+    /// Returns an empty map.
     pub fn new(alloc: Global) -> TextMap<V>
         ensures { result ≡ map.empty }
     {
@@ -46,7 +46,7 @@ impl<V: Drop> TextMap<V> {
         }
     }
 
-    /// Replaces the value of a name that is there.
+    /// Inserts a value under a name, replacing the value of a name that is present.
     pub fn insert(&mut self, name: Text, value: V) -> Result<(), AllocError>
         ensures ok { OnOk result (self.new ≡ map.insert self.old name value) }
         ensures err { OnErr result (self.new ≡ self.old) }
@@ -60,21 +60,21 @@ impl<V: Drop> TextMap<V> {
         }
     }
 
-    /// The value of the name, or none where it is not there.
+    /// Returns the value of the name, or `None` if the name is missing.
     pub fn get(&self, name: &str) -> Option<&V>
         ensures { option_copied result ≡ map.get self.now name.now }
     {
         find(self.entries.as_slice(), name)
     }
 
-    /// The names and values, in the order of the names.
+    /// Returns the names and values, in the order of the names.
     pub fn entries(&self) -> &[(Text, V)]
         ensures { result.now ≡ map.entries self.now }
     {
         self.entries.as_slice()
     }
 
-    /// The name at this place in the order of the names.
+    /// Returns the name at this index in the order of the names.
     pub fn name_at(&self, place: usize) -> Option<&Text>
         ensures { option_copied result ≡ slice_get (map.keys self.now) place }
     {
@@ -90,7 +90,7 @@ impl<V: Copied + Drop> Copied for TextMap<V> {
     }
 }
 
-/// Equality is that of the names and of their values.
+/// Maps are equal if their names and values are equal.
 impl<V: PartialEq + Drop> PartialEq for TextMap<V> {
     ghost use Rattle.json_values.specs.Equalities.{IsEquality, is_same_map, maps_partial};
 
@@ -125,7 +125,7 @@ fn copies_of<V: Copied + Drop>(
     Ok(copies)
 }
 
-// The name at a place.
+// Returns the name at an index.
 fn name_in<V>(entries: &[(Text, V)], place: usize) -> Option<&Text>
     ensures { option_copied result ≡ slice_get (list_map (λ entry. entry.0) entries.now) place }
 {
@@ -136,7 +136,7 @@ fn name_in<V>(entries: &[(Text, V)], place: usize) -> Option<&Text>
     }
 }
 
-// The value of the name.
+// Returns the value of the name.
 fn find<'a, V>(entries: &'a [(Text, V)], name: &str) -> Option<&'a V>
     requires { Sorted entries.now }
     ensures { option_copied result ≡ find by_bytes name.now entries.now }
@@ -147,7 +147,7 @@ fn find<'a, V>(entries: &'a [(Text, V)], name: &str) -> Option<&'a V>
     }
 }
 
-// Where the name is, or where it would go: a binary search.
+// Returns the index of the name, or the index at which to insert it. Binary search.
 fn place<V>(entries: &[(Text, V)], name: &str) -> Result<usize, usize>
     requires { Sorted entries.now }
     ensures place { result ≡ place_of name.now entries.now }

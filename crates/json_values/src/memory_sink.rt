@@ -6,7 +6,7 @@ use crate::list::List;
 use crate::sink::{Sink, SinkError};
 use std::alloc::Global;
 
-/// Keeps bytes in memory, and fails at the calls whose numbers, counted from 0, it was given.
+/// Collects bytes in memory, and fails at the calls with the given numbers, counted from 0.
 #[derive(Drop)]
 pub struct MemorySink {
     bytes: Vec<u8>,
@@ -18,7 +18,7 @@ pub struct MemorySink {
 impl MemorySink {
     ghost use Rattle.json_values.specs.Sinks.{memory_tray, calls_of, failing_of};
 
-    /// Holds nothing yet, and will fail at the calls of these numbers.
+    /// Creates an empty sink that fails at the calls with these numbers.
     pub fn new(alloc: Global, failing: List<u64>) -> MemorySink
         ensures taken { (memory_tray result).taken ≡ Some [] }
         ensures faults { (memory_tray result).faults ≡ 0 }
@@ -33,7 +33,7 @@ impl MemorySink {
         }
     }
 
-    /// The bytes so far.
+    /// Returns the bytes so far.
     pub fn taken(&self) -> &[u8]
         ensures { (memory_tray self.now).taken ≡ Some result.now }
     {

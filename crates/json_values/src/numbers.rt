@@ -1,4 +1,4 @@
-// Numbers and truth values, copied.
+// `Copied` for numbers and `bool`.
 use crate::copied::Copied;
 use std::alloc::{AllocError, Global};
 

@@ -4,7 +4,7 @@ use crate::blob::Blob;
 use crate::sink::{Sink, SinkError};
 use std::alloc::Global;
 
-/// Keeps all bytes in memory, and never fails.
+/// Collects all bytes in memory, and never fails.
 #[derive(Drop)]
 pub struct PlainSink {
     bytes: Vec<u8>,
@@ -13,7 +13,7 @@ pub struct PlainSink {
 impl PlainSink {
     ghost use Rattle.json_values.specs.Sinks.{plain_tray};
 
-    /// Holds nothing yet.
+    /// Creates an empty sink.
     pub fn new(alloc: Global) -> PlainSink
         ensures { (plain_tray result).taken ≡ Some [] }
     {
@@ -22,14 +22,14 @@ impl PlainSink {
         }
     }
 
-    /// The bytes, with no copy.
+    /// Returns the bytes without copying them.
     pub fn into_blob(self) -> Blob
         ensures { (plain_tray self).taken ≡ Some result }
     {
         Blob::from_vec(self.bytes)
     }
 
-    /// The bytes so far.
+    /// Returns the bytes so far.
     pub fn taken(&self) -> &[u8]
         ensures { (plain_tray self.now).taken ≡ Some result.now }
     {

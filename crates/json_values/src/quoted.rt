@@ -5,7 +5,7 @@ use crate::text::Text;
 use serde_json::Value;
 use std::alloc::{AllocError, Global};
 
-/// The canonical text of a text: between quotes, escaped as RFC 8785, 3.2.2.2 says.
+/// Returns the canonical string of a text: in quotes, escaped by RFC 8785, 3.2.2.2.
 pub fn write_quoted(alloc: Global, text: &str) -> Result<Text, AllocError>
     ensures { IfOk result (λ t. t ≡ quoted_text text.now) }
 {

@@ -5,7 +5,7 @@ use crate::json_value::Json;
 use serde_json::Value;
 use std::alloc::{AllocError, Global};
 
-/// Reads JSON (RFC 8259). None where the bytes are not UTF-8, or no JSON, or nest deeper than 127.
+/// Parses JSON (RFC 8259). Returns `None` if the bytes are not UTF-8, are not JSON, or nest deeper than 127.
 pub fn read_json(alloc: Global, bytes: &[u8]) -> Result<Option<Json>, AllocError>
     ensures { IfOk result (λ found. found ≡ json_of bytes.now) }
 {

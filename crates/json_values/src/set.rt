@@ -8,7 +8,7 @@ use crate::text::Text;
 use std::alloc::{AllocError, Global};
 use std::marker::Model;
 
-/// A set of texts. A contract sees a finite map from lists of bytes to nothing.
+/// A set of texts. A contract sees a finite map from lists of bytes to unit.
 #[derive(Debug, Drop)]
 pub struct TextSet {
     inner: TextMap<()>,
@@ -28,7 +28,7 @@ impl Model for TextSet {
 }
 
 impl TextSet {
-    /// No names.
+    /// Returns an empty set.
     pub fn new(alloc: Global) -> TextSet
         ensures { result ≡ map.empty }
     {
@@ -37,7 +37,7 @@ impl TextSet {
         }
     }
 
-    /// Adds a name; one that is there stays.
+    /// Adds a name, unless it is present.
     pub fn insert(&mut self, name: Text) -> Result<(), AllocError>
         ensures ok { OnOk result (self.new ≡ map.insert self.old name tt) }
         ensures err { OnErr result (self.new ≡ self.old) }
@@ -45,21 +45,21 @@ impl TextSet {
         self.inner.insert(name, ())
     }
 
-    /// Whether the name is there.
+    /// Returns whether the name is present.
     pub fn contains(&self, name: &str) -> bool
         ensures { result ≡ map.contains_key self.now name.now }
     {
         self.inner.get(name).is_some()
     }
 
-    // The names in the order of their bytes, each with nothing.
+    // Returns the names in the order of their bytes, each with unit.
     pub(crate) fn entries(&self) -> &[(Text, ())]
         ensures { result.now ≡ map.entries self.now }
     {
         self.inner.entries()
     }
 
-    /// The name at this place in the order of the names.
+    /// Returns the name at this index in the order of the names.
     pub fn name_at(&self, place: usize) -> Option<&Text>
         ensures { option_copied result ≡ slice_get (map.keys self.now) place }
     {
@@ -75,7 +75,7 @@ impl Copied for TextSet {
     }
 }
 
-/// Equality is that of the names.
+/// Sets are equal if their names are equal.
 impl PartialEq for TextSet {
     ghost use Rattle.std.specs.Cmp.{partial_equiv_from_equiv};
     ghost use Rattle.json_values.specs.Equalities.{is_same_set, sets};

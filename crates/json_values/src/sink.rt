@@ -1,4 +1,4 @@
-// Where bytes go.
+// Byte sinks.
 ghost use Rattle.std.specs.Prelude.{◌≡◌, ◌≤◌, ◌<◌, length, take, IfOk, OnOk, OnErr, IsErrOf};
 ghost use Rattle.json_values.specs.Counts.{Rose, Stays};
 ghost use Rattle.json_values.specs.Tray.{Tray, Adds, AddsFront, AddsPart};
@@ -7,10 +7,10 @@ use crate::copied::Copied;
 use std::alloc::{AllocError, Global};
 use thiserror::Error;
 
-/// Why a sink took nothing.
+/// Why a sink accepted nothing.
 #[derive(Clone, Copy, Debug, PartialEq, Eq, Error)]
 pub enum SinkError {
-    /// The place where the bytes go refused them.
+    /// The destination refused the bytes.
     #[error("the sink refused the bytes: see whether its disk is full or its pipe is closed")]
     Failed,
     #[error("out of memory: the sink took nothing, so the same bytes may be put again")]
@@ -23,13 +23,13 @@ impl Copied for SinkError {
     }
 }
 
-/// Takes bytes, piece by piece.
+/// Accepts bytes, piece by piece.
 pub trait Sink {
-    /// The bytes that it took, where it tells them, and the count of its faults.
+    /// The bytes that it holds, if it exposes them, and its fault count.
     ghost state: { Self → Tray };
 
-    /// Takes the first bytes of the piece, at least one of a piece that is not empty, and answers how many.
-    /// The count of faults rises where it answers `Failed`, and stays otherwise.
+    /// Accepts a prefix of the piece, at least one byte if the piece is not empty, and returns its length in bytes.
+    /// Returns `Failed` if the destination refused: the fault count increases then, and is unchanged otherwise.
     fn put(&mut self, piece: &[u8]) -> Result<usize, SinkError>
         ensures count { (state self.old).faults ≤ (state self.new).faults }
         ensures some { 0 < length piece.now → IfOk result (λ n. 0 < n) }
@@ -42,13 +42,13 @@ pub trait Sink {
         ensures wanting { IsErrOf result SinkError.WantOfMemory
             → Stays (state self.old).faults (state self.new).faults };
 
-    /// How often it failed, up to the greatest count.
+    /// Returns the number of failures so far, saturating at `u64::MAX`.
     fn faults(&self) -> u64
         ensures { result ≡ (state self.now).faults };
 }
 
-/// Puts the whole piece. Where that fails, a front of it went out that is not all of it. The count of faults rises
-/// where the answer is `Failed`, and stays otherwise.
+/// Writes the whole piece. On an error a proper prefix of it was written. The fault count increases if the error
+/// is `Failed`, and is unchanged otherwise.
 pub fn put_all<S: Sink>(sink: &mut S, piece: &[u8]) -> Result<(), SinkError>
     ensures count { (S.state sink.old).faults ≤ (S.state sink.new).faults }
     ensures whole { OnOk result (Adds piece.now (S.state sink.old) (S.state sink.new)) }

@@ -19,7 +19,7 @@ impl Model for Text {
 }
 
 impl Text {
-    /// A copy of this text.
+    /// Copies this text.
     pub fn new(alloc: Global, text: &str) -> Result<Text, AllocError>
         ensures { IfOk result (λ t. t ≡ text.now) }
     {
@@ -28,14 +28,14 @@ impl Text {
         })
     }
 
-    /// The text.
+    /// Returns the text.
     pub fn as_str(&self) -> &str
         ensures { result.now ≡ self.now }
     {
         self.inner.as_str()
     }
 
-    /// Adds a text at the end.
+    /// Appends a text.
     pub fn push_str(&mut self, text: &str) -> Result<(), AllocError>
         ensures ok { OnOk result (self.new ≡ self.old ++ text.now) }
         ensures err { OnErr result (self.new ≡ self.old) }

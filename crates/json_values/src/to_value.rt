@@ -13,7 +13,7 @@ use crate::text::Text;
 use serde_json::{Map, Value, put};
 use std::alloc::{AllocError, Global};
 
-/// What stands for a JSON value.
+/// A type whose values are written as JSON values.
 pub trait ToValue: Sized {
     /// The data of that value.
     ghost written: { Self → Data };
@@ -70,7 +70,7 @@ impl ToValue for u64 {
     }
 }
 
-/// None is null.
+/// `None` is written as null.
 impl<T: ToValue> ToValue for Option<T> {
     ghost written = { null_or T.written };
 
@@ -98,7 +98,7 @@ impl<V: ToValue + Drop> ToValue for TextMap<V> {
     }
 }
 
-/// The names, each with an empty object.
+/// A set is written as an object: its names, each with an empty object.
 impl ToValue for TextSet {
     ghost written = { set_written };
 

@@ -1,4 +1,4 @@
--- A map of what reads back reads back.
+-- A map of values that round-trip round-trips.
 use Rattle.std.proofs.Common.{◌≡◌, ℕ, List, [], ◌∷◌, ◌++◌, T, false, ◌||◌, Option, Some, Greater, is_lt, refl, sym, ap, subst, ◌∙◌, append_assoc}
 use Rattle.std.specs.FinMap as fin
 use Rattle.std.specs.FinMap.{from_sorted}
@@ -27,7 +27,7 @@ sorted_front : {V : Type 0} (es fs : Entries V) → Sorted (es ++ fs) → Sorted
 sorted_front [] fs h = tt
 sorted_front (y ∷ es) fs h = both _ _ (below_front y.0 es fs (both_0 _ _ h)) (sorted_front es fs (both_1 (below_all by_bytes y.0 (es ++ fs)) _ h))
 
--- one more entry, above the others
+-- one more entry, greater than the others
 from_sorted_push : {V : Type 0} (es : Entries V) (e : List ℕ × V) → Sorted (es ++ e ∷ []) → fin.insert (from_sorted es) e.0 e.1 ≡ from_sorted {R = by_bytes} (es ++ e ∷ [])
 from_sorted_push es e h = sym (ap (from_sorted {R = by_bytes}) (sym (entries_last es e h)) ∙ from_put es (sorted_front es (e ∷ []) h) e.0 e.1)
 

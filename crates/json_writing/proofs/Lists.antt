@@ -1,4 +1,4 @@
--- A list of what reads back reads back.
+-- A list of values that round-trip round-trips.
 use Rattle.std.proofs.Common.{◌≡◌, ℕ, ◌+◌, ◌<◌, List, [], ◌∷◌, ◌++◌, length, get_or, take, map, All, Bool, false, ◌||◌, Option, Some, refl, sym, ap, subst, ◌∙◌}
 use Rattle.std.specs.List.{list_any}
 use Rattle.std.proofs.lemmas.Bool.{or_parts}
@@ -31,7 +31,7 @@ module _ {X : Type 0} (f : Data → Option X) (w : X → Data) (n : X → X) (p 
   pub list_again : (xs : List X) → All Each xs → ReadsAgain (list_of f) (listed w xs) (map n xs) (list_any p xs)
   list_again xs all = record { reads = items_again xs all; is_there = refl; plain = items_plain xs all }
 
--- what is written so far
+-- the items written so far
 pub record ItemsWritten {X : Type 0} (f : Data → Option X) (w : X → Data) (n : X → X) (p : X → Bool) (values : List Value) (xs : List X) : Type 0 where
   pub exact : map view values ≡ map w xs
   pub again : All (Each f w n p) xs

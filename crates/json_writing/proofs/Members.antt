@@ -1,4 +1,4 @@
--- What is found among fields, and that no float stands there.
+-- Lookup in written fields, and absence of floats.
 use Rattle.std.proofs.Common.{◌≡◌, ℕ, List, [], ◌∷◌, Bool, true, false, ◌||◌, cond, Option, Some, None, bytes_eq, true≢false, Less, Equal, Greater, refl, sym, ap, subst, ◌∙◌}
 use Rattle.std.specs.Ordering.{nat_cmp, match_ordering}
 use Rattle.std.specs.Cmp.Lexicographic.{slice_cmp}
@@ -10,7 +10,7 @@ use Rattle.serde_json.specs.Written.{has_float, members_have_float}
 use Rattle.serde_json.proofs.Views.{get_member-put, get_member-put_other}
 use Rattle.json_writing.specs.Fields.{Field, put_some, with_fields, fields, field_has_float, fields_have_float}
 
--- what is found at a name, where o was found before
+-- the value at a name, or o if the name is missing
 abbrev pub or_else : {A : Type 0} → Option A → Option A → Option A
 or_else None o = o
 or_else (Some d) o = Some d
@@ -66,6 +66,6 @@ with_fields_plain (f ∷ fs) ms p q =
     let parts = or_parts (field_has_float f.1) (fields_have_float fs) p in
     with_fields_plain fs (put_some f.0 f.1 ms) parts.1 (put_some_plain f.0 f.1 ms parts.0 q)
 
--- no float stands in an object of fields in which none does
+-- an object of fields without floats contains no float
 pub fields_plain : (fs : List Field) → fields_have_float fs ≡ false → has_float (fields fs) ≡ false
 fields_plain fs p = with_fields_plain fs no_members p refl

@@ -1,4 +1,4 @@
--- Members in a row, as they are written under their names.
+-- How members in a row are written under their names.
 use Rattle.std.specs.Prelude.{ℕ, List, [], ◌∷◌, Option, ⊤}
 use Rattle.serde_json.specs.Data.{Data}
 use Rattle.json_writing.specs.Fields.{Field}

@@ -15,11 +15,11 @@ use json_values::{Json, List, Text};
 use serde_json::{Map, Value, put};
 use std::alloc::{AllocError, Global};
 
-/// What is written as a member, or left out where it is none.
+/// A type that is written as a member, or omitted if it is none.
 pub trait Field {
     ghost field: { Self → Option Data };
 
-    /// What is known of it once it is written.
+    /// A property of the member that writing establishes.
     ghost Known: { Self → Type 0 };
 
     fn put_in(
@@ -48,7 +48,7 @@ impl Field for Text {
     }
 }
 
-/// A text that is lent.
+/// A borrowed text.
 impl<'a> Field for &'a str {
     ghost field = { λ t. Some (string t.now) };
 
@@ -95,7 +95,7 @@ impl Field for i64 {
     }
 }
 
-/// Any value, also null.
+/// Any value, including null.
 impl Field for Json {
     ghost field = { λ d. Some d };
 
@@ -128,7 +128,7 @@ impl<T: Writes + Drop> Field for List<T> {
     }
 }
 
-/// A member that must be there.
+/// A member that must be present.
 #[derive(Drop)]
 pub struct Required<'a, T>(pub &'a T);
 
@@ -148,7 +148,7 @@ impl<'a, T: Writes + Drop> Field for Required<'a, T> {
     }
 }
 
-/// None is left out.
+/// `None` is omitted.
 impl<T: Writes + Drop> Field for Option<T> {
     ghost field = { option_map T.written };
 

@@ -1,4 +1,4 @@
-//! Documents written as JSON, so that their tables read them back.
+//! Writes documents as JSON, so that reading them by their tables round-trips.
 #![tactic(auto)]
 
 mod field;

@@ -11,7 +11,7 @@ use json_values::{List, TextMap, TextSet};
 use serde_json::{Map, Value};
 use std::alloc::{AllocError, Global};
 
-/// What holds any number of things.
+/// A type that holds any number of items.
 pub trait Holder {
     ghost holds_none: { Self → Bool };
 
@@ -43,7 +43,7 @@ impl Holder for TextSet {
     }
 }
 
-/// A member that is left out where it is none and where it is empty.
+/// A member that is omitted if it is none or empty.
 #[derive(Drop)]
 pub struct UnlessEmpty<'a, T>(pub &'a Option<T>);
 

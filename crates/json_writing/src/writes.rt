@@ -12,15 +12,15 @@ use json_values::{List, Text, TextMap, TextSet, ToValue};
 use serde_json::Value;
 use std::alloc::{AllocError, Global};
 
-/// What is written as a JSON value that reads back.
+/// A type that is written as a JSON value and round-trips.
 pub trait Writes: Reads {
-    /// The data that it is written as.
+    /// The data that is written.
     ghost written: { Self → Data };
 
-    /// Its normal form, which is what reads back.
+    /// Its normal form: the value that is read from the written data.
     ghost normal: { Self → Self } = { λ x. x };
 
-    /// Whether a float stands in it.
+    /// Whether the written data contains a float.
     ghost floats: { Self → Bool } = { λ _. false };
 
     fn write_value(&self, alloc: Global) -> Result<Value, AllocError>
@@ -28,7 +28,7 @@ pub trait Writes: Reads {
         ensures again { OnOk result (ReadsAgain Self.reading (written self.now) (normal self.now) (floats self.now)) };
 }
 
-/// What reads back as itself, whatever its value, and holds no float.
+/// A type whose values always round-trip to themselves, and contain no float.
 pub trait Lasting: Reads + ToValue {
     ghost reads_back: { (x : Self) → Self.reading (Self.written x) ≡ Some x };
 

@@ -1,4 +1,4 @@
--- A maker of one kind of keys.
+-- A maker of keys of one kind.
 use Rattle.std.specs.Prelude.{ℕ, List, nat_eq, if◌then◌else◌, Option, Some, None}
 use Rattle.sig_schemes.specs.declared.scheme.KeyKind.{KeyKind}
 use Rattle.sig_schemes.specs.declared.scheme.KeyKind.TheVariants.{P256, P384, P521, Ed25519, Rsa}
@@ -10,6 +10,6 @@ place_of P521 = 2
 place_of Ed25519 = 3
 place_of Rsa = 4
 
--- the public key, where the kinds are the same
+-- the public key, if the kinds are equal
 abbrev pub reads_as : KeyKind → KeyKind → List ℕ → Option (List ℕ)
 reads_as one asked key = if nat_eq (place_of asked) (place_of one) then Some key else None

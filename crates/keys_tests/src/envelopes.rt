@@ -6,7 +6,7 @@ use sig_keys::kdf::{decrypt, encrypt};
 use sig_keys::{DecryptCause, KdfError, KeyBox};
 use std::alloc::{AllocError, Global};
 
-/// Derives 32 zero bytes, seals bytes as they are, and opens them as they are.
+/// Derives 32 zero bytes, and seals and opens bytes unchanged.
 #[derive(Drop)]
 pub struct OpenBox;
 
@@ -83,7 +83,7 @@ fn what_was_encrypted_is_decrypted(rt: HostRuntime) {
     assert!(rt; is_opened);
 }
 
-// The cause why an envelope is not opened, in a word.
+// The cause why an envelope cannot be opened, in one word.
 fn cause(refusal: &KdfError) -> &'static str {
     match refusal {
         KdfError::EnvelopeUnreadable => "unreadable",
@@ -99,7 +99,7 @@ fn cause(refusal: &KdfError) -> &'static str {
     }
 }
 
-// An envelope of this cipher, this key derivation and this N, with one byte in the place of the others.
+// An envelope with this cipher, this key derivation and this N, and one byte for each of the other values.
 fn envelope(alloc: Global, cipher: &str, derivation: &str, n: &str) -> Result<Text, AllocError> {
     let mut text = Text::new(alloc, "{\"kdf\":{\"name\":\"")?;
     text.push_str(derivation)?;

@@ -1,4 +1,4 @@
-// Makers that answer always the same.
+// Makers with constant results.
 ghost use Rattle.std.specs.Prelude.{◌≡◌, Bool, true, false, Some, None, codes};
 ghost use Rattle.keys_tests.specs.Kinds.{reads_as};
 
@@ -6,7 +6,7 @@ use json_values::Blob;
 use sig_keys::{KeyKind, KeyMaker, SigningScheme};
 use std::alloc::{AllocError, Global};
 
-/// Makes nothing, reads nothing and signs nothing.
+/// Makes, parses and signs nothing.
 #[derive(Drop)]
 pub struct NoKeys;
 
@@ -52,7 +52,7 @@ impl KeyMaker for NoKeys {
     }
 }
 
-/// Makes the private key `sk` and the public key `pk`, reads all bytes as a private key of one kind, whose public key
+/// Makes the private key `sk` and the public key `pk`, parses all bytes as a private key of one kind, whose public key
 /// is `pk`, and signs each message as `sig1`.
 #[derive(Drop)]
 pub struct OneKind {

@@ -1,4 +1,4 @@
-// Pairs of keys: how they are made, read and copied.
+// Key pairs: how they are made, parsed and copied.
 use crate::makers::{NoKeys, OneKind};
 use json_values::Blob;
 use sig_keys::ecdsa::ECDSAKeys;
@@ -9,7 +9,7 @@ use sig_keys::{EllipticCurve, KeyError, KeyKind, KeyPair, SigStoreKeyPair};
 use std::alloc::{AllocError, Global};
 use std::fmt;
 
-// Whether these are the bytes of the answer.
+// Whether the result is these bytes.
 pub(crate) fn is_bytes(answer: Result<Blob, AllocError>, want: &[u8]) -> bool {
     match answer {
         Ok(bytes) => bytes.as_slice() == want,
@@ -17,7 +17,7 @@ pub(crate) fn is_bytes(answer: Result<Blob, AllocError>, want: &[u8]) -> bool {
     }
 }
 
-// Whether the pair holds the private key `sk` and the public key `pk`.
+// Whether the pair has the private key `sk` and the public key `pk`.
 pub(crate) fn holds_both<P: KeyPair>(alloc: Global, pair: &P) -> bool {
     is_bytes(pair.private_key_to_der(alloc), b"sk")
         && is_bytes(pair.public_key_to_der(alloc), b"pk")
@@ -86,7 +86,7 @@ fn new_keys_are_those_of_the_maker(rt: HostRuntime) {
     assert!(rt; is_pair(alloc, ECDSAKeys::new(alloc, &maker, EllipticCurve::P384)));
 }
 
-// Whether a private key that is of this kind alone is read as one of it.
+// Whether a private key of only this kind is parsed as one of this kind.
 fn is_read_as(alloc: Global, kind: KeyKind, want: &str) -> bool {
     match SigStoreKeyPair::from_der(alloc, &OneKind { kind }, b"sk") {
         Ok(pair) => holds_both(alloc, &pair) && is_printed(alloc, &pair, want),
@@ -94,7 +94,7 @@ fn is_read_as(alloc: Global, kind: KeyKind, want: &str) -> bool {
     }
 }
 
-// Whether the value is printed so.
+// Whether the value is printed as this text.
 pub(crate) fn is_printed<T: fmt::Display>(alloc: Global, value: &T, want: &str) -> bool {
     match format!(in alloc; "{value}") {
         Ok(text) => text.as_str() == want,
@@ -113,7 +113,7 @@ fn private_keys_are_read_as_the_first_kind_that_they_are_of(rt: HostRuntime) {
     }
 }
 
-// Whether keys of this curve alone are read on it, wrapped under its variant.
+// Whether keys on only this curve are parsed on it, and wrapped under its variant.
 fn is_wrapped(alloc: Global, kind: KeyKind, want: &str) -> bool {
     let Ok(keys) = CurveKeys::from_pkcs8_der(alloc, &OneKind { kind }, b"sk") else {
         return false;
@@ -131,7 +131,7 @@ fn ecdsa_keys_are_wrapped_under_their_curve(rt: HostRuntime) {
     assert!(rt; is_printed(rt.alloc(), &EllipticCurve::P256, "P256"));
 }
 
-// Whether new keys on P-256 are shown so.
+// Whether new keys on P-256 are printed as this text.
 fn are_shown(alloc: Global, want: &str) -> bool {
     let maker = OneKind {
         kind: KeyKind::P256,

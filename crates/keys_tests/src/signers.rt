@@ -1,4 +1,4 @@
-// Signers: the schemes that pairs sign under, and what they sign.
+// Signers: the schemes under which pairs sign, and their signatures.
 use crate::makers::{NoKeys, OneKind};
 use crate::pairs::holds_both;
 use json_values::Blob;
@@ -111,7 +111,7 @@ fn is_signature(answer: Result<Blob, KeyError>) -> bool {
     }
 }
 
-// Whether the signer signs as the maker does, gives its keys back, and is verified under the scheme.
+// Whether the signer signs as the maker does, returns its keys, and is verified under the scheme.
 fn signs_and_keeps(alloc: Global, signer: &SigStoreSigner, scheme: SigningScheme) -> bool {
     let maker = OneKind { kind: KeyKind::Rsa };
     let signs = is_signature(signer.sign(alloc, &maker, b"hello world"));
@@ -122,7 +122,7 @@ fn signs_and_keeps(alloc: Global, signer: &SigStoreSigner, scheme: SigningScheme
     signs && keeps && is_key(signer.to_verification_key(alloc), scheme)
 }
 
-// The same of the signer that a pair makes under the scheme.
+// The same for the signer that a pair makes under the scheme.
 fn pair_signs(
     alloc: Global,
     pair: Result<SigStoreKeyPair, KeyError>,
@@ -156,7 +156,7 @@ fn a_signer_of_a_pair_signs_and_keeps_its_keys(rt: HostRuntime) {
     );
 }
 
-// Whether a copy of new Ed25519 keys gives signers with both keys.
+// Whether a copy of new Ed25519 keys makes signers with both keys.
 fn ed25519_copies_sign(alloc: Global) -> bool {
     let Ok(keys) = Ed25519Keys::new(
         alloc,
@@ -227,7 +227,7 @@ fn signers_hold_copies_of_keys(rt: HostRuntime) {
     assert!(rt; curve_copies_are_held(rt.alloc()));
 }
 
-// Whether a maker that does not sign is refused.
+// Whether a maker that does not sign returns an error.
 fn is_refused(alloc: Global) -> bool {
     let Ok(keys) = Ed25519Keys::new(
         alloc,

@@ -35,8 +35,8 @@ const BY_SHA512: &str =
     "eyJzdWJqZWN0IjpbeyJkaWdlc3QiOnsic2hhNTEyIjoiYjk0ZDI3Yjk5MzRkM2UwOGE1MmU1MmQ3ZGE3ZGFiZmFjNDg0ZWZlMzdhNTM4MGV\
         lOTA4OGY3YWNlMmVmY2RlOSJ9fV19";
 
-// The image and the type that a payload names, what its digest is of (of itself, where that is empty), its signature,
-// log entry and certificate, and the first check that it fails. The next check would fail too, where one can.
+// The image and the type that a payload names, what its digest is of (of itself, if that is empty), its signature, log
+// entry and certificate, and the first check that fails. The next check would fail too, if possible.
 const PAYLOADS: [[&str; 7]; 11] = [
     [SOURCE, "other", "y", "", "", "", "DigestMismatch"],
     [OTHER, "other", "", "", "", "", "Unreadable(Content)"],
@@ -99,8 +99,8 @@ const PAYLOADS: [[&str; 7]; 11] = [
     ],
 ];
 
-// The type of a bundle, its statement, signatures and material, what its digest is of, and the first check that
-// it fails. Behind each check once come two signatures, and material, a certificate and a subject that are none.
+// The type of a bundle, its statement, signatures and material, what its digest is of, and the first check that fails.
+// After one case per check: two signatures, and malformed material, certificate and subject.
 const BUNDLES: [[&str; 6]; 15] = [
     ["other", OF_OTHER, "[]", "{}", "y", "DigestMismatch"],
     ["other", OF_OTHER, "[{}]", "{}", "", "Unreadable(Content)"],
@@ -255,7 +255,7 @@ fn joined(alloc: Global, pieces: &[&str]) -> Result<Blob, AllocError> {
     Ok(text)
 }
 
-// The digest of these bytes, or of the text, where there is one.
+// The digest of these bytes, or of the text, if there is one.
 fn named(alloc: Global, content: &[u8], text: &str) -> Result<Text, AllocError> {
     if text.is_empty() {
         return sha256_digest(alloc, content);
@@ -289,7 +289,7 @@ fn bundle(alloc: Global, given: &[&str; 6]) -> Result<Blob, AllocError> {
     joined(alloc, &pieces)
 }
 
-// Adds the annotation, where there is one.
+// Adds the annotation, if there is one.
 fn note(alloc: Global, notes: &mut Annotations, name: &str, text: &str) -> Result<(), AllocError> {
     if text.is_empty() {
         return Ok(());

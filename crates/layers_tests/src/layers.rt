@@ -1,4 +1,4 @@
-// Signature layers read and judged by themselves.
+// Signature layers that are read and judged on their own.
 use cosign_layers::{
     CertificateSignature, Constraint, Evidence, LayerKind, Offline, PullPolicy, SignatureLayer,
     SignedRow, TableJudge, TableVerifier, VerificationConstraint, Vouched, VouchedRow,
@@ -10,7 +10,7 @@ use std::alloc::{AllocError, Global};
 // The SHA-256 digest of `p`.
 const P_DIGEST: &str = "sha256:148de9c5a7a44d19e56cd9ae1a554bf67847afb0c58f6e12fa29ac7ddfca9940";
 
-// A bundle whose payload is no statement (the example of DSSE v1).
+// A bundle whose payload is not a statement (the example of DSSE v1).
 const BUNDLE: &str = "{\"mediaType\":\"application/vnd.dev.sigstore.bundle.v0.3+json\",\
         \"dsseEnvelope\":{\"payload\":\"aGVsbG8gd29ybGQ=\",\"payloadType\":\"http://example.com/HelloWorld\",\
         \"signatures\":[{\"sig\":\"c2lnMQ==\"}]},\"verificationMaterial\":{}}";
@@ -97,7 +97,7 @@ fn vouched(alloc: Global, key: &[u8]) -> Result<Vouched, AllocError> {
     })
 }
 
-// The place of the layer that stands by its certificate's key.
+// The index of the layer that satisfies the policy by its certificate's key.
 fn second_stands(alloc: Global) -> Result<bool, AllocError> {
     let mut layers = List::new(alloc);
     layers.push(certified(alloc, b"k2")?)?;
@@ -151,7 +151,7 @@ fn a_constraint_of_the_callers_own_is_asked(rt: HostRuntime) {
     assert!(rt; !holds(certified_is_accepted(rt.alloc())));
 }
 
-// A judge that vouches for `c`, so many times.
+// A judge with this many rows that vouch for `c`.
 fn judge(alloc: Global, times: u8) -> Result<Option<TableJudge>, AllocError> {
     let mut rows = List::new(alloc);
     for _ in 0..times {

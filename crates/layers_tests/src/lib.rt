@@ -1,4 +1,4 @@
-//! Tests of signature layers: the check that each fails first, what signs them, and whom a policy accepts.
+//! Tests of signature layers: the check that each fails first, what signs them, and which layers a policy accepts.
 #![tactic(auto)]
 
 #[cfg(test)]

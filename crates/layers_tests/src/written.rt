@@ -1,4 +1,4 @@
-// A bundle in the shape that current tools write, whose certificate names a workflow.
+// A bundle in the form that current tools write, whose certificate names a workflow.
 use crate::trusted::{SOURCE, log_keys, verifier};
 use cosign_layers::{
     CertSubjectUrlVerifier, Constraint, PullPolicy, SignatureLayer, TableJudge, Vouched,
@@ -52,7 +52,7 @@ fn judge(alloc: Global) -> Result<Option<TableJudge>, AllocError> {
     Ok(TableJudge::new(rows))
 }
 
-// A policy without keys, under which a certificate has to be of this URL.
+// A policy without keys, under which a certificate must have this URL.
 fn policy(alloc: Global, url: &str) -> Result<PullPolicy, AllocError> {
     let asked = CertSubjectUrlVerifier {
         url: Text::new(alloc, url)?,
@@ -84,7 +84,7 @@ fn stands_for(alloc: Global, layer: &SignatureLayer, url: &str) -> Result<bool, 
     stands(alloc, &verifier, &policy, layer)
 }
 
-// Whether the layer is read, and stands for its workflow alone.
+// Whether the layer is accepted, and stands for its workflow alone.
 fn stands_for_its_workflow(alloc: Global) -> bool {
     let Some(layer) = layer(alloc) else {
         return false;

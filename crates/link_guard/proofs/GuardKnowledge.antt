@@ -1,4 +1,4 @@
--- What a guard knows goes on to fit what the transport inside tells.
+-- The state of a guard continues to fit the exchanges of the inner transport.
 use Rattle.std.proofs.Common.{◌≡◌, ℕ, suc, ◌+◌, ◌≤◌, Bool, true, false, not, ◌&&◌, ◌||◌, List, [], ◌∷◌, ◌++◌, length, map, Option, Some, None, refl, sym, ap, ◌∙◌, arith, subst, length-append}
 use Rattle.std.specs.Cmp.Lexicographic.{same_text}
 use Rattle.std.specs.Prelude.{nat_eq, nat_le, bytes_eq}
@@ -68,7 +68,7 @@ fits_by rules unsent since lost realm c k =
 
 -- ---- requests that pass
 
--- a realm that is known lets no more pass than the last one that was named
+-- a known realm allows only what the last named one allows
 at_least : (shown below at more : Bool) → (at ≡ true → more ≡ true) → (shown || (below || at)) ≡ true → (shown || (below || more)) ≡ true
 at_least true below at more h is = refl
 at_least false true at more h is = refl

@@ -1,4 +1,4 @@
--- Lists cut at a place.
+-- Lists split at an index.
 use Rattle.std.proofs.Common.{◌≡◌, ℕ, zero, suc, ◌+◌, ◌≤◌, List, [], ◌∷◌, ◌++◌, length, take, drop, map, refl, sym, ap, ◌∙◌, arith}
 
 pub take_front : {A : Type 0} (k : ℕ) (c a : List A) → k ≤ length c → take k (c ++ a) ≡ take k c

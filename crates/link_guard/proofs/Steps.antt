@@ -1,4 +1,4 @@
--- What a guard shows after a step.
+-- What a contract sees of a guard after a step.
 use Rattle.std.proofs.Common.{◌≡◌, ℕ, suc, ◌+◌, ◌-◌, ◌^◌, ◌≤◌, min, Bool, true, false, not, List, [], ◌∷◌, ◌++◌, length, map, Option, Some, None, refl, sym, ap, ◌∙◌, arith, subst, append-nil, if◌then◌else◌, option_and_then}
 use Rattle.std.specs.Prelude.{bytes_eq}
 use Rattle.std.specs.Cmp.Lexicographic.{nat_list_eq_equiv}
@@ -25,7 +25,7 @@ some_is x y h = cc h
 abbrev knows : {T : Type 0} → Guarded T → List Exchange → Bool
 knows g c = fits g.rules g.unsent g.since g.lost g.realm c
 
--- what the transport inside told, where the guard tells this
+-- the exchanges of the inner transport, if the guard exposes these
 record Inside {T : Type 0} (g : Guarded T) (told : Option (List Exchange)) (before : List Exchange) : Type 0 where
   pub c : List Exchange
   pub told_is : told ≡ Some c
@@ -99,7 +99,7 @@ at_most g h old new request by sent = record {
   most = most g old request by.conversation by.most;
 }
 
--- what is known after one exchange more
+-- what is known after one more exchange
 pub one_more : {T : Type 0} (g h : Guarded T) (old : Link) (e : Exchange) → h.rules ≡ g.rules → h.unsent ≡ g.unsent → h.lost ≡ g.lost → h.since ≡ g.since + 1
     → is_known h.realm (realm_by e.request e.answer) ≡ true → passes g.rules g.realm e.request ≡ true → Sent g h old (e ∷ [])
 one_more g h old e rules unsent lost since named pass = record {
@@ -110,7 +110,7 @@ one_more g h old e rules unsent lost since named pass = record {
       rw (rules, unsent) (fits_by g.rules g.unsent h.since h.lost h.realm (c ++ e ∷ []) next);
 }
 
--- where it is not known whether there was one
+-- the same if it is unknown whether there was one
 pub perhaps_one : {T : Type 0} (g h : Guarded T) (old : Link) (request : Request) (added : List Exchange) → h.rules ≡ g.rules → h.unsent ≡ g.unsent → h.lost ≡ true → h.realm ≡ None
     → passes g.rules g.realm request ≡ true → IsAtMost request old.faults added → Sent g h old added
 perhaps_one g h old request [] rules unsent lost realm pass one = record {
@@ -157,7 +157,7 @@ unfolding told_with keep_after places last_realm
 new_told g None fresh unsent since lost realm = refl
 new_told g (Some c) fresh unsent since lost realm = let none : c ≡ [] = fresh c refl in rw (none, unsent, since, lost, realm) refl
 
--- ---- whether a request passed
+-- ---- whether a request is allowed
 
 pub passed : (pass : Bool) (rules : Rules) (realm : Option (List ℕ)) (request : Request) → pass ≡ passes rules realm request → pass ≡ true → passes rules realm request ≡ true
 passed pass rules realm request is h = sym is ∙ h

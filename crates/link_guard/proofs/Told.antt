@@ -1,4 +1,4 @@
--- What is told of requests that were sent, and of those that were not.
+-- The exposed exchanges, with requests that were sent and requests that were not.
 use Rattle.std.proofs.Common.{◌≡◌, ℕ, zero, suc, ◌+◌, ◌≤◌, Bool, true, false, ◌&&◌, List, [], ◌∷◌, ◌++◌, length, take, drop, map, Option, Some, None, refl, sym, ap, ◌∙◌, arith}
 use Rattle.std.proofs.lemmas.List.{take_all, drop_all}
 use Rattle.oci_transport.specs.declared.message.Exchange.{Exchange}
@@ -15,7 +15,7 @@ suc_out n m = omega arith
 no_more : (n : ℕ) → n ≡ n + 0
 no_more n = omega arith
 
--- what is sent comes last
+-- a sent request comes last
 pub told_sent : (n : ℕ) (xs : List Unsent) (c a : List Exchange) → places xs ≤ length c
     → told_with n xs (c ++ a) ≡ told_with n xs c ++ map (counted (n + length xs)) a
 unfolding told_with places
@@ -30,7 +30,7 @@ told_sent n (x ∷ xs) c a le =
     ∙ ap (λ m. map (counted n) (take x.after c) ++ refused_exchange x ∷ (told_with (suc n) xs (drop x.after c) ++ map (counted m) a)) (suc_out n (length xs))
     ∙ sym (joined (map (counted n) (take x.after c)) (refused_exchange x ∷ told_with (suc n) xs (drop x.after c)) (map (counted (n + suc (length xs))) a))
 
--- and so does what is not
+-- and so does one that was not sent
 pub told_refused : (n : ℕ) (xs : List Unsent) (x : Unsent) (c : List Exchange) → length c ≡ places xs + x.after
     → told_with n (xs ++ x ∷ []) c ≡ told_with n xs c ++ refused_exchange x ∷ []
 unfolding told_with places

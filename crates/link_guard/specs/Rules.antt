@@ -1,4 +1,4 @@
--- Which requests a guard lets pass.
+-- The requests that a guard allows.
 use Rattle.std.specs.Prelude.{ℕ, Bool, true, false, not, ◌&&◌, ◌||◌, List, Option, Some, None, Result, Ok, Err, codes}
 use Rattle.std.specs.Prelude.{bytes_eq, nat_eq, is_some, if◌then◌else◌}
 use Rattle.std.specs.List.{list_any, starts_with}
@@ -15,16 +15,16 @@ use Rattle.link_guard.specs.declared.rules.Hosts.{Hosts}
 use Rattle.link_guard.specs.declared.rules.Hosts.TheVariants.{Any, Only}
 use Rattle.link_guard.specs.declared.rules.Rules.{Rules}
 
--- the URL goes there, if that is a URL
+-- the URL has this target, if the target is a URL
 abbrev pub goes_to : Parts → Option Parts → Bool
 goes_to url None = false
 goes_to url (Some there) = targets url there
 
--- to this registry, which is asked over http
+-- the URL goes to this registry, which accepts http
 abbrev pub goes_plain : Parts → List ℕ → Bool
 goes_plain url registry = goes_to url (request_url (registry_text (codes "http") registry))
 
--- over https, or to one of the registries that may be asked over http
+-- over https, or to one of the registries that accept http
 abbrev pub has_scheme : Rules → Parts → Bool
 has_scheme rules url = bytes_eq url.scheme (codes "https") || list_any (goes_plain url) rules.plain
 
@@ -38,7 +38,7 @@ has_host (Only hosts) url = list_any (is_host url) hosts
 abbrev pub is_path : List ℕ → Bool
 is_path path = starts_with nat_eq path (codes "/v2/")
 
--- the same place and path as the realm, whatever the query is
+-- the same origin and path as the realm, with any query
 abbrev pub is_at : Parts → Option Parts → Bool
 is_at url None = false
 is_at url (Some realm) = targets url realm && bytes_eq url.path realm.path
@@ -47,7 +47,7 @@ abbrev pub is_realm : Parts → Option (List ℕ) → Bool
 is_realm url None = false
 is_realm url (Some realm) = is_at url (request_url realm)
 
--- credentials are shown below `/v2/` and to the realm that was named last
+-- credentials may be sent below `/v2/` and to the realm that was named last
 abbrev pub may_show : Bool → Option (List ℕ) → Parts → Bool
 may_show shows realm url = not shows || (is_path url.path || is_realm url realm)
 
@@ -58,7 +58,7 @@ url_passes rules realm shows (Some url) = has_scheme rules url && (has_host rule
 abbrev pub shows : Request → Bool
 shows request = is_some (first_of (codes "authorization") request.headers)
 
--- the request keeps the rules, where this realm was named directly before
+-- the request keeps the rules, given that this realm was named directly before
 unfoldable pub passes : Rules → Option (List ℕ) → Request → Bool
 passes rules realm request = url_passes rules realm (shows request) (request_url request.url)
 
@@ -80,7 +80,7 @@ abbrev pub by_get : Method → Bool
 by_get Get = true
 by_get _ = false
 
--- of an answer with these headers to a GET of a registry's `/v2/`
+-- the realm named by an answer with these headers to a GET of a registry's `/v2/`
 unfoldable pub realm_named : Request → Fields → Option (List ℕ)
 realm_named request headers =
     if by_get request.method && is_base (request_url request.url)

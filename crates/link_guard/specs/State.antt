@@ -1,4 +1,4 @@
--- What a guard shows of the transport inside it.
+-- What a contract sees of a guard.
 use Rattle.std.specs.Prelude.{ℕ, Bool, true, false, List, [], length, Option, Some, None, option_and_then}
 use Rattle.std.specs.Prelude.{if◌then◌else◌}
 use Rattle.oci_transport.specs.Link.{Link}
@@ -7,16 +7,16 @@ use Rattle.link_guard.specs.Guard.{fits, more, told_with}
 use Rattle.link_guard.specs.declared.rules.Rules.{Rules}
 use Rattle.link_guard.specs.declared.guarded.Guarded.{Guarded}
 
--- what the transport inside tells, with the requests that were not sent, each at its place
+-- the exchanges of the inner transport, with the requests that were not sent, each at its index
 abbrev pub told_of : {T : Type 0} → Guarded T → List Exchange → Option (List Exchange)
 told_of g c = if fits g.rules g.unsent g.since g.lost g.realm c then Some (told_with 0 g.unsent c) else None
 
--- nothing can be taken after a request that was not sent
+-- nothing can be read after a request that was not sent
 abbrev pub rest_of : Bool → Option (List ℕ) → Option (List ℕ)
 rest_of true rest = Some []
 rest_of false rest = rest
 
--- what a guard shows, whose transport shows so much
+-- the state of a guard, given that of its inner transport
 abbrev pub shown : {T : Type 0} → Guarded T → Link → Link
 shown g inner = record {
   told = option_and_then (told_of g) inner.told;

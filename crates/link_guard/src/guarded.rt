@@ -1,11 +1,11 @@
-// A transport that lets only those requests pass that keep its rules.
+// A transport that sends only requests that keep its rules.
 use crate::rules::{Rules, realm_named};
 use json_values::{Blob, Copied, List, Text};
 use oci_transport::{AnswerHead, LinkError, Request, Transport};
 use std::alloc::Global;
 
-/// A request that was not sent, the count of faults as it was refused, and how many exchanges of the transport inside
-/// came since the last one.
+/// A request that was not sent, the fault count when it was refused, and the number of exchanges of the inner transport
+/// since the last one.
 #[derive(Drop)]
 pub(crate) struct Unsent {
     pub request: Request,
@@ -13,20 +13,20 @@ pub(crate) struct Unsent {
     pub after: usize,
 }
 
-/// Sends over the transport inside it those requests that keep its rules. Any other one is not sent: it is told as a
-/// request that was not answered, and is counted as a fault.
+/// Sends the requests that keep its rules over its inner transport. Any other request is not sent: it is exposed as a
+/// request without an answer, and counted as a fault.
 #[derive(Drop)]
 pub struct Guarded<T> {
     transport: T,
     rules: Rules,
     unsent: List<Unsent>,
-    // Exchanges of the transport inside since the last request that was not sent.
+    // Exchanges of the inner transport since the last request that was not sent.
     since: usize,
-    // Memory was wanting in a send, so that what was told since is not known.
+    // A send ran out of memory, so that the exchanges since then are unknown.
     lost: bool,
     // The last request was not sent.
     closed: bool,
-    // The realm that the last answer names.
+    // The realm that the last answer named.
     realm: Option<Text>,
 }
 
@@ -36,7 +36,7 @@ impl<T: Transport> Guarded<T> {
     ghost use Rattle.link_guard.specs.Guard.{KeepsTold};
     ghost use Rattle.link_guard.specs.State.{inside, rules_of, state_of};
 
-    /// A guard around a transport over which nothing was sent yet.
+    /// Creates a guard around a transport over which nothing was sent yet.
     pub fn new(alloc: Global, transport: T, rules: Rules) -> Guarded<T>
         requires fresh { (c : List Exchange) → (T.state transport).told ≡ Some c → c ≡ [] }
         ensures inside { inside result ≡ transport }
@@ -55,7 +55,7 @@ impl<T: Transport> Guarded<T> {
         }
     }
 
-    /// The transport inside. Each request that is told as answered kept the rules.
+    /// Returns the inner transport. Each exposed request with an answer kept the rules.
     pub fn transport(&self) -> &T
         ensures inside { result.now ≡ inside self.now }
         ensures keeps { KeepsTold (rules_of self.now) (state_of T.state self.now) }

@@ -1,4 +1,4 @@
-//! A transport around a transport that lets only those requests pass that keep its rules.
+//! A transport around another one that sends only requests that keep its rules.
 #![tactic(auto)]
 
 mod guarded;

@@ -1,4 +1,4 @@
-// Which requests a guard lets pass.
+// The requests that a guard allows.
 ghost use Rattle.std.specs.Prelude.{◌≡◌, IfOk, IsTrue, Some, option_copied};
 ghost use Rattle.link_guard.specs.Rules.{by_get, goes_plain, has_host, has_scheme, is_at, is_base, is_host, is_path};
 ghost use Rattle.link_guard.specs.Rules.{is_realm, may_show};
@@ -12,19 +12,19 @@ use oci_transport::{Headers, Method, Request, UrlError, registry_url, request_ur
 use std::alloc::{AllocError, Global};
 use url::Url;
 
-/// Which hosts may be asked.
+/// The hosts to which requests may go.
 #[derive(Drop)]
 pub enum Hosts {
     Any,
-    /// These alone, each as a URL prints it: in lower case, with no port.
+    /// Only these, each as a URL prints it: in lower case, without a port.
     Only(List<Text>),
 }
 
-/// What requests have to keep: the scheme is https, but for some registries; the host is one of these; and credentials
-/// are shown below `/v2/` alone, and to the realm that the registry named directly before.
+/// The rules for requests: the scheme is https, except for some registries; the host is one of these; and credentials
+/// are sent only below `/v2/`, and to the realm that the registry named directly before.
 #[derive(Drop)]
 pub struct Rules {
-    /// The registries that may be asked over http, each with its port as in a reference: `localhost:5000`.
+    /// The registries that accept http, each with its port as in a reference: `localhost:5000`.
     pub plain: List<Text>,
     pub hosts: Hosts,
 }
@@ -141,7 +141,7 @@ fn url_passes(
 }
 
 impl Rules {
-    /// Whether the request keeps the rules, where this realm was named directly before.
+    /// Returns whether the request keeps the rules, given that this realm was named directly before.
     #[tactic(auto, unfolding(crate::specs::Rules::passes))]
     pub(crate) fn pass(
         &self,
@@ -197,7 +197,7 @@ fn by_get(method: Method) -> bool
     }
 }
 
-/// The realm that an answer with these headers names, where the request was a GET of a registry's `/v2/`.
+/// Returns the realm named by an answer with these headers, if the request was a GET of a registry's `/v2/`.
 #[tactic(auto, unfolding(crate::specs::Rules::realm_named))]
 pub(crate) fn realm_named(
     alloc: Global,

@@ -18,13 +18,13 @@ pub error_is : {X : Type 0} (r : Result X FrameError) (e : FrameError) → IsErr
 error_is (Ok x) e err is = absurd (cc err)
 error_is (Err x) e err is = ap (λ y. Err y) is
 
--- the line did not come
+-- the line was not read
 pub line_stops : (most : ℕ) (r : Result Frame FrameError) (l : Result (List ℕ) FrameError) (e : FrameError) (a b : Spring)
     → r ≡ Err e → l ≡ Err e → ReadsLine most l a b → ReadsFrame most r a b
 line_stops most r l e a b is was reads =
     subst (λ x. ReadsFrame most x a b) (sym is) (subst (λ x. ReadsLine most x a b) was reads)
 
--- the line says no object with a size
+-- the line is not an object with a size
 head_cause : (most : ℕ) (line : List ℕ) (e : FrameError) (a b : Spring) → IsTakenLine line a b → ReadsHead (Err e) line → Stops most e (lined line []) a b
 head_cause most line SourceFault a b taken none = absurd none
 head_cause most line Ended a b taken none = absurd none
@@ -40,7 +40,7 @@ head_stops most line r h e a b is was taken reads =
 said_size : (line : List ℕ) (head : Data) (n : ℕ) → head_of line ≡ Some head → size_of head ≡ Some n → size_at line ≡ Some n
 said_size line head n is_head is_size = ap (λ (o : Option Data). o >>= size_of) is_head ∙ is_size
 
--- it says more bytes than the limit
+-- its size is more than the limit
 pub size_stops : (most : ℕ) (line : List ℕ) (head : Data) (n : ℕ) (a b : Spring)
     → IsTakenLine line a b → head_of line ≡ Some head → size_of head ≡ Some n → most < n → ReadsFrame most (Err TooLong) a b
 size_stops most line head n a b taken is_head is_size over =
@@ -49,7 +49,7 @@ size_stops most line head n a b taken is_head is_size over =
 line_and : (line part : List ℕ) → lined line [] ++ part ≡ lined line part
 line_and line part = append_assoc line (10 ∷ []) part
 
--- the bytes behind the line did not come
+-- the bytes after the line were not read
 part_cause : (most n : ℕ) (line part : List ℕ) (head : Data) (e : FrameError) (a b c : Spring)
     → IsTakenLine line a b → head_of line ≡ Some head → size_of head ≡ Some n → IsShort n e part b c → Stops most e (lined line part) a c
 part_cause most n line part head SourceFault a b c taken is_head is_size short = subst (λ f. Rose f c.faults) taken.count short
@@ -66,7 +66,7 @@ bytes_stop most n line head r p e a b c is was taken is_head is_size reads =
     subst (λ x. ReadsFrame most x a c) (sym is)
     (lined line got.0, subst (λ t. Takes t a c) (line_and line got.0) (then_takes a b c (lined line []) got.0 taken.taken got.1), part_cause most n line got.0 head e a b c taken is_head is_size got.2)
 
--- the whole frame came
+-- the whole frame was read
 pub frame_comes : (most n : ℕ) (line bytes : List ℕ) (head : Data) (a b c : Spring)
     → IsTakenLine line a b → head_of line ≡ Some head → size_of head ≡ Some n → n ≤ most
     → Takes bytes b c → length bytes ≡ n → Stays b.faults c.faults → ReadsFrame most (Ok (record { head = head; bytes = bytes })) a c
@@ -85,7 +85,7 @@ frame_comes most n line bytes head a b c taken is_head is_size few got counted s
   stays ∙ taken.count,
 )
 
--- what was taken of further bytes, after these
+-- which further bytes were taken, after these
 none_cause : (count : ℕ) (bytes part : List ℕ) (e : FrameError) (a b c : Spring) → b.faults ≡ a.faults → length bytes < count → IsNone e part b c → IsShort count e (bytes ++ part) a c
 none_cause count bytes part SourceFault a b c same few none = subst (λ f. Rose f c.faults) same none
 none_cause count bytes part Ended a b c same few none =
@@ -94,7 +94,7 @@ none_cause count bytes part TooLong a b c same few none = absurd none
 none_cause count bytes part NoFrame a b c same few none = absurd none
 none_cause count bytes part WantOfMemory a b c same few none = none ∙ same
 
--- no further byte came
+-- no further byte was read
 pub more_stops : (count most : ℕ) (bytes : List ℕ) (r p : Result (List ℕ) FrameError) (e : FrameError) (a b c : Spring)
     → r ≡ Err e → p ≡ Err e → BytesSoFar bytes a b → length bytes < count → TakesUpTo most p b c → ReadsBytes count r a c
 more_stops count most bytes r p e a b c is was so_far few takes =
@@ -102,7 +102,7 @@ more_stops count most bytes r p e a b c is was so_far few takes =
     subst (λ x. ReadsBytes count x a c) (sym is)
     (bytes ++ got.0, then_takes a b c bytes got.0 so_far.taken got.1, none_cause count bytes got.0 e a b c so_far.count few got.2)
 
--- there is no memory for them
+-- memory ran out for them
 pub more_want : (count most : ℕ) (bytes piece : List ℕ) (r : Result (List ℕ) FrameError) (a b c : Spring) → IsErr r → IsErrAnd r (λ e. e ≡ WantOfMemory)
     → BytesSoFar bytes a b → TakesUpTo most (Ok piece) b c → ReadsBytes count r a c
 more_want count most bytes piece (Ok all) a b c err is so_far got = absurd (cc err)

@@ -1,4 +1,4 @@
--- The public constant is its number.
+-- The public constant has this value.
 use Rattle.std.specs.Prelude.{◌≡◌, refl}
 use Rattle.live_frames.specs.Frame.{most_bytes}
 use Rattle.live_frames.specs.declared.reading.TheConstants as constant

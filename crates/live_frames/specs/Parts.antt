@@ -1,4 +1,4 @@
--- The parts of a frame, as they are read: the line, its object, the bytes behind it.
+-- The parts of a frame, as they are read: the line, its object, the bytes after it.
 use Rattle.std.specs.Prelude.{◌≡◌, ℕ, ◌≤◌, ◌<◌, true, List, [], length, Some, None, Result, Ok, Err, ⊤}
 use Rattle.std.specs.Io.KnownBytes.{IsAtEnd}
 use Rattle.serde_json.specs.Data.{Data}
@@ -30,7 +30,7 @@ ReadsHead (Err TooLong) line = ⊥
 ReadsHead (Err NoFrame) line = size_at line ≡ None
 ReadsHead (Err WantOfMemory) line = ⊤
 
--- why fewer bytes came
+-- why fewer than `count` bytes were read
 abbrev pub IsShort : ℕ → FrameError → List ℕ → Spring → Spring → Type 0
 IsShort n SourceFault part old new = Rose old.faults new.faults
 IsShort n Ended part old new = IsAtEnd new.left × (length part < n) × Stays old.faults new.faults
@@ -38,12 +38,12 @@ IsShort n TooLong part old new = ⊥
 IsShort n NoFrame part old new = ⊥
 IsShort n WantOfMemory part old new = Stays old.faults new.faults
 
--- so many bytes, or a front of them
+-- `count` bytes, or a prefix of them
 abbrev pub ReadsBytes : ℕ → Result (List ℕ) FrameError → Spring → Spring → Type 0
 ReadsBytes n (Ok bytes) old new = Takes bytes old new × (length bytes ≡ n) × Stays old.faults new.faults
 ReadsBytes n (Err e) old new = (part : List ℕ) × Takes part old new × IsShort n e part old new
 
--- why no further byte came
+-- why no further byte was read
 abbrev pub IsNone : FrameError → List ℕ → Spring → Spring → Type 0
 IsNone SourceFault part old new = Rose old.faults new.faults
 IsNone Ended part old new = IsAtEnd new.left × (part ≡ []) × Stays old.faults new.faults
@@ -51,7 +51,7 @@ IsNone TooLong part old new = ⊥
 IsNone NoFrame part old new = ⊥
 IsNone WantOfMemory part old new = Stays old.faults new.faults
 
--- at least one byte, and at most so many, or some that are lost
+-- at least one byte, and at most `most`, or some that are lost
 abbrev pub TakesUpTo : ℕ → Result (List ℕ) FrameError → Spring → Spring → Type 0
 TakesUpTo most (Ok bytes) old new =
     Takes bytes old new × (0 < length bytes) × (length bytes ≤ most) × Stays old.faults new.faults

@@ -10,7 +10,7 @@ use Rattle.live_frames.specs.declared.reading.FrameError.{FrameError}
 use Rattle.live_frames.specs.declared.reading.FrameError.TheVariants.{SourceFault, Ended, TooLong, NoFrame}
 use Rattle.live_frames.specs.declared.reading.FrameError.TheVariants.{WantOfMemory}
 
--- the size that a line says
+-- the size that a line states
 abbrev pub size_at : List ℕ → Option ℕ
 size_at line = head_of line >>= size_of
 
@@ -18,22 +18,22 @@ size_at line = head_of line >>= size_of
 abbrev pub lined : List ℕ → List ℕ → List ℕ
 lined line bytes = line ++ 10 ∷ bytes
 
--- a line that is too long, or a line that says more bytes than so many
+-- a line that is too long, or states more than `most` bytes
 pub data IsLong (most : ℕ) (text : List ℕ) : Type 0 where
   a_line : is_line text ≡ true → most_bytes < length text → IsLong most text
   a_size : (line : List ℕ) (n : ℕ) → text ≡ lined line [] → size_at line ≡ Some n → most < n → IsLong most text
 
--- a front of a frame: of its line, or of the bytes behind it
+-- a prefix of a frame: of its line, or of the bytes after it
 pub data IsCut (text : List ℕ) : Type 0 where
   in_line : is_line text ≡ true → IsCut text
   in_bytes : (line part : List ℕ) (n : ℕ)
       → text ≡ lined line part → size_at line ≡ Some n → length part < n → IsCut text
 
--- a line that says no object with a size
+-- a line that is not an object with a size
 pub data IsNoHead (text : List ℕ) : Type 0 where
   no_head : (line : List ℕ) → text ≡ lined line [] → is_line line ≡ true → size_at line ≡ None → IsNoHead text
 
--- why what was taken is no frame
+-- why what was taken is not a frame
 abbrev pub Stops : ℕ → FrameError → List ℕ → Spring → Spring → Type 0
 Stops most SourceFault text old new = Rose old.faults new.faults
 Stops most Ended text old new = IsAtEnd new.left × IsCut text × Stays old.faults new.faults
@@ -41,7 +41,7 @@ Stops most TooLong text old new = IsLong most text × Stays old.faults new.fault
 Stops most NoFrame text old new = IsNoHead text × Stays old.faults new.faults
 Stops most WantOfMemory text old new = Stays old.faults new.faults
 
--- What was taken: a frame, or what is none. The count of faults rises where the source failed, and stays otherwise.
+-- What was taken: a frame, or something else. The fault count increases if and only if the source failed.
 abbrev pub ReadsFrame : ℕ → Result Frame FrameError → Spring → Spring → Type 0
 ReadsFrame most (Ok frame) old new =
     (text : List ℕ) × Takes text old new × IsFrame most frame text × Stays old.faults new.faults

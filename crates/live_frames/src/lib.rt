@@ -1,4 +1,4 @@
-//! Frames: a line of JSON, and then as many bytes as it says.
+//! Frames: a line of JSON, and then as many bytes as it states.
 #![tactic(auto)]
 
 mod frame;

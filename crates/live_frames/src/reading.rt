@@ -1,4 +1,4 @@
-// A frame read from a source.
+// Reads a frame from a source.
 ghost use Rattle.std.specs.Prelude.{◌≡◌, ℕ, ◌≤◌, ◌<◌, IfOk, vec_len};
 ghost use Rattle.live_frames.specs.Frame.{head_of, size_of};
 ghost use Rattle.serde_json.specs.View.{view};
@@ -13,25 +13,25 @@ use serde_json::Value;
 use std::alloc::{AllocError, Global};
 use thiserror::Error;
 
-/// The greatest length of a line.
+/// The maximum length of a line, in bytes.
 pub const MOST_BYTES: u64 = 1048576;
 
 /// How many bytes are taken at most at one time.
 const ROOM: u64 = 65536;
 
-/// Why no frame was read. What was taken of the source is gone.
+/// Why no frame was read. The bytes taken from the source are lost.
 #[derive(Clone, Copy, Debug, PartialEq, Eq, Error)]
 pub enum FrameError {
-    /// The source failed, and its count of faults rose.
+    /// The source failed, and its fault count increased.
     #[error("the source failed: what was read of the frame is let go")]
     SourceFault,
-    /// The source ended within a frame, or where one should begin.
+    /// The source ended within a frame, or before one.
     #[error("the source ended where a frame should be: see why who writes it stopped")]
     Ended,
-    /// The line, or the bytes that it says, are more than the limit.
+    /// The line, or the size that it states, is more than the limit.
     #[error("the frame is longer than the limit: send shorter ones")]
     TooLong,
-    /// The line is no JSON object with a size.
+    /// The line is not a JSON object with a size.
     #[error("the line is no frame: an object is wanted, whose member `bytes` is a number or absent")]
     NoFrame,
     #[error("out of memory: free some and try again")]
@@ -66,7 +66,7 @@ impl From<Failed> for FrameError {
     }
 }
 
-/// The next frame, with at most so many bytes behind its line. Nothing past the frame is taken.
+/// Returns the next frame, with at most `most` bytes after its line. Takes no byte after the frame.
 pub fn read_frame<S: Source>(alloc: Global, source: &mut S, most: u64) -> Result<Frame, FrameError>
     ensures reads { ReadsFrame most result (S.state source.old) (S.state source.new) }
     ensures count { (S.state source.old).faults ≤ (S.state source.new).faults }
@@ -80,7 +80,7 @@ pub fn read_frame<S: Source>(alloc: Global, source: &mut S, most: u64) -> Result
     Ok(Frame { head, bytes })
 }
 
-// The bytes up to the next line feed, which is taken too.
+// Returns the bytes up to the next line feed, and takes that too.
 fn read_line<S: Source>(alloc: Global, source: &mut S) -> Result<Blob, FrameError>
     ensures reads { (most : ℕ) → ReadsLine most result (S.state source.old) (S.state source.new) }
     ensures count { (S.state source.old).faults ≤ (S.state source.new).faults }
@@ -100,7 +100,7 @@ fn read_line<S: Source>(alloc: Global, source: &mut S) -> Result<Blob, FrameErro
     Err(FrameError::TooLong)
 }
 
-// The object of a line, and how many bytes follow it.
+// Returns the object of a line, and how many bytes follow it.
 fn read_head(alloc: Global, line: &[u8]) -> Result<(Json, u64), FrameError>
     ensures { ReadsHead result line.now }
 {
@@ -113,7 +113,7 @@ fn read_head(alloc: Global, line: &[u8]) -> Result<(Json, u64), FrameError>
     Ok((head, size))
 }
 
-// How many bytes follow the line of this object: none where it does not say.
+// Returns how many bytes follow the line of this object: 0 if it does not state that.
 fn size_of(head: &Value) -> Option<u64>
     ensures { result ≡ size_of (view head.now) }
 {
@@ -123,7 +123,7 @@ fn size_of(head: &Value) -> Option<u64>
     }
 }
 
-// So many bytes.
+// Returns the next `count` bytes.
 fn read_bytes<S: Source>(alloc: Global, source: &mut S, count: u64) -> Result<Blob, FrameError>
     ensures reads { ReadsBytes count result (S.state source.old) (S.state source.new) }
     ensures count { (S.state source.old).faults ≤ (S.state source.new).faults }
@@ -137,7 +137,7 @@ fn read_bytes<S: Source>(alloc: Global, source: &mut S, count: u64) -> Result<Bl
     Ok(bytes)
 }
 
-// At least one byte, and at most so many.
+// Returns at least one byte, and at most `most`.
 fn take_some<S: Source>(alloc: Global, source: &mut S, most: u64) -> Result<Blob, FrameError>
     requires { 0 < most }
     ensures takes { TakesUpTo most result (S.state source.old) (S.state source.new) }

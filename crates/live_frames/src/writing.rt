@@ -1,4 +1,4 @@
-// A frame written into a sink.
+// Writes a frame to a sink.
 ghost use Rattle.std.specs.Prelude.{◌≡◌, ◌≤◌, false, IfOk, OnOk, OnErr, IsErrOf};
 ghost use Rattle.serde_json.specs.Written.{has_float};
 ghost use Rattle.json_values.specs.Counts.{Rose, Stays};
@@ -8,7 +8,7 @@ ghost use Rattle.live_frames.specs.Writing.{frame_text};
 use json_values::{Blob, Json, Sink, SinkError, put_all};
 use std::alloc::{AllocError, Global};
 
-/// Puts the object as a line, and these bytes behind it. Where that fails, a front of them went out.
+/// Writes the object as a line, then these bytes. If that fails, the sink holds a prefix of them.
 pub fn write_frame<K: Sink>(
     alloc: Global,
     sink: &mut K,

@@ -1,4 +1,4 @@
--- Frames that come in.
+-- Frames that are received.
 use Rattle.std.proofs.Common.{◌≡◌, ℕ, ◌≤◌, List, [], ◌∷◌, length, Result, Ok, Err, IsErr, inl, inr, refl, sym, subst, arith}
 use Rattle.std.specs.Prelude.{Some, Option, IfErr, IsErrAnd}
 use Rattle.serde_json.specs.Data.{Data}
@@ -21,18 +21,18 @@ no_bytes : (bytes : List ℕ) → length bytes ≤ 0 → bytes ≡ []
 no_bytes [] h = refl
 no_bytes (b ∷ bytes) h = absurd (omega (arith, h))
 
--- a frame with no bytes came in
+-- a frame without bytes was received
 pub heard : (frame : Frame) (old new : Spring) (tray : Tray) → ReadsFrame 0 (Ok frame) old new
     → Hears frame.head (record { spring = old; tray = tray }) (record { spring = new; tray = tray })
 heard frame old new tray (text, taken, is, stays) =
     (text, taken, subst (λ b. IsFrame 0 (record { head = frame.head; bytes = b }) text) (no_bytes frame.bytes is.few) is, refl)
 
--- no frame came in
+-- no frame was received
 pub heard_none : (e : FrameError) (old new : Spring) (tray : Tray) → ReadsFrame 0 (Err e) old new → (e ≡ WantOfMemory → ⊥)
     → IsBroken (record { spring = new; tray = tray })
 heard_none e old new tray (text, taken, stops) other = (record { spring = old; tray = tray }, inl (e, text, taken, stops, other))
 
--- what does not read is the host's fault
+-- what does not parse is the host's fault
 pub not_verified : (e : ReadError) (d : Data) (old new : Wire) → Hears d old new → Refuses e (verified_of d) → HostCause (host_error e) new
 not_verified read.Float d old new h is = absurd is
 not_verified read.Shape d old new h is = (old, inr (d, h, inl is))
@@ -45,12 +45,12 @@ not_vouched read.Shape d old new h is = (old, inr (d, h, inr is))
 not_vouched read.Ambiguous d old new h is = absurd is
 not_vouched read.WantOfMemory d old new h is = tt
 
--- a refusal that `?` passes on, with its cause
+-- an error that `?` passes on, with its cause
 pub passed_cause : {X : Type 0} (r : Result X HostError) (h : HostError) (w : Wire) → HostCause h w → (IsErr r × IsErrAnd r (λ y. y ≡ h)) → IfErr r (λ e. HostCause e w)
 passed_cause (Ok x) h w cause is = tt
 passed_cause (Err e) h w cause is = subst (λ y. HostCause y w) (sym is.1) cause
 
--- a frame that went out, and an answer that came in
+-- a frame that was sent, and an answer that was received
 pub asks : {X : Type 0} (head same : Data) (bytes equal : List ℕ) (reads : Data → Option X) (x : X) (answer d : Data) (old between new : Wire)
     → head ≡ same → bytes ≡ equal → Tells head bytes old between → Hears answer between new → d ≡ answer → reads d ≡ Some x → Asks same equal reads x old new
 asks head same bytes equal reads x answer d old between new is_head is_bytes told heard is read = record {

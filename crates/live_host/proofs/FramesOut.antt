@@ -1,4 +1,4 @@
--- Frames that go out, one after another.
+-- Frames that are sent, one after another.
 use Rattle.std.proofs.Common.{◌≡◌, ℕ, Bool, List, [], ◌∷◌, ◌++◌, length, suc, ◌≤◌, append_assoc, refl, subst, sym, codes, arith}
 use Rattle.json_values.specs.Tray.{Tray, Adds}
 use Rattle.json_values.proofs.Sinks.{adds_more}
@@ -9,7 +9,7 @@ use Rattle.live_host.specs.Heads.{item_head}
 use Rattle.live_host.specs.Items.{Sent, WereTold, blobs_sent, config_sent, image_sent, index_sent, layers_sent, manifest_sent, pulled_sent}
 use Rattle.live_host.specs.Wire.{Wire, Tells}
 
--- a line, and then the bytes behind it
+-- a line followed by its bytes
 pub told_behind : (line bytes : List ℕ) (old between end : Tray) → Adds (line ++ 10 ∷ []) old between → Adds bytes between end → Adds (line ++ 10 ∷ bytes) old end
 told_behind line bytes old between end first second =
     subst (λ text. Adds text old end) (append_assoc line (10 ∷ []) bytes) (adds_more (line ++ 10 ∷ []) bytes old between end first second)
@@ -18,7 +18,7 @@ pub told_both : (xs ys : List Sent) (a b c : Wire) → WereTold xs a b → WereT
 told_both [] ys a b c first second = subst (λ w. WereTold ys w c) (sym first) second
 told_both (x ∷ xs) ys a b c first second = (first.0, first.1, told_both xs ys first.0 b c first.2 second)
 
--- a layer, and those after it
+-- a layer, followed by the others
 pub told_layer : (named more : List OciDescriptor) (rest others : List ImageLayer) (x : OciDescriptor) (layer : ImageLayer) (old between end : Wire)
     → named ≡ x ∷ more → rest ≡ layer ∷ others
     → Tells (item_head (codes "blob") (codes "layer") layer.media_type x.digest (length layer.content)) layer.content old between → WereTold (layers_sent more others) between end

@@ -1,4 +1,4 @@
--- Questions one after another.
+-- Questions in sequence.
 use Rattle.std.proofs.Common.{◌≡◌, List, [], ◌∷◌, ◌++◌, refl, sym, ap, ◌∙◌, append_assoc, append-nil, subst}
 use Rattle.live_host.specs.Wire.{Wire}
 use Rattle.live_host.specs.Questions.{WasAsked, WereAsked, AsksMore}
@@ -21,6 +21,6 @@ asks_both xs ys zs a b c first second = record {
   asked = were_more first.more second.more a b c first.asked second.asked;
 }
 
--- all that was asked, from nothing on
+-- all questions, from none on
 pub all_asked : (after : List HostAnswer) (w v : Wire) → AsksMore [] after w v → WereAsked after w v
 all_asked after w v h = subst (λ l. WereAsked l w v) (sym h.behind) h.asked

@@ -1,4 +1,4 @@
--- A search that asks nobody: each signature is valid, and each certificate is nobody's.
+-- The trust of a search without questions: each signature is valid, and no certificate is vouched for.
 use Rattle.std.specs.Prelude.{ℕ, List, [], Bool, true, Option, Some, None}
 use Rattle.std.specs.FinMap.{FinMap}
 use Rattle.json_values.specs.Places.{by_bytes}

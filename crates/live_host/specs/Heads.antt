@@ -1,4 +1,4 @@
--- The frames that go out, each by its line.
+-- The heads of the frames that are sent.
 use Rattle.std.specs.Prelude.{ℕ, ℤ, List, [], ◌∷◌, Some, codes}
 use Rattle.base64.specs.Engines.{standard}
 use Rattle.base64.specs.GeneralPurpose.{encode_of}
@@ -19,7 +19,7 @@ count_field name n = (name, Some (number (unsigned n)))
 abbrev pub begin_head : Data
 begin_head = fields (text_field (codes "frame") (codes "begin") ∷ count_field (codes "version") 1 ∷ [])
 
--- whether this key makes the signature valid for the bytes behind the line
+-- asks whether this key makes the signature valid for the bytes after the line
 abbrev pub verify_head : List ℕ → List ℕ → ℕ → Data
 verify_head key signature count =
     fields (text_field (codes "frame") (codes "verify")
@@ -28,7 +28,7 @@ verify_head key signature count =
     ∷ count_field (codes "bytes") count
     ∷ [])
 
--- what is vouched of a certificate at a time, in seconds since 1970
+-- asks what is vouched for a certificate at a time, in seconds since 1970
 abbrev pub judge_head : List ℕ → ℤ → Data
 judge_head certificate time =
     fields (text_field (codes "frame") (codes "judge")
@@ -36,7 +36,7 @@ judge_head certificate time =
     ∷ (codes "integrated_time", Some (number (of_integer time)))
     ∷ [])
 
--- bytes of an image, behind the line: the frame's name, their kind, their media type and their digest
+-- bytes of an image after the line: the frame's name, their kind, their media type and their digest
 abbrev pub item_head : List ℕ → List ℕ → List ℕ → List ℕ → ℕ → Data
 item_head frame kind media_type digest count =
     fields (text_field (codes "frame") frame
@@ -46,7 +46,7 @@ item_head frame kind media_type digest count =
     ∷ count_field (codes "bytes") count
     ∷ [])
 
--- the digest that was answered, that of the manifest, and that of the signature layer's content
+-- the digest that was returned, the manifest's, and that of the signature layer's content
 abbrev pub pulled_head : List ℕ → List ℕ → List ℕ → Data
 pulled_head digest manifest signature =
     fields (text_field (codes "frame") (codes "pulled")
@@ -55,7 +55,7 @@ pulled_head digest manifest signature =
     ∷ text_field (codes "signature") signature
     ∷ [])
 
--- the lines of a refusal
+-- the lines of an error
 abbrev pub refused_head : List ℕ → Data
 refused_head report =
     fields (text_field (codes "frame") (codes "refused") ∷ text_field (codes "report") report ∷ [])

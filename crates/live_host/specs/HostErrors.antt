@@ -1,4 +1,4 @@
--- Why the host did not take or give a frame.
+-- Why a frame was not sent or received.
 use Rattle.std.specs.Prelude.{◌≡◌, ◌⊎◌, None}
 use Rattle.serde_json.specs.Data.{Data}
 use Rattle.json_values.specs.Counts.{Rose}
@@ -9,16 +9,16 @@ use Rattle.live_host.specs.Wire.{Wire, Hears, HearsNone}
 use Rattle.live_host.specs.declared.streams.HostError.{HostError}
 use Rattle.live_host.specs.declared.streams.HostError.TheVariants as host
 
--- a frame that does not read is the host's fault
+-- a frame that does not parse is the host's fault
 abbrev pub host_error : ReadError → HostError
 host_error read.WantOfMemory = host.WantOfMemory
 host_error _ = host.Broken
 
--- a frame came in that answers no question
+-- a frame was received that does not answer the question
 abbrev pub HearsOther : Wire → Wire → Type 0
 HearsOther old new = (d : Data) × Hears d old new × ((verified_of d ≡ None) ⊎ (answer_of d ≡ None))
 
--- at the end no frame came in, or one that answers no question
+-- at the end no frame was received, or one that does not answer the question
 abbrev pub IsBroken : Wire → Type 0
 IsBroken new = (old : Wire) × (HearsNone old new ⊎ HearsOther old new)
 
@@ -26,7 +26,7 @@ IsBroken new = (old : Wire) × (HearsNone old new ⊎ HearsOther old new)
 abbrev pub IsUnwritten : Wire → Type 0
 IsUnwritten new = (old : Wire) × Rose old.tray.faults new.tray.faults
 
--- why, as the streams are then
+-- the cause, with the streams at the end
 abbrev pub HostCause : HostError → Wire → Type 0
 HostCause host.Broken wire = IsBroken wire
 HostCause host.Unwritten wire = IsUnwritten wire

@@ -1,4 +1,4 @@
--- The frames that an image goes out as.
+-- The frames that an image is sent as.
 use Rattle.std.specs.Prelude.{◌≡◌, ℕ, Bool, true, false, List, [], ◌∷◌, ◌++◌, length, Option, Some, None, codes}
 use Rattle.std.specs.Prelude.{unwrap_or}
 use Rattle.serde_json.specs.Data.{Data}
@@ -11,11 +11,11 @@ use Rattle.cosign_chain.specs.declared.image.VerifiedImage.{VerifiedImage}
 use Rattle.live_host.specs.Heads.{item_head, pulled_head}
 use Rattle.live_host.specs.Wire.{Wire, Tells}
 
--- a frame by its line and the bytes behind it
+-- a frame: its line and the bytes after it
 abbrev pub Sent : Type 0
 Sent = Data × List ℕ
 
--- these frames went out, one after another
+-- these frames were sent, one after another
 abbrev pub WereTold : List Sent → Wire → Wire → Type 0
 WereTold [] old new = old ≡ new
 WereTold (frame ∷ more) old new = (between : Wire) × Tells frame.0 frame.1 old between × WereTold more between new
@@ -24,7 +24,7 @@ WereTold (frame ∷ more) old new = (between : Wire) × Tells frame.0 frame.1 ol
 abbrev pub item : List ℕ → List ℕ → List ℕ → List ℕ → List ℕ → Sent
 item frame kind media_type digest bytes = (item_head frame kind media_type digest (length bytes), bytes)
 
--- the media type that a document says of itself, or the usual one
+-- the media type in a document, or the default
 abbrev pub media_type_of : List ℕ → List ℕ → List ℕ
 media_type_of usual bytes = unwrap_or (plain_json_of bytes >>= text_at (codes "mediaType" ∷ [])) usual
 
@@ -42,7 +42,7 @@ codes_document = codes "document"
 abbrev pub document : List ℕ → List ℕ → List ℕ → List ℕ → Sent
 document kind usual digest bytes = item (codes "document") kind (media_type_of usual bytes) digest bytes
 
--- the index, where one led to the manifest
+-- the index, if one led to the manifest
 abbrev pub index_sent : VerifiedImage → Option (List ℕ) → List Sent
 index_sent v None = []
 index_sent v (Some list) = document (codes "index") index_type list v.first ∷ []
@@ -60,7 +60,7 @@ layers_sent (x ∷ xs) (layer ∷ layers) =
 layers_sent [] layers = []
 layers_sent xs [] = []
 
--- where blobs are wanted
+-- the layers, if blobs are requested
 abbrev pub blobs_sent : Bool → VerifiedImage → List Sent
 blobs_sent true v = layers_sent v.manifest.layers v.layers
 blobs_sent false v = []

@@ -1,4 +1,4 @@
--- What the host is asked, and what it answered.
+-- Questions to the host, and its answers.
 use Rattle.std.specs.Prelude.{◌≡◌, Bool, List, [], ◌∷◌, ◌++◌, length, Option, Some, codes}
 use Rattle.serde_json.specs.Data.{Data}
 use Rattle.json_tables.specs.Bytes.{base64_of}
@@ -19,7 +19,7 @@ verified_of d = do
   name ← frame_named (codes "verified") d
   required bool_of (codes "valid") d
 
--- what is vouched of a certificate
+-- what is vouched for a certificate
 unfoldable pub vouched_of : Data → Option Vouched
 vouched_of d = do
   known ← only (codes "key" ∷ codes "email" ∷ codes "url" ∷ codes "issuer" ∷ []) d
@@ -29,14 +29,14 @@ vouched_of d = do
   issuer ← optional text_of (codes "issuer") d
   Some (record { key = key; email = email; url = url; issuer = issuer })
 
--- the frame `vouched`; null is nothing
+-- the frame `vouched`; null vouches for nothing
 unfoldable pub answer_of : Data → Option (Option Vouched)
 answer_of d = do
   known ← only (codes "frame" ∷ codes "vouched" ∷ []) d
   name ← frame_named (codes "vouched") d
   optional vouched_of (codes "vouched") d
 
--- this question went out, and this answer came in
+-- this question was sent, and this answer was received
 abbrev pub WasAsked : HostAnswer → Wire → Wire → Type 0
 WasAsked (Signature a) old new =
     Asks (verify_head a.key a.signature (length a.message)) a.message verified_of a.valid old new
@@ -48,7 +48,7 @@ abbrev pub WereAsked : List HostAnswer → Wire → Wire → Type 0
 WereAsked [] old new = old ≡ new
 WereAsked (a ∷ more) old new = (between : Wire) × WasAsked a old between × WereAsked more between new
 
--- these were asked behind those
+-- these questions were asked after those
 pub record AsksMore (before after : List HostAnswer) (old new : Wire) : Type 0 where
   pub more : List HostAnswer
   pub behind : after ≡ before ++ more

@@ -1,4 +1,4 @@
--- What stands between the program and its host: the bytes that come in, and those that go out.
+-- The connection between the program and its host: the bytes that are received, and those that are sent.
 use Rattle.std.specs.Prelude.{◌≡◌, ℕ, List, [], Option, Some}
 use Rattle.serde_json.specs.Data.{Data}
 use Rattle.json_values.specs.Tray.{Tray, Adds}
@@ -14,25 +14,25 @@ pub record Wire : Type 0 where
   pub spring : Spring
   pub tray : Tray
 
--- what two streams show, where sources and sinks show this
+-- the states of two streams, from those of their source and sink
 abbrev pub wire : {S K : Type 0} → (S → Spring) → (K → Tray) → Streams S K → Wire
 wire spring tray streams = record { spring = spring streams.source; tray = tray streams.sink }
 
--- this frame went out, and nothing came in
+-- this frame was sent, and nothing was received
 abbrev pub Tells : Data → List ℕ → Wire → Wire → Type 0
 Tells head bytes old new = Adds (frame_text head bytes) old.tray new.tray × (new.spring ≡ old.spring)
 
--- a frame without bytes came in, and nothing went out
+-- a frame without bytes was received, and nothing was sent
 abbrev pub Hears : Data → Wire → Wire → Type 0
 Hears head old new = (text : List ℕ) × Takes text old.spring new.spring
     × IsFrame 0 (record { head = head; bytes = [] }) text × (new.tray ≡ old.tray)
 
--- what came in is no frame without bytes: the source failed or ended, or the line does not read
+-- no frame without bytes was received: the source failed or ended, or the line is malformed
 abbrev pub HearsNone : Wire → Wire → Type 0
 HearsNone old new = (e : FrameError) × (text : List ℕ) × Takes text old.spring new.spring
     × Stops 0 e text old.spring new.spring × (e ≡ WantOfMemory → ⊥)
 
--- this frame went out, and then a frame came in that reads as this
+-- this frame was sent, and then a frame was received that parses as `x`
 pub record Asks {X : Type 0} (head : Data) (bytes : List ℕ) (reads : Data → Option X) (x : X) (old new : Wire)
     : Type 0 where
   pub between : Wire

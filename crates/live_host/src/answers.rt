@@ -1,4 +1,4 @@
-// What the host answered, and whom it makes us trust.
+// The host's answers, and the trust that they establish.
 ghost use Rattle.std.specs.Prelude.{◌≡◌, Some, IfOk, option_map};
 ghost use Rattle.std.specs.List.{list_any, find};
 ghost use Rattle.live_host.specs.Answers.{calls_valid, is_valid_by, vouches, is_vouched_by, vouched_in};
@@ -16,22 +16,22 @@ pub struct SignatureAnswer {
     pub valid: bool,
 }
 
-/// What is vouched of a certificate at a time.
+/// What is vouched for a certificate at a time.
 #[derive(Drop)]
 pub struct CertificateAnswer {
     pub evidence: Evidence,
     pub vouched: Option<Vouched>,
 }
 
-/// A question, and what the host answered.
+/// A question, and the host's answer.
 #[derive(Drop)]
 pub enum HostAnswer {
     Signature(SignatureAnswer),
     Certificate(CertificateAnswer),
 }
 
-/// What the host answered, in order. It takes the signatures as valid that the host called so, and vouches for what
-/// the host vouched for.
+/// The host's answers, in order. As a verifier it accepts the signatures that the host called valid, and as a judge it
+/// vouches for what the host vouched for.
 #[derive(Drop)]
 pub struct Answers {
     pub list: List<HostAnswer>,

@@ -1,11 +1,11 @@
-// A search that asks nobody.
+// The trust of a search without questions.
 
 use cosign_layers::{Evidence, Offline, SignatureVerifier, Vouched};
 use json_values::Blob;
 use std::alloc::{AllocError, Global};
 
-/// Takes each signature as valid, and each certificate as that of nobody. A search with it finds each layer that a
-/// search with any other verifier and judge may find, and no more is made of it than what to ask the host about.
+/// Accepts each signature, and takes each certificate as nobody's. A search with it finds each layer that a search with
+/// any other verifier and judge may find; its result only determines the questions to the host.
 pub struct Everyone;
 
 impl SignatureVerifier for Everyone {

@@ -1,4 +1,4 @@
-// The frames that go out, each by its line.
+// The heads of the frames that are sent.
 ghost use Rattle.std.specs.Prelude.{◌≡◌, IfOk, false, length};
 ghost use Rattle.serde_json.specs.Data.{number as of_number, unsigned};
 ghost use Rattle.serde_json.specs.Written.{has_float};
@@ -25,7 +25,7 @@ fn count(number: usize) -> Json
     Json::new(Value::from(number as u64))
 }
 
-/// Begins.
+/// Returns the head of the first frame, `begin`.
 pub fn begin_head(alloc: Global) -> Result<Json, AllocError>
     ensures head { IfOk result (λ head. head ≡ begin_head) }
     ensures plain { IfOk result (λ head. has_float head ≡ false) }
@@ -34,7 +34,7 @@ pub fn begin_head(alloc: Global) -> Result<Json, AllocError>
     Ok(Json::new(head))
 }
 
-/// Asks whether this key makes the signature valid for the bytes behind the line.
+/// Returns the question whether this key makes the signature valid for the bytes after the line.
 pub fn verify_head(
     alloc: Global,
     key: &Blob,
@@ -55,7 +55,7 @@ pub fn verify_head(
     Ok(Json::new(head))
 }
 
-/// Asks what is vouched of a certificate at a time, in seconds since 1970.
+/// Returns the question what is vouched for a certificate at a time, in seconds since 1970.
 pub fn judge_head(alloc: Global, evidence: &Evidence) -> Result<Json, AllocError>
     ensures head { IfOk result (λ head.
         head ≡ judge_head evidence.now.certificate evidence.now.integrated_time) }
@@ -70,7 +70,7 @@ pub fn judge_head(alloc: Global, evidence: &Evidence) -> Result<Json, AllocError
     Ok(Json::new(head))
 }
 
-/// The line before bytes of an image.
+/// Returns the line before bytes of an image.
 pub fn item_head(
     alloc: Global,
     frame: &str,
@@ -93,7 +93,7 @@ pub fn item_head(
     Ok(Json::new(head))
 }
 
-/// Says that the image was pulled.
+/// Returns the line that says that the image was pulled.
 pub fn pulled_head(
     alloc: Global,
     digest: &Text,
@@ -112,7 +112,7 @@ pub fn pulled_head(
     Ok(Json::new(head))
 }
 
-/// Says why it was not.
+/// Returns the line that says why it was not.
 pub fn refused_head(alloc: Global, report: &str) -> Result<Json, AllocError>
     ensures head { IfOk result (λ head. head ≡ refused_head report.now) }
     ensures plain { IfOk result (λ head. has_float head ≡ false) }

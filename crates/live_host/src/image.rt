@@ -1,4 +1,4 @@
-// How an image goes out.
+// Sending an image.
 ghost use Rattle.std.specs.Prelude.{IfErr, OnOk};
 ghost use Rattle.live_host.specs.HostErrors.{HostCause};
 ghost use Rattle.live_host.specs.Wire.{wire, Tells};
@@ -17,7 +17,7 @@ const INDEX_TYPE: &str = "application/vnd.oci.image.index.v1+json";
 
 const MANIFEST_TYPE: &str = "application/vnd.oci.image.manifest.v1+json";
 
-// The index, where one led to the manifest.
+// The index, if one led to the manifest.
 fn give_index<S: Source, K: Sink>(
     alloc: Global,
     streams: &mut Streams<S, K>,
@@ -78,7 +78,7 @@ fn give_config<S: Source, K: Sink>(
     Ok(())
 }
 
-// The layers, where blobs are wanted.
+// The layers, if blobs are requested.
 fn give_blobs<S: Source, K: Sink>(
     alloc: Global,
     streams: &mut Streams<S, K>,
@@ -97,7 +97,7 @@ fn give_blobs<S: Source, K: Sink>(
     Ok(())
 }
 
-/// Sends the documents of an image, its configuration and, where blobs are wanted, its layers; and that it was pulled.
+/// Sends the documents of an image, its configuration and, if `blobs`, its layers; then that it was pulled.
 pub fn give_image<S: Source, K: Sink>(
     alloc: Global,
     streams: &mut Streams<S, K>,

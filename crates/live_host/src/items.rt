@@ -1,4 +1,4 @@
-// What goes out of an image, piece by piece.
+// Sending the parts of an image.
 ghost use Rattle.std.specs.Prelude.{◌≡◌, IfErr, OnOk, length};
 ghost use Rattle.live_host.specs.Heads.{item_head as head_of_item};
 ghost use Rattle.live_host.specs.HostErrors.{HostCause};
@@ -34,7 +34,7 @@ pub(crate) fn give<S: Source, K: Sink>(
     Ok(())
 }
 
-/// Sends a document under its digest, with the media type that it says of itself, or the usual one.
+/// Sends a document under its digest, with the media type that it has, or the default.
 pub(crate) fn give_document<S: Source, K: Sink>(
     alloc: Global,
     streams: &mut Streams<S, K>,

@@ -1,5 +1,5 @@
-//! What a program says to its host beside requests, and what the host answers: settings, questions about signatures
-//! and certificates, and an image as it goes out.
+//! A program's exchanges with its host other than requests: settings, questions about signatures and certificates, and
+//! the image that is sent.
 #![tactic(auto)]
 
 mod answers;

@@ -6,7 +6,7 @@ use json_tables::{read_plain_json, text_at};
 use json_values::Text;
 use std::alloc::{AllocError, Global};
 
-/// The media type that a document says of itself, or the usual one.
+/// Returns the media type in a document, or the default.
 pub(crate) fn media_type_of(alloc: Global, usual: &str, bytes: &[u8]) -> Result<Text, AllocError>
     ensures { IfOk result (λ text. text ≡ media_type_of usual.now bytes.now) }
 {

@@ -6,7 +6,7 @@ ghost use Rattle.live_host.specs.Names.{frame_named};
 use json_tables::text_at;
 use serde_json::Value;
 
-/// Whether a frame has this name.
+/// Returns whether a frame has this name.
 pub fn is_frame(value: &Value, name: &str) -> bool
     ensures { result ≡ is_some (frame_named name.now (view value.now)) }
 {

@@ -1,4 +1,4 @@
-// What the host is asked, and what it answers.
+// Questions to the host, and its answers.
 ghost use Rattle.std.specs.Prelude.{◌≡◌, IfOk, IfErr, OnOk, length, []};
 ghost use Rattle.serde_json.specs.View.{view};
 ghost use Rattle.json_tables.specs.Outcomes.{Gives};
@@ -33,7 +33,7 @@ fn read_verified(alloc: Global, value: &Value) -> Result<bool, ReadError>
     required(alloc, value, "valid")
 }
 
-// What is vouched of a certificate.
+// What is vouched for a certificate.
 #[tactic(auto, unfolding(crate::specs::Questions::vouched_of))]
 fn read_vouched(alloc: Global, value: &Value) -> Result<Vouched, ReadError>
     ensures { Gives result (vouched_of (view value.now)) }
@@ -85,7 +85,7 @@ fn ask_signature<S: Source, K: Sink>(
     Ok(valid)
 }
 
-// Asks what is vouched of a certificate.
+// Asks what is vouched for a certificate.
 fn ask_certificate<S: Source, K: Sink>(
     alloc: Global,
     streams: &mut Streams<S, K>,
@@ -143,7 +143,7 @@ fn certificate_answer(
     Ok(HostAnswer::Certificate(CertificateAnswer { evidence, vouched }))
 }
 
-// Asks about one signature, and keeps the answer.
+// Asks about one signature, and records the answer.
 fn ask_key<S: Source, K: Sink>(
     alloc: Global,
     streams: &mut Streams<S, K>,
@@ -181,7 +181,7 @@ fn ask_keys<S: Source, K: Sink>(
     Ok(())
 }
 
-// Asks about a certificate at the time of its log entry, and about the signature under the key that is vouched for it.
+// Asks about a certificate at the time of its log entry, and about the signature under the key vouched for it.
 fn ask_vouched<S: Source, K: Sink>(
     alloc: Global,
     streams: &mut Streams<S, K>,
@@ -204,7 +204,7 @@ fn ask_vouched<S: Source, K: Sink>(
     Ok(())
 }
 
-// Asks whether the log of a layer's entry signed it, where there is one whose log's key is known.
+// Asks whether the log signed the layer's entry, if it has one and the log's key is known.
 fn ask_log<S: Source, K: Sink>(
     alloc: Global,
     streams: &mut Streams<S, K>,
@@ -256,8 +256,8 @@ fn evidence_of(alloc: Global, layer: &SignatureLayer) -> Result<Option<Evidence>
     }))
 }
 
-// Asks what has to be known of a layer: whether its log signed its entry, what is vouched of its certificate, and
-// whether its signature is valid under the certificate's key, or else under which of the policy's keys.
+// Asks everything that must be known about a layer: whether its log signed its entry, what is vouched for its
+// certificate, and whether its signature is valid under the certificate's key, or else under which policy keys.
 fn ask_layer<S: Source, K: Sink>(
     alloc: Global,
     streams: &mut Streams<S, K>,
@@ -284,7 +284,7 @@ fn ask_layer<S: Source, K: Sink>(
     Ok(())
 }
 
-/// Asks what has to be known of these layers.
+/// Asks everything that must be known about these layers.
 pub fn ask_layers<S: Source, K: Sink>(
     alloc: Global,
     streams: &mut Streams<S, K>,

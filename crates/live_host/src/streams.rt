@@ -1,4 +1,4 @@
-// The two streams between a program and its host, and frames over them that are no requests.
+// The two streams between a program and its host, and frames over them that are not requests.
 ghost use Rattle.std.specs.Prelude.{◌≡◌, false, IfOk, IfErr, OnOk, IsErrOf};
 ghost use Rattle.serde_json.specs.Written.{has_float};
 ghost use Rattle.json_values.specs.Counts.{Rose};
@@ -14,10 +14,10 @@ use pull_edge::Source;
 use std::alloc::{AllocError, AllocFailed, Global};
 use thiserror::Error;
 
-/// Why the host did not take or give a frame.
+/// Why a frame was not sent or received.
 #[derive(Clone, Copy, Debug, PartialEq, Eq, Error)]
 pub enum HostError {
-    /// The host's stream failed, ended, or gave what does not read.
+    /// The host's stream failed, ended, or sent something malformed.
     #[error("the host broke off, or answered what does not read: look at its own message")]
     Broken,
     /// The output failed.
@@ -67,14 +67,14 @@ impl From<ReadError> for HostError {
     }
 }
 
-/// The bytes that come in of a host, and those that go out to it.
+/// The bytes that are received from a host, and those that are sent to it.
 #[derive(Drop)]
 pub struct Streams<S, K> {
     pub source: S,
     pub sink: K,
 }
 
-// Puts the line, and then the bytes as they stand, of which no copy is made.
+// Writes the line, and then the bytes verbatim, without a copy.
 fn put_frame<K: Sink>(
     alloc: Global,
     sink: &mut K,
@@ -91,7 +91,7 @@ fn put_frame<K: Sink>(
     Ok(())
 }
 
-/// Sends a frame: its line, and the bytes behind it.
+/// Sends a frame: its line, and the bytes after it.
 pub fn tell<S: Source, K: Sink>(
     alloc: Global,
     streams: &mut Streams<S, K>,
@@ -110,7 +110,7 @@ pub fn tell<S: Source, K: Sink>(
     }
 }
 
-/// The next frame, which has no bytes behind it: the object of its line.
+/// Receives the next frame, which has no bytes, and returns the object of its line.
 pub fn hear<S: Source, K: Sink>(
     alloc: Global,
     streams: &mut Streams<S, K>,

@@ -90,11 +90,11 @@ too_many : (m : Fields) (name value : List ℕ) → 1000 ≤ held m → with_hea
 too_many m name value h =
     third_fails (is_field_name name) (is_header_value value) (nat_lt (held m) 1000) (added m name value) (not_below (held m) 1000 h)
 
--- what is given is no refusal
+-- an `Ok` is not an error
 pub ok_is_no_err : {A E : Type 0} {x : A} {e : E} → Ok x ≡ Err e → ⊥
 ok_is_no_err h = cc
 
--- what was added is what the header gives
+-- the headers after adding are those of `with_header`
 pub new_headers : (m new : Fields) (name value given : List ℕ) → given ≡ value → ((IsFieldName name → ⊥) → ⊥) → is_header_value given ≡ true → held m < 1000 → new ≡ added m name given → with_header m (name, value) ≡ Some new
 new_headers m new name value given same named valued room is =
     header_added m name value named (ap is_header_value (sym same) ∙ valued) room ∙ ap Some (sym (is ∙ ap (added m name) same))

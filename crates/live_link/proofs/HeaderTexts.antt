@@ -3,7 +3,7 @@ use Rattle.std.proofs.Common.{◌≡◌, ℕ, zero, suc, ◌≤◌, List, [], �
 use Rattle.std.specs.List.{flat_map}
 use Rattle.std.proofs.lemmas.Grind.{flat_map-append}
 
--- the next item is there
+-- the next item exists
 pub within : {X : Type 0} (xs : List X) (n : ℕ) (x : X) → slice_get xs n ≡ Some x → suc n ≤ length xs
 within [] n x is = absurd (cc is)
 within (y ∷ xs) zero x is = omega arith
@@ -28,7 +28,7 @@ map-append : {X Y : Type 0} (f : X → Y) (xs ys : List X) → map f (xs ++ ys) 
 map-append f [] ys = refl
 map-append f (x ∷ xs) ys = ap (λ t. f x ∷ t) (map-append f xs ys)
 
--- one item more is written
+-- one more item is written
 pub mapped_next : {X Y Z : Type 0} (view : Z → Y) (f : X → Y) (xs : List X) (n next : ℕ) (x : X) (now new : List Z) (z : Z) (front : List Y)
     → slice_get xs n ≡ Some x → next ≡ suc n → map view now ≡ front ++ map f (take n xs) → new ≡ now ++ z ∷ [] → view z ≡ f x
     → map view new ≡ front ++ map f (take next xs)
@@ -37,7 +37,7 @@ mapped_next view f xs n next x now new z front is one before pushed same =
     ∙ ap (λ y. front ++ (map f (take n xs) ++ y ∷ [])) same
     ∙ ap (λ t. front ++ t) (sym (map-append f (take n xs) (x ∷ [])) ∙ ap (map f) (sym (take_next xs n x is) ∙ ap (λ k. take k xs) (sym one)))
 
--- the items of one entry more are written
+-- the items of one more entry are written
 pub flat_next : {X Y Z : Type 0} (view : Z → Y) (f : X → List Y) (xs : List X) (n next : ℕ) (x : X) (now new : List Z)
     → slice_get xs n ≡ Some x → next ≡ suc n → map view now ≡ flat_map f (take n xs) → map view new ≡ map view now ++ f x
     → map view new ≡ flat_map f (take next xs)

@@ -1,4 +1,4 @@
--- What a request and the wish for a piece do to what is known of the streams.
+-- How a request, and a request for a piece, change what is known of the streams.
 use Rattle.std.proofs.Common.{◌≡◌, ℕ, true, List, [], ◌∷◌, ◌++◌, Option, Some, None, refl, sym, ap, subst, ◌∙◌, append_assoc, append-nil}
 use Rattle.std.specs.Prelude.{unwrap_or, Result, Ok, Err}
 use Rattle.std.specs.Io.KnownBytes.{Consumes}
@@ -27,7 +27,7 @@ left_after None b came xs is taken = absurd (cc is)
 left_after (Some zs) None came xs is taken = absurd taken
 left_after (Some zs) (Some ys) came xs is taken = (ys, refl, sym (ap (λ o. unwrap_or o []) is) ∙ taken)
 
--- nothing is lost yet: all that went out and came in is the frames of these exchanges
+-- nothing is lost yet: all that was sent and received is the frames of these exchanges
 record InStep (taken left : List ℕ) (tray : Tray) (spring : Spring) (c : List Exchange) : Type 0 where
   sent : List ℕ
   came : List ℕ
@@ -66,7 +66,7 @@ held_of taken left tray spring breach c step = record {
   in_step = λ none. (refl, refl);
 }
 
--- a frame went out and a frame came in, which are the next turn
+-- a frame was sent and one was received, which are the next turn
 turned : (taken left text : List ℕ) (reply : Reply) (k l : Tray) (s t : Spring) (c : List Exchange) (e : Exchange)
     → InStep taken left k s c → (asked : Asked text reply s t k l)
     → ((after : List ℕ) → t.left ≡ Some after → Turn e text asked.came after)
@@ -83,7 +83,7 @@ turned taken left text reply k l s t c e step asked turn =
       spoke = one_more c e step.sent step.came text asked.came rest.0 (subst (Spoke c step.sent step.came) rest.2 step.spoke) (turn rest.0 rest.1);
     }
 
--- the wish for a piece went out and a frame came in, which belong to the last turn
+-- the request for a piece was sent and a frame was received, which belong to the last turn
 turned_more : (taken left : List ℕ) (reply : Reply) (k l : Tray) (s t : Spring) (c : List Exchange)
     → InStep taken left k s c → ends_answered c ≡ true → Asked more_text reply s t k l → InStep taken left l t c
 turned_more taken left reply k l s t c step answered asked =
@@ -98,7 +98,7 @@ turned_more taken left reply k l s t c step answered asked =
       spoke = asks_more c step.sent step.came asked.came rest.0 answered (reply, asked.replied) (subst (Spoke c step.sent step.came) rest.2 step.spoke);
     }
 
--- whatever went out and came in is lost
+-- whatever was sent and received is lost
 lost : (taken left front came : List ℕ) (k l : Tray) (s t : Spring) (c : List Exchange) (breach : Breach)
     → InStep taken left k s c → Adds front k l → Takes came s t → Held taken left l t (Some breach) c
 lost taken left front came k l s t c breach step sent got =
@@ -116,7 +116,7 @@ lost taken left front came k l s t c breach step sent got =
       in_step = λ none. absurd (cc none);
     }
 
--- one exchange more, of which nothing went out and nothing came in
+-- one more exchange, for which nothing was sent or received
 unasked : (taken left : List ℕ) (tray : Tray) (spring : Spring) (breach : Option Breach) (c : List Exchange) (e : Exchange) → e.answer ≡ None
     → Held taken left tray spring breach c → Held taken left tray spring breach (c ++ e ∷ [])
 unasked taken left tray spring breach c e none held = record {
@@ -149,7 +149,7 @@ unsent_closed Open is = cc is
 unsent_closed Cut is = cc is
 unsent_closed (Broken breach) is = cc is
 
--- the head of an answer came in
+-- the head of a response was received
 answered : (taken left : List ℕ) (k l : Tray) (s t : Spring) (c : List Exchange) (request : Request) (head : AnswerHead) (faults : ℕ)
     → InStep taken left k s c → Asked (request_text request) (Answer head) s t k l
     → HeldAt taken left l t Open (c ++ exchange_in t.left (request, heard_of (Some head) faults) ∷ [])
@@ -168,7 +168,7 @@ answered taken left k l s t c request head faults step asked =
       answered = λ is. answered_last c e refl;
     }
 
--- the word that it failed came in
+-- a frame that reports its failure was received
 refused : (taken left : List ℕ) (k l : Tray) (s t : Spring) (c : List Exchange) (request : Request) (faults : ℕ)
     → InStep taken left k s c → Asked (request_text request) Failed s t k l
     → HeldAt taken left l t Ended (c ++ exchange_in t.left (request, heard_of None faults) ∷ [])
@@ -230,7 +230,7 @@ pieced taken left k l s t c (Ok Failed) step last asks = record { held = held_of
 pieced taken left k l s t c (Ok Other) step last asks = record { held = lost taken left more_text asks.came k l s t c _ step asks.sent asks.taken; answered = λ is. absurd (cc is) }
 pieced taken left k l s t c (Err breach) step last asks = record { held = lost taken left asks.front asks.came k l s t c breach step asks.sent asks.taken; answered = λ is. absurd (cc is) }
 
--- what is known after the wish for a piece
+-- what is known after the request for a piece
 pub gives : (taken left : List ℕ) (k l : Tray) (s t : Spring) (stage : Stage) (r : Stage × Option (List ℕ)) (c : List Exchange)
     → HeldAt taken left k s stage c → stage ≡ Open → Gives r s t k l → HeldAt taken left l t r.0 c
 gives taken left k l s t stage r c at opened got =

@@ -1,4 +1,4 @@
--- The laws of a transport, from what came of a request.
+-- The laws of a transport, from the outcome of a request.
 use Rattle.std.proofs.Common.{◌≡◌, ℕ, true, false, List, [], ◌∷◌, ◌++◌, Option, Some, None, refl, sym, ap, ◌∙◌, append-nil}
 use Rattle.std.specs.Prelude.{is_some, Result, Ok, Err}
 use Rattle.json_values.specs.Tray.{Tray}
@@ -28,7 +28,7 @@ open_by (Ok Failed) head is = absurd (cc is)
 open_by (Ok Other) head is = absurd (cc is)
 open_by (Err breach) head is = absurd (cc is)
 
--- the body of an answer is open
+-- the body of a response is open
 pub opens : (request : Request) (stage : Stage) (r : Stage × Option AnswerHead) (s t : Spring) (k l : Tray) (head : AnswerHead)
     → Sends request stage r s t k l → r.1 ≡ Some head → r.0 ≡ Open
 opens request stage r s t k l head (not_sent is same_source same_sink) some =
@@ -50,7 +50,7 @@ rest_by (Ok Failed) o is = refl
 rest_by (Ok Other) o is = refl
 rest_by (Err breach) o is = refl
 
--- nothing can be taken where no answer came
+-- nothing can be taken if no response arrived
 pub nothing_left : (request : Request) (stage : Stage) (r : Stage × Option AnswerHead) (s t : Spring) (k l : Tray) (o : Option (List ℕ))
     → Sends request stage r s t k l → r.1 ≡ None → rest_in r.0 o ≡ Some []
 nothing_left request stage r s t k l o (not_sent is same_source same_sink) none =
@@ -58,9 +58,9 @@ nothing_left request stage r s t k l o (not_sent is same_source same_sink) none 
 nothing_left request stage r s t k l o (was_sent reply whole is asks) none =
     ap (λ (q : Stage × Option AnswerHead). rest_in q.0 o) is ∙ rest_by reply o (sym (ap (λ (q : Stage × Option AnswerHead). q.1) is) ∙ none)
 
--- ---- what is told
+-- ---- the exposed exchanges
 
--- an exchange that was not answered
+-- an exchange without a response
 pub told_unanswered : {S K : Type 0} (spring : S → Spring) (tray : K → Tray) (began : List (S × K)) (items later : List (S × Log Request Heard)) (source : S) (said : Log Request Heard)
     → (request : Request) (head : Option AnswerHead) (old new : Link)
     → later ≡ items ++ (source, said) ∷ [] → said.items ≡ (request, record { head = head; faults = old.faults }) ∷ [] → head ≡ None
@@ -73,7 +73,7 @@ told_unanswered spring tray began items later source said request head old new i
     ∙ ap (λ (o : Option AnswerHead). exchanges_by spring items ++ exchange_in (spring source).left (request, record { head = o; faults = old.faults }) ∷ []) none)
     (sym was ∙ told))
 
--- an exchange that was answered
+-- an exchange with a response
 pub told_answered : {S K : Type 0} (spring : S → Spring) (tray : K → Tray) (began : List (S × K)) (items later : List (S × Log Request Heard)) (source : S) (said : Log Request Heard)
     → (request : Request) (given : Option AnswerHead) (head : AnswerHead) (stage : Stage) (old new : Link)
     → later ≡ items ++ (source, said) ∷ [] → said.items ≡ (request, record { head = given; faults = old.faults }) ∷ [] → given ≡ Some head
@@ -91,7 +91,7 @@ told_answered spring tray began items later source said request given head stage
   rest = λ before told. left ∙ rest_known stage (spring source).left opened (known before told);
 }
 
--- nothing was told
+-- nothing is exposed
 pub told_nothing : (request : Request) (old new : Link) → old.answers ≡ None → new.told ≡ old.told → AddsAtMost request old new
 told_nothing request old new unknown same = record {
   conversation = [];

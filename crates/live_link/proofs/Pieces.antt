@@ -14,7 +14,7 @@ use Rattle.live_link.specs.Bodies.{with_first, line_in, sized_in, headed_in, fra
 use Rattle.live_link.specs.declared.replies.Reply.{Reply}
 use Rattle.live_link.specs.declared.replies.Reply.TheVariants.{Answer, Piece, End, Failed, Other}
 
--- ---- a frame in front of other bytes
+-- ---- a frame before other bytes
 
 first_true : (a b : Bool) → (a && b) ≡ true → a ≡ true
 first_true true b is = refl
@@ -69,7 +69,7 @@ frame_first frame text rest is =
     ∙ ap (λ o. o >>= headed_in) (line_first is.line (frame.bytes ++ rest) is.inside)
     ∙ headed_first is.line rest frame is.short is.head is.size is.few
 
--- ---- each frame is at least a byte
+-- ---- each frame has at least one byte
 
 abbrev second_of : {X : Type 0} → Option (X × List ℕ) → List ℕ
 second_of None = []
@@ -141,7 +141,7 @@ pieced_less bytes (Some f) less found is =
 piece_less : (bytes : List ℕ) (found : List ℕ × List ℕ) → piece_in bytes ≡ Some found → length found.1 < length bytes
 piece_less bytes found is = pieced_less bytes (frame_in bytes) (frame_less bytes) found is
 
--- ---- so any number of steps that is great enough gives the same pieces
+-- ---- any number of steps that is large enough gives the same pieces
 
 no_piece : piece_in [] ≡ None
 unfolding frame_in
@@ -168,7 +168,7 @@ steps zero n xs few_m few_n = let none = no_length xs few_m in subst (λ ys. [] 
 steps (suc m) zero xs few_m few_n = let none = no_length xs few_n in subst (λ ys. pieces_in (suc m) ys ≡ []) (sym none) (none_of (suc m))
 steps (suc m) (suc n) xs few_m few_n = steps_by m n xs (piece_in xs) (piece_less xs) (steps m n) few_m few_n
 
--- ---- a piece, or another frame, in front
+-- ---- a piece, or another frame, at the beginning
 
 and_first : (m : ℕ) (xs : List ℕ) (o : Option (List ℕ × List ℕ)) → length xs ≡ suc m → piece_in xs ≡ o → body_in xs ≡ and_those (pieces_in m) o
 unfolding body_in
@@ -195,7 +195,7 @@ body_piece frame text rest p is says =
     a_piece_first m.0 (text ++ rest) rest p counted (omega (arith, some, long, counted))
     (ap (λ o. o >>= λ f. piece_by (reply_of f.0) f.1) (frame_first frame text rest is) ∙ ap (λ r. piece_by r rest) says)
 
--- there is none before the end
+-- the end frame has no piece before it
 pub body_end : (frame : Frame) (text rest : List ℕ) → IsFrame most_bytes frame text → reply_of frame ≡ End → body_in (text ++ rest) ≡ []
 body_end frame text rest is says =
     let some = some_bytes is.line frame.bytes text is.split in

@@ -1,4 +1,4 @@
--- What a transport tells after a request and after a piece.
+-- What a transport exposes after a request and after a piece.
 use Rattle.std.proofs.Common.{◌≡◌, ℕ, true, List, [], ◌∷◌, ◌++◌, map, Option, Some, None, refl, sym, ap, subst, ◌∙◌, append-nil}
 use Rattle.std.specs.Prelude.{is_some, option_map, unwrap_or, Result, Ok, Err}
 use Rattle.std.specs.Coded.{Coded-set, coded_bool}
@@ -43,7 +43,7 @@ tells_more spring tray [] c d before e is told = absurd (cc told)
 tells_more spring tray (first ∷ later) c d before e is told =
     ap (told_from (tray first.1).taken (spring first.0).left) is ∙ told_more (tray first.1).taken (spring first.0).left c before e told
 
--- ---- where exchanges are told, the source tells its bytes
+-- ---- if exchanges are exposed, the source exposes its bytes
 
 began_so : (took leaves : Option (List ℕ)) (c before : List Exchange) → told_from took leaves c ≡ Some before → (taken : List ℕ) × (left : List ℕ) × (took ≡ Some taken) × (leaves ≡ Some left)
 began_so None leaves c before told = absurd (cc told)
@@ -61,11 +61,11 @@ body_known : (o : Option (List ℕ)) → is_some o ≡ true → option_map body_
 body_known None is = absurd (cc is)
 body_known (Some xs) is = refl
 
--- the rest of the body after the head of an answer
+-- the rest of the body after the head of a response
 pub rest_known : (stage : Stage) (o : Option (List ℕ)) → stage ≡ Open → is_some o ≡ true → rest_in stage o ≡ Some (body_left o)
 rest_known stage o opened is = ap (λ s. rest_in s o) opened ∙ body_known o is
 
--- ---- the laws of a transport that does not say what it answers by
+-- ---- the laws of a transport whose responses are not predetermined
 
 no_answering : (o : Option Answering) (a : Answering) → o ≡ None → o ≡ Some a → ⊥
 no_answering o a none is = cc (none, is)
@@ -103,7 +103,7 @@ ended_by (Some xs) None came rest is taken told = absurd taken
 ended_by (Some xs) (Some ys) came rest is taken told =
     sym (ap (λ o. unwrap_or o []) told) ∙ ap body_in taken ∙ body_end is.frame came ys is.is is.says
 
--- the piece is the front of what was left
+-- the piece is a prefix of what was left
 abbrev TakesPart : List ℕ → Option (List ℕ) → Option (List ℕ) → Type 0
 TakesPart p old new = (rest : List ℕ) → old ≡ Some rest → (left : List ℕ) × (rest ≡ p ++ left) × (new ≡ Some left) × (p ≡ [] → rest ≡ [])
 

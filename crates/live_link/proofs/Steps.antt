@@ -1,4 +1,4 @@
--- What is known of the streams, after each step of a transport.
+-- What is known of the streams after each step of a transport.
 use Rattle.std.proofs.Common.{◌≡◌, ℕ, List, [], ◌∷◌, ◌++◌, Option, sym, subst}
 use Rattle.std.proofs.Math.Logic.{∥∥₁_map}
 use Rattle.json_values.specs.Tray.{Tray}
@@ -38,7 +38,7 @@ holds_given spring tray [] a b k l stage r c opened came holds = tt
 holds_given spring tray (first ∷ later) a b k l stage r c opened came holds =
     λ taken left took leaves. gives taken left (tray k) (tray l) (spring a) (spring b) stage r c (holds taken left took leaves) opened came
 
--- after the wish for a piece
+-- after the request for a piece
 pub after_piece : {S K : Type 0} (spring : S → Spring) (tray : K → Tray) (began : List (S × K)) (a b : S) (k l : K) (stage : Stage) (r : Stage × Option (List ℕ)) (c : List Exchange)
     → stage ≡ Open → Gives r (spring a) (spring b) (tray k) (tray l)
     → ∥ Holds spring tray began a k stage c ∥₁ → ∥ Holds spring tray began b l r.0 c ∥₁

@@ -9,7 +9,7 @@ use Rattle.live_link.specs.State.{opening, told_from, told_since, breach_in, Hel
 use Rattle.live_link.specs.declared.stage.Stage.{Stage}
 use Rattle.live_link.specs.declared.stage.Stage.TheVariants.{Ended}
 
--- nothing went out and nothing came in
+-- nothing was sent or received
 pub begun : (tray : Tray) (spring : Spring) (taken left : List ℕ) → tray.taken ≡ Some taken → spring.left ≡ Some left → HeldAt taken left tray spring Ended []
 begun tray spring taken left took leaves = record {
   held = record {
@@ -52,7 +52,7 @@ behind other None = other
 behind other (Some []) = other
 behind other (Some (e ∷ c)) = c
 
--- what is told says how it began
+-- the exposed exchanges determine how they began
 pub told_is : (took leaves : Option (List ℕ)) (c d : List Exchange) (taken left : List ℕ) → told_from took leaves c ≡ Some (opening taken left ∷ d)
     → (took ≡ Some taken) × (leaves ≡ Some left) × (c ≡ d)
 told_is None leaves c d taken left told = absurd (cc told)

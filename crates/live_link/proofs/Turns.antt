@@ -1,4 +1,4 @@
--- Exchanges by their frames: how they follow one another, and how the last one goes on.
+-- Exchanges by their frames: how they follow one another, and how the last one continues.
 use Rattle.std.proofs.Common.{◌≡◌, ℕ, true, List, [], ◌∷◌, ◌++◌, Option, Some, None, refl, sym, ap, subst, ◌∙◌, append_assoc, append-nil}
 use Rattle.std.specs.Prelude.{is_some, All}
 use Rattle.std.proofs.lemmas.Grind.{flat_map-append}
@@ -11,11 +11,11 @@ use Rattle.live_link.specs.Bodies.{body_in}
 use Rattle.live_link.specs.Spoken.{IsReply, texts, asked, TurnBy, Turn, SpokeMore, Spoke}
 use Rattle.live_link.specs.State.{is_answered, ends_answered}
 
--- the same turn, where what comes after it is said in another way
+-- the same turn, with equal bytes after it
 turn_by : (o : Option Answer) (request : Request) (sent came a b : List ℕ) → a ≡ b → TurnBy o request sent came a → TurnBy o request sent came b
 turn_by o request sent came a b same turn = subst (TurnBy o request sent came) same turn
 
--- These exchanges and then those.
+-- These exchanges, and then those.
 pub joins : (c d : List Exchange) (sent came more_sent more_came after : List ℕ)
     → Spoke c sent came (more_came ++ after) → Spoke d more_sent more_came after → Spoke (c ++ d) (sent ++ more_sent) (came ++ more_came) after
 joins [] d sent came more_sent more_came after first later =
@@ -32,7 +32,7 @@ joins (e ∷ c) d sent came more_sent more_came after first later = record {
   later = joins c d first.later_sent first.later_came more_sent more_came after first.later later;
 }
 
--- how exchanges are parted: what went out and came in for the first of them, and for the others
+-- how exchanges are split: what was sent and received for the first of them, and for the others
 pub record Parts (c d : List Exchange) (sent came after : List ℕ) : Type 0 where
   pub first_sent : List ℕ
   pub later_sent : List ℕ
@@ -76,7 +76,7 @@ parts (e ∷ c) d sent came after spoke =
       later = more.later;
     }
 
--- one exchange more
+-- one more exchange
 pub one_more : (c : List Exchange) (e : Exchange) (sent came more_sent more_came after : List ℕ)
     → Spoke c sent came (more_came ++ after) → Turn e more_sent more_came after → Spoke (c ++ e ∷ []) (sent ++ more_sent) (came ++ more_came) after
 one_more c e sent came more_sent more_came after first turn =
@@ -101,7 +101,7 @@ texts_last xs x = flat_map-append (λ (t : List ℕ). t) xs (x ∷ []) ∙ ap (�
 asked_last : (xs : List (List ℕ)) (x : List ℕ) → asked (xs ++ x ∷ []) ≡ asked xs ++ more_text
 asked_last xs x = flat_map-append (λ (t : List ℕ). more_text) xs (x ∷ []) ∙ ap (λ t. asked xs ++ t) (append-nil more_text)
 
--- the wish for a piece and its reply belong to the turn before
+-- the request for a piece and its reply belong to the turn before
 turn_more : (o : Option Answer) (request : Request) (sent came text after : List ℕ) → is_some o ≡ true → IsReply text
     → TurnBy o request sent came (text ++ after) → TurnBy o request (sent ++ more_text) (came ++ text) after
 turn_more None request sent came text after answered reply turn = absurd (cc answered)
@@ -137,7 +137,7 @@ alone e sent came after turn = record {
   later = (refl, refl);
 }
 
--- one wish for a piece more, of the last exchange
+-- one more request for a piece, of the last exchange
 pub asks_more : (c : List Exchange) (sent came text after : List ℕ) → ends_answered c ≡ true → IsReply text
     → Spoke c sent came (text ++ after) → Spoke c (sent ++ more_text) (came ++ text) after
 asks_more [] sent came text after answered reply spoke = absurd (cc answered)

@@ -1,4 +1,4 @@
--- One question to the host: a frame goes out, and a frame comes in.
+-- One question to the host: a frame is sent, and a frame is received.
 use Rattle.std.specs.Prelude.{◌≡◌, ℕ, List, [], Option, Some, None, Result, Ok, Err}
 use Rattle.json_values.specs.Tray.{Tray, Adds}
 use Rattle.pull_edge.specs.Source.{Spring, Takes}
@@ -14,14 +14,14 @@ use Rattle.live_link.specs.declared.stage.Breach.TheVariants.{Frame}
 use Rattle.live_link.specs.declared.stage.Stage.{Stage}
 use Rattle.live_link.specs.declared.stage.Stage.TheVariants.{Ended, Open, Cut, Broken}
 
--- this text went out, and this reply came in
+-- this text was sent, and this reply was received
 pub record Asked (text : List ℕ) (reply : Reply) (s t : Spring) (k l : Tray) : Type 0 where
   pub came : List ℕ
   pub sent : Adds text k l
   pub replied : Replies reply came
   pub taken : Takes came s t
 
--- whatever went out and came in
+-- anything was sent and received
 pub record Lost (s t : Spring) (k l : Tray) : Type 0 where
   pub front : List ℕ
   pub came : List ℕ
@@ -39,7 +39,7 @@ unsent Open = Ended
 unsent Cut = Ended
 unsent (Broken breach) = Broken breach
 
--- the stage after the reply to a request, and the head of its answer, if one came
+-- the stage after the reply to a request, and the head of its response, if one arrived
 abbrev pub head_after : Result Reply Breach → Stage × Option AnswerHead
 head_after (Ok (Answer head)) = (Open, Some head)
 head_after (Ok (Piece piece)) = (Broken Frame, None)
@@ -48,7 +48,7 @@ head_after (Ok Failed) = (Ended, None)
 head_after (Ok Other) = (Broken Frame, None)
 head_after (Err breach) = (Broken breach, None)
 
--- the stage after the reply to the wish for a piece, and the piece, which is empty at the end, if one came
+-- the stage after the reply to the request for a piece, and the piece, which is empty at the end, if one arrived
 abbrev pub piece_after : Result Reply Breach → Stage × Option (List ℕ)
 piece_after (Ok (Answer head)) = (Broken Frame, None)
 piece_after (Ok (Piece piece)) = (Open, Some piece)
@@ -57,14 +57,14 @@ piece_after (Ok Failed) = (Cut, None)
 piece_after (Ok Other) = (Broken Frame, None)
 piece_after (Err breach) = (Broken breach, None)
 
--- a request was not sent, or it was and this came of it
+-- a request was not sent, or was sent with this outcome
 pub data Sends (request : Request) (stage : Stage) (r : Stage × Option AnswerHead) (s t : Spring) (k l : Tray)
     : Type 0 where
   not_sent : r ≡ (unsent stage, None) → t ≡ s → l ≡ k → Sends request stage r s t k l
   was_sent : (reply : Result Reply Breach) → breach_in stage ≡ None → r ≡ head_after reply
       → Asks (request_text request) reply s t k l → Sends request stage r s t k l
 
--- a piece was asked for, and this came of it
+-- a piece was requested, with this outcome
 pub record Gives (r : Stage × Option (List ℕ)) (s t : Spring) (k l : Tray) : Type 0 where
   pub reply : Result Reply Breach
   pub is : r ≡ piece_after reply

@@ -1,4 +1,4 @@
--- The pieces of a body, among bytes that come in.
+-- The pieces of a body, in the bytes that are received.
 use Rattle.std.specs.Prelude.{ℕ, zero, suc, ◌&&◌, nat_le, List, [], ◌∷◌, ◌++◌, length, take, drop, Option, Some, None}
 use Rattle.std.specs.Prelude.{if◌then◌else◌}
 use Rattle.json_tables.specs.Reading.{◌>>=◌}
@@ -29,7 +29,7 @@ headed_in parts =
     if nat_le (length parts.0) most_bytes
     then (head_of parts.0 >>= λ head. size_of head >>= sized_in head parts.1) else None
 
--- the frame that these bytes begin with
+-- the frame that begins these bytes
 unfoldable pub frame_in : List ℕ → Option (Frame × List ℕ)
 frame_in bytes = line_in bytes >>= headed_in
 
@@ -40,7 +40,7 @@ piece_by End rest = None
 piece_by Failed rest = None
 piece_by Other rest = None
 
--- the piece that they begin with
+-- the piece that begins them
 abbrev pub piece_in : List ℕ → Option (List ℕ × List ℕ)
 piece_in bytes = frame_in bytes >>= λ found. piece_by (reply_of found.0) found.1
 
@@ -48,11 +48,11 @@ abbrev pub and_those : (List ℕ → List ℕ) → Option (List ℕ × List ℕ)
 and_those later None = []
 and_those later (Some found) = found.0 ++ later found.1
 
--- at most so many pieces, one after another
+-- at most n pieces, one after another
 abbrev pub pieces_in : ℕ → List ℕ → List ℕ
 pieces_in zero bytes = []
 pieces_in (suc n) bytes = and_those (pieces_in n) (piece_in bytes)
 
--- the pieces that they begin with, up to a frame that is none, one after another
+-- the pieces that begin these bytes, up to a frame that is not a piece, one after another
 unfoldable pub body_in : List ℕ → List ℕ
 body_in bytes = pieces_in (length bytes) bytes

@@ -1,4 +1,4 @@
--- The heads of answers, as frames say them.
+-- The heads of responses, as frames state them.
 use Rattle.std.specs.Prelude.{◌≡◌, ℕ, ◌&&◌, nat_le, nat_lt, List, [], ◌∷◌, Option, Some, None, Result, Ok, Err, ⊤}
 use Rattle.std.specs.Prelude.{codes, if◌then◌else◌}
 use Rattle.std.specs.FinMap.{empty}
@@ -20,19 +20,19 @@ in_range n = if nat_le 100 n && nat_le n 999 then Some n else None
 abbrev pub status_of : Data → Option ℕ
 status_of d = u16_of d >>= in_range
 
--- the headers with one more, unless its name is no field name (RFC 9110, 5.1), its value has a control byte
--- other than a tab, or 1000 values are held
+-- the headers with one more; `None` if its name is not a field name (RFC 9110, 5.1), its value has a control byte other
+-- than a tab, or there are already 1000 values
 abbrev pub with_header : Fields → List ℕ × List ℕ → Option Fields
 with_header fields header =
     if is_field_name header.0 && is_header_value header.1 && nat_lt (held fields) 1000
     then Some (added fields header.0 header.1) else None
 
--- the headers with these behind them, one after another
+-- the headers with these added, one after another
 abbrev pub with_headers : Fields → List (List ℕ × List ℕ) → Option Fields
 with_headers fields [] = Some fields
 with_headers fields (header ∷ headers) = with_header fields header >>= λ more. with_headers more headers
 
--- a header goes behind the others, or is refused
+-- a header is added after the others, or is refused
 abbrev pub Adds : Result ⊤ ReadError → Fields → Fields → List ℕ × List ℕ → Type 0
 Adds (Ok done) old new header = with_header old header ≡ Some new
 Adds (Err e) old new header = Refuses e (with_header old header)
@@ -41,7 +41,7 @@ Adds (Err e) old new header = Refuses e (with_header old header)
 abbrev pub headers_of : Data → Option Fields
 headers_of d = list_of (pair_of text_of bytes_of) d >>= with_headers empty
 
--- the head of an answer
+-- the head of a response
 unfoldable pub answer_head_of : Data → Option AnswerHead
 answer_head_of d = do
   known ← only (codes "frame" ∷ codes "status" ∷ codes "headers" ∷ []) d

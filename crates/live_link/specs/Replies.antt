@@ -1,4 +1,4 @@
--- The frames that come in: the head of an answer, a piece of its body, the body's end, a failure.
+-- The frames that are received: the head of a response, a piece of its body, the end of the body, a failure.
 use Rattle.std.specs.Prelude.{ℕ, List, [], ◌∷◌, Option, Some, None, codes, if◌then◌else◌}
 use Rattle.std.specs.Str.{bytes_eq}
 use Rattle.serde_json.specs.Data.{Data}
@@ -13,7 +13,7 @@ abbrev pub answer_reply : Option AnswerHead → Reply
 answer_reply None = Other
 answer_reply (Some head) = Answer head
 
--- a frame with no bytes behind its line
+-- a frame with no bytes after its line
 abbrev pub plain_reply : List ℕ → Data → Reply
 plain_reply kind head =
     if bytes_eq kind (codes "answer") then answer_reply (answer_head_of head)
@@ -28,6 +28,6 @@ reply_by None head bytes = Other
 reply_by (Some kind) head [] = plain_reply kind head
 reply_by (Some kind) head (b ∷ bytes) = piece_reply kind (b ∷ bytes)
 
--- what a frame replies
+-- the meaning of a frame
 unfoldable pub reply_of : Frame → Reply
 reply_of frame = reply_by (kind_of frame.head) frame.head frame.bytes

@@ -1,4 +1,4 @@
--- The frames that go out: a request, and the wish for the next piece of a body.
+-- The frames that are sent: a request, and the request for the next piece of a body.
 use Rattle.std.specs.Prelude.{ℕ, List, [], ◌∷◌, map, Some, codes, if◌then◌else◌}
 use Rattle.std.specs.List.{flat_map}
 use Rattle.std.specs.FinMap as finmap
@@ -20,7 +20,7 @@ method_name Post = codes "POST"
 method_name Put = codes "PUT"
 method_name Patch = codes "PATCH"
 
--- a value: a text where it is visible ASCII, else its base64
+-- a value: a string if it is visible ASCII, else its base64
 abbrev pub value_data : List ℕ → Data
 value_data value =
     if is_text value then string value
@@ -50,7 +50,7 @@ request_data request = fields (
 abbrev pub request_text : Request → List ℕ
 request_text request = frame_text (request_data request) []
 
--- the object that asks for the next piece
+-- the object that requests the next piece
 abbrev pub more_data : Data
 more_data = fields ((codes "frame", Some (string (codes "more"))) ∷ [])
 

@@ -1,4 +1,4 @@
--- What a transport over a source and a sink shows.
+-- What a transport over a source and a sink exposes.
 use Rattle.std.specs.Prelude.{List, Option, None}
 use Rattle.pull_edge.specs.declared.source.Source as source
 use Rattle.json_values.specs.declared.sink.Sink as sink
@@ -13,7 +13,7 @@ abbrev pub exchanges_of : {S K : Type 0} {s : source.Ghosts S} {k : sink.Ghosts 
     → StreamTransport S K s k → List Exchange
 exchanges_of {s = s} t = exchanges_by s.state t.heard.items
 
--- It tells its exchanges where source and sink tell their bytes. What it answers by is not known.
+-- Exposes its exchanges if source and sink expose their bytes. Its responses are not predetermined.
 abbrev pub state_of : {S K : Type 0} {s : source.Ghosts S} {k : sink.Ghosts K} → StreamTransport S K s k → Link
 state_of {s = s} {k = k} t = record {
   told = told_since s.state k.state t.began.items (exchanges_of t);
@@ -22,7 +22,7 @@ state_of {s = s} {k = k} t = record {
   answers = None;
 }
 
--- why nothing is sent any more
+-- why nothing more is sent
 abbrev pub breach_of : {S K : Type 0} {s : source.Ghosts S} {k : sink.Ghosts K}
     → StreamTransport S K s k → Option Breach
 breach_of t = breach_in t.stage

@@ -13,13 +13,13 @@ use Rattle.live_link.specs.Bodies.{body_in}
 use Rattle.live_link.specs.declared.replies.Reply.{Reply}
 use Rattle.live_link.specs.declared.replies.Reply.TheVariants as Is
 
--- these bytes are one frame, which replies this
+-- these bytes are one frame, with this meaning
 pub record Replies (reply : Reply) (text : List ℕ) : Type 0 where
   pub frame : Frame
   pub is : IsFrame most_bytes frame text
   pub says : reply_of frame ≡ reply
 
--- the head of this answer
+-- the head of this response
 abbrev pub head_in : Answer → AnswerHead
 head_in a = record { status = a.status; headers = a.headers }
 
@@ -31,12 +31,12 @@ IsReply text = (reply : Reply) × Replies reply text
 abbrev pub texts : List (List ℕ) → List ℕ
 texts replies = flat_map (λ text. text) replies
 
--- as many wishes for a piece as replies
+-- one request for a piece per reply
 abbrev pub asked : List (List ℕ) → List ℕ
 asked replies = flat_map (λ text. more_text) replies
 
--- A request went out, and its answer came in: its head, and a frame for each wish for a piece. Its body are the pieces
--- directly behind the head, in these bytes and those that come after them.
+-- A request was sent, and its response was received: its head, and a frame for each request for a piece. The body is
+-- the pieces directly after the head, in these bytes and those that come after them.
 pub record AnsweredTurn (request : Request) (answer : Answer) (sent came after : List ℕ) : Type 0 where
   pub head : List ℕ
   pub replies : List (List ℕ)
@@ -46,7 +46,7 @@ pub record AnsweredTurn (request : Request) (answer : Answer) (sent came after :
   pub frames : All IsReply replies
   pub body : answer.body ≡ body_in (texts replies ++ after)
 
--- a request went out, and the word that it failed came in; or nothing went out and nothing came in
+-- a request was sent, and a frame that reports its failure was received; or nothing was sent or received
 pub data UnansweredTurn (request : Request) (sent came : List ℕ) : Type 0 where
   failed : sent ≡ request_text request → Replies Is.Failed came → UnansweredTurn request sent came
   unsent : sent ≡ [] → came ≡ [] → UnansweredTurn request sent came
@@ -55,7 +55,7 @@ abbrev pub TurnBy : Option Answer → Request → List ℕ → List ℕ → List
 TurnBy None request sent came after = UnansweredTurn request sent came
 TurnBy (Some answer) request sent came after = AnsweredTurn request answer sent came after
 
--- this exchange, by the bytes that went out for it and came in, where these come after them
+-- this exchange, by the bytes that were sent and received for it, with these bytes after them
 abbrev pub Turn : Exchange → List ℕ → List ℕ → List ℕ → Type 0
 Turn e sent came after = TurnBy e.answer e.request sent came after
 
@@ -70,8 +70,8 @@ pub record SpokeMore (Rest : List ℕ → List ℕ → Type 0) (e : Exchange) (s
   pub first : Turn e first_sent first_came (later_came ++ after)
   pub later : Rest later_sent later_came
 
--- These exchanges, one after another: what went out is their requests' frames and the wishes for pieces, and what came
--- in is the frames that answer them.
+-- These exchanges, one after another: the bytes sent are the frames of their requests and the requests for pieces, and
+-- the bytes received are the frames that reply to them.
 abbrev pub Spoke : List Exchange → List ℕ → List ℕ → List ℕ → Type 0
 Spoke [] sent came after = (sent ≡ []) × (came ≡ [])
 Spoke (e ∷ c) sent came after = SpokeMore (λ s t. Spoke c s t after) e sent came after

@@ -1,4 +1,4 @@
--- What a transport over a source and a sink shows.
+-- What a transport over a source and a sink exposes.
 use Rattle.std.specs.Prelude.{◌≡◌, ℕ, Bool, true, false, List, [], ◌∷◌, ◌++◌, map, Option, Some, None, option_map}
 use Rattle.std.specs.Prelude.{unwrap_or, is_some}
 use Rattle.std.specs.FinMap.{empty}
@@ -17,21 +17,21 @@ use Rattle.live_link.specs.declared.stage.Stage.{Stage}
 use Rattle.live_link.specs.declared.stage.Stage.TheVariants.{Ended, Open, Cut, Broken}
 use Rattle.live_link.specs.declared.stage.Heard.{Heard}
 
--- the body of the last answer is being read
+-- the body of the last response is being read
 abbrev pub is_open : Stage → Bool
 is_open Ended = false
 is_open Open = true
 is_open Cut = false
 is_open (Broken why) = false
 
--- why nothing is sent any more
+-- why nothing more is sent
 abbrev pub breach_in : Stage → Option Breach
 breach_in Ended = None
 breach_in Open = None
 breach_in Cut = None
 breach_in (Broken breach) = Some breach
 
--- the body that these bytes begin with, of an answer whose head was read before them
+-- the body that begins these bytes, of a response whose head was read before them
 abbrev pub body_left : Option (List ℕ) → List ℕ
 body_left left = body_in (unwrap_or left [])
 
@@ -42,22 +42,22 @@ exchange_in left entry = record {
   faults = entry.1.faults;
 }
 
--- the exchanges of a history, each with the source as its head was read
+-- the exchanges of a history, each with the source as it was when its head was read
 abbrev pub exchanges_by : {S : Type 0} → (S → Spring) → List (S × Log Request Heard) → List Exchange
 exchanges_by spring items = flat_map (λ item. map (exchange_in (spring item.0).left) item.1.items) items
 
 abbrev pub is_answered : Exchange → Bool
 is_answered e = is_some e.answer
 
--- the last of these exchanges was answered
+-- the last of these exchanges has a response
 abbrev pub ends_answered : List Exchange → Bool
 ends_answered [] = false
 ends_answered (e ∷ []) = is_answered e
 ends_answered (e ∷ f ∷ c) = ends_answered (f ∷ c)
 
--- What stands before the exchanges that are told, and is none: what the sink had taken in the beginning, as the body of
--- a request, and what the source had left, as that of an answer. So who hands a transport to a call knows afterwards
--- that it is over the same streams.
+-- An entry before the exposed exchanges that is not an exchange: what the sink had taken at the beginning, as the body
+-- of a request, and what the source had left, as that of a response. So a caller that passes a transport to a call
+-- knows afterwards that it is over the same streams.
 abbrev pub opening : List ℕ → List ℕ → Exchange
 opening taken left = record {
   request = record { method = Get; url = []; headers = empty; body = taken };
@@ -70,21 +70,21 @@ told_from None left c = None
 told_from (Some taken) None c = None
 told_from (Some taken) (Some left) c = Some (opening taken left ∷ c)
 
--- exchanges are told where source and sink told their bytes in the beginning
+-- exchanges are exposed if source and sink exposed their bytes at the beginning
 abbrev pub told_since : {S K : Type 0}
     → (S → Spring) → (K → Tray) → List (S × K) → List Exchange → Option (List Exchange)
 told_since spring tray [] c = None
 told_since spring tray (first ∷ later) c = told_from (tray first.1).taken (spring first.0).left c
 
--- what is left of the last answer's body, where the source tells that
+-- what is left of the last response's body, if the source exposes that
 abbrev pub rest_in : Stage → Option (List ℕ) → Option (List ℕ)
 rest_in Ended left = Some []
 rest_in Open left = option_map body_in left
 rest_in Cut left = Some []
 rest_in (Broken why) left = Some []
 
--- All that went out since and all that came in, where source and sink told their bytes: the frames of these exchanges,
--- and behind them, where something broke the streams, what stands outside of all frames.
+-- All that was sent and received since, if source and sink exposed their bytes: the frames of these exchanges and, if
+-- something broke the streams, bytes outside of all frames after them.
 pub record Held (taken left : List ℕ) (tray : Tray) (spring : Spring) (breach : Option Breach) (c : List Exchange)
     : Type 0 where
   pub sent : List ℕ
@@ -98,13 +98,13 @@ pub record Held (taken left : List ℕ) (tray : Tray) (spring : Spring) (breach 
   pub spoke : Spoke c sent came (lost_in ++ after)
   pub in_step : breach ≡ None → (lost_out ≡ []) × (lost_in ≡ [])
 
--- while a body is read, the last exchange was answered
+-- while a body is read, the last exchange has a response
 pub record HeldAt (taken left : List ℕ) (tray : Tray) (spring : Spring) (stage : Stage) (c : List Exchange)
     : Type 0 where
   pub held : Held taken left tray spring (breach_in stage) c
   pub answered : is_open stage ≡ true → ends_answered c ≡ true
 
--- the same where the beginning is in a history
+-- the same if the beginning is in a history
 abbrev pub Holds : {S K : Type 0}
     → (S → Spring) → (K → Tray) → List (S × K) → S → K → Stage → List Exchange → Type 0
 Holds spring tray [] source sink stage c = Unit {0}

@@ -1,4 +1,4 @@
-// One question to the host: a frame goes out, and a frame comes in.
+// One question to the host: a frame is sent, and a frame is received.
 ghost use Rattle.std.specs.Prelude.{◌≡◌, [], false, is_some};
 ghost use Rattle.serde_json.specs.Written.{has_float};
 ghost use Rattle.live_frames.specs.Writing.{frame_text};
@@ -14,7 +14,7 @@ use oci_transport::{AnswerHead, Request};
 use pull_edge::Source;
 use std::alloc::Global;
 
-// A frame with no bytes behind its line goes out, and a reply comes in.
+// Sends a frame with no bytes after its line, and reads a reply.
 fn ask<S: Source, K: Sink>(
     alloc: Global,
     source: &mut S,
@@ -31,8 +31,8 @@ fn ask<S: Source, K: Sink>(
     Ok(reply)
 }
 
-/// A request goes out, unless the streams are not in step or it has a body: the stage after it, and the head of its
-/// answer, if one came.
+/// Sends a request, unless the streams are out of step or it has a body. Returns the stage after it, and the head of
+/// its response, if one arrived.
 #[tactic(auto, using(crate::proofs::Plain::plain_request))]
 pub(crate) fn ask_request<S: Source, K: Sink>(
     alloc: Global,
@@ -53,7 +53,7 @@ pub(crate) fn ask_request<S: Source, K: Sink>(
     head_after(reply)
 }
 
-/// The wish for a piece goes out: the stage after it, and the piece, which is empty at the end, if one came.
+/// Requests the next piece. Returns the stage after it, and the piece, which is empty at the end, if one arrived.
 pub(crate) fn ask_piece<S: Source, K: Sink>(
     alloc: Global,
     source: &mut S,
@@ -79,7 +79,7 @@ fn is_broken(stage: Stage) -> bool
     }
 }
 
-// The stage of a request that is not sent.
+// Returns the stage of a request that is not sent.
 fn unsent(stage: Stage) -> Stage
     ensures { result ≡ unsent stage }
 {

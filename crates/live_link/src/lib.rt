@@ -1,4 +1,4 @@
-//! A transport over a source and a sink: requests go out as frames, and their answers come in as frames.
+//! A transport over a source and a sink: requests are sent as frames, and their responses are received as frames.
 #![tactic(auto)]
 
 mod asking;

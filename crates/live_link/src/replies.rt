@@ -1,4 +1,4 @@
-// What the frames that come in say.
+// Parses the frames that are received.
 ghost use Rattle.std.specs.Prelude.{◌≡◌, IfOk, codes};
 ghost use Rattle.std.specs.FinMap.{empty};
 ghost use Rattle.serde_json.specs.View.{view};
@@ -14,22 +14,22 @@ use oci_transport::{AnswerHead, HeaderError, Headers};
 use serde_json::Value;
 use std::alloc::{AllocError, Global};
 
-/// What a frame replies.
+/// The meaning of a frame.
 #[derive(Drop)]
 pub(crate) enum Reply {
-    /// The head of an answer.
+    /// The head of a response.
     Answer(AnswerHead),
     /// A piece of a body, which is not empty.
     Piece(Blob),
-    /// The body's end.
+    /// The end of the body.
     End,
-    /// No answer comes, or no further piece.
+    /// No response arrives, or no further piece.
     Failed,
-    /// It is none of these.
+    /// None of these.
     Other,
 }
 
-/// What this frame replies.
+/// Parses this frame.
 #[tactic(auto, unfolding(crate::specs::Replies::reply_of))]
 pub(crate) fn read_reply(alloc: Global, frame: Frame) -> Result<Reply, AllocError>
     ensures { IfOk result (λ reply. reply ≡ reply_of frame) }
@@ -75,7 +75,7 @@ fn answer_reply(alloc: Global, head: &Value) -> Result<Reply, AllocError>
     }
 }
 
-// The head of an answer.
+// Parses the head of a response.
 #[tactic(auto, unfolding(crate::specs::Heads::answer_head_of))]
 fn read_head(alloc: Global, value: &Value) -> Result<AnswerHead, ReadError>
     ensures { Gives result (answer_head_of (view value.now)) }
@@ -86,7 +86,7 @@ fn read_head(alloc: Global, value: &Value) -> Result<AnswerHead, ReadError>
     Ok(AnswerHead { status, headers })
 }
 
-// The status, a number from 100 to 999.
+// Parses the status, a number from 100 to 999.
 fn read_status(alloc: Global, value: &Value) -> Result<u16, ReadError>
     ensures { Gives result (required status_of (codes "status") (view value.now)) }
 {
@@ -97,7 +97,7 @@ fn read_status(alloc: Global, value: &Value) -> Result<u16, ReadError>
     Ok(status)
 }
 
-// The headers, a list of pairs of a name and a value.
+// Parses the headers, a list of pairs of a name and a value.
 fn read_headers(alloc: Global, value: &Value) -> Result<Headers, ReadError>
     ensures { Gives result (required headers_of (codes "headers") (view value.now)) }
 {
@@ -116,7 +116,7 @@ fn headers_from(alloc: Global, pairs: &[(Text, Blob)]) -> Result<Headers, ReadEr
     Ok(headers)
 }
 
-// Adds a header behind the others of its name.
+// Adds a header after the others of its name.
 fn add_header(headers: &mut Headers, name: &str, value: &[u8]) -> Result<(), ReadError>
     ensures { Adds result headers.old headers.new (name.now, value.now) }
 {

@@ -1,4 +1,4 @@
-// The objects of the frames that go out.
+// Builds the objects of the frames that are sent.
 ghost use Rattle.std.specs.Prelude.{◌≡◌, ◌++◌, IfOk, OnOk, map};
 ghost use Rattle.base64.specs.Engines.{standard};
 ghost use Rattle.base64.specs.GeneralPurpose.{encode_of};
@@ -13,7 +13,7 @@ use oci_transport::{Headers, Method, Request, header_text};
 use serde_json::Value;
 use std::alloc::{AllocError, Global};
 
-/// The object of a request's frame.
+/// Returns the object of a request's frame.
 #[tactic(auto, unfolding(crate::specs::Requests::request_data))]
 pub(crate) fn request_object(alloc: Global, request: &Request) -> Result<Json, AllocError>
     ensures exact { IfOk result (λ object. object ≡ request_data request.now) }
@@ -28,7 +28,7 @@ pub(crate) fn request_object(alloc: Global, request: &Request) -> Result<Json, A
     Ok(Json::new(value))
 }
 
-/// The object that asks for the next piece.
+/// Returns the object that requests the next piece.
 pub(crate) fn more_object(alloc: Global) -> Result<Json, AllocError>
     ensures exact { IfOk result (λ object. object ≡ more_data) }
 {
@@ -48,7 +48,7 @@ fn method_name(method: Method) -> &'static str
     }
 }
 
-// Each name with each of its values.
+// Returns each name with each of its values.
 fn headers_values(alloc: Global, headers: &Headers) -> Result<Vec<Value>, AllocError>
     ensures { IfOk result (λ values. map view values.items ≡ headers_data headers.now) }
 {
@@ -64,7 +64,7 @@ fn headers_values(alloc: Global, headers: &Headers) -> Result<Vec<Value>, AllocE
     Ok(values)
 }
 
-// This name with each of its values.
+// Adds this name with each of its values.
 fn add_values(
     alloc: Global,
     values: &mut Vec<Value>,
@@ -93,7 +93,7 @@ fn header_value(alloc: Global, name: &str, value: &[u8]) -> Result<Value, AllocE
     Ok(Value::Array(pair))
 }
 
-// A text where the value is visible ASCII, else its base64.
+// Returns a string if the value is visible ASCII, else its base64.
 fn value_value(alloc: Global, value: &[u8]) -> Result<Value, AllocError>
     ensures { IfOk result (λ written. view written ≡ value_data value.now) }
 {

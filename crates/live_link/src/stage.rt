@@ -4,16 +4,16 @@ use live_frames::FrameError;
 use oci_transport::AnswerHead;
 use std::alloc::{AllocError, Global};
 
-/// Why the streams are not in step any more.
+/// Why the streams are out of step.
 #[derive(Clone, Copy, Debug, PartialEq, Eq)]
 pub enum Breach {
     /// The source failed or ended.
     Source,
     /// The sink failed.
     Sink,
-    /// What came in is no frame, or one that is out of turn.
+    /// What was received is not a frame, or is one that is out of turn.
     Frame,
-    /// Memory was wanting within a frame.
+    /// Memory ran out within a frame.
     Memory,
 }
 
@@ -50,20 +50,20 @@ impl From<AllocError> for Breach {
     }
 }
 
-/// Where the conversation stands.
+/// The stage of the conversation.
 #[derive(Clone, Copy, Debug, PartialEq, Eq)]
 pub(crate) enum Stage {
-    /// Nothing is left of the last answer's body.
+    /// Nothing is left of the last response's body.
     Ended,
-    /// The body of the last answer is being read.
+    /// The body of the last response is being read.
     Open,
-    /// The body of the last answer broke off.
+    /// The body of the last response is truncated.
     Cut,
-    /// Nothing is sent any more.
+    /// Nothing more is sent.
     Broken(Breach),
 }
 
-/// What came of a request: the head of its answer, if one came, and the count of faults as it was sent.
+/// The outcome of a request: the head of its response, if one arrived, and the fault count when it was sent.
 #[derive(Drop)]
 pub(crate) struct Heard {
     pub head: Option<AnswerHead>,

@@ -10,16 +10,16 @@ use oci_transport::{AnswerHead, LinkError, Request, Transport};
 use pull_edge::Source;
 use std::alloc::Global;
 
-/// Sends requests as frames into a sink, and reads their answers as frames of a source: who holds the other ends makes
-/// the connections. Once a frame does not read, is out of turn or does not come whole, each send fails.
+/// Sends requests as frames to a sink, and reads their responses as frames from a source: the owner of the other ends
+/// makes the connections. Once a frame is malformed, out of turn or truncated, each send fails.
 #[derive(Drop)]
 pub struct StreamTransport<S: Source, K: Sink> {
     source: S,
     sink: K,
     stage: Stage,
     faults: u64,
-    // Of these two only proofs know: the streams as they were in the beginning, and each exchange with the source as
-    // the head of its answer was read.
+    // For proofs only: the streams at the beginning, and each exchange with the source as it was when the head of its
+    // response was read.
     began: Log<S, K>,
     heard: Log<S, Log<Request, Heard>>,
     ghost spoken: { ∥ Holds S.state K.state began.items source sink stage (exchanges_by S.state heard.items) ∥₁ },
@@ -31,7 +31,7 @@ impl<S: Source, K: Sink> StreamTransport<S, K> {
     ghost use Rattle.live_link.specs.State.{opening, told_from, Held};
     ghost use Rattle.live_link.specs.Shown.{state_of, breach_of};
 
-    /// A transport over these streams, over which nothing was sent yet.
+    /// Returns a transport over these streams, over which nothing was sent yet.
     pub fn new(source: S, sink: K) -> StreamTransport<S, K>
         ensures told { (state_of result).told ≡ told_from (K.state sink).taken (S.state source).left [] }
         ensures faults { (state_of result).faults ≡ 0 }
@@ -48,7 +48,7 @@ impl<S: Source, K: Sink> StreamTransport<S, K> {
         }
     }
 
-    /// Why nothing is sent any more, if that is so.
+    /// Returns why nothing more is sent, or `None` if requests are still sent.
     pub fn breach(&self) -> Option<Breach>
         ensures { result ≡ breach_of self.now }
     {
@@ -58,7 +58,7 @@ impl<S: Source, K: Sink> StreamTransport<S, K> {
         }
     }
 
-    /// The streams. What went out and came in since the beginning is the frames of the exchanges that are told.
+    /// Returns the streams. The bytes sent and received since the beginning are the frames of the exposed exchanges.
     pub fn finish(self) -> (S, K)
         ensures spoke { (taken left : List ℕ) (c : List Exchange)
             → (state_of self).told ≡ Some (opening taken left ∷ c)

@@ -1,4 +1,4 @@
-// Frames that are whole, cut, too long, and none.
+// Frames that are whole, truncated, too long, and malformed.
 use json_values::{Blob, List};
 use live_frames::{Frame, FrameError, read_frame};
 use pull_edge::MemorySource;

@@ -104,7 +104,7 @@ fn a_body_is_named_by_its_header_or_its_reference(rt: HostRuntime) {
     assert!(rt; is_valid(rt.alloc(), Some(ABC_512), Some(ABC_384), ABC_512));
 }
 
-// The digest that a body was expected to have, and that of the body.
+// Whether the check fails with the digest that the body was expected to have, and that of the body.
 fn is_mismatch(alloc: Global, header: Option<&str>, reference: Option<&str>, want: &str) -> bool {
     match validate_digest(alloc, b"abc", header, reference) {
         Err(DigestError::VerificationError { expected, actual }) => {

@@ -1,4 +1,4 @@
--- A text that is cut at its dots.
+-- A text split at its dots.
 use Rattle.std.proofs.Common.{◌≡◌, ◌≢◌, ◌==◌, ℕ, ◌<◌, true, false, cond, List, [], ◌∷◌, ◌++◌, Option, Some, None, MatchOption, length, get_or, refl, sym, ap, ◌∙◌, arith, Bor}
 use Rattle.std.specs.List.{All, onto_first}
 use Rattle.std.proofs.lemmas.Bool.Decides.{nat_tests}
@@ -6,7 +6,7 @@ use Rattle.std.proofs.lemmas.List.Elements.{All-from_get_or}
 use Rattle.std.proofs.lemmas.List.Splits.{slice_split_none, slice_split_at}
 use Rattle.oci_auth.specs.Expiration.{parts_of, middle, payload_in}
 
--- no byte of the list is a dot
+-- the list contains no dot
 abbrev pub Undotted : List ℕ → Type 0
 Undotted xs = (i : ℕ) → i < length xs → get_or xs i 0 ≢ 46
 
@@ -21,7 +21,7 @@ pub cuts : (text : List ℕ) (r : Option (Bor (List ℕ) × Bor (List ℕ))) →
 cuts text None h = slice_split_none (λ x. x == 46) text (undotted text h)
 cuts text (Some x) h = at_dot text x.0.now x.1.now h.0 h.1
 
--- of four parts none is the middle one
+-- a text of four or more parts has no middle part
 more : (first payload third text : List ℕ) → middle (first ∷ (payload ∷ (third ∷ parts_of text))) ≡ None
 more first payload third [] = refl
 more first payload third (x ∷ xs) =

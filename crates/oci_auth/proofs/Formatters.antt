@@ -1,4 +1,4 @@
--- What is written through a formatter whose options have no effect.
+-- Output through a formatter whose options have no effect.
 use Rattle.std.proofs.Common.{◌≡◌, ℕ, suc, List, [], ◌∷◌, ◌++◌, true, true≢false, Option, Some, Result, Ok, Err, codes, refl, sym, ap, subst, ◌∙◌, arith}
 use Rattle.std.proofs.lemmas.Bool.Decides.{nat_tests}
 use Rattle.std.proofs.lemmas.List.Folds.{concat-append}
@@ -29,7 +29,7 @@ module _ {W : Type 0} (took : W → List ℕ → W → Type 0) where
     flush = q.flush;
   }
 
-  -- what was written through the formatter, which is the same one afterwards
+  -- the output through the formatter, which is unchanged afterwards
   pub folded : (a b : Plainly W) (parts : List (List ℕ))
       → FoldsTo (λ old bytes new. WritesPlainly took old.formatter.now bytes new.formatter.now × (new.formatter.ghost_name ≡ old.formatter.ghost_name)) a parts b
       → IsFlush a.formatter.now → HasWrittenStyled took a.formatter.now (concat parts) b.formatter.now × (b.formatter.ghost_name ≡ a.formatter.ghost_name)
@@ -54,7 +54,7 @@ all_ascii : (bs : List ℕ) → IsAscii bs → list_all is_ascii bs ≡ true
 all_ascii [] h = refl
 all_ascii (b ∷ bs) h = let here : is_ascii b ≡ true = grind (arith, nat_tests, h 0) in rw (here, all_ascii bs (λ i. h (suc i))) refl
 
--- the user's name in Rust's form
+-- the user's name in Rust's `Debug` form
 in_ascii : (user : List ℕ) → IsAscii user → debug_str user ≡ Some (shown_user user)
 in_ascii user h = rw (all_ascii user h) refl
 

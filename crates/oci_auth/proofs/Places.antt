@@ -1,4 +1,4 @@
--- A token in the place of the one under its key.
+-- A token that replaces the one under its key.
 use Rattle.std.proofs.Common.{◌≡◌, ◌≢◌, ◌&&◌, ◌≤◌, Bool, true, false, cond, List, [], ◌∷◌, ◌++◌, Option, Some, None, length, get_or, nat_lt, refl, sym, ap, ◌∙◌, true≢false, subst}
 use Rattle.std.specs.Prelude.{slice_set}
 use Rattle.std.specs.List.{find, position_or_len}
@@ -52,7 +52,7 @@ not_true : (b : Bool) → (b ≡ true → ⊥) → b ≡ false
 not_true true h = absurd (h refl)
 not_true false h = refl
 
--- a token is under no other key
+-- a token is not under another key
 pub under_no_other : (key : Key) (t : KeptToken) → key ≢ key_in t → is_under key t ≡ false
 under_no_other key t other = not_true (is_under key t) (λ h. other (sym (same_key key t h)))
 

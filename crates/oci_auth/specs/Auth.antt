@@ -1,4 +1,4 @@
--- Credentials, and the tokens that they are.
+-- Credentials, and the tokens that they consist of.
 use Rattle.std.specs.Prelude.{ℕ, List, ◌++◌, codes, Option, Some, None}
 use Rattle.base64.specs.Engines.{standard}
 use Rattle.base64.specs.GeneralPurpose.{encode_of}
@@ -9,13 +9,13 @@ use Rattle.oci_auth.specs.declared.token_type.RegistryTokenType.{RegistryTokenTy
 use Rattle.oci_auth.specs.declared.token_type.RegistryTokenType.TheVariants as shown
 use Rattle.oci_auth.specs.Token.{token_text}
 
--- the token that credentials are by themselves
+-- the token that can be built from the credentials without a request
 abbrev pub own_token : RegistryAuth → Option RegistryTokenType
 own_token Anonymous = None
 own_token (Basic user password) = Some (shown.Basic user password)
 own_token (Bearer token) = Some (shown.Bearer (Token token))
 
--- the value of the header `authorization` (RFC 6750, 2.1, and RFC 7617, 2)
+-- the value of the `authorization` header (RFC 6750, 2.1, and RFC 7617, 2)
 abbrev pub authorization_of : RegistryTokenType → List ℕ
 authorization_of (shown.Bearer token) = codes "Bearer " ++ token_text token
 authorization_of (shown.Basic user password) = codes "Basic " ++ encode_of standard (user ++ codes ":" ++ password)

@@ -1,4 +1,4 @@
--- The tokens that a client keeps.
+-- The tokens that a client stores.
 use Rattle.std.specs.Prelude.{◌≡◌, ◌≢◌, ℕ, ◌-◌, ◌^◌, nat_le, if◌then◌else◌, Option, Some, None, option_and_then}
 use Rattle.std.specs.Option.{option_map_or}
 use Rattle.oci_names.specs.declared.reference.Reference.{Reference}
@@ -12,16 +12,16 @@ use Rattle.oci_auth.specs.Expiration.{expiration_of}
 use Rattle.oci_auth.specs.Kept.{Key, under, kept_under, inserted}
 use Rattle.oci_auth.specs.Token.{token_text}
 
--- what a token of this reference is kept under: the registry that is asked, the repository and the operation
+-- the key of a token for this reference: the registry that receives requests, the repository and the operation
 abbrev pub key_of : Reference → RegistryOperation → Key
 key_of image operation = under (resolved_registry image) (repository_of image) operation
 
--- until when a token is kept: credentials are kept for good
+-- when a token expires; credentials never do
 abbrev pub kept_until : RegistryTokenType → ℕ → ℕ → Option ℕ
 kept_until (Bearer token) default moment = expiration_of (token_text token) default moment
 kept_until (Basic user password) default moment = Some (2 ^ 64 - 1)
 
--- a token with what it is kept under and until when
+-- a token with its key and expiration
 abbrev pub kept_token : Key → RegistryTokenType → ℕ → KeptToken
 kept_token key token until = record {
   registry = key.registry;
@@ -31,7 +31,7 @@ kept_token key token until = record {
   expiration = until;
 }
 
--- the cache with this token, which is kept where it is known until when
+-- the cache with this token, which is stored if its expiration is known
 abbrev pub with_token : TokenCache → Key → RegistryTokenType → ℕ → TokenCache
 with_token cache key token moment =
     option_map_or
@@ -39,21 +39,21 @@ with_token cache key token moment =
     (kept_until token cache.default_expiration_secs moment)
     cache
 
--- a token is given up to its expiration
+-- a token is returned until it expires
 abbrev pub given_at : ℕ → KeptToken → Option RegistryTokenType
 given_at moment t = if nat_le moment t.expiration then Some t.token else None
 
--- the token that a cache gives under a key at a moment
+-- the token that a cache returns for a key at a moment
 abbrev pub token_at : TokenCache → Key → ℕ → Option RegistryTokenType
 token_at cache key moment = option_and_then (given_at moment) (kept_under key cache.tokens)
 
--- afterwards the token is given under its key exactly up to its expiration, and under each other key is given what was
--- given before
+-- afterwards the token is returned for its key until it expires, and for each other key the same token is returned as
+-- before
 pub record GivesUntil (old new : TokenCache) (key : Key) (token : RegistryTokenType) (until : ℕ) : Type 0 where
   pub here : (moment : ℕ) → token_at new key moment ≡ (if nat_le moment until then Some token else None)
   pub others : (other : Key) (moment : ℕ) → other ≢ key → token_at new other moment ≡ token_at old other moment
 
--- the token is given from now on, where it is known until when; else nothing changed
+-- the token is returned from now on, if its expiration is known; otherwise nothing changed
 abbrev pub GivesFrom : TokenCache → TokenCache → Key → RegistryTokenType → Option ℕ → Type 0
 GivesFrom old new key token (Some until) = GivesUntil old new key token until
 GivesFrom old new key token None = new ≡ old

@@ -1,4 +1,4 @@
--- How long a token is kept (RFC 7519, 4.1.4, for the member `exp`).
+-- How long a token is stored (RFC 7519, 4.1.4, for the member `exp`).
 use Rattle.std.specs.Prelude.{ℕ, ◌+◌, ◌-◌, ◌^◌, ◌==◌, List, [], ◌∷◌, codes, min, Option, Some, None, option_map}
 use Rattle.std.specs.Prelude.{unwrap_or}
 use Rattle.std.specs.List.{slice_split}
@@ -10,7 +10,7 @@ use Rattle.json_values.specs.JsonText.{plain_json_of}
 use Rattle.json_tables.specs.Reading.{u64_of, ◌>>=◌}
 use Rattle.json_tables.specs.Member.{optional}
 
--- a sum of moments ends at the last moment
+-- a sum of moments, saturating at `u64::MAX`
 abbrev pub later : ℕ → ℕ → ℕ
 later moment seconds = min (moment + seconds) (2 ^ 64 - 1)
 
@@ -18,25 +18,25 @@ abbrev pub middle : List (List ℕ) → Option (List ℕ)
 middle (first ∷ payload ∷ last ∷ []) = Some payload
 middle parts = None
 
--- what stands between the dots
+-- the parts between the dots
 abbrev pub parts_of : List ℕ → List (List ℕ)
 parts_of text = slice_split (λ b. b == 46) text
 
--- the middle part of a text of exactly three parts
+-- the middle part, if the text has exactly three parts
 abbrev pub payload_in : List ℕ → Option (List ℕ)
 payload_in text = middle (parts_of text)
 
--- the expiration that an object names, if any: a whole number, which may be absent or null
+-- the expiration in an object, if it has one: an integer, which may be missing or null
 abbrev pub named_expiration : Data → Option (Option ℕ)
 named_expiration d = as_object d >>= λ members. optional u64_of (codes "exp") d
 
--- the same of a payload: unpadded URL-safe base64 (RFC 4648, 5) of JSON in which no float stands
+-- the same for a payload: unpadded URL-safe base64 (RFC 4648, 5) of JSON without floats
 abbrev pub claimed_expiration : List ℕ → Option (Option ℕ)
 claimed_expiration payload =
     decoded_of url_safe_no_pad payload >>= plain_json_of >>= named_expiration
 
--- a token of no three parts has the default life; one of three parts expires as its payload names it, after a day
--- at most
+-- a token without exactly three parts has the default life; one of three parts expires when its payload says so, but
+-- after at most a day
 abbrev pub expiration_by : Option (List ℕ) → ℕ → ℕ → Option ℕ
 expiration_by None default moment = Some (later moment default)
 expiration_by (Some payload) default moment =

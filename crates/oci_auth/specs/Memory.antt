@@ -1,17 +1,17 @@
--- What a client keeps between its calls.
+-- The credentials and tokens that a client holds between calls.
 use Rattle.std.specs.Prelude.{List, [], ℕ, is_some, if◌then◌else◌}
 use Rattle.std.specs.FinMap as map
 use Rattle.oci_auth.specs.declared.auth.RegistryAuth.{RegistryAuth}
 use Rattle.oci_auth.specs.declared.memory.Memory.{Memory}
 
--- nothing is kept yet
+-- nothing is stored yet
 abbrev pub fresh : ℕ → Memory
 fresh default = record {
   credentials = map.empty;
   tokens = record { default_expiration_secs = default; tokens = [] };
 }
 
--- credentials that are stored are never replaced
+-- stored credentials are never replaced
 abbrev pub stored : Memory → List ℕ → RegistryAuth → Memory
 stored k registry auth =
     if is_some (map.get k.credentials registry) then k

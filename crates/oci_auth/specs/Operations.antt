@@ -1,4 +1,4 @@
--- What tokens are kept for.
+-- The operations that tokens are stored for.
 use Rattle.std.specs.Prelude.{ℕ, Bool, nat_eq}
 use Rattle.std.specs.Ordering.{nat_cmp}
 use Rattle.std.specs.Cmp.{IsEquivalence, IsTotalOrder, on_equiv, on_total, nat_eq_equiv, nat_cmp_total}

@@ -1,4 +1,4 @@
--- What the realm of a registry answers.
+-- The response of a registry's realm.
 use Rattle.std.specs.Prelude.{◌≡◌, ℕ, List, codes, Option, Some, None, option_map, option_and_then, Result, Ok, Err, ⊤}
 use Rattle.std.specs.Option.{option_or}
 use Rattle.serde_json.specs.Data.{Data}
@@ -9,26 +9,26 @@ use Rattle.oci_auth.specs.declared.token.RegistryToken.TheVariants.{Token, Acces
 use Rattle.oci_auth.specs.declared.token.TokenError.{TokenError}
 use Rattle.oci_auth.specs.declared.token.TokenError.TheVariants.{Unreadable, WantOfMemory}
 
--- the text that a member of this name holds
+-- the string in the member with this name
 abbrev pub text_in : List ℕ → Data → Option (List ℕ)
 text_in name d = option_and_then as_str (get name d)
 
--- the text `token`, else the text `access_token`
+-- the string `token`, else the string `access_token`
 abbrev pub token_in : Data → Option RegistryToken
 token_in d = option_or
     (option_map Token (text_in (codes "token") d))
     (option_map AccessToken (text_in (codes "access_token") d))
 
--- the token in a body: JSON in which no float stands
+-- the token in a body: JSON without floats
 abbrev pub token_of : List ℕ → Option RegistryToken
 token_of body = option_and_then token_in (plain_json_of body)
 
--- the token as it is shown to the registry
+-- the token as it is sent to the registry
 abbrev pub token_text : RegistryToken → List ℕ
 token_text (Token token) = token
 token_text (AccessToken token) = token
 
--- the token that is read; `Unreadable` exactly where there is none, unless memory runs out
+-- the token, or `Unreadable` if and only if there is none, or out of memory
 abbrev pub ReadsToken : Result RegistryToken TokenError → Option RegistryToken → Type 0
 ReadsToken (Ok t) read = read ≡ Some t
 ReadsToken (Err Unreadable) read = read ≡ None

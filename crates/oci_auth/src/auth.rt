@@ -1,4 +1,4 @@
-// What a client shows a registry.
+// The credentials that a client sends to a registry.
 ghost use Rattle.std.specs.Prelude.{◌≡◌, IfOk};
 
 use crate::shown::write_basic;
@@ -8,7 +8,7 @@ use json_values::{Copied, Text, copy_all, row};
 use std::alloc::{AllocError, Global};
 use std::fmt;
 
-/// What a client shows a registry: nothing, a user name and a password, or a token.
+/// The credentials that a client sends to a registry: none, a user name and a password, or a token.
 #[derive(Drop, PartialEq, Eq)]
 pub enum RegistryAuth {
     Anonymous,
@@ -21,7 +21,7 @@ pub enum RegistryAuth {
 impl RegistryAuth {
     ghost use Rattle.oci_auth.specs.Auth.{own_token};
 
-    /// The token that the credentials are by themselves.
+    /// Returns the token that can be built from the credentials without a request.
     pub fn own_token(&self, alloc: Global) -> Result<Option<RegistryTokenType>, AllocError>
         ensures { IfOk result (λ token. token ≡ own_token self.now) }
     {
@@ -52,7 +52,7 @@ impl Copied for RegistryAuth {
     }
 }
 
-/// Neither the password nor the token is shown, whatever the formatter.
+/// Neither the password nor the token is printed, whatever the formatter.
 impl fmt::Debug for RegistryAuth {
     ghost use Rattle.std.specs.Prelude.{Some};
     ghost use Rattle.std.specs.Fmt.{DisplaysOnOk, WritesStyledOnOk};

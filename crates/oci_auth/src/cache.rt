@@ -1,4 +1,4 @@
-// The tokens that a client keeps.
+// The tokens that a client stores.
 ghost use Rattle.std.specs.Prelude.{◌≡◌, [], OnOk, OnErr, IfOk};
 ghost use Rattle.oci_auth.specs.Cache.{key_of, kept_until};
 
@@ -9,15 +9,15 @@ use json_values::{Copied, Text};
 use oci_names::Reference;
 use std::alloc::{AllocError, Global};
 
-/// Tokens that were got for registries, one for each registry that is asked, repository and operation.
+/// Tokens for registries, one for each registry that receives requests, repository and operation.
 #[derive(Drop)]
 pub struct TokenCache {
-    /// For how many seconds a token is kept that does not say when it expires.
+    /// The life, in seconds, of a token without an expiration.
     pub default_expiration_secs: u64,
     tokens: KeptTokens,
 }
 
-// Until when a token is kept. Credentials are kept for good.
+// Returns when a token expires. Credentials never do.
 fn kept_until(
     alloc: Global,
     token: &RegistryTokenType,
@@ -43,7 +43,7 @@ fn kept_until(
 impl TokenCache {
     ghost use Rattle.oci_auth.specs.Cache.{with_token, token_at, GivesFrom};
 
-    /// Nothing is kept yet.
+    /// Returns an empty cache.
     pub fn new(alloc: Global, default_expiration_secs: u64) -> TokenCache
         ensures { result ≡ record { default_expiration_secs = default_expiration_secs; tokens = [] } }
     {
@@ -53,13 +53,13 @@ impl TokenCache {
         }
     }
 
-    /// The allocator that the tokens are kept by.
+    /// Returns the allocator of the tokens.
     pub fn alloc(&self) -> Global {
         self.tokens.alloc()
     }
 
-    /// Keeps a token that was got at this moment, in seconds since 1970, in the place of the one that is kept for the
-    /// same registry, repository and operation. Where its expiration is none nothing changes.
+    /// Stores a token that was obtained at this moment, in seconds since 1970, replacing the one that is stored for the
+    /// same registry, repository and operation. Does nothing if its expiration is unknown.
     pub fn insert(
         &mut self,
         reference: &Reference,
@@ -89,7 +89,7 @@ impl TokenCache {
         Ok(())
     }
 
-    /// The token that was last kept for this registry, repository and operation, where the moment is not past its end.
+    /// Returns the token that was last stored for this registry, repository and operation, unless it has expired.
     pub fn get(
         &self,
         reference: &Reference,

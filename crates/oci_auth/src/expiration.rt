@@ -1,4 +1,4 @@
-// How long a token is kept.
+// How long a token is stored.
 ghost use Rattle.std.specs.Prelude.{◌≡◌, [], ◌∷◌, IfOk, MatchOption, option_copied};
 ghost use Rattle.serde_json.specs.View.{view};
 ghost use Rattle.base64.specs.Engines.{url_safe_no_pad};
@@ -12,10 +12,10 @@ use json_values::Blob;
 use serde_json::Value;
 use std::alloc::{AllocError, Global};
 
-/// The longest that a token is kept, in seconds: a day.
+/// The greatest life of a token, in seconds: a day.
 const LONGEST_LIFE: u64 = 86400;
 
-// What stands before and behind the first dot.
+// Splits at the first dot.
 fn cut(text: &str) -> Option<(&str, &str)>
     ensures { MatchOption result
         (parts_of text.now ≡ text.now ∷ [])
@@ -72,11 +72,11 @@ fn claimed_expiration(alloc: Global, payload: &str) -> Result<Option<Option<u64>
     Ok(named_expiration(json.value()))
 }
 
-/// Until when a token with this text is kept, in seconds since 1970; `moment` is when it was got.
+/// Returns when a token with this text expires, in seconds since 1970; `moment` is when it was obtained.
 ///
-/// A text of exactly three parts between dots is a JSON web token (RFC 7519): none where its middle part is not
-/// unpadded URL-safe base64 of a JSON object without floats whose `exp` is absent, null or a whole number of 64 bits.
-/// It expires at `exp`, or where there is none after the default life, and in both cases after a day at the latest.
+/// A text of exactly three parts between dots is a JSON web token (RFC 7519). Returns `None` if its middle part is not
+/// unpadded URL-safe base64 of a JSON object without floats whose `exp` is missing, null or an integer of 64 bits.
+/// It expires at `exp`, or without `exp` after the default life, and in both cases after at most a day.
 /// Every other text has the default life.
 pub fn bearer_token_cache_expiration(
     alloc: Global,

@@ -1,4 +1,4 @@
-// Kept tokens, each under a registry, a repository and an operation.
+// Stored tokens, each under a registry, a repository and an operation.
 ghost use Rattle.std.specs.Prelude.{◌≡◌, [], OnOk, OnErr, IfOk, option_copied};
 ghost use Rattle.std.specs.List.{position};
 ghost use Rattle.oci_auth.specs.Kept.{Key, under, is_under, key_in, inserted, kept_under, IsKept};
@@ -8,7 +8,7 @@ use json_values::{Copied, Text};
 use std::alloc::{AllocError, Global};
 use std::marker::Model;
 
-/// A token, what it is kept for, and until when, in seconds since 1970.
+/// A token, its key, and its expiration, in seconds since 1970.
 #[derive(Drop)]
 pub struct KeptToken {
     pub registry: Text,
@@ -52,7 +52,7 @@ impl KeptTokens {
         }
     }
 
-    /// The allocator that the tokens are kept by.
+    /// Returns the allocator of the tokens.
     pub fn alloc(&self) -> Global {
         *self.inner.allocator()
     }
@@ -66,7 +66,7 @@ impl KeptTokens {
             .position(|kept| kept.is_under(registry, repository, operation))
     }
 
-    /// The token under a key.
+    /// Returns the token under a key.
     pub fn get(
         &self,
         registry: &str,
@@ -81,7 +81,7 @@ impl KeptTokens {
             .find(|kept| kept.is_under(registry, repository, operation))
     }
 
-    /// Keeps a token, in the place of the one that is kept under its key. What is kept under other keys stays.
+    /// Stores a token, replacing the one under its key. The tokens under other keys are unchanged.
     pub fn insert(&mut self, kept: KeptToken) -> Result<(), AllocError>
         ensures ok { OnOk result (self.new ≡ inserted self.old kept) }
         ensures err { OnErr result (self.new ≡ self.old) }

@@ -1,5 +1,5 @@
-//! Credentials of registries, the tokens that realms give for them, and what a client keeps
-//! between its calls.
+//! Credentials of registries, the tokens that realms issue for them, and both as a client holds
+//! them between calls.
 #![tactic(auto)]
 
 mod auth;

@@ -1,4 +1,4 @@
-// What a client keeps between its calls.
+// The credentials and tokens that a client holds between calls.
 ghost use Rattle.std.specs.Prelude.{◌≡◌, OnOk, OnErr};
 ghost use Rattle.oci_auth.specs.Memory.{fresh, stored};
 
@@ -7,7 +7,7 @@ use crate::cache::TokenCache;
 use json_values::{Copied, Text, TextMap};
 use std::alloc::{AllocError, Global};
 
-/// Stored credentials, by registry, and the tokens that were got.
+/// Stored credentials, by registry, and stored tokens.
 #[derive(Drop)]
 pub struct Memory {
     pub credentials: TextMap<RegistryAuth>,
@@ -15,7 +15,7 @@ pub struct Memory {
 }
 
 impl Memory {
-    /// Nothing is kept. A token that does not say when it expires will be kept for so many seconds.
+    /// Stores nothing yet. A token without an expiration will be stored for `default_expiration_secs` seconds.
     pub fn new(alloc: Global, default_expiration_secs: u64) -> Memory
         ensures { result ≡ fresh default_expiration_secs }
     {
@@ -26,7 +26,7 @@ impl Memory {
     }
 }
 
-/// Stores credentials for a registry. Those that are stored already are never replaced.
+/// Stores credentials for a registry. Credentials that are stored already are never replaced.
 pub fn store(
     alloc: Global,
     memory: &mut Memory,

@@ -1,4 +1,4 @@
-// How credentials are shown to programmers, whatever the options of the formatter.
+// The `Debug` output of credentials, whatever the options of the formatter.
 ghost use Rattle.std.specs.Prelude.{◌≡◌};
 ghost use Rattle.std.specs.Fmt.{WritesStyledOnOk};
 ghost use Rattle.oci_auth.specs.Shown.{shown_basic};
@@ -32,7 +32,7 @@ impl<'a, W: fmt::Write> fmt::Write for Plainly<'a, W> {
     }
 }
 
-/// `Basic` with the user's name in Rust's form, which is left out where it is past ASCII, and no password.
+/// Writes `Basic` with the user's name in Rust's `Debug` form, omitted if non-ASCII, and without the password.
 pub fn write_basic<W: fmt::Write>(f: &mut fmt::Formatter<W>, user: &str) -> fmt::Result
     ensures { WritesStyledOnOk W.write_str_gives f.old result (shown_basic user.now) f.new }
 {

@@ -9,19 +9,19 @@ use std::alloc::{AllocError, Global};
 use std::fmt;
 use thiserror::Error;
 
-/// A registry's token, as its realm names it in the answer's body.
+/// A registry's token, as its realm names it in the body of its response.
 #[derive(Drop)]
 pub enum RegistryToken {
-    /// It stands in the member `token`.
+    /// From the member `token`.
     Token { token: Text },
-    /// It stands in the member `access_token`.
+    /// From the member `access_token`.
     AccessToken { access_token: Text },
 }
 
-/// Why a body is no token.
+/// Why a body contains no token.
 #[derive(Clone, Copy, Debug, PartialEq, Eq, Error)]
 pub enum TokenError {
-    /// The body is no JSON object without floats that has a text `token` or a text `access_token`.
+    /// The body is not a JSON object without floats that has a string `token` or a string `access_token`.
     #[error("the realm's answer holds no token: it should have a text `token` or `access_token`")]
     Unreadable,
     #[error("out of memory: free some and try again")]
@@ -70,8 +70,8 @@ fn token_in(alloc: Global, value: &Value) -> Result<Option<RegistryToken>, Alloc
 impl RegistryToken {
     ghost use Rattle.oci_auth.specs.Token.{token_text};
 
-    /// Reads the body of a realm's answer: an object without floats, with a text `token`, else with a text
-    /// `access_token`. Every other body is `Unreadable`.
+    /// Reads the body of a realm's response: an object without floats, with a string `token`, else with a string
+    /// `access_token`. Returns `Unreadable` for every other body.
     pub fn read(alloc: Global, body: &[u8]) -> Result<RegistryToken, TokenError>
         ensures { ReadsToken result (token_of body.now) }
     {
@@ -84,7 +84,7 @@ impl RegistryToken {
         }
     }
 
-    /// The token as its realm gave it.
+    /// Returns the token as its realm issued it.
     pub fn token(&self) -> &str
         ensures { result.now ≡ token_text self.now }
     {
@@ -94,7 +94,7 @@ impl RegistryToken {
         }
     }
 
-    /// The value of an `authorization` header that shows the token (RFC 6750, 2.1).
+    /// Returns the value of an `authorization` header with the token (RFC 6750, 2.1).
     pub fn bearer_token(&self, alloc: Global) -> Result<Text, AllocError>
         ensures { IfOk result (λ t. t ≡ codes "Bearer " ++ token_text self.now) }
     {
@@ -117,7 +117,7 @@ impl Copied for RegistryToken {
     }
 }
 
-/// The token itself is not shown, whatever the formatter.
+/// The token itself is not printed, whatever the formatter.
 impl fmt::Debug for RegistryToken {
     ghost use Rattle.std.specs.Prelude.{Some};
     ghost use Rattle.std.specs.Fmt.{DisplaysOnOk, WritesStyledOnOk};

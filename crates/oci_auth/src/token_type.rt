@@ -1,4 +1,4 @@
-// What a client keeps for a registry, and what it is kept for.
+// What a client stores for a registry, and for which operation.
 ghost use Rattle.std.specs.Prelude.{◌≡◌, ◌↔◌, ◌++◌, IfOk, IsTrue, codes};
 ghost use Rattle.base64.specs.Engines.{standard};
 ghost use Rattle.base64.specs.GeneralPurpose.{encode_of};
@@ -11,7 +11,7 @@ use std::alloc::{AllocError, Global};
 use std::cmp::Ordering;
 use std::fmt;
 
-/// What is shown to a registry in the place of credentials: a realm's token, or the credentials themselves, a user
+/// What is sent to a registry as credentials: a realm's token, or the credentials themselves, a user
 /// name and a password.
 #[derive(Drop)]
 pub enum RegistryTokenType {
@@ -25,7 +25,7 @@ pub enum RegistryTokenType {
 pub enum RegistryOperation {
     /// To put blobs and manifests into a repository.
     Push,
-    /// To get them.
+    /// To read them.
     Pull,
 }
 
@@ -45,8 +45,8 @@ impl RegistryOperation {
 impl RegistryTokenType {
     ghost use Rattle.oci_auth.specs.Auth.{authorization_of};
 
-    /// The value of the header `authorization`: `Bearer` and the token (RFC 6750, 2.1), or `Basic` and base64 of the
-    /// user name, a colon and the password (RFC 7617, 2).
+    /// Returns the value of the `authorization` header: `Bearer` and the token (RFC 6750, 2.1), or `Basic` and base64
+    /// of the user name, a colon and the password (RFC 7617, 2).
     pub fn authorization(&self, alloc: Global) -> Result<Text, AllocError>
         ensures { IfOk result (λ value. value ≡ authorization_of self.now) }
     {
@@ -88,7 +88,7 @@ impl Copied for RegistryTokenType {
     }
 }
 
-/// Neither the token nor the password is shown, whatever the formatter.
+/// Neither the token nor the password is printed, whatever the formatter.
 impl fmt::Debug for RegistryTokenType {
     ghost use Rattle.std.specs.Prelude.{Some};
     ghost use Rattle.std.specs.Fmt.{DisplaysOnOk, WritesStyledOnOk};

@@ -1,4 +1,4 @@
--- What is written is read back.
+-- Written values round-trip.
 use Rattle.std.proofs.Common.{◌≡◌, List, false, Option, Some, None, option_map, refl, sym, ap, subst}
 use Rattle.serde_json.specs.Data.{Data, string, boolean}
 use Rattle.serde_json.specs.Find.{get}
@@ -102,14 +102,14 @@ file_again x created author config rootfs history = record {
   plain = λ _. fields_plain (file_fields x) (simp (created.plain refl, author.plain refl, config.plain refl, rootfs.plain refl, history.plain refl));
 }
 
--- what is no object is refused
+-- a value that is not an object is refused
 pub no_object : {X : Type 0} (f : Data → Option X) (d : Data) (e : ReadError) → Refuses e (an_object d) → Refuses e (an_object d >>= λ _. f d)
 no_object f d Float h = h
 no_object f d Shape h = ap (λ o. o >>= λ _. f d) h
 no_object f d Ambiguous h = h
 no_object f d WantOfMemory h = tt
 
--- an object is refused where its members are
+-- an object is refused if its members are
 pub behind_object : {X : Type 0} (f : Data → Option X) (d : Data) (e : ReadError) → an_object d ≡ Some tt → Refuses e (f d) → Refuses e (an_object d >>= λ _. f d)
 behind_object f d e object h = subst (Refuses e) (sym (ap (λ o. o >>= λ _. f d) object)) h
 

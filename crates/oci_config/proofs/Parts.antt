@@ -1,4 +1,4 @@
--- Members of which only a part is written.
+-- Members that are written in part.
 use Rattle.std.proofs.Common.{◌≡◌, List, [], ◌∷◌, map, false, Option, Some, None, option_map, unwrap_or, refl, ap, ◌∙◌}
 use Rattle.std.specs.List.{list_any}
 use Rattle.serde_json.specs.Data.{Data}
@@ -30,11 +30,11 @@ option_same : {X : Type 0} (x : Option X) → option_map (λ y. y) x ≡ x
 option_same None = refl
 option_same (Some x) = refl
 
--- a list of which only a part is written
+-- a list that is written in part
 pub list_unless : {X : Type 0} (f : Data → Option X) {o : Option Data} (part whole : Option (List X)) → MemberReadsAgain (unless_null (list_of f)) o (option_map (map (λ x. x)) part) (unwrap_or (option_map (list_any (λ _. false)) whole) false) → MemberReadsAgain (unless_null (list_of f)) o part false
 list_unless f part whole m = record { reads = m.reads ∙ ap Some (lists_same part); plain = λ _. m.plain (no_float_in whole) }
 
--- any other member of which only a part is written
+-- any other member that is written in part
 pub option_unless : {X : Type 0} (f : Data → Option X) {o : Option Data} (part whole : Option X) → MemberReadsAgain (unless_null f) o (option_map (λ y. y) part) (unwrap_or (option_map (λ _. false) whole) false) → MemberReadsAgain (unless_null f) o part false
 option_unless f part whole m = record { reads = m.reads ∙ ap Some (option_same part); plain = λ _. m.plain (none_in whole) }
 

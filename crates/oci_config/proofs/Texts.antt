@@ -1,4 +1,4 @@
--- Lists of texts are equal exactly where their texts are.
+-- Lists of texts are equal if and only if their texts are.
 use Rattle.std.proofs.Common.{◌≡◌, ◌↔◌, ℕ, List, Bool, IsTrue}
 use Rattle.std.specs.Str.{bytes_eq}
 use Rattle.std.specs.Cmp.Lexicographic.{pointwise}

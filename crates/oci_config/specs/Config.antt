@@ -37,7 +37,7 @@ config_of d = do
   members ← an_object d
   config_members d
 
--- none in every field
+-- all fields are none
 abbrev pub no_config : Config
 no_config = record {
   user = None;
@@ -51,15 +51,15 @@ no_config = record {
   stop_signal = None;
 }
 
--- a list that is not empty
+-- the list, if it is not empty
 abbrev pub some_list : {X : Type 0} → Option (List X) → Option (List X)
 some_list = unless_empty no_entries
 
--- a map, or a set, that is not empty
+-- the map or set, if it is not empty
 abbrev pub some_map : {V : Type 0} → Option (Map V) → Option (Map V)
 some_map = unless_empty (λ m. no_entries (entries m))
 
--- each empty list, set and map made none
+-- empty lists, sets and maps are replaced by none
 abbrev pub normal_config : Config → Config
 normal_config x = record x {
   exposed_ports = some_map x.exposed_ports;

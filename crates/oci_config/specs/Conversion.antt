@@ -10,11 +10,11 @@ use Rattle.oci_config.specs.declared.conversion.ConfigError.TheVariants.{Unreada
 use Rattle.oci_config.specs.declared.file.ConfigFile.{ConfigFile}
 use Rattle.oci_config.specs.File.{file_of, file_written}
 
--- the file that the bytes say, where they are JSON in which no float stands
+-- the file in the bytes, if they are JSON without floats
 abbrev pub file_in : List ℕ → Option ConfigFile
 file_in = read_plain file_of
 
--- the file, or `Unreadable` exactly where the bytes say none, unless memory runs out
+-- the file, or `Unreadable` if and only if the bytes contain none, or out of memory
 abbrev pub ReadsFile : Result ConfigFile ConfigError → List ℕ → Type 0
 ReadsFile (Ok file) bytes = file_in bytes ≡ Some file
 ReadsFile (Err Unreadable) bytes = file_in bytes ≡ None
@@ -24,7 +24,7 @@ ReadsFile (Err WantOfMemory) bytes = ⊤
 abbrev pub file_text : ConfigFile → List ℕ
 file_text file = compact_text (file_written file)
 
--- a configuration of OCI's type that holds the file, with these annotations
+-- a configuration with OCI's media type that contains the file, with these annotations
 abbrev pub holding : ConfigFile → Option (FinMap by_bytes (List ℕ)) → Config
 holding file annotations = record {
   content = file_text file;

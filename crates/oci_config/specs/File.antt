@@ -31,7 +31,7 @@ file_of d = do
     history = history;
   })
 
--- what is empty in `config` made none, and an empty history too
+-- empty members of `config` and an empty history are replaced by none
 abbrev pub normal_file : ConfigFile → ConfigFile
 normal_file x = record x { config = option_map normal_config x.config; history = some_list x.history }
 

@@ -1,4 +1,4 @@
--- A step by which an image was made (OCI image specification, config.md, `history`).
+-- A step in the creation of an image (OCI image specification, config.md, `history`).
 use Rattle.std.specs.Prelude.{List, [], ◌∷◌, Option, Some, None, option_map, codes}
 use Rattle.serde_json.specs.Data.{Data, string, boolean}
 use Rattle.json_tables.specs.Reading.{◌>>=◌, text_of, bool_of}
@@ -42,6 +42,6 @@ history_fields x =
 unfoldable pub history_written : History → Data
 history_written x = fields (history_fields x)
 
--- none in every field
+-- all fields are none
 abbrev pub no_history : History
 no_history = record { created = None; author = None; created_by = None; comment = None; empty_layer = None }

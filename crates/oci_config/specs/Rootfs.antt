@@ -1,4 +1,4 @@
--- The layers that a root file system is made of (OCI image specification, config.md, `rootfs`).
+-- The layers of a root file system (OCI image specification, config.md, `rootfs`).
 use Rattle.std.specs.Prelude.{List, [], ◌∷◌, Option, Some, codes}
 use Rattle.serde_json.specs.Data.{Data, string}
 use Rattle.json_values.specs.Writing.{listed}
@@ -20,6 +20,6 @@ rootfs_fields x = (codes "type", Some (string x.kind)) ∷ (codes "diff_ids", So
 unfoldable pub rootfs_written : Rootfs → Data
 rootfs_written x = fields (rootfs_fields x)
 
--- layers, and none of them
+-- the kind `layers`, without layers
 abbrev pub no_layers : Rootfs
 no_layers = record { kind = codes "layers"; diff_ids = [] }

@@ -13,37 +13,37 @@ use std::alloc::{AllocError, Global};
 /// How a container is started (OCI image specification, config.md, `config`).
 #[derive(Debug, PartialEq, Eq, Drop)]
 pub struct Config {
-    /// The user, and perhaps the group, that the process runs as: `User`.
+    /// The user, and optionally the group, of the process: `User`.
     pub user: Option<Text>,
-    /// The ports that the container offers, as `8080/tcp`: `ExposedPorts`.
+    /// The ports that the container exposes, for example `8080/tcp`: `ExposedPorts`.
     pub exposed_ports: Option<TextSet>,
     /// Environment variables, as `NAME=value`: `Env`.
     pub env: Option<List<Text>>,
-    /// The arguments that are given where the caller gives none: `Cmd`.
+    /// The default arguments: `Cmd`.
     pub cmd: Option<List<Text>>,
     /// The command that starts the container: `Entrypoint`.
     pub entrypoint: Option<List<Text>>,
-    /// The directories in which the container writes data of its own: `Volumes`.
+    /// The directories to which the container writes its own data: `Volumes`.
     pub volumes: Option<TextSet>,
-    /// The directory that the process begins in: `WorkingDir`.
+    /// The working directory of the process: `WorkingDir`.
     pub working_dir: Option<Text>,
-    /// Texts by name, for any use: `Labels`.
+    /// Labels by name, for any use: `Labels`.
     pub labels: Option<Annotations>,
-    /// The signal that ends the container, as `SIGTERM`: `StopSignal`.
+    /// The signal that stops the container, for example `SIGTERM`: `StopSignal`.
     pub stop_signal: Option<Text>,
 }
 
 impl Config {
     ghost use Rattle.oci_config.specs.Config.{config_of, no_config};
 
-    /// `Float` exactly where a float stands anywhere, else `Shape` exactly where the table does not read it.
+    /// Reads the member. Returns `Float` if and only if it contains a float, otherwise `Shape` if it does not match.
     pub fn read(alloc: Global, value: &Value) -> Result<Config, ReadError>
         ensures { ReadsDocument result config_of (view value.now) }
     {
         read_document(alloc, value)
     }
 
-    /// None in every field.
+    /// Returns a configuration in which all fields are `None`.
     pub fn default(_alloc: Global) -> Result<Config, AllocError>
         ensures { IfOk result (λ config. config ≡ no_config) }
     {
@@ -145,7 +145,7 @@ impl ToValue for Config {
 
     ghost written = { config_written };
 
-    /// Nothing that is none or empty is written. What it gives reads back, with what is empty made none.
+    /// Writes the member, omitting `None` and empty members. The result round-trips, with empty members read as `None`.
     #[tactic(auto, using(json_writing::proofs::Whole::document_again))]
     fn to_value(&self, alloc: Global) -> Result<Value, AllocError>
         ensures exact { IfOk result (λ v. view v ≡ config_written self.now) }

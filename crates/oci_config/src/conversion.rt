@@ -8,13 +8,13 @@ use oci_manifests::blob::Config;
 use std::alloc::{AllocError, Global};
 use thiserror::Error;
 
-/// Why a configuration gives no file.
+/// Why a configuration contains no file.
 #[derive(Clone, Copy, Debug, PartialEq, Eq, Error)]
 pub enum ConfigError {
-    /// Its bytes are no JSON, or no configuration file.
+    /// Its bytes are not JSON, or not a configuration file.
     #[error("the configuration is no configuration file: its bytes are no JSON, or lack a member of config.md")]
     Unreadable,
-    /// There was no memory for it.
+    /// The allocator is out of memory.
     #[error("out of memory: the same call may be made again")]
     WantOfMemory,
 }
@@ -39,8 +39,8 @@ impl From<AllocError> for ConfigError {
 impl ConfigFile {
     ghost use Rattle.oci_config.specs.Conversion.{ReadsFile};
 
-    /// What `read` gives of the JSON of the configuration's bytes; `Unreadable` exactly where they are no JSON or
-    /// it refuses that.
+    /// Returns what `read` returns for the JSON of the configuration's bytes, `Unreadable` if and only if they are not
+    /// JSON or `read` refuses it.
     pub fn from_config(alloc: Global, config: &Config) -> Result<ConfigFile, ConfigError>
         ensures { ReadsFile result config.now.content }
     {
@@ -51,17 +51,17 @@ impl ConfigFile {
     }
 }
 
-/// A configuration that holds a file.
+/// A configuration that contains a file.
 pub trait FromConfigFile: Sized {
     ghost use Rattle.std.specs.Prelude.{ℕ, List, Option};
     ghost use Rattle.std.specs.FinMap.{FinMap};
     ghost use Rattle.json_values.specs.Places.{by_bytes};
     ghost use Rattle.oci_config.specs.declared.file.ConfigFile.{ConfigFile};
 
-    /// What holds this file, with these annotations.
+    /// The configuration with this file and these annotations.
     ghost holding: { ConfigFile → Option (FinMap by_bytes (List ℕ)) → Self };
 
-    /// The compact text of the file's value, under OCI's configuration type.
+    /// Returns the compact text of the file's value, with OCI's media type of configurations.
     fn oci_v1_from_config_file(
         alloc: Global,
         config_file: &ConfigFile,

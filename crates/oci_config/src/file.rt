@@ -16,26 +16,26 @@ use std::alloc::{AllocError, Global};
 /// The configuration file of an image (OCI image specification, config.md).
 #[derive(Debug, PartialEq, Eq, Drop)]
 pub struct ConfigFile {
-    /// When the image was made.
+    /// When the image was created.
     pub created: Option<Time>,
-    /// Who made the image.
+    /// Who created the image.
     pub author: Option<Text>,
-    /// The processor that the programs are for, as `amd64`.
+    /// The processor architecture of the programs, for example `amd64`.
     pub architecture: Arch,
-    /// The operating system that the programs are for, as `linux`.
+    /// The operating system of the programs, for example `linux`.
     pub os: Os,
     /// How a container of the image is started.
     pub config: Option<Config>,
     /// The layers of the file system.
     pub rootfs: Rootfs,
-    /// How each layer came to be, from the lowest upward.
+    /// How each layer was created, from the lowest upward.
     pub history: Option<List<History>>,
 }
 
 impl ConfigFile {
     ghost use Rattle.oci_config.specs.File.{file_of};
 
-    /// `Float` exactly where a float stands anywhere, else `Shape` exactly where the table does not read it.
+    /// Reads a file. Returns `Float` if and only if it contains a float, otherwise `Shape` if it does not match.
     pub fn read(alloc: Global, value: &Value) -> Result<ConfigFile, ReadError>
         ensures { ReadsDocument result file_of (view value.now) }
     {
@@ -102,8 +102,8 @@ impl ToValue for ConfigFile {
 
     ghost written = { file_written };
 
-    /// Nothing that is none, an empty history, and nothing that is empty in `config` is written. What it gives reads
-    /// back, with what is empty made none.
+    /// Writes the file, omitting `None`, an empty history, and empty members of `config`. The result round-trips, with
+    /// empty members read as `None`.
     #[tactic(auto, using(json_writing::proofs::Whole::document_again))]
     fn to_value(&self, alloc: Global) -> Result<Value, AllocError>
         ensures exact { IfOk result (λ v. view v ≡ file_written self.now) }

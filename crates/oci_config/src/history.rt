@@ -10,32 +10,32 @@ use oci_times::Time;
 use serde_json::Value;
 use std::alloc::{AllocError, Global};
 
-/// A step by which an image was made (OCI image specification, config.md, `history`).
+/// A step in the creation of an image (OCI image specification, config.md, `history`).
 #[derive(Debug, Drop)]
 pub struct History {
-    /// When the step was made.
+    /// When the step was performed.
     pub created: Option<Time>,
-    /// Who made the step.
+    /// Who performed the step.
     pub author: Option<Text>,
-    /// The command that made the step.
+    /// The command that performed the step.
     pub created_by: Option<Text>,
     /// A remark on the step.
     pub comment: Option<Text>,
-    /// Whether the step left the file system as it was.
+    /// Whether the step left the file system unchanged.
     pub empty_layer: Option<bool>,
 }
 
 impl History {
     ghost use Rattle.oci_config.specs.History.{history_of, no_history};
 
-    /// `Float` exactly where a float stands anywhere, else `Shape` exactly where the table does not read it.
+    /// Reads a step. Returns `Float` if and only if it contains a float, otherwise `Shape` if it does not match.
     pub fn read(alloc: Global, value: &Value) -> Result<History, ReadError>
         ensures { ReadsDocument result history_of (view value.now) }
     {
         read_document(alloc, value)
     }
 
-    /// None in every field.
+    /// Returns a step in which all fields are `None`.
     pub fn default(_alloc: Global) -> Result<History, AllocError>
         ensures { IfOk result (λ history. history ≡ no_history) }
     {
@@ -103,7 +103,7 @@ impl ToValue for History {
 
     ghost written = { history_written };
 
-    /// None is not written. What it gives reads back.
+    /// Writes the step without its members that are `None`. The result round-trips.
     #[tactic(auto, using(json_writing::proofs::Whole::document_again))]
     fn to_value(&self, alloc: Global) -> Result<Value, AllocError>
         ensures exact { IfOk result (λ v. view v ≡ history_written self.now) }
@@ -130,7 +130,7 @@ impl Copied for History {
     }
 }
 
-/// Equality is that of all fields.
+/// Steps are equal if all fields are equal.
 impl PartialEq for History {
     ghost use Rattle.std.specs.Cmp.{partial_equiv_from_equiv};
     ghost use Rattle.oci_config.specs.Equalities.{is_same_history, histories};

@@ -11,34 +11,34 @@ use json_writing::{Writes, object};
 use serde_json::Value;
 use std::alloc::{AllocError, Global};
 
-/// The kind of a root file system that is made of layers.
+/// The kind of a root file system that consists of layers.
 pub const ROOTFS_TYPE: &'static str = "layers";
 
-/// The constant is this text.
+/// States the text of the constant.
 pub fn rootfs_type_is_layers()
     ensures { ROOTFS_TYPE.now ≡ codes "layers" }
 {}
 
-/// The layers that a root file system is made of (OCI image specification, config.md, `rootfs`).
+/// The layers of a root file system (OCI image specification, config.md, `rootfs`).
 #[derive(Debug, Drop)]
 pub struct Rootfs {
     /// The member `type`.
     pub kind: Text,
-    /// The digests of the layers before they were packed, from the lowest upward.
+    /// The digests of the uncompressed layers, from the lowest upward.
     pub diff_ids: List<Text>,
 }
 
 impl Rootfs {
     ghost use Rattle.oci_config.specs.Rootfs.{rootfs_of, no_layers};
 
-    /// `Float` exactly where a float stands anywhere, else `Shape` exactly where the table does not read it.
+    /// Reads the member. Returns `Float` if and only if it contains a float, otherwise `Shape` if it does not match.
     pub fn read(alloc: Global, value: &Value) -> Result<Rootfs, ReadError>
         ensures { ReadsDocument result rootfs_of (view value.now) }
     {
         read_document(alloc, value)
     }
 
-    /// The kind `layers`, and no layers.
+    /// Returns the kind `layers` without layers.
     pub fn default(alloc: Global) -> Result<Rootfs, AllocError>
         ensures { IfOk result (λ rootfs. rootfs ≡ no_layers) }
     {
@@ -93,7 +93,7 @@ impl ToValue for Rootfs {
 
     ghost written = { rootfs_written };
 
-    /// What it gives reads back.
+    /// Writes the layers. The result round-trips.
     #[tactic(auto, using(json_writing::proofs::Whole::document_again))]
     fn to_value(&self, alloc: Global) -> Result<Value, AllocError>
         ensures exact { IfOk result (λ v. view v ≡ rootfs_written self.now) }
@@ -118,7 +118,7 @@ fn are_same(a: &List<Text>, b: &List<Text>) -> bool
     a.as_slice() == b.as_slice()
 }
 
-/// Equality is that of all fields.
+/// Root file systems are equal if all fields are equal.
 impl PartialEq for Rootfs {
     ghost use Rattle.std.specs.Cmp.{partial_equiv_from_equiv};
     ghost use Rattle.oci_config.specs.Equalities.{is_same_rootfs, roots};

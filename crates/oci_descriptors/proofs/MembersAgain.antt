@@ -1,4 +1,4 @@
--- What is written of descriptors and entries is read back.
+-- Written descriptors and index entries round-trip.
 use Rattle.std.proofs.Common.{◌≡◌, ℕ, List, false, Option, Some, None, option_map, refl}
 use Rattle.serde_json.specs.Data.{Data, string, number, unsigned}
 use Rattle.serde_json.specs.Find.{get, of_integer}
@@ -15,7 +15,7 @@ use Rattle.oci_descriptors.specs.Descriptor.{descriptor_of, descriptor_fields, d
 use Rattle.oci_descriptors.specs.Platform.{platform_of, platform_fields, platform_written}
 use Rattle.oci_descriptors.specs.IndexEntry.{entry_of, entry_fields, entry_written}
 
--- an option that reads back, and its data
+-- an option that round-trips, and its data
 abbrev pub Optional : {X : Type 0} → (Data → Option X) → (X → Data) → Option X → Type 0
 Optional f w x = MemberReadsAgain (unless_null f) (option_map w x) x false
 

@@ -1,4 +1,4 @@
--- The names of annotations (OCI image specification, annotations.md): each public constant is its text.
+-- The names of annotations (OCI image specification, annotations.md): the text of each public constant.
 use Rattle.std.specs.Prelude.{◌≡◌, codes, refl}
 use Rattle.oci_descriptors.specs.declared.annotations.TheConstants as constant
 

@@ -39,7 +39,7 @@ descriptor_fields x =
 unfoldable pub descriptor_written : OciDescriptor → Data
 descriptor_written x = fields (descriptor_fields x)
 
--- the descriptor of nothing, of the type of OCI's configurations
+-- the empty descriptor, with the media type of OCI's configurations
 abbrev pub empty_descriptor : OciDescriptor
 empty_descriptor = record {
   media_type = codes "application/vnd.oci.image.config.v1+json";

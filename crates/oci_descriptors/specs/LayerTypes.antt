@@ -1,5 +1,5 @@
--- Media types of layers (OCI image specification, media-types.md, and Docker's image manifest V2, schema 2): each
--- public constant is its text.
+-- Media types of layers (OCI image specification, media-types.md, and Docker's image manifest V2, schema 2): the
+-- text of each public constant.
 use Rattle.std.specs.Prelude.{◌≡◌, codes, refl}
 use Rattle.oci_descriptors.specs.declared.layer_types.TheConstants as constant
 

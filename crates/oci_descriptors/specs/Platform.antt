@@ -1,4 +1,4 @@
--- The platform that an image runs on (OCI image specification, image-index.md).
+-- The platform for which an image is built (OCI image specification, image-index.md).
 use Rattle.std.specs.Prelude.{List, [], ◌∷◌, Option, Some, option_map, codes}
 use Rattle.serde_json.specs.Data.{Data, string}
 use Rattle.json_values.specs.Writing.{listed}

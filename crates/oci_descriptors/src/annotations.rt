@@ -24,7 +24,7 @@ pub const ORG_OPENCONTAINERS_IMAGE_REVISION: &'static str = "org.opencontainers.
 /// Who distributes the image.
 pub const ORG_OPENCONTAINERS_IMAGE_VENDOR: &'static str = "org.opencontainers.image.vendor";
 
-/// The licenses of what it holds, as an SPDX expression.
+/// The licenses of its contents, as an SPDX expression.
 pub const ORG_OPENCONTAINERS_IMAGE_LICENSES: &'static str = "org.opencontainers.image.licenses";
 
 /// The name of a reference.
@@ -37,9 +37,9 @@ pub const ORG_OPENCONTAINERS_IMAGE_TITLE: &'static str = "org.opencontainers.ima
 pub const ORG_OPENCONTAINERS_IMAGE_DESCRIPTION: &'static str =
     "org.opencontainers.image.description";
 
-/// The digest of the image that it was built on.
+/// The digest of its base image.
 pub const ORG_OPENCONTAINERS_IMAGE_BASE_DIGEST: &'static str =
     "org.opencontainers.image.base.digest";
 
-/// The reference of the image that it was built on.
+/// The reference of its base image.
 pub const ORG_OPENCONTAINERS_IMAGE_BASE_NAME: &'static str = "org.opencontainers.image.base.name";

@@ -12,30 +12,30 @@ use std::alloc::{AllocError, Global};
 /// A descriptor (OCI image specification, descriptor.md).
 #[derive(Debug, Drop)]
 pub struct OciDescriptor {
-    /// What the bytes are.
+    /// The media type of the bytes.
     pub media_type: Text,
-    /// The digest that names the bytes.
+    /// The digest of the bytes.
     pub digest: Text,
-    /// How many bytes there are.
+    /// The number of bytes.
     pub size: i64,
-    /// Where else the bytes may be got.
+    /// Other locations of the bytes.
     pub urls: Option<List<Text>>,
     pub annotations: Option<Annotations>,
-    /// What the artifact is that the descriptor leads to.
+    /// The type of the artifact to which the descriptor leads.
     pub artifact_type: Option<Text>,
 }
 
 impl OciDescriptor {
     ghost use Rattle.oci_descriptors.specs.Descriptor.{descriptor_of, empty_descriptor};
 
-    /// `Float` exactly where a float stands anywhere, else `Shape` exactly where the table does not read it.
+    /// Reads a descriptor. Returns `Float` if and only if it contains a float, otherwise `Shape` if it does not match.
     pub fn read(alloc: Global, value: &Value) -> Result<OciDescriptor, ReadError>
         ensures { ReadsDocument result descriptor_of (view value.now) }
     {
         read_document(alloc, value)
     }
 
-    /// The descriptor of nothing, of the type of OCI's configurations.
+    /// Returns the empty descriptor, with the media type of OCI's configurations.
     pub fn default(alloc: Global) -> Result<OciDescriptor, AllocError>
         ensures { IfOk result (λ descriptor. descriptor ≡ empty_descriptor) }
     {
@@ -117,7 +117,7 @@ impl ToValue for OciDescriptor {
 
     ghost written = { descriptor_written };
 
-    /// What it gives reads back. None is not written.
+    /// Writes the descriptor without its members that are `None`. The result round-trips.
     #[tactic(auto, using(json_writing::proofs::Whole::document_again))]
     fn to_value(&self, alloc: Global) -> Result<Value, AllocError>
         ensures exact { IfOk result (λ v. view v ≡ descriptor_written self.now) }

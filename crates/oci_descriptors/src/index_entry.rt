@@ -23,7 +23,7 @@ pub struct ImageIndexEntry {
 impl ImageIndexEntry {
     ghost use Rattle.oci_descriptors.specs.IndexEntry.{entry_of};
 
-    /// `Float` exactly where a float stands anywhere, else `Shape` exactly where the table does not read it.
+    /// Reads an entry. Returns `Float` if and only if it contains a float, otherwise `Shape` if it does not match.
     pub fn read(alloc: Global, value: &Value) -> Result<ImageIndexEntry, ReadError>
         ensures { ReadsDocument result entry_of (view value.now) }
     {
@@ -103,7 +103,7 @@ impl ToValue for ImageIndexEntry {
 
     ghost written = { entry_written };
 
-    /// What it gives reads back. None is not written.
+    /// Writes the entry without its members that are `None`. The result round-trips.
     #[tactic(auto, using(json_writing::proofs::Whole::document_again))]
     fn to_value(&self, alloc: Global) -> Result<Value, AllocError>
         ensures exact { IfOk result (λ v. view v ≡ entry_written self.now) }

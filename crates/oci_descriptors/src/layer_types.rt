@@ -16,7 +16,7 @@ pub const IMAGE_DOCKER_LAYER_TAR_MEDIA_TYPE: &'static str =
 pub const IMAGE_DOCKER_LAYER_GZIP_MEDIA_TYPE: &'static str =
     "application/vnd.docker.image.rootfs.diff.tar.gzip";
 
-/// A layer that registries may not hand on, a tar archive.
+/// A non-distributable layer, a tar archive.
 pub const IMAGE_LAYER_NONDISTRIBUTABLE_MEDIA_TYPE: &'static str =
     "application/vnd.oci.image.layer.nondistributable.v1.tar";
 

@@ -9,12 +9,12 @@ use oci_names::{Arch, Os};
 use serde_json::Value;
 use std::alloc::{AllocError, Global};
 
-/// The platform that an image runs on (OCI image specification, image-index.md).
+/// The platform for which an image is built (OCI image specification, image-index.md).
 #[derive(Debug, PartialEq, Eq, Drop)]
 pub struct Platform {
-    /// The processor that the programs are for.
+    /// The processor architecture of the programs.
     pub architecture: Arch,
-    /// The operating system that the programs are for.
+    /// The operating system of the programs.
     pub os: Os,
     pub os_version: Option<Text>,
     pub os_features: Option<List<Text>>,
@@ -25,7 +25,7 @@ pub struct Platform {
 impl Platform {
     ghost use Rattle.oci_descriptors.specs.Platform.{platform_of};
 
-    /// `Float` exactly where a float stands anywhere, else `Shape` exactly where the table does not read it.
+    /// Reads a platform. Returns `Float` if and only if it contains a float, otherwise `Shape` if it does not match.
     pub fn read(alloc: Global, value: &Value) -> Result<Platform, ReadError>
         ensures { ReadsDocument result platform_of (view value.now) }
     {
@@ -101,7 +101,7 @@ impl ToValue for Platform {
 
     ghost written = { platform_written };
 
-    /// What it gives reads back. None is not written.
+    /// Writes the platform without its members that are `None`. The result round-trips.
     #[tactic(auto, using(json_writing::proofs::Whole::document_again))]
     fn to_value(&self, alloc: Global) -> Result<Value, AllocError>
         ensures exact { IfOk result (λ v. view v ≡ platform_written self.now) }

@@ -1,4 +1,4 @@
--- Truth values that decide an equality of texts.
+-- `bool` values that decide an equality of texts.
 use Rattle.std.proofs.Common.{◌≡◌, ◌↔◌, ◌⊎◌, inl, inr, ℕ, List, Bool, true, false, IsTrue, ◌||◌, bytes_eq, refl, sym, true≢false}
 use Rattle.std.proofs.lemmas.Slice.Eq.{bytes_eq-Decides}
 use Rattle.std.proofs.lemmas.Bool.Decides.{same_from_decides}
@@ -48,6 +48,6 @@ any_one text bytes Sha512 e =
     right_true (names_by Sha256 text bytes || names_by Sha384 text bytes) (names_by Sha512 text bytes)
     (this_one Sha512 text bytes e)
 
--- the test is true exactly where the text names the bytes
+-- the test is true if and only if the text names the bytes
 pub named : (text bytes : List ℕ) → IsTrue (names text bytes) ↔ Names text bytes
 named text bytes = (some_one text bytes, λ n. any_one text bytes n.0 n.1)

@@ -1,4 +1,4 @@
--- A body is validated exactly where each digest that is given names it.
+-- A body is validated if and only if each given digest names it.
 use Rattle.std.proofs.Common.{◌≡◌, ℕ, ◌++◌, Bool, true, false, List, length, bytes_eq, if◌then◌else◌, Option, Some, None, Result, Ok, Err, IfOk, IfErr, MatchBool, codes, refl, sym, ap, ◌∙◌, subst, true≢false, arith}
 use Rattle.std.proofs.lemmas.Slice.Eq.{bytes_eq-Decides}
 use Rattle.std.proofs.lemmas.Bool.{lt-ltb}
@@ -37,7 +37,7 @@ chosen : {A : Type 0} (b : Bool) (x y : A) → b ≡ true → (if b then x else 
 chosen true x y e = refl
 chosen false x y e = absurd (true≢false (sym e))
 
--- a text that names the body is what its check answers
+-- if a text names the body, its check returns the text
 checks : (body text : List ℕ) → Names text body → checked body text ≡ Ok text
 checks body text n =
     let P : List ℕ → Type 0 = λ t. checked body t ≡ Ok t in
@@ -56,7 +56,7 @@ ok_before : {A B : Type 0} (r : Result A DigestError) (f : A → Result B Digest
 ok_before (Ok a) f b e = (a, refl, e)
 ok_before (Err x) f b e = cc
 
--- a check answers a text that names the body
+-- if a check returns a text, it names the body
 names_it : (body text answer : List ℕ) → checked body text ≡ Ok answer → Names text body × (text ≡ answer)
 names_it body text answer e =
     let found = ok_before (named_algorithm text) (λ a. checked_by a body text) answer e in

@@ -1,4 +1,4 @@
--- A text of a header is UTF-8.
+-- Header text is UTF-8.
 use Rattle.std.proofs.Common.{◌≡◌, ℕ, ◌<◌, Bool, true, false, ◌&&◌, ◌||◌, ◌==◌, nat_le, List, length, get_or, IsUtf8, sym, ◌∙◌, arith}
 use Rattle.std.proofs.lemmas.List.Folds.{list_all_at}
 use Rattle.std.proofs.lemmas.Str.Ascii.{IsAscii-from_reads}

@@ -20,7 +20,7 @@ ok_is a b e = cc
 algorithm : (text bytes : List ℕ) (n : Names text bytes) → named_algorithm text ≡ Ok n.0
 algorithm text bytes n = ap named_algorithm n.1 ∙ algorithm_named n.0 (encode_lower (hash_of n.0 bytes))
 
--- of two texts under one algorithm, one of which names the bytes, the other does exactly where they are equal
+-- of two texts with one algorithm, one of which names the bytes, the other does if and only if they are equal
 pub names_known : (text known bytes : List ℕ) → Names known bytes → named_algorithm text ≡ named_algorithm known → names text bytes ≡ bytes_eq text known
 names_known text known bytes known_names same =
     let only : Names text bytes → text ≡ known = λ n.
@@ -31,13 +31,13 @@ names_known text known bytes known_names same =
     (λ t. only ((named text bytes).0 t), λ e. (named text bytes).1 (too e))
     (bytes_eq-Decides text known)
 
--- equal names of algorithms are the name of one algorithm
+-- equal algorithm names are the name of one algorithm
 pub same_algorithm : (text known : List ℕ) (p q : List ℕ × List ℕ) → parts_of text ≡ Some p → parts_of known ≡ Some q → p.0 ≡ q.0 → named_algorithm text ≡ named_algorithm known
 same_algorithm text known p q a b same = ap named_by a ∙ by same ∙ sym (ap named_by b) where
   by : p.0 ≡ q.0 → named_by (Some p) ≡ named_by (Some q)
   by e = ap (λ name. named_by (Some (name, p.1))) e
 
--- a text that begins otherwise is not a name and digits
+-- a string that begins with another name is not this name and digits
 pub begins : (b : Bool) (text name digits : List ℕ) → ((rest : List ℕ) → text ≡ name ++ rest → IsTrue b) → (b && bytes_eq text (name ++ digits)) ≡ bytes_eq text (name ++ digits)
 begins true text name digits h = refl
 begins false text name digits h = by (bytes_eq text (name ++ digits)) (bytes_eq-Decides text (name ++ digits)).0 where

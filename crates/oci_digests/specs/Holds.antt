@@ -1,4 +1,4 @@
--- What a digester was given.
+-- The bytes that a digester has hashed.
 use Rattle.std.specs.Prelude.{◌≡◌, ℕ, List, [], MatchBool, Result, Ok, Err}
 use Rattle.sha2.specs.Hashers.{Holds256, Holds384, Holds512}
 use Rattle.oci_digests.specs.Error.{is_memory}
@@ -9,18 +9,18 @@ use Rattle.oci_digests.specs.declared.digester.Hasher.{Hasher}
 use Rattle.oci_digests.specs.declared.digester.Hasher.TheVariants as hashers
 use Rattle.oci_digests.specs.declared.error.DigestError.{DigestError}
 
--- the hasher is of this algorithm and was given these bytes
+-- the hasher has this algorithm and has hashed these bytes
 abbrev pub HasherHolds : Hasher → Algorithm → List ℕ → Type 0
 HasherHolds (hashers.Sha256 s) algorithms.Sha256 m = Holds256 s m
 HasherHolds (hashers.Sha384 s) algorithms.Sha384 m = Holds384 s m
 HasherHolds (hashers.Sha512 s) algorithms.Sha512 m = Holds512 s m
 HasherHolds h a m = ⊥
 
--- the digester is of this algorithm and was given these bytes
+-- the digester has this algorithm and has hashed these bytes
 abbrev pub Holds : Digester → Algorithm → List ℕ → Type 0
 Holds d a m = HasherHolds d.hasher a m
 
--- a new digester of the algorithm, or the refusal, unless memory was wanting
+-- a new digester of the algorithm, or the error, or out of memory
 abbrev pub SaysDigester : Result Digester DigestError → Result Algorithm DigestError → Type 0
 SaysDigester (Ok d) (Ok a) = Holds d a []
 SaysDigester (Ok d) (Err e) = ⊥

@@ -6,7 +6,7 @@ use Rattle.hex.specs.Hex.{encode_lower}
 use Rattle.oci_digests.specs.declared.digester.Algorithm.{Algorithm}
 use Rattle.oci_digests.specs.declared.digester.Algorithm.TheVariants as algorithms
 
--- the name of the algorithm and the colon
+-- the name of the algorithm and a colon
 abbrev pub name_of : Algorithm → List ℕ
 name_of algorithms.Sha256 = codes "sha256:"
 name_of algorithms.Sha384 = codes "sha384:"
@@ -25,7 +25,7 @@ digest_text a bytes = name_of a ++ encode_lower (hash_of a bytes)
 abbrev pub Names : List ℕ → List ℕ → Type 0
 Names text bytes = (a : Algorithm) × (text ≡ digest_text a bytes)
 
--- whether the text is the text of the hash of the bytes by this algorithm
+-- whether the text is that of the hash of the bytes by this algorithm
 abbrev pub names_by : Algorithm → List ℕ → List ℕ → Bool
 names_by a text bytes = bytes_eq text (digest_text a bytes)
 

@@ -1,4 +1,4 @@
-// One body, hashed for the digests of a header and of a descriptor.
+// One body, hashed for the digests in a header and in a descriptor.
 ghost use Rattle.std.specs.Prelude.{◌≡◌, ◌++◌, [], List, ℕ, IfOk};
 ghost use Rattle.oci_digests.specs.Both.{GivenHolds, given_text};
 ghost use Rattle.oci_digests.specs.Names.{digest_text};
@@ -7,7 +7,7 @@ use crate::digester::{Algorithm, Digester};
 use json_values::{Copied, Text, copied};
 use std::alloc::{AllocError, Global};
 
-// How a body is hashed for the digest of a header.
+// How a body is hashed for the digest in a header.
 #[derive(Drop)]
 enum Given {
     // The header names no digest.
@@ -18,18 +18,18 @@ enum Given {
     Other(Digester),
 }
 
-/// Hashes a body by the algorithm of an answer's header, where it names a digest, and by that of a descriptor. Where
-/// the two are equal each byte is hashed once.
+/// Hashes a body by the algorithm of a response's digest header, if present, and by that of a descriptor. If the two
+/// are equal, each byte is hashed once.
 #[derive(Drop)]
 pub struct Digesters {
     given: Given,
     own: Digester,
 }
 
-/// The digest texts of a body by the algorithm of a header, where it names a digest, and by that of a descriptor.
+/// The digest texts of a body by the algorithm of a digest header, if present, and by that of a descriptor.
 #[derive(Drop)]
 pub struct DigestTexts {
-    /// By the header's algorithm, where there is one.
+    /// By the header's algorithm, if present.
     pub given: Option<Text>,
     /// By the descriptor's algorithm.
     pub own: Text,
@@ -62,7 +62,7 @@ fn update_given(given: &mut Given, piece: &[u8])
     }
 }
 
-// The text by the header's algorithm, where the descriptor's text is this one.
+// Returns the text by the header's algorithm, given the descriptor's text.
 fn given_text(alloc: Global, given: &mut Given, own: &Text) -> Result<Option<Text>, AllocError>
     ensures { (a : _) (b : _) (m : List ℕ) → GivenHolds given.old a b m → own.now ≡ digest_text b m
         → IfOk result (λ text. text ≡ given_text a m) }
@@ -83,7 +83,7 @@ fn given_text(alloc: Global, given: &mut Given, own: &Text) -> Result<Option<Tex
 impl Digesters {
     ghost use Rattle.oci_digests.specs.Both.{BothHold, texts_of};
 
-    /// Digesters of these algorithms, given nothing yet.
+    /// Creates digesters of these algorithms.
     pub fn of(given: Option<Algorithm>, own: Algorithm) -> Digesters
         ensures { BothHold result given own [] }
     {
@@ -102,7 +102,7 @@ impl Digesters {
         self.own.update(piece);
     }
 
-    /// The texts of what came in, as two digesters would answer them.
+    /// Returns the digest texts of the hashed bytes, as two digesters would.
     pub fn texts(&mut self, alloc: Global) -> Result<DigestTexts, AllocError>
         ensures { (a : _) (b : _) (m : List ℕ) → BothHold self.old a b m
             → IfOk result (λ texts. texts ≡ texts_of a b m) }

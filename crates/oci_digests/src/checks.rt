@@ -1,4 +1,4 @@
-// A body against the digest texts of a header and of a reference.
+// Checks a body against the digest texts of a header and of a reference.
 ghost use Rattle.std.specs.Prelude.{◌≡◌, true, false, ℕ, List, Some, MatchOption, IfOk, IfErr};
 ghost use Rattle.std.specs.Option.{option_copied};
 ghost use Rattle.oci_digests.specs.Checks.{checked, validated, header_digest, is_header_text};
@@ -27,7 +27,7 @@ fn algorithm_of(name: &str) -> Option<Algorithm>
     }
 }
 
-/// The algorithm that a digest text names.
+/// Returns the algorithm that a digest text names.
 pub fn named_algorithm(alloc: Global, text: &str) -> Result<Algorithm, DigestError>
     ensures { Says result (named_algorithm text.now) }
 {
@@ -38,7 +38,7 @@ pub fn named_algorithm(alloc: Global, text: &str) -> Result<Algorithm, DigestErr
     }
 }
 
-// The text, where it names the body.
+// Returns the text, if it names the body.
 fn check(alloc: Global, body: &[u8], text: &str) -> Result<Text, DigestError>
     ensures { Says result (checked body.now text.now) }
 {
@@ -51,11 +51,11 @@ fn check(alloc: Global, body: &[u8], text: &str) -> Result<Text, DigestError>
     Err(DigestError::VerificationError { expected, actual })
 }
 
-/// The digest of a body, by the digest in its header and the one in its reference.
+/// Returns the digest of a body, checked against the digest in its header and the one in its reference.
 ///
-/// `MissingAlgorithm` where a text that is given has no colon. Then the reference's text is checked, and then the
-/// header's where it is another one; a check refuses `UnsupportedAlgorithm`, or `VerificationError` with the given and
-/// the computed text. The answer is the header's text, else the reference's, else the SHA-256 text of the body.
+/// Returns `MissingAlgorithm` if a given text has no colon. Then checks the reference's text, and the header's if it
+/// differs; a check returns `UnsupportedAlgorithm`, or `VerificationError` with the expected and the actual text.
+/// On success returns the header's text, else the reference's, else the SHA-256 text of the body.
 #[tactic(auto, using(crate::proofs::ExactChecks::ok_of, crate::proofs::ExactChecks::err_of))]
 pub fn validate_digest(
     alloc: Global,
@@ -107,7 +107,7 @@ fn check_both(
     Ok(text)
 }
 
-// The value as a text, where each byte may stand in one.
+// Returns the value as text, if each byte is valid in one.
 #[tactic(auto, using(crate::proofs::HeaderText::not_text))]
 fn header_text(value: &[u8]) -> Option<&str>
     ensures { MatchOption result
@@ -131,8 +131,8 @@ fn is_header_text(value: &[u8]) -> bool
         .all(|&byte| byte == 0x09 || (0x20 <= byte && byte <= 0x7E))
 }
 
-/// The digest in the value of the first `Docker-Content-Digest` header (OCI distribution specification, "Pulling
-/// manifests"): none where the header is absent or empty, `InvalidHeader` where it is not text.
+/// Returns the digest in the value of the first `Docker-Content-Digest` header (OCI distribution specification,
+/// "Pulling manifests"): `None` if the header is missing or empty. Returns `InvalidHeader` if it is not text.
 pub fn digest_header_value(alloc: Global, value: Option<&[u8]>) -> Result<Option<Text>, DigestError>
     ensures { Says result (header_digest (option_copied value.entry)) }
 {

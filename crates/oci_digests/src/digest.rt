@@ -9,14 +9,14 @@ use std::fmt;
 /// The parts of a digest text, around its first colon (OCI image specification, descriptor.md, "Digests").
 #[derive(Clone, Copy, Debug)]
 pub struct Digest<'a> {
-    /// What stands before the first colon.
+    /// The text before the first colon.
     pub algorithm: &'a str,
-    /// What stands behind it.
+    /// The text after it.
     pub digest: &'a str,
 }
 
 impl<'a> Digest<'a> {
-    /// `MissingAlgorithm` where the text has no colon. The parts are printed as the text that they were read from.
+    /// Splits a digest text. Returns `MissingAlgorithm` if it has no colon. The parts are printed as the text.
     pub fn new(digest: &'a str) -> Result<Digest<'a>, DigestError>
         ensures parts { MatchResult result
             (λ parts. parts_of digest.now ≡ Some (parts.algorithm.now, parts.digest.now))
@@ -80,7 +80,7 @@ impl PartialOrd for Digest<'_> {
     }
 }
 
-/// By algorithm, and then by digest, each by its bytes.
+/// Digests are ordered by algorithm, then by digest, each by its bytes.
 impl Ord for Digest<'_> {
     ghost use Rattle.std.proofs.Common.{rules};
     ghost use Rattle.std.specs.Cmp.Rules.{comparing};

@@ -31,7 +31,7 @@ enum Hasher {
     Sha512(Sha512),
 }
 
-/// Hashes pieces as they come, by one algorithm.
+/// Hashes pieces by one algorithm.
 #[derive(Drop)]
 pub struct Digester {
     hasher: Hasher,
@@ -42,10 +42,10 @@ impl Digester {
     ghost use Rattle.oci_digests.specs.Checks.{named_algorithm};
     ghost use Rattle.oci_digests.specs.Names.{digest_text};
 
-    /// A digester of the algorithm that a digest text names, given nothing yet.
+    /// Creates a digester of the algorithm that a digest text names.
     ///
-    /// `MissingAlgorithm` where the text has no colon, `UnsupportedAlgorithm` where the part before the first colon is
-    /// not `sha256`, `sha384` or `sha512`.
+    /// Returns `MissingAlgorithm` if the text has no colon, `UnsupportedAlgorithm` if the part before the first colon
+    /// is not `sha256`, `sha384` or `sha512`.
     pub fn new(alloc: Global, digest: &str) -> Result<Digester, DigestError>
         ensures { SaysDigester result (named_algorithm digest.now) }
     {
@@ -53,7 +53,7 @@ impl Digester {
         Ok(Digester::of(algorithm))
     }
 
-    /// A digester of this algorithm, given nothing yet.
+    /// Creates a digester of this algorithm.
     pub fn of(algorithm: Algorithm) -> Digester
         ensures { Holds result algorithm [] }
     {
@@ -77,7 +77,7 @@ impl Digester {
         }
     }
 
-    /// The digest text of what came in. Afterwards the digester is as new.
+    /// Returns the digest text of the hashed bytes, and resets the digester.
     pub fn finalize(&mut self, alloc: Global) -> Result<Text, AllocError>
         ensures text { (a : _) (m : List ℕ) → Holds self.old a m
             → IfOk result (λ text. text ≡ digest_text a m) }

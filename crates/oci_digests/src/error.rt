@@ -9,30 +9,30 @@ use thiserror::Error;
 /// Why a digest text is refused.
 #[derive(Debug, Drop, Error)]
 pub enum DigestError {
-    /// A digest header that is not text: a byte of it is neither 0x09 nor from 0x20 to 0x7E.
+    /// The digest header is not text: it has a byte that is neither 0x09 nor from 0x20 to 0x7E.
     #[error("the digest header is not text: ask the registry for visible ASCII")]
     InvalidHeader(Blob),
-    /// The text before the first colon, which names none of the algorithms.
+    /// The text before the first colon does not name a supported algorithm.
     #[error("the digest's algorithm is not supported: give sha256, sha384 or sha512")]
     UnsupportedAlgorithm(Text),
     /// The digest text has no colon.
     #[error("the digest names no algorithm: give algorithm:digits")]
     MissingAlgorithm,
-    /// The digest that was given is not the one that was computed.
+    /// The given digest is not the computed one.
     #[error("the digest does not name the bytes: do not use them")]
     VerificationError {
-        /// The text that was given.
+        /// The given text.
         expected: Text,
-        /// The text that was computed.
+        /// The computed text.
         actual: Text,
     },
-    /// The allocator had no memory.
+    /// The allocator is out of memory.
     #[error("out of memory: free some and try again")]
     WantOfMemory,
 }
 
 impl DigestError {
-    /// Whether memory was wanting.
+    /// Returns whether the error is `WantOfMemory`.
     pub fn is_memory(&self) -> bool
         ensures { result ≡ is_memory self.now }
     {

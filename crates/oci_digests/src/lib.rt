@@ -1,4 +1,4 @@
-//! Digests of bytes by SHA-2, as the OCI image specification writes them, and checks of bodies against them.
+//! SHA-2 digests in the form of the OCI image specification, and checks of bodies against them.
 #![tactic(auto)]
 
 mod both;

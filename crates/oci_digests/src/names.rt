@@ -10,7 +10,7 @@ use json_values::Text;
 use sha2::{Digest, Sha256, Sha384, Sha512};
 use std::alloc::{AllocError, Global};
 
-/// Whether the text is the text of a hash of the bytes, which are hashed by the algorithm that it begins with alone.
+/// Returns whether the text names the bytes. Hashes them only by the algorithm with which the text begins.
 #[tactic(auto, using(crate::proofs::Equal::named))]
 pub fn names_digest(text: &str, bytes: &[u8]) -> bool
     ensures exact { IsTrue result ↔ Names text.now bytes.now }
@@ -20,8 +20,8 @@ pub fn names_digest(text: &str, bytes: &[u8]) -> bool
     is_sha256(text, bytes) || is_sha384(text, bytes) || is_sha512(text, bytes)
 }
 
-/// Whether the text names the bytes, of which it is known that another text names them: no byte is hashed where both
-/// texts are of one algorithm.
+/// Returns whether the text names the bytes, given that the text `known` does: hashes nothing if both texts have one
+/// algorithm.
 #[tactic(auto, using(crate::proofs::SameBytes::names_known))]
 pub fn names_known(text: &str, known: &str, bytes: &[u8]) -> bool
     requires { Names known.now bytes.now }
@@ -73,7 +73,7 @@ fn begins(text: &[u8], name: &[u8]) -> bool
     is_same(text.split_at(name.len()).0, name)
 }
 
-// Whether the text is the name and the digits of the hash.
+// Returns whether the text consists of the name and the digits of the hash.
 #[tactic(auto, using(crate::proofs::Equal::as_decided))]
 fn has_hash(text: &[u8], name: &[u8], hash: &[u8]) -> bool
     requires { length hash.now ≤ 64 }
@@ -121,7 +121,7 @@ fn is_hex_by(digits: &[u8], hash: &[u8], buffer: &mut [u8]) -> bool
     }
 }
 
-/// The text of a hash of the bytes.
+/// Returns the digest text of the bytes by this algorithm.
 pub fn digest_text(alloc: Global, algorithm: Algorithm, bytes: &[u8]) -> Result<Text, AllocError>
     ensures { IfOk result (λ text. text ≡ digest_text algorithm bytes.now) }
 {
@@ -132,7 +132,7 @@ pub fn digest_text(alloc: Global, algorithm: Algorithm, bytes: &[u8]) -> Result<
     }
 }
 
-/// The SHA-256 text of the bytes.
+/// Returns the SHA-256 text of the bytes.
 pub fn sha256_digest(alloc: Global, bytes: &[u8]) -> Result<Text, AllocError>
     ensures { IfOk result (λ text. text ≡ digest_text Algorithm.Sha256 bytes.now) }
 {

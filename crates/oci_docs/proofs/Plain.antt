@@ -1,4 +1,4 @@
--- Names and texts hold no floats.
+-- Names and strings contain no floats.
 use Rattle.std.proofs.Common.{◌≡◌, ℕ, List, false, ◌||◌, refl, ap, ◌∙◌}
 use Rattle.std.proofs.lemmas.Bool.{or_parts}
 use Rattle.serde_json.specs.Data.{Data, null, boolean, number, string, array, object, Items, no_items, item, Members, no_members, member}
@@ -27,6 +27,6 @@ mutual
       let parts = or_parts (has_float d) (members_have_float ms) h in
       members_plain _ ms (put_plain (composed_text k) (composed d) before (composed_plain d parts.0) p) parts.1
 
--- the text of a composed value
+-- the text of a value in NFC
 pub text_of_composed : (s : List ℕ) (v d : Data) → (has_float v ≡ false → s ≡ compact_text v) → v ≡ composed d → has_float d ≡ false → s ≡ compact_text (composed d)
 text_of_composed s v d text same plain = text (ap has_float same ∙ composed_plain d plain) ∙ ap compact_text same

@@ -1,4 +1,4 @@
--- Items that are composed one after another.
+-- Items that are normalized one after another.
 use Rattle.std.proofs.Common.{◌≡◌, List, [], ◌∷◌, map, refl, ap}
 use Rattle.serde_json.specs.declared.value.Value.{Value}
 use Rattle.serde_json.specs.Data.{Data, item}

@@ -1,4 +1,4 @@
--- JSON with all names and texts in NFC (Unicode Standard Annex 15).
+-- JSON with all names and strings in NFC (Unicode Standard Annex 15).
 use Rattle.std.specs.Prelude.{ℕ, List, chars, encode_utf8_all}
 use Rattle.unicode_normalization.specs.Forms.{nfc}
 use Rattle.serde_json.specs.Data.{Data, null, boolean, number, string, array, object, Items}
@@ -8,8 +8,8 @@ use Rattle.serde_json.specs.Data.{no_items, item, Members, no_members, member, p
 abbrev pub composed_text : List ℕ → List ℕ
 composed_text text = encode_utf8_all (nfc (chars text))
 
--- The members go in one after another, in the order of their names' bytes: of two names that are equal in NFC the
--- later one's value stays.
+-- Members are inserted one after another, in the order of their names' bytes: of two names that are equal in NFC, the
+-- value of the later one is kept.
 abbrev mutual
   pub composed : Data → Data
   composed null = null

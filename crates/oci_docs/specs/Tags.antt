@@ -5,7 +5,7 @@ use Rattle.json_tables.specs.Reading.{◌>>=◌, text_of, list_of}
 use Rattle.json_tables.specs.Member.{required, at_name}
 use Rattle.oci_docs.specs.declared.tags.TagResponse.{TagResponse}
 
--- a list of texts that must be there, where null is the empty list
+-- a list of strings that must be present, null being the empty list
 abbrev pub tags_of : Option Data → Option (List (List ℕ))
 tags_of None = None
 tags_of (Some null) = Some []

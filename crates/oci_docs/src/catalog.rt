@@ -16,7 +16,7 @@ pub struct CatalogResponse {
 impl CatalogResponse {
     ghost use Rattle.oci_docs.specs.Catalog.{catalog_response_of};
 
-    /// `Float` exactly where a float stands anywhere, else `Shape` exactly where the table does not read it.
+    /// Reads a listing. Returns `Float` if and only if it contains a float, otherwise `Shape` if it does not match.
     pub fn read(alloc: Global, value: &Value) -> Result<CatalogResponse, ReadError>
         ensures { ReadsDocument result catalog_response_of (view value.now) }
     {

@@ -1,5 +1,5 @@
-//! The documents that registries keep, as OCI's specifications have them: manifests, indexes, errors, listings,
-//! configuration files and their times, digests, and the text of a manifest that is pushed.
+//! The documents of registries by OCI's specifications: manifests, indexes, errors, listings, configuration files and
+//! their times, digests, and the text of a pushed manifest.
 #![tactic(auto)]
 
 ghost use Rattle.std.specs.Prelude.{◌≡◌, codes};
@@ -42,10 +42,10 @@ pub use oci_times::Time;
 pub use tags::TagResponse;
 pub use written::manifest_text;
 
-/// The bytes of a configuration that says nothing.
+/// The bytes of an empty configuration.
 pub const CONFIG_DATA: &'static str = "{}";
 
-/// The constant is this text.
+/// States the text of the constant.
 pub fn config_data_is_an_empty_object()
     ensures { CONFIG_DATA.now ≡ codes "{}" }
 {}

@@ -1,4 +1,4 @@
-// JSON with all names and texts in NFC (Unicode Standard Annex 15).
+// JSON with all names and strings in NFC (Unicode Standard Annex 15).
 ghost use Rattle.std.specs.Prelude.{◌≡◌, IfOk, false};
 ghost use Rattle.serde_json.specs.Data.{no_members};
 ghost use Rattle.serde_json.specs.View.{view, items_view, members_view};
@@ -10,8 +10,8 @@ use serde_json::{Map, Value, put};
 use std::alloc::{AllocError, Global};
 use unicode_normalization::to_nfc;
 
-/// The text, with no white space and names in the order of their bytes, of a value whose names and texts are put in
-/// NFC. The value is to hold no float.
+/// Returns the text of a value with names and strings in NFC, without white space, names in the order of their bytes.
+/// The value must not contain a float.
 pub(crate) fn composed_text(alloc: Global, value: &Value) -> Result<Blob, AllocError>
     ensures { IfOk result (λ text. has_float (view value.now) ≡ false
         → text ≡ compact_text (composed (view value.now))) }
@@ -22,8 +22,8 @@ pub(crate) fn composed_text(alloc: Global, value: &Value) -> Result<Blob, AllocE
     Ok(bytes)
 }
 
-/// The value with all names and texts in NFC (Unicode Standard Annex 15). Of two names that are equal in NFC, the
-/// value of the one that is later in byte order stays.
+/// Puts all names and strings into NFC (Unicode Standard Annex 15). Of two names that are equal in NFC, the value of
+/// the one that is later in byte order is kept.
 #[cycle(composed)]
 pub(crate) fn compose(alloc: Global, value: &Value) -> Result<Value, AllocError>
     ensures { IfOk result (λ v. view v ≡ composed (view value.now)) }

@@ -13,14 +13,14 @@ use std::alloc::{AllocError, Global};
 pub struct TagResponse {
     /// The repository.
     pub name: Text,
-    /// Empty where the registry said null.
+    /// Empty if the registry sent null.
     pub tags: List<Text>,
 }
 
 impl TagResponse {
     ghost use Rattle.oci_docs.specs.Tags.{tag_response_of};
 
-    /// `Float` exactly where a float stands anywhere, else `Shape` exactly where the table does not read it.
+    /// Reads a listing. Returns `Float` if and only if it contains a float, otherwise `Shape` if it does not match.
     pub fn read(alloc: Global, value: &Value) -> Result<TagResponse, ReadError>
         ensures { ReadsDocument result tag_response_of (view value.now) }
     {

@@ -6,9 +6,9 @@ use json_values::{Blob, ToValue};
 use oci_manifests::OciManifest;
 use std::alloc::{AllocError, Global};
 
-/// The text that is pushed. It has no white space, names stand in the order of their bytes, and names and texts are
-/// in NFC (Unicode Standard Annex 15): of two names that are equal in NFC, the value of the one that is later in byte
-/// order stays.
+/// Returns the text that is pushed: without white space, names in the order of their bytes, names and strings in NFC
+/// (Unicode Standard Annex 15). Of two names that are equal in NFC, the value of the one that is later in byte order
+/// is kept.
 pub fn manifest_text(alloc: Global, manifest: &OciManifest) -> Result<Blob, AllocError>
     ensures { IfOk result (λ text. text ≡ manifest_text_of manifest.now) }
 {

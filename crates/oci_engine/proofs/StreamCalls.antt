@@ -1,4 +1,4 @@
--- What the calls show that open a stream of a blob.
+-- Which properties the calls have that open a stream of a blob.
 use Rattle.std.proofs.Common.{◌≡◌, ◌<◌, ◌^◌, [], ◌++◌, Some, None, Result, Ok, Err, IfErr, refl}
 use Rattle.json_values.specs.Counts.{Rose}
 use Rattle.oci_transport.specs.Link.{Link}

@@ -76,7 +76,7 @@ never_piped : (limit n : ℕ) (b : Bool) → reading_unless limit b ≡ Piped n 
 never_piped limit n true is = cc is
 never_piped limit n false is = cc is
 
--- what the head of an answer says is refused as it shows
+-- a refusal that is computed from a response's head has the cause that the head shows
 abbrev MadeCause : {A : Type 0} → List ℕ → (AnswerHead → Result A OciDistributionError) → Type 0
 MadeCause digest made = (head : AnswerHead) (body address : List ℕ) (e : OciDistributionError) → made head ≡ Err e → AnswerCause (AskedDigest digest) address (answer_of head body) e
 
@@ -100,7 +100,7 @@ judged_causes {A} T s digest takes made request own other cause = Shows-follow (
   by_reply k l m after o c d last TooLong r h run = done_run (λ start d o r. ByAnswer (Any {A = A}) (Shown T s digest) m (c ++ d) o r) (Err refusal.BodyTooLong) k l after o d r (rw append-nil (heard_long T h s.max_body_bytes own (λ n head is. limit_is s.max_body_bytes n (takes head) is))) run
   by_reply k l m after o c d last SinkFailed r h run = let b = h.replies.reply_is in absurd (never_piped s.max_body_bytes b.1 (takes (head_part b.0)) b.3)
 
--- ---- what a head says
+-- ---- what a head states
 
 expected_cause : (digest : List ℕ) (answer : Answer) (address text : List ℕ) (e : OciDistributionError) → Claimed (AskedDigest digest) answer text → expected text ≡ Err e → AnswerCause (AskedDigest digest) address answer e
 expected_cause digest answer address text e claimed = by_result (digest_expected text) refl where
@@ -108,7 +108,7 @@ expected_cause digest answer address text e claimed = by_result (digest_expected
   by_result (Ok x) is bad = absurd (cc bad)
   by_result (Err d) is bad = let same : refusal.DigestError d ≡ e = cc bad in subst (AnswerCause (AskedDigest digest) address answer) same (not_expected digest answer text d claimed is)
 
--- which of two steps was refused
+-- which of two steps returned the error
 by_err : {A B : Type 0} (P : Type 0) (r : Result A OciDistributionError) (f : A → Result B OciDistributionError) (e : OciDistributionError) → (r into f) ≡ Err e → (r ≡ Err e → P) → ((a : A) → r ≡ Ok a → f a ≡ Err e → P) → P
 by_err P (Ok a) f e is first second = second a refl is
 by_err P (Err x) f e is first second = let same : x ≡ e = cc is in first (ap Err same)
@@ -153,7 +153,7 @@ not_passed range head is = not_streamed range head.status (neither (is_error hea
 
 -- ---- the range of a request
 
--- a header is refused as one that cannot stand there
+-- a header is refused for an invalid value
 header_early : (T : Act → Type 0) (headers : Fields) (name value : List ℕ) → Early T (with_header headers name value)
 header_early T headers name value = by_test (is_header_value value && nat_lt (held headers) 1000) where
   by_test : (b : Bool) → Early T (if b then Ok (added headers name value) else Err (refusal.GenericError HeaderText))
@@ -194,7 +194,7 @@ later : {A : Type 0} (T : Act → Type 0) (s : Settings) (digest : List ℕ) (m 
 later T s digest m start o c d (Ok a) h = tt
 later T s digest m start o c d (Err e) h = cause_later T T (AnswerCause (AskedDigest digest)) (AnswerCause (AskedDigest digest)) s manifest_types o c d e (λ text h. h) (λ address answer h. h) h
 
--- an answer that was found, or what comes next
+-- a response that was found, or what comes next
 found_causes : (T : Act → Type 0) (s : Settings) (digest : List ℕ) (next : Row Opening) → Shows (ByAnswer Any (Shown T s digest)) next → (m : ℕ) (c : List Exchange) (found : Option Opening) → Shows (λ start d o r. ByAnswer Any (Shown T s digest) m (c ++ d) o r) (or_next next found)
 found_causes T s digest next h m c (Some o) = Shows-done (λ start d o r. ByAnswer Any (Shown T s digest) m (c ++ d) o r) (Ok o) (λ m. tt)
 found_causes T s digest next h m c None = Shows-more (ByAnswer Any (Shown T s digest)) (λ start d o r. ByAnswer Any (Shown T s digest) m (c ++ d) o r) next h (λ start o d r h. later T s digest m start o c d r h)

@@ -1,4 +1,4 @@
--- The header `range` of a request can stand there, and it changes neither the types nor the token.
+-- The header `range` of a request has a valid value, and it changes neither the types nor the token.
 use Rattle.std.proofs.Common.{◌≡◌, ◌<◌, ◌+◌, ◌-◌, ◌^◌, ℕ, Bool, true, false, List, [], ◌∷◌, ◌++◌, Option, Some, None, Result, Ok, Err, codes, length, unwrap_or, refl, sym, ap, subst, ◌∙◌, arith}
 use Rattle.std.specs.Prelude.{decimal, nat_lt, sum_by, if◌then◌else◌}
 use Rattle.std.specs.List.{list_all}
@@ -29,7 +29,7 @@ use Rattle.engine_streams.specs.Range.{onward_text, text_to, text_by, range_text
 use Rattle.engine_streams.specs.declared.range.ByteRange.{ByteRange}
 use Rattle.engine_streams.proofs.Decimals.{split, joined, numeral}
 
--- ---- it can stand
+-- ---- it is a valid header value
 
 digit_stands : (b : ℕ) → is_digit b ≡ true → is_value_byte b ≡ true
 digit_stands b h = grind (arith, nat_tests, h)
@@ -47,12 +47,12 @@ both_stand xs ys a b = list_all-append is_value_byte xs ys ∙ joined (is_header
 onward_stands : (n : ℕ) → n < 2 ^ 64 → is_header_value (onward_text n) ≡ true
 onward_stands n lt = both_stand (codes "bytes=") (decimal n ++ codes "-") refl (both_stand (decimal n) (codes "-") (decimal_stands n lt) refl)
 
--- the text, if there is one, can stand in a header
+-- the text, if there is one, is a valid header value
 abbrev pub Stands : Option (List ℕ) → Type 0
 Stands None = Unit {0}
 Stands (Some text) = is_header_value text ≡ true
 
--- the offset is a number of the code
+-- the offset is a `u64`
 abbrev pub IsSmall : Option ByteRange → Type 0
 IsSmall None = Unit {0}
 IsSmall (Some range) = range.offset < 2 ^ 64
@@ -130,6 +130,6 @@ has_room s method url types token request is =
 pub range_shows : (m : Fields) (value : List ℕ) → values_of (codes "authorization") (added m (codes "range") value) ≡ values_of (codes "authorization") m
 range_shows m value = ap (λ (o : Option (List (List ℕ))). unwrap_or o []) (get-insert nat_list_cmp_total m (codes "range") (values_of (codes "range") m ++ value ∷ []) (codes "authorization"))
 
--- it is never refused where it can stand and there is room
+-- it is never refused if it is a valid header value and there is room
 pub range_stays : (request : Request) (value : List ℕ) (e : OciDistributionError) → HasRoom request → is_header_value value ≡ true → with_header request.headers (codes "range") value ≡ Err e → ⊥
 range_stays request value e room stands is = cc (sym stands ∙ refused_value request.headers (codes "range") value e (held request.headers) refl room is)

@@ -87,7 +87,7 @@ partial_early : (s : Context) (image : Reference) (layer : Layer) (range : ByteR
 unfolding blob_stream_partial
 partial_early s image layer range h = early_on (opened s image layer (Some range)) (λ o. Done (Ok (by_digests o o.digests))) h
 
--- ---- results: what the code answers is what the row answers
+-- ---- results: the code returns what the row returns
 
 same_refusal : (A B : Type 0) (e x : OciDistributionError) → IsRefusedAs {A = A} e (Err x) → IsRefusedAs {A = B} e (Err x)
 same_refusal A B e x h = by_kind (is_memory x) h where

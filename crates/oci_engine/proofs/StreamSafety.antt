@@ -1,4 +1,4 @@
--- A stream of a blob shows tokens to the registry alone, and a value that could not stand in a header has its cause.
+-- A stream of a blob sends tokens to the registry alone, and an invalid header value has its cause.
 use Rattle.std.proofs.Common.{◌≡◌, ℕ, Bool, true, false, List, [], ◌∷◌, ◌++◌, Option, Some, None, Result, Ok, Err, codes, refl, sym, ap, subst, ◌∙◌}
 use Rattle.std.specs.Prelude.{if◌then◌else◌, nat_lt, decimal, ◌+◌, ◌-◌, ◌^◌}
 use Rattle.url.specs.Parts.{Parts}
@@ -110,7 +110,7 @@ place_ranged x s range (Unfit text) l c small keeps = tt
 
 -- ---- the rows
 
--- an answer that was found, or what comes next
+-- a response that was found, or what comes next
 found_sound : (x : Entry) (s : Settings) (next : Row Opening) (l : Memory) (c : List Exchange) (found : Option Opening) → Keeps x l c → Sound x s manifest_types l c next → Sound x s manifest_types l c (or_next next found)
 found_sound x s next l c (Some o) keeps rest = safe_done x s (Ended x s manifest_types) l c (Ok o) keeps
 found_sound x s next l c None keeps rest = rest
@@ -122,7 +122,7 @@ tried_sound x s range digest (p ∷ ps) request l c small sent keeps = safe_next
     (λ l c found keeps. found_sound x s (Done (ranged_at s range p) >>= tried s range digest ps) l c found keeps
     (safe_ready x s manifest_types (Done (ranged_at s range p)) (tried s range digest ps) l c (safe_done x s (Ready x s manifest_types) l c (ranged_at s range p) (place_ranged x s range p l c small keeps)) (λ l c next keeps sent. tried_sound x s range digest ps next l c small sent keeps)))
 
--- what is so of each answer is so beside what the protocol keeps to
+-- a property of each result and a safe protocol together
 Safe-both : {K A : Type 0} (P : K → List Exchange → Request → Type 0) (I : K → List Exchange → Type 0) (Q : K → List Exchange → A → Type 0) (E : A → Type 0) (p : Proto K A) (k : K) (seen : List Exchange) → Safe P I Q k seen p → Ends E p → Safe P I (λ k seen a. Q k seen a × E a) k seen p
 unfolding Safe Ends
 Safe-both P I Q E (Done a) k seen s e = (s, e)

@@ -1,4 +1,4 @@
--- What a client is made of.
+-- The settings and the initial state of a client.
 use Rattle.std.specs.Prelude.{false, None, codes}
 use Rattle.engine_terms.specs.declared.settings.ClientProtocol.TheVariants.{Https}
 use Rattle.engine_terms.specs.declared.settings.Settings.{Settings}
@@ -13,7 +13,7 @@ settings_of config = record {
   platform_resolver = config.platform_resolver;
 }
 
--- what a client is made of where nothing else is said
+-- the default configuration of a client
 abbrev pub default_config : ClientConfig
 default_config = record {
   protocol = Https;

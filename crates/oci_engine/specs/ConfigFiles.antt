@@ -9,6 +9,6 @@ abbrev pub or_unread : List ℕ → Option ConfigFile → Result ConfigFile OciD
 or_unread content None = Err (ConfigConversionError content)
 or_unread content (Some file) = Ok file
 
--- the file that the content is
+-- the file that the content parses to
 abbrev pub config_file : List ℕ → Result ConfigFile OciDistributionError
 config_file content = or_unread content (file_in content)

@@ -13,9 +13,9 @@ use Rattle.oci_engine.specs.declared.client.Client.{Client}
 use Rattle.oci_engine.specs.Kept.{memory_of}
 use Rattle.oci_engine.specs.Refusals.{at_moment}
 
--- To the image's registry and to the realm that it names, and nowhere else: so it is of each request that was told.
--- They are those that the client keeps for it, that are handed in, or that an answer gave. Each token that is kept
--- afterwards was kept before, or is one of these and stands under the image's registry, its repository and the
+-- Each exposed request sends credentials and tokens only to the image's registry and to the realm that it names. They
+-- are those that the client stores for it, that are passed in, or that a response contained. Each token that is stored
+-- afterwards was stored before, or is one of these and is stored under the image's registry, its repository and the
 -- operation.
 abbrev pub StaysFor : RegistryOperation → Client → Client → ℕ → Reference → Option RegistryAuth → Link → Link
     → Type 0
@@ -28,8 +28,8 @@ StaysFor op before after moment image handed old new =
 abbrev pub Stays : Client → Client → ℕ → Reference → Option RegistryAuth → Link → Link → Type 0
 Stays before after moment image handed old new = StaysFor Pull before after moment image handed old new
 
--- of a call for referrers, which hands in nothing: to the image's registry, and once the list was not there to the
--- tag's
+-- of a call for referrers, to which no credentials are passed: to the image's registry and, after the list was missing,
+-- to the tag's
 abbrev pub StaysWithTag : Client → Client → ℕ → Reference → Link → Link → Type 0
 StaysWithTag before after moment image old new =
     Told

@@ -6,7 +6,7 @@ use Rattle.engine_terms.specs.declared.error.OciDistributionError.{OciDistributi
 use Rattle.push_laws.specs.Causes.{PushText, PushCause}
 use Rattle.oci_engine.specs.declared.client.Client.{Client}
 
--- of a client's, which may itself be refused so
+-- of a client's, where `Own` is what the call itself may refuse
 abbrev pub PushRefused : (OciDistributionError → Type 0) → Client → Reference → List Exchange → ℕ → OciDistributionError
     → Type 0
 PushRefused Own client image c now e = PushCause (PushText client.settings image) Own client.settings c now e

@@ -22,16 +22,16 @@ use Rattle.engine_laws.specs.Referrers.{ReferrersCause}
 use Rattle.engine_laws.specs.Causes.{Cause, AnswerCause, DocumentCause, BadHeader, OwnDigest, ManifestUrl}
 use Rattle.engine_laws.specs.Causes.{BlobUrl, BlobCause, FoundCause, ConfigCause, ImageCause, IsRefusedAs}
 
--- what was told between two states of a transport has the cause of the refusal, if the call was refused
+-- the exchanges exposed between two states of a transport have the cause of the refusal, if the call was refused
 abbrev pub RefusedFor : {A : Type 0} → (List Exchange → ℕ → OciDistributionError → Type 0) → Link → Link
     → Result A OciDistributionError → Type 0
 RefusedFor Why old new r = IfErr r (λ e. Told (λ c. Why c new.faults e) old new)
 
--- a fault of the transport is answered only where its count of faults rose
+-- a fault of the transport is returned only if its fault count increased
 abbrev pub FaultCounted : {A : Type 0} → Link → Link → Result A OciDistributionError → Type 0
 FaultCounted old new r = r ≡ Err refusal.TransportFault → Rose old.faults new.faults
 
--- a text that is no URL is refused as that, unless memory was wanting
+-- a string that is not a URL is refused as such, unless memory ran out
 abbrev pub UrlRefused : {A : Type 0} → List ℕ → Result A OciDistributionError → Type 0
 UrlRefused text r = request_url text ≡ None → IsRefusedAs (refusal.UrlParseError text) r
 
@@ -39,7 +39,7 @@ UrlRefused text r = request_url text ≡ None → IsRefusedAs (refusal.UrlParseE
 abbrev pub at_moment : Client → ℕ → Context
 at_moment client moment = within client.settings moment
 
--- a value that the call would show cannot stand in a header; credentials may be handed in
+-- a value that the call would send is not a valid header value; credentials may be passed in
 abbrev pub BadHeaderOf : Client → ℕ → Reference → Option RegistryAuth → List ℕ → List Exchange → Type 0
 BadHeaderOf client moment image a types =
     BadHeader (pulling (memory_of client) (at_moment client moment) image a) client.settings types
@@ -51,7 +51,7 @@ DigestRefused client moment image a c now e =
     Cause (ManifestUrl client.settings image) (AnswerCause (OwnDigest image))
     (BadHeaderOf client moment image (Some a) manifest_types) client.settings c now e
 
--- of the bytes of its manifest or index, where these types are asked for
+-- of the bytes of its manifest or index, if these types are requested
 abbrev pub DocumentRefused : Client → ℕ → Reference → RegistryAuth → List ℕ → List Exchange → ℕ
     → OciDistributionError → Type 0
 DocumentRefused client moment image a types c now e =
@@ -96,6 +96,6 @@ abbrev pub ReferrersRefused : Client → ℕ → Reference → List Exchange →
 ReferrersRefused client moment image c now e =
     ReferrersCause (pulling (memory_of client) (at_moment client moment) image None) client.settings c now e
 
--- a reference without a digest is refused as that, unless memory was wanting
+-- a reference without a digest is refused as such, unless memory ran out
 abbrev pub DigestWanted : {A : Type 0} → Reference → Result A OciDistributionError → Type 0
 DigestWanted image r = digest_of image ≡ None → IsRefusedAs (refusal.GenericError NoDigest) r

@@ -19,17 +19,17 @@ use Rattle.oci_engine.specs.declared.client.Client.{Client}
 abbrev pub range_of : ℕ → Option ℕ → ByteRange
 range_of offset length = record { offset = offset; length = length }
 
--- the range ends past the greatest place
+-- the end of the range is beyond 2^64 - 1
 abbrev pub Overflows : Option ByteRange → Type 0
 Overflows None = ⊥
 Overflows (Some range) = (n : ℕ) × (range.length ≡ Some n) × (2 ^ 64 ≤ range.offset + n)
 
--- it does not, or nothing is said of it
+-- it is not, or the range is unspecified
 abbrev pub Fits : Option ByteRange → Type 0
 Fits None = Unit {0}
 Fits (Some range) = (n : ℕ) → range.length ≡ Some n → range.offset + n < 2 ^ 64
 
--- that, before any request; or what the last answer shows, a text that is no URL, a value that cannot stand there
+-- an overflow, before any request; or what the last response shows, a malformed URL, or an invalid header value
 abbrev pub StreamCause : Option ByteRange → (Act → Type 0) → (List Exchange → Type 0) → Settings → List ℕ
     → List Exchange → ℕ → OciDistributionError → Type 0
 StreamCause range Own Bad s digest c now (refusal.GenericError RangeOverflow) = Overflows range × (c ≡ [])
@@ -45,7 +45,7 @@ abbrev pub AsksOnward : Option ByteRange → Settings → List (List ℕ) → Re
 AsksOnward range s urls request = (whole : Request) × AsksListed s urls whole
     × (with_range (onward range) whole ≡ Ok request)
 
--- what is read as of a blob, and asked for with the range
+-- what is parsed for a blob, and requested with the range
 abbrev pub StreamUrl : Option ByteRange → Settings → Reference → Layer → Act → Type 0
 StreamUrl range s image layer (Reads text) = BlobUrl s image layer (Reads text)
 StreamUrl range s image layer (Sends request) = AsksRange range s (blob_text s image layer.digest) request

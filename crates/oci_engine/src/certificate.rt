@@ -2,7 +2,7 @@
 use json_values::{Blob, Copied, copied};
 use std::alloc::{AllocError, Global};
 
-/// How the bytes of a certificate are written (RFC 7468 for `Pem`).
+/// The encoding of a certificate's bytes (RFC 7468 for `Pem`).
 #[derive(Clone, Copy, Debug, PartialEq, Eq)]
 pub enum CertificateEncoding {
     Der,
@@ -15,7 +15,7 @@ impl Copied for CertificateEncoding {
     }
 }
 
-/// A certificate by which a connection is trusted. No call here looks into one: connections are the transport's.
+/// A certificate by which a connection is trusted. No call here inspects it: connections are the transport's.
 #[derive(Debug, Drop)]
 pub struct Certificate {
     pub encoding: CertificateEncoding,

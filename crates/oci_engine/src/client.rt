@@ -38,17 +38,17 @@ use oci_transport::Transport;
 use std::alloc::{AllocError, Global};
 use std::mem;
 
-/// A client of registries. Each call makes the requests of its row over the transport that it is handed.
+/// A client of registries. Each call sends the requests of its row over the transport that is passed in.
 #[derive(Drop)]
 pub struct Client {
     pub settings: Settings,
     /// The credentials that are stored, by registry.
     pub credentials: TextMap<RegistryAuth>,
-    /// The tokens that are kept between the calls.
+    /// The tokens that are stored between the calls.
     pub tokens: TokenCache,
 }
 
-// What is kept, moved out for a call: the crates below borrow it as one value.
+// The client state, moved out for a call: the crates below borrow it as one value.
 pub(crate) fn lend(credentials: &mut TextMap<RegistryAuth>, tokens: &mut TokenCache) -> Memory
     ensures { result ≡ record { credentials = credentials.old; tokens = tokens.old } }
 {
@@ -59,7 +59,7 @@ pub(crate) fn lend(credentials: &mut TextMap<RegistryAuth>, tokens: &mut TokenCa
     }
 }
 
-// What a call answers that is lent what the client keeps, which it moves back.
+// The result of a call that borrows the client state, which is moved back after it.
 macro_rules! lent {
     ($client:ident, $memory:ident, $call:expr) => {{
         let mut $memory = crate::client::lend(&mut $client.credentials, &mut $client.tokens);
@@ -103,7 +103,7 @@ impl Client {
         }
     }
 
-    /// The client of the configuration that the source gives.
+    /// Returns the client of the configuration that the source gives.
     pub fn from_source<S: ClientConfigSource>(
         alloc: Global,
         source: &S,
@@ -116,7 +116,7 @@ impl Client {
         Ok(Client::new(alloc, config))
     }
 
-    /// The client of the default configuration.
+    /// Returns the client of the default configuration.
     pub fn default(alloc: Global) -> Result<Client, AllocError>
         ensures settings { IfOk result (λ client. client.settings ≡ settings_of default_config) }
         ensures fresh { IfOk result (λ client. memory_of client ≡ fresh 60) }
@@ -125,14 +125,14 @@ impl Client {
         Ok(Client::new(alloc, config))
     }
 
-    /// Which image of an index is meant, where the configuration says so.
+    /// Returns the resolver that selects an entry of an index, if the configuration has one.
     pub fn platform_resolver(&self) -> Option<&PlatformResolver>
         ensures { option_copied result ≡ self.now.settings.platform_resolver }
     {
         self.settings.platform_resolver.as_ref()
     }
 
-    /// Stores credentials for a registry. Those that are stored already are never replaced.
+    /// Stores credentials for a registry. Never replaces those that are already stored.
     pub fn store_auth_if_needed(
         &mut self,
         registry: &str,
@@ -151,8 +151,8 @@ impl Client {
         )
     }
 
-    /// Stores credentials and gets their token for the operation, which is kept. The text of a token is answered, and
-    /// none where the registry asks for no token or for the credentials themselves. `moment` is in seconds since 1970.
+    /// Stores credentials, obtains their token for the operation, and stores it. Returns the text of a token, or `None`
+    /// if the registry requires no token or the credentials themselves. `moment` is in seconds since 1970.
     pub fn auth<T: Transport>(
         &mut self,
         alloc: Global,
@@ -192,7 +192,8 @@ impl Client {
         )
     }
 
-    /// The digest of the image's manifest or index, as the registry names it. `moment` is in seconds since 1970.
+    /// Returns the digest of the image's manifest or index, as the registry names it. `moment` is in seconds since
+    /// 1970.
     pub fn fetch_manifest_digest<T: Transport>(
         &mut self,
         alloc: Global,
@@ -226,7 +227,7 @@ impl Client {
         )
     }
 
-    /// The bytes of the image's manifest or index, with their digest.
+    /// Returns the bytes of the image's manifest or index, with their digest.
     pub fn pull_manifest_raw<T: Transport>(
         &mut self,
         alloc: Global,
@@ -274,7 +275,7 @@ impl Client {
         Ok(found)
     }
 
-    /// The image's manifest or index, with its digest.
+    /// Returns the image's manifest or index, with its digest.
     pub fn pull_manifest<T: Transport>(
         &mut self,
         alloc: Global,
@@ -306,7 +307,7 @@ impl Client {
         )
     }
 
-    /// The image with its configuration and its layers, whose media types are among these.
+    /// Returns the image with its configuration and its layers, whose media types are among these.
     pub fn pull<T: Transport>(
         &mut self,
         alloc: Global,
@@ -347,9 +348,9 @@ impl Client {
         )
     }
 
-    /// Puts the bytes of a blob of the image's repository into the sink, piece by piece as they come. While the
-    /// registry answers with an error, the URLs of the blob's descriptor are asked, in order and with no credentials;
-    /// one that does not read, or has a user name or a password, is `UrlParseError`.
+    /// Writes the bytes of a blob of the image's repository to the sink, piece by piece as they are received. While the
+    /// status is 4xx or 5xx, the URLs of the blob's descriptor are requested, in order and without credentials; one
+    /// that is malformed, or has a user name or a password, is `UrlParseError`.
     pub fn pull_blob<T: Transport, L: AsLayerDescriptor, K: Sink>(
         &mut self,
         alloc: Global,
@@ -388,7 +389,7 @@ impl Client {
         )
     }
 
-    /// The bytes of a blob of the image's repository, which is asked for at the same places.
+    /// Returns the bytes of a blob of the image's repository, requested from the same places.
     pub fn pulled_blob<T: Transport, L: AsLayerDescriptor>(
         &mut self,
         alloc: Global,

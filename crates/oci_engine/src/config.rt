@@ -1,4 +1,4 @@
-// What a client is made of.
+// The configuration of a client.
 ghost use Rattle.std.specs.Prelude.{◌≡◌, IfOk};
 ghost use Rattle.oci_engine.specs.Clients.{default_config};
 
@@ -7,38 +7,38 @@ use json_values::Text;
 use oci_platforms::PlatformResolver;
 use std::alloc::{AllocError, Global};
 
-/// How many uploads a client may have under way at once.
+/// The maximum number of concurrent uploads of a client.
 pub const DEFAULT_MAX_CONCURRENT_UPLOAD: usize = 16;
 
-/// How many downloads a client may have under way at once.
+/// The maximum number of concurrent downloads of a client.
 pub const DEFAULT_MAX_CONCURRENT_DOWNLOAD: usize = 16;
 
-/// For how many seconds a token is kept that does not say when it expires.
+/// For how many seconds a token is stored that does not state when it expires.
 pub const DEFAULT_TOKEN_EXPIRATION_SECS: u64 = 60;
 
-/// What a client is made of.
+/// The configuration of a client.
 #[derive(Debug, Drop)]
 pub struct ClientConfig {
     pub protocol: ClientProtocol,
-    /// Whether a blob is pushed by one request, and not in chunks.
+    /// Whether a blob is pushed by one request instead of in chunks.
     pub use_monolithic_push: bool,
-    /// Which image of an index is meant. Where nothing is said of it, an index is refused.
+    /// Which entry of an index is selected. If `None`, an index is refused.
     pub platform_resolver: Option<PlatformResolver>,
-    /// It has no effect: one request is under way at once.
+    /// It has no effect: requests are sent one at a time.
     pub max_concurrent_upload: usize,
-    /// It has no effect: one request is under way at once.
+    /// It has no effect: requests are sent one at a time.
     pub max_concurrent_download: usize,
-    /// For how many seconds a token is kept that does not say when it expires.
+    /// For how many seconds a token is stored that does not state when it expires.
     pub default_token_expiration_secs: u64,
     /// The value of the header `user-agent`.
     pub user_agent: Text,
-    /// How many bytes one body may have.
+    /// The maximum size of one body, in bytes.
     pub max_body_bytes: u64,
 }
 
 impl ClientConfig {
-    /// `https`, no resolver of platforms, tokens that are kept for a minute, `oci-client/0.18.0`, and bodies of less
-    /// than 4 GiB.
+    /// Returns `https`, no resolver of platforms, tokens that are stored for a minute, `oci-client/0.18.0`, and bodies
+    /// of less than 4 GiB.
     pub fn default(alloc: Global) -> Result<ClientConfig, AllocError>
         ensures { IfOk result (λ config. config ≡ default_config) }
     {

@@ -8,7 +8,7 @@ use oci_config::{ConfigError, ConfigFile};
 use oci_manifests::blob::Config;
 use std::alloc::Global;
 
-/// The configuration file that the configuration is. `ConfigConversionError` holds a content that does not read as one.
+/// Parses the configuration as a configuration file. If it is malformed, `ConfigConversionError` contains it.
 pub fn config_file(alloc: Global, config: &Config) -> Result<ConfigFile, OciDistributionError>
     ensures { Says result (config_file config.now.content) }
 {

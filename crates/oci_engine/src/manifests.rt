@@ -1,4 +1,4 @@
-// The calls that answer the manifest of an image, to which an index may lead.
+// The calls that return the manifest of an image, to which an index may lead.
 ghost use Rattle.std.specs.Prelude.{◌≡◌, Some};
 ghost use Rattle.oci_protocol.specs.Runs.{Meets};
 ghost use Rattle.engine_requests.specs.Addresses.{manifest_text};
@@ -22,8 +22,8 @@ use oci_transport::Transport;
 use std::alloc::Global;
 
 impl Client {
-    /// The manifest of an image with its digest, and the digest of the index that led to it, where one did. Which entry
-    /// of an index is meant, the configuration says.
+    /// Returns the manifest of an image with its digest, and the digest of the index that led to it, if one did. The
+    /// resolver of the configuration selects the entry of an index.
     pub fn pull_image_manifest_and_list_digest<T: Transport>(
         &mut self,
         alloc: Global,
@@ -62,7 +62,7 @@ impl Client {
         )
     }
 
-    /// The manifest of an image with its digest.
+    /// Returns the manifest of an image with its digest.
     pub fn pull_image_manifest<T: Transport>(
         &mut self,
         alloc: Global,
@@ -94,8 +94,8 @@ impl Client {
         )
     }
 
-    /// The manifest of an image with its digest, its configuration as text, and the digest of the index that led to it,
-    /// where one did.
+    /// Returns the manifest of an image with its digest, its configuration as text, and the digest of the index that
+    /// led to it, if one did.
     pub fn pull_manifest_and_config_and_list_digest<T: Transport>(
         &mut self,
         alloc: Global,
@@ -134,7 +134,7 @@ impl Client {
         )
     }
 
-    /// The manifest of an image with its digest, and its configuration as text.
+    /// Returns the manifest of an image with its digest, and its configuration as text.
     pub fn pull_manifest_and_config<T: Transport>(
         &mut self,
         alloc: Global,

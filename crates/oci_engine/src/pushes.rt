@@ -21,11 +21,11 @@ use oci_transport::Transport;
 use std::alloc::Global;
 
 impl Client {
-    /// Pushes bytes to the image's repository as the blob of this digest, which is not compared with them: the URL at
-    /// which it stands then. They go in chunks, and by one request where `use_monolithic_push` is set or the registry
-    /// answers a chunk with another success than was expected. `moment` is in seconds since 1970.
+    /// Pushes bytes to the image's repository as the blob of this digest, which is not compared with them, and returns
+    /// the URL at which it is then. They are sent in chunks, or by one request if `use_monolithic_push` is set or the
+    /// registry responds to a chunk with another 2xx status than expected. `moment` is in seconds since 1970.
     ///
-    /// `PushNoDataError` where there are none and they go by one request.
+    /// `PushNoDataError` if there are none and they are sent by one request.
     pub fn push_blob<T: Transport>(
         &mut self,
         alloc: Global,
@@ -56,11 +56,12 @@ impl Client {
         )
     }
 
-    /// Pushes what a source gives as the blob of this digest, which is not compared with it: the URL at which it stands
-    /// then. Its pieces go in chunks as they come, or are held and go by one request where `use_monolithic_push` is
-    /// set. That request needs the count of bytes: `NoSize` without it, `SizeDiffers` where the source gives another.
+    /// Pushes what a source gives as the blob of this digest, which is not compared with it, and returns the URL at
+    /// which it is then. Its pieces are sent in chunks as they are given, or held and sent by one request if
+    /// `use_monolithic_push` is set. That request needs the size: `NoSize` without it, `SizeDiffers` if the source
+    /// gives another number of bytes.
     ///
-    /// `SourceFault` where the source failed, `BodyTooLong` where it gave more bytes than `max_body_bytes`.
+    /// `SourceFault` if the source failed, `BodyTooLong` if it gave more bytes than `max_body_bytes`.
     pub fn push_blob_stream<T: Transport, P: PieceSource>(
         &mut self,
         alloc: Global,
@@ -104,9 +105,9 @@ impl Client {
         )
     }
 
-    /// Pushes what a source gives, in chunks as it comes, under the digest by SHA-256 that its bytes turn out to have.
+    /// Pushes what a source gives, in chunks as it is given, under the SHA-256 digest that is computed from its bytes.
     ///
-    /// `PushNoDataError` where the source gives nothing; `SourceFault` and `BodyTooLong` as of `push_blob_stream`.
+    /// `PushNoDataError` if the source gives nothing; `SourceFault` and `BodyTooLong` as of `push_blob_stream`.
     pub fn push_blob_stream_chunked<T: Transport, P: PieceSource>(
         &mut self,
         alloc: Global,
@@ -140,7 +141,7 @@ impl Client {
         )
     }
 
-    /// Asks the registry to take a blob of another repository of its own into the image's.
+    /// Asks the registry to mount a blob of another of its repositories in the image's.
     pub fn mount_blob<T: Transport>(
         &mut self,
         alloc: Global,

@@ -1,4 +1,4 @@
-// The call that answers what refers to a manifest.
+// The call that returns the referrers of a manifest.
 ghost use Rattle.std.specs.Prelude.{◌≡◌, IfSome, option_copied};
 ghost use Rattle.oci_names.specs.Reference.{digest_of};
 ghost use Rattle.oci_protocol.specs.Runs.{Meets};
@@ -20,9 +20,10 @@ use oci_transport::Transport;
 use std::alloc::Global;
 
 impl Client {
-    /// The index of what refers to the image's digest, of this type of artifacts where one is given. A registry that
-    /// answers 404 is asked for the tag that stands for the list (OCI distribution specification, "Referrers Tag
-    /// Schema"): where there is no such tag the index has no entries. Credentials are those that are stored.
+    /// Returns the index of the referrers of the image's digest, restricted to an artifact type if one is given. If the
+    /// registry responds with 404, the tag that replaces the list is requested (OCI distribution specification,
+    /// "Referrers Tag Schema"): if the tag does not exist, the index has no entries. Credentials are those that are
+    /// stored.
     pub fn pull_referrers<T: Transport>(
         &mut self,
         alloc: Global,

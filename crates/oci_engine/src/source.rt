@@ -1,10 +1,10 @@
-// Where a client's configuration comes from.
+// Sources of a client's configuration.
 ghost use Rattle.std.specs.Prelude.{◌≡◌, IfOk};
 
 use crate::config::ClientConfig;
 use std::alloc::{AllocError, Global};
 
-/// What a client can be made of.
+/// A source of a client's configuration.
 pub trait ClientConfigSource {
     ghost use Rattle.oci_engine.specs.declared.config.ClientConfig.{ClientConfig};
 

@@ -22,9 +22,9 @@ use oci_transport::Transport;
 use std::alloc::Global;
 
 impl Client {
-    /// A blob of the image's repository, which is given piece by piece. It is asked for where `pull_blob` asks, and
-    /// nothing of the answer's body is taken yet: hand the transport to the stream's `next`, and send nothing over it
-    /// before the stream's end.
+    /// Returns a stream of a blob of the image's repository, requested from the same places as in `pull_blob`. Nothing
+    /// of the response's body is taken yet: pass the transport to the stream's `next`, and send nothing over it before
+    /// the stream's end.
     pub fn pull_blob_stream<T: Transport, L: AsLayerDescriptor>(
         &mut self,
         alloc: Global,
@@ -61,8 +61,9 @@ impl Client {
         )
     }
 
-    /// Bytes of a blob from the offset on, and no more than the length where one is given, piece by piece. A registry
-    /// may answer the whole blob. `RangeOverflow`, with no request, where offset and length pass 2^64 - 1.
+    /// Returns a stream of a part of a blob: the bytes from the offset on, at most as many as the length if one is
+    /// given. A registry may respond with the whole blob. `RangeOverflow`, without a request, if the sum of offset and
+    /// length is beyond 2^64 - 1.
     pub fn pull_blob_stream_partial<T: Transport, L: AsLayerDescriptor>(
         &mut self,
         alloc: Global,

@@ -1,4 +1,4 @@
--- Errors and envelopes that are written read back.
+-- Written errors and envelopes round-trip.
 use Rattle.std.proofs.Common.{◌≡◌, ℕ, List, false, Some, None, map, refl}
 use Rattle.std.specs.List.{list_any}
 use Rattle.serde_json.specs.Data.{Data, string}

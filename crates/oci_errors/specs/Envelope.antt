@@ -1,4 +1,4 @@
--- What a registry says of a refusal (OCI distribution specification, "Error Codes").
+-- The error body of a registry (OCI distribution specification, "Error Codes").
 use Rattle.std.specs.Prelude.{ℕ, List, [], ◌∷◌, map, Bool, Option, Some, None, codes}
 use Rattle.std.specs.List.{list_any}
 use Rattle.serde_json.specs.Data.{Data, string}
@@ -11,7 +11,7 @@ use Rattle.oci_errors.specs.declared.envelope.OciError.{OciError}
 use Rattle.oci_errors.specs.declared.envelope.OciEnvelope.{OciEnvelope}
 use Rattle.oci_errors.specs.ErrorCode.{code_of, code_written, normal_code}
 
--- a text, and the empty one where nothing was found
+-- a string, empty if the member is missing
 abbrev pub text_or_empty : Option Data → Option (List ℕ)
 text_or_empty None = Some []
 text_or_empty (Some d) = text_of d
@@ -42,7 +42,7 @@ error_written x = fields (error_fields x)
 abbrev pub normal_error : OciError → OciError
 normal_error x = record x { code = normal_code x.code }
 
--- whether a float stands in the detail
+-- whether the detail contains a float
 abbrev pub detail_has_float : OciError → Bool
 detail_has_float x = has_float x.detail
 

@@ -12,7 +12,7 @@ use Rattle.oci_errors.specs.declared.error_code.OciErrorCode.TheVariants.{NameIn
 use Rattle.oci_errors.specs.declared.error_code.OciErrorCode.TheVariants.{SizeInvalid, TagInvalid, Unauthorized, Denied}
 use Rattle.oci_errors.specs.declared.error_code.OciErrorCode.TheVariants.{Unsupported, Toomanyrequests, Other}
 
--- the code of this text, if it is one of the table
+-- the code of this text, if it is in the table
 unfoldable pub known_code : List ℕ → Option OciErrorCode
 known_code text =
     if bytes_eq text (codes "BLOB_UNKNOWN") then Some BlobUnknown
@@ -33,7 +33,7 @@ known_code text =
     else (if bytes_eq text (codes "UNSUPPORTED") then Some Unsupported
     else (if bytes_eq text (codes "TOOMANYREQUESTS") then Some Toomanyrequests else None))))))))))))))))
 
--- every other text is a code of its own
+-- every other text is a code `Other`
 abbrev pub code_by : List ℕ → Option OciErrorCode → OciErrorCode
 code_by text (Some code) = code
 code_by text None = Other text
@@ -65,7 +65,7 @@ code_text (Other text) = text
 unfoldable pub code_written : OciErrorCode → Data
 code_written code = string (code_text code)
 
--- an `Other` whose text is one of the table is that code, and every other code is itself
+-- the normal form of an `Other` with a text of the table is that code; every other code is its own normal form
 unfoldable pub normal_code : OciErrorCode → OciErrorCode
 normal_code (Other text) = code_by text (known_code text)
 normal_code code = code

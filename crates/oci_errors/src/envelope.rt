@@ -14,13 +14,13 @@ use std::alloc::{AllocError, Global};
 #[derive(Debug, Drop)]
 pub struct OciError {
     pub code: OciErrorCode,
-    /// Empty where the registry said none.
+    /// Empty if the registry sent none.
     pub message: Text,
-    /// Any JSON value; null where the registry said none.
+    /// Any JSON value; null if the registry sent none.
     pub detail: Json,
 }
 
-/// What a registry says of a refusal (OCI distribution specification, "Error Codes").
+/// The error body of a registry (OCI distribution specification, "Error Codes").
 #[derive(Debug, Drop)]
 pub struct OciEnvelope {
     pub errors: List<OciError>,
@@ -29,7 +29,7 @@ pub struct OciEnvelope {
 impl OciError {
     ghost use Rattle.oci_errors.specs.Envelope.{error_of};
 
-    /// `Float` exactly where a float stands anywhere, else `Shape` exactly where the table does not read it.
+    /// Reads an error. Returns `Float` if and only if it contains a float, otherwise `Shape` if it does not match.
     pub fn read(alloc: Global, value: &Value) -> Result<OciError, ReadError>
         ensures { ReadsDocument result error_of (view value.now) }
     {
@@ -40,7 +40,7 @@ impl OciError {
 impl OciEnvelope {
     ghost use Rattle.oci_errors.specs.Envelope.{envelope_of};
 
-    /// `Float` exactly where a float stands anywhere, else `Shape` exactly where the table does not read it.
+    /// Reads an envelope. Returns `Float` if and only if it contains a float, otherwise `Shape` if it does not match.
     pub fn read(alloc: Global, value: &Value) -> Result<OciEnvelope, ReadError>
         ensures { ReadsDocument result envelope_of (view value.now) }
     {
@@ -112,7 +112,7 @@ impl ToValue for OciError {
 
     ghost written = { error_written };
 
-    /// Where no float stands in the detail, what it gives reads back, with the code's normal form.
+    /// Writes the error. If its detail contains no float, the result round-trips, with the normal form of its code.
     #[tactic(auto, using(json_writing::proofs::Whole::document_again))]
     fn to_value(&self, alloc: Global) -> Result<Value, AllocError>
         ensures exact { IfOk result (λ v. view v ≡ error_written self.now) }
@@ -129,7 +129,7 @@ impl ToValue for OciEnvelope {
 
     ghost written = { envelope_written };
 
-    /// Where no float stands in a detail, what it gives reads back, with the codes' normal forms.
+    /// Writes the envelope. If no detail contains a float, the result round-trips, with the normal forms of its codes.
     #[tactic(auto, unfolding(crate::specs::Envelope::envelope_written))]
     fn to_value(&self, alloc: Global) -> Result<Value, AllocError>
         ensures exact { IfOk result (λ v. view v ≡ envelope_written self.now) }

@@ -33,7 +33,7 @@ pub enum OciErrorCode {
     Other(Text),
 }
 
-// The code of a text of the table.
+// Returns the code of a text in the table.
 #[tactic(auto, unfolding(crate::specs::ErrorCode::known_code))]
 fn known_code(text: &str) -> Option<OciErrorCode>
     ensures { result ≡ known_code text.now }
@@ -61,7 +61,7 @@ fn known_code(text: &str) -> Option<OciErrorCode>
     Some(code)
 }
 
-// The text of a code.
+// Returns the text of a code.
 #[tactic(auto, unfolding(crate::specs::ErrorCode::code_text))]
 fn code_text(code: &OciErrorCode) -> &str
     ensures { result.now ≡ code_text code.now }
@@ -91,7 +91,7 @@ fn code_text(code: &OciErrorCode) -> &str
 impl OciErrorCode {
     ghost use Rattle.oci_errors.specs.ErrorCode.{code_of};
 
-    /// `Float` exactly where a float stands anywhere, else `Shape` exactly where the value is no text.
+    /// Reads a code. Returns `Float` if and only if the value contains a float, otherwise `Shape` if not a string.
     pub fn read(alloc: Global, value: &Value) -> Result<OciErrorCode, ReadError>
         ensures { ReadsDocument result code_of (view value.now) }
     {
@@ -146,7 +146,7 @@ impl ToValue for OciErrorCode {
 
     ghost written = { code_written };
 
-    /// What it gives reads back as the normal form: an `Other` whose text is one of the table is that code.
+    /// Writes the code. Reading it returns the normal form: an `Other` with a text of the table becomes that code.
     #[tactic(auto, using(json_writing::proofs::Whole::document_again))]
     fn to_value(&self, alloc: Global) -> Result<Value, AllocError>
         ensures exact { IfOk result (λ v. view v ≡ code_written self.now) }

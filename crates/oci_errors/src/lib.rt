@@ -1,4 +1,4 @@
-//! What registries say of refusals: envelopes, errors and their codes (OCI distribution specification, "Error Codes").
+//! The error bodies of registries: envelopes, errors and their codes (OCI distribution specification, "Error Codes").
 #![tactic(auto)]
 
 mod envelope;

@@ -1,4 +1,4 @@
--- What a shelf's transports show after a step.
+-- What a contract sees of a shelf's transports after a step.
 use Rattle.std.proofs.Common.{◌≡◌, ℕ, zero, suc, ◌+◌, ◌<◌, ◌≤◌, Bool, true, false, List, [], ◌∷◌, ◌++◌, length, take, drop, Some, refl, sym, ap, subst, ◌∙◌, arith, append-nil}
 use Rattle.std.specs.Prelude.{min, nat_lt}
 use Rattle.std.proofs.lemmas.Bool.Decides.{nat_tests}
@@ -12,14 +12,14 @@ use Rattle.oci_transport.specs.declared.message.Exchange.{Exchange}
 some_is : {A : Type 0} (x y : A) → Some x ≡ Some y → x ≡ y
 some_is x y h = cc h
 
--- the same table, and no fault where nothing may fail
+-- the same table, and no fault if nothing may fail
 pub same_table : (a : Answering) (old new : Link) → old.answers ≡ Some a → new.answers ≡ Some a → (NeverFails a → new.faults ≡ old.faults) → Steady old new
 same_table a old new before after quiet = record {
   steady = λ b h. after ∙ sym before ∙ h;
   quiet = λ b h never. quiet (subst NeverFails (some_is _ _ (sym h ∙ before)) never);
 }
 
--- one more exchange, as the table says
+-- one more exchange, by the table
 pub told_next : (a : Answering) (old new : Link) (before : List Exchange) (e : Exchange) → old.answers ≡ Some a → new.answers ≡ Some a → (NeverFails a → new.faults ≡ old.faults) → old.told ≡ Some before → new.told ≡ Some (before ++ e ∷ []) → e.answer ≡ a.answer (length before) e.request → Extends old new (e ∷ [])
 told_next a old new before e answers same quiet was told is = record {
   told = λ b h. told ∙ ap (λ c. Some (c ++ e ∷ [])) (some_is _ _ (sym was ∙ h));
@@ -65,7 +65,7 @@ nothing_left n (b ∷ bytes) h = cc h
 drop_further : (given n : ℕ) (body : List ℕ) → drop (given + n) body ≡ drop n (drop given body)
 drop_further given n body = sym (drop-drop n given body)
 
--- a front of what is left was given
+-- a prefix of the rest was returned
 pub takes : (body piece : List ℕ) (given : ℕ) (old new : Link) → old.rest ≡ Some (drop given body) → new.rest ≡ Some (drop (given + length piece) body) → piece ≡ take 65536 (drop given body) → EndsUnbroken old new → StaysUnbroken old new → Takes piece old new
 takes body piece given old new was now is ends unbroken = record {
   ends = λ none. ends;
@@ -80,7 +80,7 @@ takes body piece given old new was now is ends unbroken = record {
       );
 }
 
--- as much as is left, and at most so much
+-- the whole rest, but at most n bytes
 pub take_most : (n : ℕ) (bytes : List ℕ) → take (min (length bytes) n) bytes ≡ take n bytes
 take_most n bytes = by (nat_lt n (length bytes)) refl where
   by : (v : Bool) → nat_lt n (length bytes) ≡ v → take (min (length bytes) n) bytes ≡ take n bytes

@@ -1,4 +1,4 @@
--- Plain paths of a registry read as they stand.
+-- Plain paths of a registry are parsed verbatim.
 use Rattle.std.proofs.Common.{◌≡◌, inl, inr, ◌⊎◌, ℕ, ◌<◌, Bool, true, false, cond, not, ◌&&◌, ◌||◌, ◌==◌, List, [], ◌∷◌, ◌++◌, length, get_or, Some, None, Ok, Err, All, refl, sym, ap, subst, ◌∙◌, arith, append_assoc, append-nil}
 use Rattle.std.specs.Prelude.{unwrap_or, is_some, codes, bytes_eq}
 use Rattle.std.specs.List.{list_all}
@@ -25,7 +25,7 @@ use Rattle.oci_transport.specs.Urls.{is_web, readable, request_url, registry_tex
 use Rattle.oci_link.specs.PlainPaths.{Scheme, PlainPath, PlainPathsRead}
 use Rattle.oci_link.proofs.PlainSegments.{and_left, and_right, segments_of, path_long}
 
--- no byte of the text is this one
+-- the text does not contain this byte
 abbrev Lacks : ℕ → List ℕ → Type 0
 Lacks c xs = list_all (λ b. not (b == c)) xs ≡ true
 
@@ -36,7 +36,7 @@ record Same (xs ys us vs : List ℕ) : Type 0 where
 lacking : (c : ℕ) (b : ℕ) (xs : List ℕ) → Lacks c (b ∷ xs) → b ≡ c → ⊥
 lacking c b xs lacks same = let other : not (b == c) ≡ true = and_left (not (b == c)) (list_all (λ b. not (b == c)) xs) lacks in grind (arith, nat_tests)
 
--- a text is cut at its first such byte in one way
+-- a string is split at its first such byte in only one way
 first_mark : (c : ℕ) (xs ys us vs : List ℕ) → Lacks c xs → Lacks c us → xs ++ c ∷ ys ≡ us ++ c ∷ vs → Same xs ys us vs
 first_mark c [] ys [] vs free none is = record { front = refl; back = cc is }
 first_mark c [] ys (u ∷ us) vs free none is = absurd (lacking c u us none (cc is))
@@ -56,7 +56,7 @@ lacks_all c p other [] all = refl
 lacks_all c p other (x ∷ xs) all =
     ap (λ v. not v && list_all (λ b. not (b == c)) xs) (other x (and_left (p x) (list_all p xs) all)) ∙ lacks_all c p other xs (and_right (p x) (list_all p xs) all)
 
--- no slash stands in a domain
+-- a domain contains no slash
 letters_lack : (text : List ℕ) → Run is_ascii_alphanumeric text → Lacks 47 text
 letters_lack text run = lacks_all 47 is_ascii_alphanumeric (λ b h. grind (arith, nat_tests, h)) text run.1
 
@@ -82,21 +82,21 @@ lacks_from : (c : ℕ) (test : ℕ → Bool) → ((b : ℕ) → test b ≡ true 
 lacks_from c test other [] all = refl
 lacks_from c test other (x ∷ xs) all = ap (λ v. not v && list_all (λ b. not (b == c)) xs) (other x (All-head (Passes test) x xs all)) ∙ lacks_from c test other xs (All-tail (Passes test) x xs all)
 
--- what follows the path
+-- the URL after the path
 abbrev tail_of : Parts → List ℕ
 tail_of url = when (is_some url.query) (63 ∷ []) ++ (unwrap_or url.query [] ++ (when (is_some url.fragment) (35 ∷ []) ++ (unwrap_or url.fragment [] ++ [])))
 
 tail_text : (url : Parts) → serialize url ≡ text_before url AfterPath ++ tail_of url
 tail_text url = simp (append_assoc, append-nil)
 
--- the text by its scheme, what stands before the path, the path, and what follows it
+-- the text from its scheme, the part before the path, the path, and the rest
 url_text : (url : Parts) → has_authority url ≡ true → serialize url ≡ url.scheme ++ 58 ∷ (47 ∷ 47 ∷ (text_between url BeforeUsername AfterPort ++ (url.path ++ tail_of url)))
 url_text url authority =
     let body = text_between url BeforeUsername AfterPort in
     tail_text url ∙ ap (λ t. t ++ tail_of url) (body_text url authority) ∙ append_assoc url.scheme (58 ∷ 47 ∷ 47 ∷ (body ++ url.path)) (tail_of url)
     ∙ ap (λ t. url.scheme ++ 58 ∷ 47 ∷ 47 ∷ t) (append_assoc body url.path (tail_of url))
 
--- a URL of the schemes http and https
+-- a URL with the scheme http or https
 record IsWeb (url : Parts) : Type 0 where
   kind : kind_of url ≡ SpecialNotFile
   no_colon : Lacks 58 url.scheme
@@ -137,7 +137,7 @@ second_empty : (xs ys : List ℕ) → xs ++ ys ≡ [] → ys ≡ []
 second_empty [] ys h = h
 second_empty (x ∷ xs) ys h = absurd (cc h)
 
--- the URL of a registry has no more than its scheme, its registry and a slash
+-- the URL of a registry consists of its scheme, its registry and a slash
 record IsRoot (url : Parts) (scheme registry : List ℕ) : Type 0 where
   scheme_is : url.scheme ≡ scheme
   registry_is : text_between url BeforeUsername AfterPort ≡ registry

@@ -1,4 +1,4 @@
--- What the transports of a shelf show after a step of what they serve.
+-- What a contract sees of a shelf's transports after a step of `Served`.
 use Rattle.std.proofs.Common.{◌≡◌, ℕ, ◌+◌, ◌<◌, Bool, true, false, ◌||◌, not, ◌==◌, List, [], ◌∷◌, length, take, drop, Some, None, refl, sym, ap, subst, ◌∙◌, arith}
 use Rattle.std.proofs.lemmas.Bool.Decides.{nat_tests}
 use Rattle.oci_transport.specs.Link.{Link, BreaksOff, Answering, NeverFails, Steady, Answers, AddsUnanswered, LeavesRest, Takes}
@@ -29,7 +29,7 @@ either : (a b : Bool) → b ≡ true → (a || b) ≡ true
 either true b h = refl
 either false b h = h
 
--- a send fails, so not nothing may fail
+-- if a send fails, something may fail
 pub send_may_fail : (shelf : Shelf) (sends pieces : List ℕ) (place : ℕ) → is_among place sends ≡ true → NeverFails (failing shelf sends pieces) → ⊥
 unfolding failing
 send_may_fail shelf sends pieces place there never = let one : (is_among place sends || not (length pieces == 0)) ≡ false = never place in let two : (true || not (length pieces == 0)) ≡ false = subst (λ v. (v || not (length pieces == 0)) ≡ false) there one in cc two
@@ -50,14 +50,14 @@ pub failed : (a b : Answering) (faults raised : ℕ) (old new : Served) (request
 failed a b faults raised old new request step by same quiet =
     told_next a (link_of old faults a) (link_of new raised b) old.told (record { request = request; answer = None; faults = faults }) refl (ap Some same) quiet refl (ap Some step.told) (sym by)
 
--- after a send that failed nothing is given
+-- after a failed send nothing is returned
 pub nothing : (a b : Answering) (faults raised : ℕ) (old new : Served) (request : Request) → IsUnanswered request faults old new → LeavesRest [] (link_of old faults a) (link_of new raised b)
 nothing a b faults raised old new request step = λ before h. ap (λ n. Some (drop n new.body)) step.given ∙ ap Some step.body
 
 pub stays : (a b : Answering) (faults raised : ℕ) (old new : Served) → b ≡ a → (NeverFails a → raised ≡ faults) → Steady (link_of old faults a) (link_of new raised b)
 stays a b faults raised old new same quiet = same_table a (link_of old faults a) (link_of new raised b) refl (ap Some same) quiet
 
--- no body breaks off
+-- no body is truncated
 pub whole_bodies : (shelf : Shelf) (place : ℕ) → (answering shelf).breaks place ≡ None
 unfolding answering
 whole_bodies shelf place = refl
@@ -79,6 +79,6 @@ gives a b faults old new piece never step = takes old.body piece old.given (link
 some_is : {A : Type 0} (x y : A) → Some x ≡ Some y → x ≡ y
 some_is x y h = cc h
 
--- a piece has 65536 bytes, but for the last one
+-- each piece has 65536 bytes, except the last one
 pub sized : (a : Answering) (faults : ℕ) (old new : Served) (piece : List ℕ) → GivesPiece piece old new → (rest : List ℕ) → (link_of old faults a).rest ≡ Some rest → piece ≡ take 65536 rest
 sized a faults old new piece step rest is = step.piece_is ∙ ap (take 65536) (some_is _ _ is)

@@ -1,4 +1,4 @@
--- What a shelf answers under the URLs of its repository.
+-- The answers of a shelf for the URLs of its repository.
 use Rattle.std.proofs.Common.{◌≡◌, ℕ, suc, ◌+◌, Bool, true, false, cond, not, ◌&&◌, ◌==◌, List, [], ◌∷◌, ◌++◌, length, drop, Some, None, refl, ap, ◌∙◌, arith}
 use Rattle.std.specs.Prelude.{codes, nat_lt, option_map, option_and_then}
 use Rattle.std.specs.Option.{option_or}
@@ -14,7 +14,7 @@ use Rattle.oci_link.specs.Paths.{after, past_mark, past_slash, path_of, is_slash
 use Rattle.oci_link.specs.Table.{answer, at_path, in_registry, in_repository, or_manifest, manifest_answer, blob_answer, referrers_answer, unless_redirected, is_get_or_head, is_get, found, not_found}
 use Rattle.oci_link.proofs.Fronts.{after-front}
 
--- no byte of the list passes
+-- no byte of the list passes the test
 abbrev pub none_pass : (ℕ → Bool) → List ℕ → Bool
 none_pass p xs = list_all (λ b. not (p b)) xs
 
@@ -68,7 +68,7 @@ path_of-at scheme authority path colon slash question =
     ∙ ap (option_map (before_first is_question_mark)) (past_slash-at authority path slash)
     ∙ ap Some (take_all _ path (omega (arith, no_place is_question_mark path question)))
 
--- a shelf that has no redirect for a request answers by its path
+-- without a redirect for a request, a shelf answers by the path
 by_path : (shelf : Shelf) (request : Request) (path : List ℕ) → map.get shelf.redirects request.url ≡ None → path_of request.url ≡ Some path → answer shelf request ≡ at_path shelf request.method (Some path)
 unfolding answer
 by_path shelf request path stays is = by (is_get_or_head request.method) ∙ ap (at_path shelf request.method) is where

@@ -1,4 +1,4 @@
--- Redirects that lead to an end.
+-- Redirects that end.
 use Rattle.std.specs.Prelude.{ℕ, zero, suc, Bool, true, false, ◌&&◌, is_none, List, Option, Some, None, bytes_eq}
 use Rattle.std.specs.Option.{option_map_or}
 use Rattle.std.specs.List.{list_all}
@@ -14,22 +14,22 @@ use Rattle.oci_link.specs.declared.shelf.Shelf.{Shelf}
 abbrev pub Texts : Type 0
 Texts = FinMap by_bytes (List ℕ)
 
--- the text of the URL that is read from it
+-- the text parses to a URL with this text
 abbrev pub is_own_text : List ℕ → Option Parts → Bool
 is_own_text text None = false
 is_own_text text (Some url) = bytes_eq (serialize url) text
 
--- both have a path, and it is the same
+-- both have a path, and the paths are equal
 abbrev pub same_path : Option (List ℕ) → Option (List ℕ) → Bool
 same_path (Some a) (Some b) = bytes_eq a b
 same_path _ _ = false
 
--- at most so many steps of the map reach a text that is no name
+-- at most n steps of the map lead to a string that is not a name
 abbrev pub ends_within : ℕ → Texts → List ℕ → Bool
 ends_within zero redirects text = is_none (map.get redirects text)
 ends_within (suc n) redirects text = option_map_or (ends_within n redirects) (map.get redirects text) true
 
--- a name and its value lead, ten steps at most being followed
+-- a name and its value have one path, and at most ten steps lead to an end
 abbrev pub entry_leads : Texts → List ℕ × List ℕ → Bool
 entry_leads redirects entry =
     is_own_text entry.1 (request_url entry.1)

@@ -1,4 +1,4 @@
--- Paths of a registry that stand in a URL's text as they are.
+-- Paths of a registry that a URL's text contains verbatim.
 use Rattle.std.specs.Prelude.{◌≡◌, ℕ, ◌==◌, Bool, not, ◌||◌, List, [], ◌∷◌, ◌++◌, Some, IsTrue, codes, ◌⊎◌}
 use Rattle.std.specs.List.{list_all}
 use Rattle.std.specs.Char.{is_ascii_alphanumeric}
@@ -28,7 +28,7 @@ pub data PlainPath : List ℕ → Type 0 where
 abbrev pub Scheme : List ℕ → Type 0
 Scheme text = IsTrue (list_all (λ b. not (b == 58)) text)
 
--- the text reads as a URL of this very text, with the scheme, host and port of another URL
+-- the text parses to a URL with this text, and with the scheme, host and port of another URL
 pub record ReadsAs (text : List ℕ) (url : Parts) : Type 0 where
   pub read : Parts
   pub reads : request_url text ≡ Some read
@@ -37,8 +37,8 @@ pub record ReadsAs (text : List ℕ) (url : Parts) : Type 0 where
   pub host : read.host ≡ url.host
   pub port : read.port ≡ url.port
 
--- where a registry is a domain, and its URL has the text `scheme://registry/`, each plain path behind
--- `scheme://registry` reads as it stands
+-- if a registry is a domain, and its URL has the text `scheme://registry/`, each plain path after
+-- `scheme://registry` is parsed verbatim
 abbrev pub PlainPathsRead : Parts → Type 0
 PlainPathsRead url =
     (scheme registry path : List ℕ) → Scheme scheme → Domain registry

@@ -1,4 +1,4 @@
--- What a step changes of what is told of a shelf and of what is given of its last answer.
+-- How a step changes the exchanges of a shelf and the rest of its last answer.
 use Rattle.std.specs.Prelude.{◌≡◌, ℕ, ◌+◌, List, [], ◌∷◌, ◌++◌, length, take, drop, Option, Some, None}
 use Rattle.oci_transport.specs.Link.{Link}
 use Rattle.oci_transport.specs.declared.message.Answer.{Answer}
@@ -8,11 +8,11 @@ use Rattle.oci_transport.specs.declared.message.AnswerHead.{AnswerHead}
 use Rattle.oci_link.specs.declared.served.Served.{Served}
 use Rattle.oci_link.specs.Table.{answer}
 
--- an exchange at this count
+-- an exchange at this fault count
 abbrev pub exchange_at : Request → Option Answer → ℕ → Exchange
 exchange_at request answer faults = record { request = request; answer = answer; faults = faults }
 
--- the request was told with its answer of the table, of which this is the head, and whose body is given next
+-- the request was added with its answer of the table, which has this head, and whose body is returned next
 pub record IsAnswered (request : Request) (head : AnswerHead) (faults : ℕ) (old new : Served) : Type 0 where
   pub shelf : new.shelf ≡ old.shelf
   pub told : new.told ≡ old.told ++ exchange_at request (Some (answer old.shelf request)) faults ∷ []
@@ -21,14 +21,14 @@ pub record IsAnswered (request : Request) (head : AnswerHead) (faults : ℕ) (ol
   pub body : new.body ≡ (answer old.shelf request).body
   pub given : new.given ≡ 0
 
--- the request was told without an answer, and nothing is given next
+-- the request was added without an answer, and nothing is returned next
 pub record IsUnanswered (request : Request) (faults : ℕ) (old new : Served) : Type 0 where
   pub shelf : new.shelf ≡ old.shelf
   pub told : new.told ≡ old.told ++ exchange_at request None faults ∷ []
   pub body : new.body ≡ []
   pub given : new.given ≡ 0
 
--- the next 65536 bytes of the body, or what is left of it, were given
+-- the next 65536 bytes of the body, or its rest, were returned
 pub record GivesPiece (piece : List ℕ) (old new : Served) : Type 0 where
   pub shelf : new.shelf ≡ old.shelf
   pub told : new.told ≡ old.told
@@ -36,6 +36,6 @@ pub record GivesPiece (piece : List ℕ) (old new : Served) : Type 0 where
   pub piece_is : piece ≡ take 65536 (drop old.given old.body)
   pub given : new.given ≡ old.given + length piece
 
--- the next 65536 bytes of what is left where that is told, or what is left
+-- the next 65536 bytes of the rest if it is exposed, or the rest
 abbrev pub IsPieceOf : List ℕ → Link → Type 0
 IsPieceOf piece old = (rest : List ℕ) → old.rest ≡ Some rest → piece ≡ take 65536 rest

@@ -1,4 +1,4 @@
--- What the transports of a shelf show.
+-- What a contract sees of a shelf's transports.
 use Rattle.std.specs.Prelude.{ℕ, Bool, false, ◌==◌, ◌||◌, not, List, length, drop, Some, None, if◌then◌else◌}
 use Rattle.std.specs.List.{list_any}
 use Rattle.oci_transport.specs.Link.{Link, Answering}
@@ -19,8 +19,8 @@ answering shelf = record {
 abbrev pub is_among : ℕ → List ℕ → Bool
 is_among n numbers = list_any (λ m. m == n) numbers
 
--- the sends of these numbers fail, and where any call for a piece fails, it may be at each place, so
--- that of no body it is known that it breaks off
+-- the sends with these numbers fail; if any call for a piece fails, something may fail at each index, so that no
+-- body is known to be truncated
 unfoldable pub failing : Shelf → List ℕ → List ℕ → Answering
 failing shelf sends pieces = record {
   answer = λ place request. if is_among place sends then None else Some (answer shelf request);
@@ -28,7 +28,7 @@ failing shelf sends pieces = record {
   breaks = λ place. None;
 }
 
--- what is told, and what is left of the last body
+-- the exchanges, and the rest of the last body
 abbrev pub link_of : Served → ℕ → Answering → Link
 link_of s faults answers = record {
   told = Some s.told;
@@ -46,7 +46,7 @@ state_of t = link_of t.served 0 (answering t.served.shelf)
 abbrev pub faulty_shelf_of : FaultyShelf → Shelf
 faulty_shelf_of t = t.served.shelf
 
--- the numbers of the sends that fail, and of the calls for a piece
+-- the numbers of the failing sends, and of the failing calls for a piece
 abbrev pub failing_sends : FaultyShelf → List ℕ
 failing_sends t = t.sends
 

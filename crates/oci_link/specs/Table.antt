@@ -1,4 +1,4 @@
--- What a shelf answers to a request (OCI distribution specification, "Pull").
+-- The answer of a shelf to a request (OCI distribution specification, "Pull").
 use Rattle.std.specs.Prelude.{ℕ, ◌==◌, nat_lt, Bool, true, false, ◌&&◌, List, [], length, Option, Some, None, codes}
 use Rattle.std.specs.Prelude.{if◌then◌else◌}
 use Rattle.std.specs.List.{list_any}
@@ -21,7 +21,7 @@ is_get_or_head Get = true
 is_get_or_head Head = true
 is_get_or_head _ = false
 
--- a header whose value cannot stand in one is left out
+-- a header with an invalid value is omitted
 abbrev pub with_header : List ℕ → List ℕ → Fields → Fields
 with_header name value headers =
     if is_header_value value && nat_lt (held headers) 1000 then added headers name value else headers
@@ -35,7 +35,7 @@ not_found = record { status = 404; headers = map.empty; body = [] }
 abbrev pub with_digest : List ℕ → Fields
 with_digest digest = with_header digest_header digest map.empty
 
--- a HEAD is answered with no body
+-- the answer to a HEAD has no body
 abbrev pub body_for : Method → List ℕ → List ℕ
 body_for Head content = []
 body_for _ content = content
@@ -50,7 +50,7 @@ document_answer method digest (Some document) =
 abbrev pub is_colon : ℕ → Bool
 is_colon b = b == 58
 
--- a name with a colon is a digest, and another one is a tag
+-- a name with a colon is a digest, another one is a tag
 abbrev pub digest_named : Shelf → List ℕ → Option (List ℕ)
 digest_named shelf name = if list_any is_colon name then Some name else map.get shelf.tags name
 
@@ -89,12 +89,12 @@ abbrev pub or_manifest : Shelf → Method → List ℕ → Option (List ℕ) →
 or_manifest shelf method rest (Some name) = manifest_answer shelf method name
 or_manifest shelf method rest None = or_blob shelf method rest (after (codes "/blobs/") rest)
 
--- what follows the repository
+-- the rest after the repository
 abbrev pub in_repository : Shelf → Method → Option (List ℕ) → Answer
 in_repository shelf method None = not_found
 in_repository shelf method (Some rest) = or_manifest shelf method rest (after (codes "/manifests/") rest)
 
--- what follows `/v2/`
+-- the rest after `/v2/`
 abbrev pub in_registry : Shelf → Method → Option (List ℕ) → Answer
 in_registry shelf method None = not_found
 in_registry shelf method (Some rest) =
@@ -113,7 +113,7 @@ abbrev pub unless_redirected : Shelf → Request → Option (List ℕ) → Answe
 unless_redirected shelf request (Some location) = redirect_to location
 unless_redirected shelf request None = at_path shelf request.method (path_of request.url)
 
--- the table of answers: a redirect of a GET or HEAD first, and then by the path
+-- the answers: first a redirect of a GET or HEAD, then by the path
 unfoldable pub answer : Shelf → Request → Answer
 answer shelf request =
     unless_redirected shelf request

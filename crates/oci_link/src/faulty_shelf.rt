@@ -1,4 +1,4 @@
-// A shelf's transport that fails where it is told to.
+// A shelf's transport that fails at given calls.
 ghost use Rattle.std.specs.Prelude.{◌≡◌, ◌≤◌, [], IsTrue, Some};
 ghost use Rattle.oci_link.specs.Leads.{redirects_lead};
 ghost use Rattle.oci_link.specs.State.{is_among};
@@ -9,8 +9,8 @@ use json_values::{Blob, Copied, List, copied};
 use oci_transport::{AnswerHead, Conversation, LinkError, Request, Transport};
 use std::alloc::{AllocError, Global};
 
-/// Answers as a `ShelfTransport`, but fails at the sends and at the calls for a piece whose numbers, counted from 0, it
-/// was given. Calls in which memory was wanting are not counted.
+/// Answers as a `ShelfTransport`, but fails at the sends and at the calls for a piece with the given numbers, counted
+/// from 0. Calls that run out of memory are not counted.
 #[derive(Drop)]
 pub struct FaultyShelf {
     served: Served,
@@ -30,8 +30,8 @@ impl FaultyShelf {
     ghost use Rattle.oci_link.specs.State.{failing, faulty_shelf_of, failing_sends, failing_pieces, next_piece};
     ghost use Rattle.oci_link.specs.State.{faulty_state_of};
 
-    /// Fails at these numbers of sends and of calls for a piece. The redirects of the shelf have to lead, which
-    /// `Shelf::redirects_lead` tells.
+    /// Creates a transport that fails at these numbers of sends and of calls for a piece. The redirects of the shelf
+    /// must lead (`Shelf::redirects_lead`).
     pub fn new(alloc: Global, shelf: Shelf, sends: List<u64>, pieces: List<u64>) -> FaultyShelf
         requires { IsTrue (redirects_lead shelf) }
         ensures shelf { faulty_shelf_of result ≡ shelf }
@@ -51,7 +51,7 @@ impl FaultyShelf {
         }
     }
 
-    /// All exchanges so far.
+    /// Returns all exchanges so far.
     pub fn conversation(&self) -> &Conversation
         ensures { Some result.now ≡ (faulty_state_of self.now).told }
     {

@@ -1,4 +1,4 @@
-// Whether redirects lead to an end.
+// Whether redirects end.
 ghost use Rattle.std.specs.Prelude.{◌≡◌, IfOk};
 ghost use Rattle.std.specs.List.{list_all};
 ghost use Rattle.std.specs.Option.{option_copied};
@@ -30,7 +30,7 @@ fn same_path(a: Option<&str>, b: Option<&str>) -> bool
     }
 }
 
-// Whether at most so many steps of the map reach a text that is no name.
+// Returns whether at most `steps` steps of the map lead to a string that is not a name.
 fn ends_within(steps: usize, redirects: &Annotations, text: &str) -> bool
     ensures { result ≡ words.ends_within steps redirects.now text.now }
 {
@@ -77,8 +77,8 @@ impl Shelf {
     ghost use Rattle.std.specs.Prelude.{◌≡◌, IfOk};
     ghost use Rattle.oci_link.specs.Leads.{redirects_lead};
 
-    /// Whether the redirects lead: each value is the text of the URL that is read from it, each name has the path of
-    /// its value, and at most ten steps of the map reach a text that is no name.
+    /// Returns whether the redirects lead: each value is the text of the URL to which it parses, each name has the path
+    /// of its value, and at most ten steps of the map lead to a string that is not a name.
     #[tactic(auto, unfolding(crate::specs::Leads::redirects_lead))]
     pub fn redirects_lead(&self, alloc: Global) -> Result<bool, AllocError>
         ensures { IfOk result (λ lead. lead ≡ redirects_lead self.now) }

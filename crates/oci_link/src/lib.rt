@@ -1,5 +1,5 @@
-//! What carries requests to a registry and its answers back: transports over connections, recorded answers and a
-//! registry in memory, the bodies, headers and URLs of requests, and the challenges of registries.
+//! Transports over connections, of recorded answers and of a registry in memory; the bodies, headers and URLs of
+//! requests; and the challenges of registries.
 #![tactic(auto)]
 
 mod faulty_shelf;

@@ -4,7 +4,7 @@ ghost use Rattle.std.specs.List.{before_first};
 ghost use Rattle.std.specs.Option.{option_copied};
 ghost use Rattle.oci_link.specs.Paths as words;
 
-/// What follows this front.
+/// Returns the rest after this prefix.
 pub fn after<'a>(front: &str, text: &'a str) -> Option<&'a str>
     ensures { option_copied result ≡ words.after front.now text.now }
 {
@@ -41,7 +41,7 @@ fn before_query(text: &str) -> &str
     }
 }
 
-/// From the first slash behind `://`, without that slash, up to a `?`.
+/// Returns the text from the first slash after `://`, without that slash, up to a `?`.
 #[tactic(auto, unfolding(crate::specs::Paths::path_of))]
 pub fn path_of(url: &str) -> Option<&str>
     ensures { option_copied result ≡ words.path_of url.now }

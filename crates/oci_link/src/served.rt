@@ -1,4 +1,4 @@
-// What is told of a shelf, and what is given of its last answer.
+// The exchanges of a shelf, and the rest of its last answer.
 ghost use Rattle.std.specs.Prelude.{◌≡◌, ◌≤◌, ◌+◌, [], IsTrue, length, IfOk, OnOk, OnErr};
 ghost use Rattle.oci_link.specs.Leads.{redirects_lead};
 
@@ -8,10 +8,10 @@ use json_values::{Blob, Copied, List, copied};
 use oci_transport::{AnswerHead, Conversation, Exchange, Request};
 use std::alloc::{AllocError, Global};
 
-/// The greatest number of bytes that a piece of a body has.
+/// The greatest length of a piece of a body in bytes.
 const PIECE: usize = 65536;
 
-/// A shelf, the exchanges so far, the last body, and how many of its bytes were given.
+/// A shelf, the exchanges so far, the last body, and the number of its bytes that were returned.
 #[derive(Drop)]
 pub struct Served {
     pub shelf: Shelf,
@@ -25,7 +25,7 @@ pub struct Served {
 impl Served {
     ghost use Rattle.oci_link.specs.Served.{IsAnswered, IsUnanswered, GivesPiece};
 
-    /// Nothing was asked of this shelf yet.
+    /// Creates the state of a shelf before any request.
     pub fn new(alloc: Global, shelf: Shelf) -> Served
         requires { IsTrue (redirects_lead shelf) }
         ensures shelf { result.shelf ≡ shelf }
@@ -64,7 +64,7 @@ impl Served {
         Ok(AnswerHead { status, headers })
     }
 
-    /// Tells a request that failed.
+    /// Adds a request that failed.
     pub fn unanswered(
         &mut self,
         alloc: Global,
@@ -85,7 +85,7 @@ impl Served {
         Ok(())
     }
 
-    /// The next piece of the last body, which is empty where nothing is left.
+    /// Returns the next piece of the last body, which is empty if nothing is left.
     pub fn next(&mut self, alloc: Global) -> Result<Blob, AllocError>
         ensures ok { IfOk result (λ piece. GivesPiece piece self.old self.new) }
         ensures err { OnErr result (self.new ≡ self.old) }

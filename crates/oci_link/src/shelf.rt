@@ -1,4 +1,4 @@
-// A repository with what it holds.
+// A repository with its contents.
 use json_values::{Annotations, Blob, Copied, Text, TextMap, copied};
 use std::alloc::{AllocError, Global};
 
@@ -16,7 +16,7 @@ pub type ShelfDocuments = TextMap<ShelfDocument>;
 pub type ShelfBlobs = TextMap<Blob>;
 
 /// A repository with maps: from tags to digests; from digests to documents, to blobs and to the bytes of lists of
-/// referrers; and from URL texts to the URL texts that they redirect to.
+/// referrers; and from URLs to the URLs to which they redirect.
 #[derive(Drop)]
 pub struct Shelf {
     pub repository: Text,

@@ -8,7 +8,7 @@ use json_values::{Blob, Copied};
 use oci_transport::{AnswerHead, Conversation, LinkError, Request, Transport};
 use std::alloc::{AllocError, Global};
 
-/// Answers by the table of its shelf, in pieces of at most 65536 bytes, tells all, and never fails.
+/// Answers by the table of its shelf, in pieces of at most 65536 bytes, exposes everything, and never fails.
 #[derive(Drop)]
 pub struct ShelfTransport {
     served: Served,
@@ -17,7 +17,7 @@ pub struct ShelfTransport {
 impl ShelfTransport {
     ghost use Rattle.oci_link.specs.State.{answering, shelf_of, state_of};
 
-    /// Answers from this shelf, whose redirects have to lead, which `Shelf::redirects_lead` tells.
+    /// Creates a transport of this shelf, whose redirects must lead (`Shelf::redirects_lead`).
     pub fn new(alloc: Global, shelf: Shelf) -> ShelfTransport
         requires { IsTrue (redirects_lead shelf) }
         ensures shelf { shelf_of result ≡ shelf }
@@ -30,7 +30,7 @@ impl ShelfTransport {
         }
     }
 
-    /// All exchanges so far.
+    /// Returns all exchanges so far.
     pub fn conversation(&self) -> &Conversation
         ensures { Some result.now ≡ (state_of self.now).told }
     {

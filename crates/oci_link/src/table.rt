@@ -1,4 +1,4 @@
-// What a shelf answers.
+// The answers of a shelf.
 ghost use Rattle.std.specs.Prelude.{◌≡◌, IfOk, OnOk, IsTrue, None, Some};
 ghost use Rattle.std.specs.Option.{option_copied};
 ghost use Rattle.std.specs.List.{list_any};
@@ -30,7 +30,7 @@ fn is_get_or_head(method: Method) -> bool
     }
 }
 
-// A header whose value cannot stand in one is left out.
+// Adds a header, unless its value is invalid.
 fn with_header(name: &str, value: &[u8], mut headers: Headers) -> Result<Headers, AllocError>
     requires { IsTrue (is_header_name name.now) }
     ensures { IfOk result (λ with. with ≡ rows.with_header name.now value.now headers) }
@@ -126,7 +126,7 @@ fn has_colon(name: &str) -> bool
     name.bytes().any(|byte| byte == b':')
 }
 
-// A name with a colon is a digest, and another one is a tag.
+// Returns the digest for a name: a name with a colon is a digest, another one is a tag.
 fn digest_named<'a>(shelf: &'a Shelf, name: &'a str) -> Option<&'a str>
     ensures { option_copied result ≡ rows.digest_named shelf.now name.now }
 {
@@ -203,7 +203,7 @@ fn referrers_answer(
     Ok(answer)
 }
 
-// What follows the repository's name.
+// Answers by the rest after the repository's name.
 fn in_repository(
     alloc: Global,
     shelf: &Shelf,
@@ -227,7 +227,7 @@ fn in_repository(
     Ok(not_found(alloc))
 }
 
-// What follows `/v2/`.
+// Answers by the rest after `/v2/`.
 fn in_registry(
     alloc: Global,
     shelf: &Shelf,
@@ -287,12 +287,12 @@ fn redirect_to(alloc: Global, location: &Text) -> Result<Answer, AllocError>
     })
 }
 
-/// The shelf's answer to a request (OCI distribution specification, "Pull").
+/// Returns the shelf's answer to a request (OCI distribution specification, "Pull").
 ///
-/// A GET or HEAD of a URL that redirects is answered 307. Else the URL's path decides, which goes from the first slash
-/// behind `://` up to a `?`: GET of `/v2/`; GET or HEAD of `/v2/<repository>/manifests/<tag or digest>`; GET of
-/// `/v2/<repository>/blobs/<digest>` and of `/v2/<repository>/referrers/<digest>`. All else, and what the shelf does
-/// not have, is answered 404.
+/// A GET or HEAD of a URL that redirects is answered 307. Otherwise the URL's path decides, from the first slash
+/// after `://` up to a `?`: GET of `/v2/`; GET or HEAD of `/v2/<repository>/manifests/<tag or digest>`; GET of
+/// `/v2/<repository>/blobs/<digest>` and of `/v2/<repository>/referrers/<digest>`. Everything else, and everything
+/// that the shelf does not contain, is answered 404.
 #[tactic(auto, unfolding(crate::specs::Table::answer))]
 pub fn answer(alloc: Global, shelf: &Shelf, request: &Request) -> Result<Answer, AllocError>
     ensures { IfOk result (λ answer. answer ≡ rows.answer shelf.now request.now) }

@@ -1,4 +1,4 @@
--- What is written of manifests and indexes is read back.
+-- Written manifests and indexes round-trip.
 use Rattle.std.proofs.Common.{◌≡◌, ℕ, List, false, Option, Some, None, option_map, refl}
 use Rattle.serde_json.specs.Data.{Data, string, number, unsigned}
 use Rattle.serde_json.specs.Find.{get, of_integer}

@@ -1,4 +1,4 @@
--- A document that is written has no second meaning.
+-- A written document matches one table only.
 use Rattle.std.proofs.Common.{◌≡◌, Option, Some, None, Ok, codes, refl, ap, ◌∙◌}
 use Rattle.serde_json.specs.Data.{Data}
 use Rattle.serde_json.specs.Find.{get}

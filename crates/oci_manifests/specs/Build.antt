@@ -1,4 +1,4 @@
--- The manifests that are made here.
+-- Manifests that this crate builds.
 use Rattle.std.specs.Prelude.{ℕ, List, [], Option, None, map, length, pos, codes}
 use Rattle.json_tables.specs.Reading.{Map}
 use Rattle.oci_digests.specs.Names.{digest_text}
@@ -8,7 +8,7 @@ use Rattle.oci_manifests.specs.declared.manifest.OciImageManifest.{OciImageManif
 use Rattle.oci_manifests.specs.declared.blob.ImageLayer.{ImageLayer}
 use Rattle.oci_manifests.specs.declared.blob.Config.{Config}
 
--- what names these bytes: their length and SHA-256 text
+-- the descriptor of these bytes: their length and SHA-256 text
 abbrev pub descriptor_for : List ℕ → List ℕ → Option (Map (List ℕ)) → OciDescriptor
 descriptor_for content media_type annotations = record {
   media_type = media_type;
@@ -19,7 +19,7 @@ descriptor_for content media_type annotations = record {
   artifact_type = None;
 }
 
--- a manifest of version 2 with this configuration, these layers and annotations, and nothing else
+-- a manifest of schema version 2 with this configuration, these layers and annotations, and nothing else
 abbrev pub manifest_with : OciDescriptor → List OciDescriptor → Option (Map (List ℕ)) → OciImageManifest
 manifest_with config layers annotations = record {
   schema_version = 2;

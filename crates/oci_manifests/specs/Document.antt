@@ -12,25 +12,25 @@ use Rattle.oci_manifests.specs.declared.document.OciManifest.TheVariants.{Image,
 use Rattle.oci_manifests.specs.Manifest.{manifest_of, manifest_written}
 use Rattle.oci_manifests.specs.Index.{index_of, index_written}
 
--- the one that is there, and none where both or neither are
+-- the one that is present, or none if both or neither are
 abbrev pub one_of : Option OciImageManifest → Option OciImageIndex → Option OciManifest
 one_of (Some manifest) None = Some (Image manifest)
 one_of None (Some index) = Some (ImageIndex index)
 one_of manifest index = None
 
--- what the value reads as, by exactly one of the two tables
+-- the document, if exactly one of the two tables matches the value
 unfoldable pub document_of : Data → Option OciManifest
 document_of d = one_of (manifest_of d) (index_of d)
 
--- `Float` exactly where a float stands, else `Ambiguous` exactly where both tables read, else `Shape` exactly where
--- neither does, unless memory runs out
+-- `Float` if and only if the value contains a float, else `Ambiguous` if and only if both tables match, else `Shape` if
+-- and only if neither does, or out of memory
 abbrev pub RefusesManifest : ReadError → Data → Type 0
 RefusesManifest Float d = has_float d ≡ true
 RefusesManifest Ambiguous d = (has_float d ≡ false) × IsSome (manifest_of d) × IsSome (index_of d)
 RefusesManifest Shape d = (has_float d ≡ false) × (manifest_of d ≡ None) × (index_of d ≡ None)
 RefusesManifest WantOfMemory d = ⊤
 
--- the one document of a value with no float, or its refusal
+-- the document of a value without floats, or its refusal
 abbrev pub ReadsManifest : Result OciManifest ReadError → Data → Type 0
 ReadsManifest (Ok document) d = (has_float d ≡ false) × (document_of d ≡ Some document)
 ReadsManifest (Err e) d = RefusesManifest e d

@@ -1,4 +1,4 @@
--- Names of header fields (OCI distribution specification, "Pulling manifests"): each public constant is its text.
+-- Names of header fields (OCI distribution specification, "Pulling manifests"): the text of each public constant.
 use Rattle.std.specs.Prelude.{◌≡◌, codes, refl}
 use Rattle.oci_manifests.specs.declared.headers.TheConstants as constant
 

@@ -1,4 +1,4 @@
--- What every manifest begins with: the schema version and the media type.
+-- The common first members of every manifest: the schema version and the media type.
 use Rattle.std.specs.Prelude.{pos, Bool, true, false, IsTrue, ◌&&◌, Option, Some, option_map, unwrap_or, codes}
 use Rattle.std.specs.Ordering.{int_eq}
 use Rattle.json_values.specs.JsonText.{is_plain}
@@ -18,7 +18,7 @@ versioned_of d = do
 abbrev pub is_known_version : Versioned → Bool
 is_known_version v = int_eq v.schema_version (pos 2) && unwrap_or (option_map is_manifest_type v.media_type) true
 
--- a plain object that begins as an image manifest or an image index does
+-- a value without floats that has the common members of an image manifest or an image index
 abbrev pub is_versioned : Data → Bool
 is_versioned d = is_plain d && unwrap_or (option_map is_known_version (versioned_of d)) false
 

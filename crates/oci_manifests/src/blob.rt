@@ -1,4 +1,4 @@
-//! Bytes that a registry keeps, with their media type: layers and configurations.
+//! Layers and configurations: bytes with their media type.
 ghost use Rattle.std.specs.Prelude.{◌≡◌, IfOk, codes};
 ghost use Rattle.oci_digests.specs.Names.{digest_text};
 ghost use Rattle.oci_digests.specs.declared.digester.Algorithm.TheVariants.{Sha256};
@@ -17,7 +17,7 @@ pub struct ImageLayer {
 }
 
 impl ImageLayer {
-    /// A layer of these parts.
+    /// Creates a layer of these parts.
     pub fn new(content: Blob, media_type: Text, annotations: Option<Annotations>) -> ImageLayer
         ensures { result
             ≡ record { content = content; media_type = media_type; annotations = annotations } }
@@ -29,7 +29,7 @@ impl ImageLayer {
         }
     }
 
-    /// A layer of OCI's plain type.
+    /// Creates a layer with OCI's uncompressed media type.
     pub fn oci_v1(
         alloc: Global,
         content: Blob,
@@ -42,7 +42,7 @@ impl ImageLayer {
         Ok(ImageLayer::new(content, media_type, annotations))
     }
 
-    /// A layer of OCI's compressed type. The bytes are given compressed.
+    /// Creates a layer with OCI's gzip media type. The caller passes compressed bytes.
     pub fn oci_v1_gzip(
         alloc: Global,
         content: Blob,
@@ -55,7 +55,7 @@ impl ImageLayer {
         Ok(ImageLayer::new(content, media_type, annotations))
     }
 
-    /// The SHA-256 text of the bytes.
+    /// Returns the SHA-256 text of the bytes.
     pub fn sha256_digest(&self, alloc: Global) -> Result<Text, AllocError>
         ensures { IfOk result (λ text. text ≡ digest_text Sha256 self.now.content) }
     {
@@ -86,7 +86,7 @@ pub struct Config {
 }
 
 impl Config {
-    /// A configuration of these parts.
+    /// Creates a configuration of these parts.
     pub fn new(content: Blob, media_type: Text, annotations: Option<Annotations>) -> Config
         ensures { result
             ≡ record { content = content; media_type = media_type; annotations = annotations } }
@@ -98,7 +98,7 @@ impl Config {
         }
     }
 
-    /// A configuration of OCI's type.
+    /// Creates a configuration with OCI's media type.
     pub fn oci_v1(
         alloc: Global,
         content: Blob,
@@ -111,7 +111,7 @@ impl Config {
         Ok(Config::new(content, media_type, annotations))
     }
 
-    /// The SHA-256 text of the bytes.
+    /// Returns the SHA-256 text of the bytes.
     pub fn sha256_digest(&self, alloc: Global) -> Result<Text, AllocError>
         ensures { IfOk result (λ text. text ≡ digest_text Sha256 self.now.content) }
     {

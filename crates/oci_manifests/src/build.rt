@@ -1,4 +1,4 @@
-//! Manifests that are made of layers and a configuration.
+//! Builds manifests from layers and a configuration.
 ghost use Rattle.std.specs.Prelude.{◌≡◌, [], None, IfOk, map};
 ghost use Rattle.oci_manifests.specs.Build.{descriptor_for, manifest_with, layer_descriptor, built};
 ghost use Rattle.oci_descriptors.specs.Descriptor.{empty_descriptor};
@@ -10,7 +10,7 @@ use oci_descriptors::OciDescriptor;
 use std::alloc::{AllocError, Global};
 
 impl OciImageManifest {
-    /// Schema version 2, the default descriptor as configuration, and nothing else.
+    /// Returns schema version 2 with the default descriptor as configuration, and nothing else.
     pub fn default(alloc: Global) -> Result<OciImageManifest, AllocError>
         ensures { IfOk result (λ manifest. manifest ≡ manifest_with empty_descriptor [] None) }
     {
@@ -18,8 +18,8 @@ impl OciImageManifest {
         Ok(manifest_of_parts(config, List::new(alloc), None))
     }
 
-    /// The manifest of these layers and this configuration: their lengths, SHA-256 digests and media types, the
-    /// annotations of each layer, and these annotations of the manifest.
+    /// Builds the manifest of these layers and this configuration from their lengths in bytes, SHA-256 digests, media
+    /// types and the annotations of each layer, with these annotations of the manifest.
     pub fn build(
         alloc: Global,
         layers: &[ImageLayer],

@@ -18,8 +18,8 @@ pub enum OciManifest {
 }
 
 impl OciManifest {
-    /// `Float` exactly where a float stands anywhere, else `Ambiguous` exactly where the value reads as both,
-    /// else `Shape` exactly where it reads as neither.
+    /// Reads a document. Returns `Float` if and only if the value contains a float, else `Ambiguous` if it matches both
+    /// tables, else `Shape` if it matches neither.
     #[tactic(auto, unfolding(crate::specs::Document::document_of))]
     pub fn read(alloc: Global, value: &Value) -> Result<OciManifest, ReadError>
         ensures { ReadsManifest result (view value.now) }
@@ -37,7 +37,7 @@ impl OciManifest {
         }
     }
 
-    /// The media type, else OCI's for a manifest and Docker's for an index.
+    /// Returns the media type, or if there is none OCI's for a manifest and Docker's for an index.
     pub fn content_type(&self) -> &str
         ensures { result.now ≡ content_type_of self.now }
     {
@@ -65,7 +65,7 @@ impl ToValue for OciManifest {
 
     ghost written = { document_written };
 
-    /// What it gives reads back as this document and as no other. None is not written.
+    /// Writes the document without its members that are `None`. The result matches the table of this document only.
     #[tactic(auto, using(crate::proofs::Meanings::image_again, crate::proofs::Meanings::image_index_again))]
     fn to_value(&self, alloc: Global) -> Result<Value, AllocError>
         ensures exact { IfOk result (λ v. view v ≡ document_written self.now) }

@@ -1,3 +1,3 @@
 //! Names of header fields (OCI distribution specification, "Pulling manifests").
-/// The header of an answer that names its body's digest.
+/// The response header with the digest of the body.
 pub const DOCKER_DIGEST_HEADER: &'static str = "Docker-Content-Digest";

@@ -22,7 +22,7 @@ pub struct OciImageIndex {
 impl OciImageIndex {
     ghost use Rattle.oci_manifests.specs.Index.{index_of};
 
-    /// `Float` exactly where a float stands anywhere, else `Shape` exactly where the table does not read it.
+    /// Reads an index. Returns `Float` if and only if it contains a float, otherwise `Shape` if it does not match.
     pub fn read(alloc: Global, value: &Value) -> Result<OciImageIndex, ReadError>
         ensures { ReadsDocument result index_of (view value.now) }
     {
@@ -69,7 +69,7 @@ impl ToValue for OciImageIndex {
 
     ghost written = { index_written };
 
-    /// What it gives reads back. None is not written.
+    /// Writes the index without its members that are `None`. The result round-trips.
     #[tactic(auto, unfolding(crate::specs::Index::index_written))]
     fn to_value(&self, alloc: Global) -> Result<Value, AllocError>
         ensures exact { IfOk result (λ v. view v ≡ index_written self.now) }

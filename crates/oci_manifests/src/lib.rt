@@ -1,4 +1,4 @@
-//! The documents of registries: image manifests, image indexes and what they begin with, and layers and configurations
+//! The documents of registries: image manifests, image indexes and their common members, and layers and configurations
 //! with their bytes (OCI image specification).
 #![tactic(auto)]
 

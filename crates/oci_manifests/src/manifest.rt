@@ -24,7 +24,7 @@ pub struct OciImageManifest {
 impl OciImageManifest {
     ghost use Rattle.oci_manifests.specs.Manifest.{manifest_of};
 
-    /// `Float` exactly where a float stands anywhere, else `Shape` exactly where the table does not read it.
+    /// Reads a manifest. Returns `Float` if and only if it contains a float, otherwise `Shape` if it does not match.
     pub fn read(alloc: Global, value: &Value) -> Result<OciImageManifest, ReadError>
         ensures { ReadsDocument result manifest_of (view value.now) }
     {
@@ -77,7 +77,7 @@ impl ToValue for OciImageManifest {
 
     ghost written = { manifest_written };
 
-    /// What it gives reads back. None is not written.
+    /// Writes the manifest without its members that are `None`. The result round-trips.
     #[tactic(auto, unfolding(crate::specs::Manifest::manifest_written))]
     fn to_value(&self, alloc: Global) -> Result<Value, AllocError>
         ensures exact { IfOk result (λ v. view v ≡ manifest_written self.now) }

@@ -9,7 +9,7 @@ use oci_descriptors::media_types;
 use serde_json::Value;
 use std::alloc::{AllocError, Global};
 
-/// What every manifest begins with: the schema version and the media type.
+/// The common first members of every manifest: the schema version and the media type.
 #[derive(Debug, Drop)]
 pub struct Versioned {
     pub schema_version: i32,
@@ -19,7 +19,7 @@ pub struct Versioned {
 impl Versioned {
     ghost use Rattle.oci_manifests.specs.Versioned.{versioned_of};
 
-    /// `Float` exactly where a float stands anywhere, else `Shape` exactly where the table does not read it.
+    /// Reads the members. Returns `Float` if and only if a float is present, otherwise `Shape` if they do not match.
     pub fn read(alloc: Global, value: &Value) -> Result<Versioned, ReadError>
         ensures { ReadsDocument result versioned_of (view value.now) }
     {
@@ -56,7 +56,7 @@ impl Copied for Versioned {
     }
 }
 
-/// Whether a media type is one of the four of image manifests and image indexes, Docker's and OCI's.
+/// Returns whether a media type is that of an image manifest or an image index, of Docker or OCI.
 pub fn is_manifest_media_type(text: &str) -> bool
     ensures { result ≡ is_manifest_type text.now }
 {

@@ -1,4 +1,4 @@
--- Tests of texts that are cut at their letters, and the texts that they find.
+-- Tests of strings that are cut at their letters, and the words that they find.
 use Rattle.std.proofs.Common.{◌≡◌, ◌≢◌, ◌==◌, ◌&&◌, ℕ, suc, Bool, true, false, cond, List, [], ◌∷◌, ◌++◌, Some, length, refl, sym, ap, ◌∙◌, subst, true≢false}
 use Rattle.std.specs.Prelude.{slice_get}
 use Rattle.std.specs.List.{list_all, slice_split, onto_first}
@@ -21,7 +21,7 @@ pub both_true : (a b : Bool) → a ≡ true → b ≡ true → (a && b) ≡ true
 both_true true b h k = k
 both_true false b h k = h
 
--- no byte passes
+-- no byte passes the test
 abbrev pub Free : (ℕ → Bool) → List ℕ → Type 0
 Free p [] = Unit {0}
 Free p (x ∷ xs) = (p x ≡ false) × Free p xs
@@ -30,7 +30,7 @@ pub Free-append : (p : ℕ → Bool) (xs ys : List ℕ) → Free p xs → Free p
 Free-append p [] ys f g = g
 Free-append p (x ∷ xs) ys f g = (f.0, Free-append p xs ys f.1 g)
 
--- the first part ends at the first byte that passes
+-- the first part ends at the first byte that passes the test
 pub split_gap : (p : ℕ → Bool) (gap : List ℕ) (y : ℕ) (ys : List ℕ) → Free p gap → p y ≡ true → slice_split p (gap ++ (y ∷ ys)) ≡ gap ∷ slice_split p ys
 split_gap p [] y ys f h = ap (λ b. cond b ([] ∷ slice_split p ys) (onto_first y (slice_split p ys))) h
 split_gap p (x ∷ xs) y ys f h =
@@ -70,7 +70,7 @@ module _ (letter : ℕ → Bool) (test : List ℕ → Bool) (Separator : List �
   one_letter : (x : ℕ) → letter x ≡ true → Run letter (x ∷ [])
   one_letter x h = ((λ e. cc), both_true (letter x) true h refl)
 
-  -- a letter in front of a first run
+  -- a letter before a first run
   longer : (x : ℕ) (text : List ℕ) → letter x ≡ true → Spelled text → Spelled (x ∷ text)
   longer x text h (Joined.alone _ run) = Joined.alone (x ∷ text) (run_longer x text h run)
   longer x text h (Joined.more _ item gap rest e run s j) = Joined.more (x ∷ text) (x ∷ item) gap rest (ap (λ t. x ∷ t) e) (run_longer x item h run) s j
@@ -110,7 +110,7 @@ module _ (letter : ℕ → Bool) (test : List ℕ → Bool) (Separator : List �
       let parts = and_right (has_letter_ends letter (x ∷ xs)) (list_all test (slice_split letter (x ∷ xs))) h in
       walk x [] xs first tt (sym (after_letter x xs first) ∙ parts) last
 
-  -- a text that begins and ends with a letter, and has separators between its letters
+  -- a string that begins and ends with a letter, and has separators between its letters
   record Word (text : List ℕ) : Type 0 where
     first : ℕ
     rest : List ℕ
@@ -209,11 +209,11 @@ pub free_of : (p letter : ℕ → Bool) → ((b : ℕ) → letter b ≡ true →
 free_of p letter f [] h = tt
 free_of p letter f (x ∷ xs) h = (f x (and_left (letter x) (list_all letter xs) h), free_of p letter f xs (and_right (letter x) (list_all letter xs) h))
 
--- a letter is no other byte
+-- a letter differs from the byte c
 pub apart : (letter : ℕ → Bool) (c : ℕ) → letter c ≡ false → (b : ℕ) → letter b ≡ true → (b == c) ≡ false
 apart letter c k b h =
     elim (b == c) as (λ t. (b == c) ≡ t → t ≡ false) [ true ↦ λ e. absurd (true≢false (sym h ∙ (ap letter (eqb-true b c e) ∙ k))) | false ↦ λ e. refl ] refl
 
--- one byte over and over is free of letters, where it is none
+-- repetitions of c contain no letters, if c is not a letter
 pub unlettered : (letter : ℕ → Bool) (c : ℕ) → letter c ≡ false → (b : ℕ) → (b == c) ≡ true → letter b ≡ false
 unlettered letter c k b e = ap letter (eqb-true b c e) ∙ k

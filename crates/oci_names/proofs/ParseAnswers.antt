@@ -1,4 +1,4 @@
--- Which answers come of texts in the grammar.
+-- Which results are possible for texts in the grammar.
 use Rattle.std.proofs.Common.{◌≡◌, ◌==◌, not, ℕ, true, false, if◌then◌else◌, List, [], ◌∷◌, Option, Some, None, Result, Ok, Err, IfOk, IfErr, length, nat_lt, refl, sym, ◌∙◌, subst, true≢false, arith, eqb-true}
 use Rattle.std.specs.Option.{option_map_or}
 use Rattle.oci_names.proofs.PartWords.{in_grammar, is_in_grammar}

@@ -1,4 +1,4 @@
--- The tests of a reference's parts find the words of its grammar.
+-- The tests of a reference's parts accept the words of its grammar.
 use Rattle.std.proofs.Common.{◌≡◌, ◌≢◌, ◌==◌, ◌&&◌, ◌||◌, not, ◌⊎◌, inl, inr, ℕ, zero, suc, Bool, true, false, List, [], ◌∷◌, ◌++◌, Option, Some, None, length, nat_le, codes, refl, sym, ap, ◌∙◌, subst, true≢false, arith, eqb-true, eq-eqb}
 use Rattle.std.specs.Prelude.{bytes_eq, IfSome}
 use Rattle.std.specs.List.{list_all}

@@ -1,4 +1,4 @@
--- What it means that a reference reads back.
+-- The meaning of `reads_back`.
 use Rattle.std.proofs.Common.{◌≡◌, ◌&&◌, ℕ, List, Bool, true, false, Option, Some, None, Result, Ok, Err, refl, sym, ap, ◌∙◌}
 use Rattle.std.specs.Prelude.{IsTrue, ◌↔◌}
 use Rattle.std.specs.Option.{option_eq}
@@ -57,13 +57,13 @@ read_as-means r (Err e) h = cc
 read_as-itself : (r : Reference) (read : Result Reference ParseError) → read ≡ Ok r → is_read_as r read ≡ true
 read_as-itself r read e = rw e (same-itself r)
 
--- a reference reads back exactly where its text is read as the reference itself
+-- `reads_back` is true if and only if the reference's text parses to the reference itself
 pub reads_back-means : (r : Reference) → reads_back r ≡ true → reference_of (whole_text r) ≡ Ok r
 reads_back-means r h = read_as-means r (reference_of (whole_text r)) h
 
 pub reads_back-from : (r : Reference) → reference_of (whole_text r) ≡ Ok r → reads_back r ≡ true
 reads_back-from r e = read_as-itself r (reference_of (whole_text r)) e
 
--- what a test of reading back tells
+-- the same for a result of the test
 pub reads_back-tells : (r : Reference) (b : Bool) → b ≡ reads_back r → IsTrue b ↔ (reference_of (whole_text r) ≡ Ok r)
 reads_back-tells r b e = ((λ h. reads_back-means r (sym e ∙ h)), (λ m. e ∙ reads_back-from r m))

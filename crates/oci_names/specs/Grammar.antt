@@ -1,4 +1,4 @@
--- The words of a reference's grammar, each a test of the bytes of a text.
+-- The words of the reference grammar, each as a test of the bytes of a text.
 use Rattle.std.specs.Prelude.{ℕ, ◌-◌, ◌==◌, List, [], ◌∷◌, Bool, true, false, ◌&&◌, ◌||◌, not, if◌then◌else◌, Option}
 use Rattle.std.specs.Prelude.{Some, None, length, nat_le, slice_get, codes}
 use Rattle.std.specs.List.{list_all, list_any, slice_split, before_first, after_first}
@@ -6,11 +6,11 @@ use Rattle.std.specs.Option.{option_map_or}
 use Rattle.std.specs.Char.{is_ascii_alphanumeric, is_ascii_digit, is_ascii_lowercase, is_ascii_hexdigit}
 use Rattle.std.specs.Str.{bytes_eq}
 
--- what stands before the first such byte, or all where there is none
+-- the bytes before the first such byte, or all if there is none
 abbrev pub before : ℕ → List ℕ → List ℕ
 before c xs = before_first (λ b. b == c) xs
 
--- what follows the first such byte, where there is one
+-- the bytes after the first such byte, if there is one
 abbrev pub after : ℕ → List ℕ → Option (List ℕ)
 after c xs = if list_any (λ b. b == c) xs then Some (after_first (λ b. b == c) xs) else None
 
@@ -19,7 +19,7 @@ abbrev pub has_letter_ends : (ℕ → Bool) → List ℕ → Bool
 has_letter_ends letter xs =
     option_map_or letter (slice_get xs 0) false && option_map_or letter (slice_get xs (length xs - 1)) false
 
--- runs of letters joined by separators: between each two letters stands nothing or a separator
+-- runs of letters joined by separators: two letters are adjacent, or have a separator between them
 abbrev pub is_joined : (ℕ → Bool) → (List ℕ → Bool) → List ℕ → Bool
 is_joined letter separator xs = has_letter_ends letter xs && list_all separator (slice_split letter xs)
 

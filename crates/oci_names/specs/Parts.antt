@@ -1,4 +1,4 @@
--- How the text of a reference is cut, and which parts make a reference.
+-- How the text of a reference is split, and which parts make a reference.
 use Rattle.std.specs.Prelude.{ℕ, ◌==◌, List, [], ◌++◌, Bool, true, ◌&&◌, ◌||◌, not, if◌then◌else◌, Option, Some, None}
 use Rattle.std.specs.Prelude.{length, nat_lt, is_none, codes}
 use Rattle.std.specs.List.{list_any}
@@ -20,17 +20,17 @@ pub record Parts : Type 0 where
 abbrev pub is_domain_mark : ℕ → Bool
 is_domain_mark b = b == 46 || b == 58
 
--- a first part that holds a dot or a colon, or is `localhost`, is a domain
+-- a first part that contains a dot or a colon, or is `localhost`, is a domain
 abbrev pub is_domain_part : List ℕ → Bool
 is_domain_part xs = list_any is_domain_mark xs || bytes_eq xs (codes "localhost")
 
--- the domain, which is Docker Hub's where the text names none
+-- the domain, or Docker Hub's if the text names none
 abbrev pub domain_in : List ℕ → List ℕ
 domain_in xs =
     option_map_or (λ _. if is_domain_part (before 47 xs) then before 47 xs else codes "docker.io")
     (after 47 xs) (codes "docker.io")
 
--- what follows the domain
+-- the rest after the domain
 abbrev pub rest_in : List ℕ → List ℕ
 rest_in xs = option_map_or (λ rest. if is_domain_part (before 47 xs) then rest else xs) (after 47 xs) xs
 
@@ -46,14 +46,14 @@ abbrev pub is_grammatical : Parts → Bool
 is_grammatical p =
     is_domain p.domain && is_path p.path && option_map_or is_tag p.tag true && option_map_or is_digest p.digest true
 
--- `index.docker.io` is read as `docker.io`
+-- `index.docker.io` is replaced by `docker.io`
 abbrev pub registry_named : List ℕ → List ℕ
 registry_named domain = if bytes_eq domain (codes "index.docker.io") then codes "docker.io" else domain
 
 abbrev pub is_slash : ℕ → Bool
 is_slash b = b == 47
 
--- on `docker.io` a path without a slash stands under `library/`
+-- on `docker.io` a path without a slash gets the prefix `library/`
 abbrev pub library_for : List ℕ → List ℕ → List ℕ
 library_for registry path =
     if bytes_eq registry (codes "docker.io") && not (list_any is_slash path) then codes "library/" else []
@@ -65,7 +65,7 @@ repository_named p = library_for (registry_named p.domain) p.path ++ p.path
 abbrev pub tag_named : Parts → Option (List ℕ)
 tag_named p = if is_none p.tag && is_none p.digest then Some (codes "latest") else p.tag
 
--- how many digits a digest of this algorithm has
+-- the number of digits in a digest of this algorithm
 abbrev pub digits_of : List ℕ → Option ℕ
 digits_of algorithm =
     if bytes_eq algorithm (codes "sha256") then Some 64
@@ -86,6 +86,6 @@ refusal_of p =
     else (if nat_lt 255 (length (repository_named p)) then Some NameTooLong
     else option_map_or digest_refusal p.digest None)
 
--- a part behind its mark
+-- a part after its mark
 abbrev pub marked : List ℕ → Option (List ℕ) → List ℕ
 marked mark part = option_map_or (λ text. mark ++ text) part []

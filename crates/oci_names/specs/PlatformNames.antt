@@ -1,4 +1,4 @@
--- The names of platforms (OCI image index, `platform`): each public constant is its text.
+-- The names of platforms (OCI image index, `platform`): the text of each public constant.
 use Rattle.std.specs.Prelude.{◌≡◌, codes, refl}
 use Rattle.oci_names.specs.declared.platform.TheConstants.Arch as architecture
 use Rattle.oci_names.specs.declared.platform.TheConstants.Os as system

@@ -1,4 +1,4 @@
--- What references mean: their parts, their text and how they are read.
+-- The parts of references, their text and how they are parsed.
 use Rattle.std.specs.Prelude.{ℕ, ◌==◌, List, ◌++◌, Bool, false, ◌&&◌, if◌then◌else◌, Option, Some, None, Result, Ok}
 use Rattle.std.specs.Prelude.{Err, length, is_some, unwrap_or, codes}
 use Rattle.std.specs.Option.{option_map_or, option_eq}
@@ -20,7 +20,7 @@ tag_of r = r.tag
 abbrev pub digest_of : Reference → Option (List ℕ)
 digest_of r = r.digest
 
--- the registry that is asked in the place of the reference's own
+-- the registry that replaces the reference's own
 abbrev pub mirror_of : Reference → Option (List ℕ)
 mirror_of r = r.mirror
 
@@ -34,22 +34,22 @@ reference_named p = record {
   digest = p.digest;
 }
 
--- what a text is read as
+-- the result of parsing a text
 abbrev pub reference_of : List ℕ → Result Reference ParseError
 reference_of xs =
     if length xs == 0 then Err NameEmpty
     else option_map_or (λ e. Err e) (refusal_of (parts_of xs)) (Ok (reference_named (parts_of xs)))
 
--- `registry/repository`, then `:tag` and `@digest` where they are there
+-- `registry/repository`, then `:tag` and `@digest` if present
 abbrev pub whole_text : Reference → List ℕ
 whole_text r = r.registry ++ codes "/" ++ r.repository ++ marked (codes ":") r.tag ++ marked (codes "@") r.digest
 
--- the registry that is asked: the mirror, and for `docker.io` the host at which it answers
+-- the registry that receives requests: the mirror if one is set, and for `docker.io` the host that serves it
 abbrev pub resolved_registry : Reference → List ℕ
 resolved_registry r =
     unwrap_or r.mirror (if bytes_eq r.registry (codes "docker.io") then codes "index.docker.io" else r.registry)
 
--- the registry that a mirror is asked for
+-- the registry for which a mirror is asked
 abbrev pub namespace_of : Reference → Option (List ℕ)
 namespace_of r = if is_some r.mirror then Some r.registry else None
 
@@ -60,11 +60,11 @@ is_same a b =
     && bytes_eq a.repository b.repository && option_eq bytes_eq a.tag b.tag
     && option_eq bytes_eq a.digest b.digest
 
--- whether this answer is the reference
+-- whether this result is the reference
 abbrev pub is_read_as : Reference → Result Reference ParseError → Bool
 is_read_as r (Ok s) = is_same s r
 is_read_as r (Err e) = false
 
--- whether the reference's text is read as the reference itself, which has no mirror then
+-- whether the reference's text parses to the reference itself, which then has no mirror
 abbrev pub reads_back : Reference → Bool
 reads_back r = is_read_as r (reference_of (whole_text r))

@@ -1,4 +1,4 @@
--- What the parts of a text point to.
+-- The values that the parts of a text point to.
 use Rattle.std.specs.Option.{option_copied}
 use Rattle.oci_names.specs.declared.parts.Parts as declared
 use Rattle.oci_names.specs.Parts.{Parts}

@@ -1,5 +1,5 @@
--- The grammar of references as sets of texts: path, tag and digest as the OCI distribution and image
--- specifications write them, and the domain as container clients do.
+-- The grammar of references as sets of texts: path, tag and digest as in the OCI distribution and image
+-- specifications, and the domain as in container clients.
 use Rattle.std.specs.Prelude.{◌≡◌, ◌≢◌, ◌≤◌, ◌==◌, ◌⊎◌, ℕ, List, [], ◌∷◌, ◌++◌, Bool, IsTrue, IfSome, length, codes}
 use Rattle.std.specs.List.{list_all}
 use Rattle.std.specs.Char.{is_ascii_alphanumeric, is_ascii_digit, is_ascii_hexdigit}

@@ -1,9 +1,9 @@
-// The words of a reference's grammar.
+// The words of the reference grammar.
 ghost use Rattle.std.specs.Prelude.{◌≡◌, ◌<◌, option_copied};
 ghost use Rattle.std.specs.List.{list_all};
 ghost use Rattle.oci_names.specs.Grammar as words;
 
-/// What stands before the first such character, and what follows it where there is one.
+/// Splits a text at the first such character: what comes before it, and what follows it if it is present.
 pub fn cut(text: &str, at: char) -> (&str, Option<&str>)
     requires { at < 128 }
     ensures before { result.0.now ≡ words.before at text.now }
@@ -46,7 +46,7 @@ fn is_digits(port: &[u8]) -> bool
     !port.is_empty() && port.iter().all(|b| b.is_ascii_digit())
 }
 
-/// Whether the text is a host, or a host with a port.
+/// Returns whether the text is a host, or a host with a port.
 pub fn is_domain(domain: &str) -> bool
     ensures { result ≡ words.is_domain domain.now }
 {
@@ -81,7 +81,7 @@ fn is_path_component(component: &[u8]) -> bool
         && component.split(is_path_letter).all(is_path_separator)
 }
 
-/// Whether the text is a repository's path (OCI distribution specification, "Pulling manifests").
+/// Returns whether the text is a repository's path (OCI distribution specification, "Pulling manifests").
 pub fn is_path(path: &str) -> bool
     ensures { result ≡ words.is_path path.now }
 {
@@ -106,7 +106,7 @@ fn are_tag_bytes(bytes: &[u8]) -> bool
     bytes.iter().all(|b| is_tag_byte(*b))
 }
 
-/// Whether the text is a tag (OCI distribution specification, "Pulling manifests").
+/// Returns whether the text is a tag (OCI distribution specification, "Pulling manifests").
 pub fn is_tag(tag: &str) -> bool
     ensures { result ≡ words.is_tag tag.now }
 {
@@ -141,7 +141,7 @@ fn is_hexadecimal(digits: &[u8]) -> bool
     !digits.is_empty() && digits.iter().all(|b| b.is_ascii_hexdigit())
 }
 
-/// Whether the text is a digest (OCI image specification, descriptor.md, "Digests").
+/// Returns whether the text is a digest (OCI image specification, descriptor.md, "Digests").
 pub fn is_digest(digest: &str) -> bool
     ensures { result ≡ words.is_digest digest.now }
 {

@@ -1,4 +1,4 @@
-//! References to images, and the platforms that images are made for.
+//! References to images, and the names of platforms.
 #![tactic(auto)]
 
 mod grammar;

@@ -1,9 +1,9 @@
-// Why a text is no reference.
+// Why a string is not a reference.
 use json_values::Copied;
 use std::alloc::{AllocError, Global};
 use thiserror::Error;
 
-/// Why a text is no reference (OCI distribution specification, "Pulling manifests").
+/// Why a string is not a reference (OCI distribution specification, "Pulling manifests").
 #[derive(Clone, Copy, Debug, PartialEq, Eq, Error)]
 pub enum ParseError {
     /// The text is empty.
@@ -12,16 +12,16 @@ pub enum ParseError {
     /// The text is not in the grammar.
     #[error("the reference does not read: write it as [domain/]path[:tag][@digest]")]
     ReferenceInvalidFormat,
-    /// The repository, with `library/` where that is meant, has more than 255 characters.
+    /// The repository, including an implied `library/`, has more than 255 characters.
     #[error("the repository has more than 255 characters: give a shorter one")]
     NameTooLong,
-    /// The digest is of another algorithm.
+    /// The digest has an unsupported algorithm.
     #[error("the digest's algorithm is none of sha256, sha384 and sha512: give a digest of these")]
     DigestUnsupported,
-    /// The digest has more or fewer digits than its algorithm gives.
+    /// The digest has the wrong number of digits for its algorithm.
     #[error("the digest has not as many digits as its algorithm gives: give it whole")]
     DigestInvalidLength,
-    /// The allocator had no memory.
+    /// The allocator is out of memory.
     #[error("out of memory: free some and try again")]
     WantOfMemory,
 }

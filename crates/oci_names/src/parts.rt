@@ -1,4 +1,4 @@
-// How the text of a reference is cut, and which parts make a reference.
+// How the text of a reference is split, and which parts make a reference.
 ghost use Rattle.std.specs.Prelude.{◌≡◌, ◌++◌, IfOk, nat_lt, codes, length, option_copied};
 ghost use Rattle.std.specs.List.{list_any};
 ghost use Rattle.oci_names.specs.Parts as meaning;
@@ -9,7 +9,7 @@ use crate::parse_error::ParseError;
 use json_values::Text;
 use std::alloc::{AllocError, Global};
 
-/// The registry that is meant where a reference names none.
+/// The registry of references that name none.
 pub const DOCKER_HUB: &str = "docker.io";
 
 /// The parts of a text.
@@ -33,7 +33,7 @@ fn is_domain_part(front: &str) -> bool
     has_domain_mark(front) || front == "localhost"
 }
 
-/// The domain, and what follows it.
+/// Splits off the domain.
 fn split_domain(text: &str) -> (&str, &str)
     ensures domain { result.0.now ≡ meaning.domain_in text.now }
     ensures rest { result.1.now ≡ meaning.rest_in text.now }
@@ -45,7 +45,7 @@ fn split_domain(text: &str) -> (&str, &str)
     }
 }
 
-/// The parts of a text, in the grammar or not.
+/// Splits a text into parts, in the grammar or not.
 pub fn parts_of(text: &str) -> Parts<'_>
     ensures { seen result ≡ meaning.parts_of text.now }
 {
@@ -66,7 +66,7 @@ fn has_slash(path: &str) -> bool
     path.bytes().any(|b| b == b'/')
 }
 
-/// The domain as a registry's name.
+/// Returns the registry that a domain names.
 fn registry_named(domain: &str) -> &str
     ensures { result.now ≡ meaning.registry_named domain.now }
 {
@@ -77,7 +77,7 @@ fn registry_named(domain: &str) -> &str
     }
 }
 
-/// What stands in front of the path in the repository's name.
+/// Returns the prefix of the path in the repository's name.
 fn library_for(registry: &str, path: &str) -> &'static str
     ensures { result.now ≡ meaning.library_for registry.now path.now }
 {
@@ -88,7 +88,7 @@ fn library_for(registry: &str, path: &str) -> &'static str
     }
 }
 
-/// How many digits a digest of this algorithm has.
+/// Returns the number of digits in a digest of this algorithm.
 fn digits_of(algorithm: &str) -> Option<usize>
     ensures { result ≡ meaning.digits_of algorithm.now }
 {
@@ -132,7 +132,7 @@ impl<'a> Parts<'a> {
             }
     }
 
-    /// Why the parts are refused, the first cause first.
+    /// Returns why the parts are refused, the first cause first.
     pub fn refusal(&self) -> Option<ParseError>
         ensures { result ≡ meaning.refusal_of (seen self.now) }
     {
@@ -149,14 +149,14 @@ impl<'a> Parts<'a> {
         }
     }
 
-    /// The registry that the domain names.
+    /// Returns the registry that the domain names.
     pub fn registry(&self) -> &str
         ensures { result.now ≡ meaning.registry_named (seen self.now).domain }
     {
         registry_named(self.domain)
     }
 
-    /// The path, under `library/` where that is meant.
+    /// Returns the path, with an implied `library/`.
     pub fn repository(&self, alloc: Global) -> Result<Text, AllocError>
         ensures { IfOk result (λ t. t ≡ meaning.repository_named (seen self.now)) }
     {
@@ -166,7 +166,7 @@ impl<'a> Parts<'a> {
         Ok(repository)
     }
 
-    /// The tag, which is `latest` where there is neither a tag nor a digest.
+    /// Returns the tag, which is `latest` if there is neither a tag nor a digest.
     pub fn tag(&self) -> Option<&str>
         ensures { option_copied result ≡ meaning.tag_named (seen self.now) }
     {

@@ -5,7 +5,7 @@ use json_values::{Copied, Text};
 use std::alloc::{AllocError, Global};
 use std::marker::Model;
 
-/// The architecture of a platform, by the name that Go has for it (OCI image index, `platform`). A contract sees
+/// The architecture of a platform, by its name in Go (OCI image index, `platform`). A contract sees
 /// its text.
 #[derive(Debug, Drop)]
 pub struct Arch {
@@ -21,20 +21,20 @@ impl Model for Arch {
 }
 
 impl Arch {
-    /// 64 bits, x86.
+    /// 64-bit x86.
     pub const AMD64: &'static str = "amd64";
 
-    /// 64 bits, ARM.
+    /// 64-bit ARM.
     pub const ARM64: &'static str = "arm64";
 
-    /// The architecture of this name, whatever it is.
+    /// Wraps any name of an architecture.
     pub fn new(text: Text) -> Self
         ensures { result ≡ text }
     {
         Arch { name: text }
     }
 
-    /// Its name.
+    /// Returns its name.
     pub fn as_str(&self) -> &str
         ensures { result.now ≡ self.now }
     {
@@ -72,7 +72,7 @@ impl Eq for Arch {
     ghost laws = { nat_list_eq_equiv };
 }
 
-/// The operating system of a platform, by the name that Go has for it (OCI image index, `platform`). A contract sees
+/// The operating system of a platform, by its name in Go (OCI image index, `platform`). A contract sees
 /// its text.
 #[derive(Debug, Drop)]
 pub struct Os {
@@ -94,14 +94,14 @@ impl Os {
     /// Windows.
     pub const WINDOWS: &'static str = "windows";
 
-    /// The operating system of this name, whatever it is.
+    /// Wraps any name of an operating system.
     pub fn new(text: Text) -> Self
         ensures { result ≡ text }
     {
         Os { name: text }
     }
 
-    /// Its name.
+    /// Returns its name.
     pub fn as_str(&self) -> &str
         ensures { result.now ≡ self.now }
     {

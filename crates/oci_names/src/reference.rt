@@ -9,8 +9,8 @@ use crate::parts::{DOCKER_HUB, parts_of};
 use json_values::{Copied, Text, copied, copy_all, row};
 use std::alloc::{AllocError, Global};
 
-/// A reference to an image: `registry/repository`, with a tag, a digest or both, and perhaps a mirror
-/// that is asked in the registry's place.
+/// A reference to an image: `registry/repository`, with a tag, a digest or both, and an optional mirror
+/// that replaces the registry.
 #[derive(Debug, Drop)]
 pub struct Reference {
     registry: Text,
@@ -57,9 +57,9 @@ impl Reference {
     ghost use Rattle.oci_names.specs.Reference.{registry_of, mirror_of, repository_of, tag_of, digest_of, whole_text};
     ghost use Rattle.oci_names.specs.Reference.{resolved_registry, namespace_of, is_read_as, reads_back};
 
-    /// Reads `[domain/]path[:tag][@digest]` (OCI distribution specification, "Pulling manifests", for the
-    /// words of path, tag and digest). Without a domain the registry is `docker.io`, where a path without a
-    /// slash stands under `library/`; without tag and digest the tag is `latest`.
+    /// Parses `[domain/]path[:tag][@digest]` (OCI distribution specification, "Pulling manifests", for path, tag and
+    /// digest). Without a domain the registry is `docker.io`, on which a path without a slash gets the prefix
+    /// `library/`; without tag and digest the tag is `latest`.
     pub fn parse(alloc: Global, text: &str) -> Result<Reference, ParseError>
         ensures ok { IfOk result (λ r. reference_of text.now ≡ Ok r) }
         ensures err { IfErr result (λ e. Refuses e (reference_of text.now)) }
@@ -68,7 +68,7 @@ impl Reference {
         read(alloc, text)
     }
 
-    /// The reference of these parts as they are, in the grammar or not, with no mirror.
+    /// Builds a reference of these parts verbatim, in the grammar or not, without a mirror.
     pub fn with_tag(registry: Text, repository: Text, tag: Text) -> Reference
         ensures registry { registry_of result ≡ registry }
         ensures mirror { mirror_of result ≡ None }
@@ -85,7 +85,7 @@ impl Reference {
         }
     }
 
-    /// The reference of these parts as they are, in the grammar or not, with no mirror.
+    /// Builds a reference of these parts verbatim, in the grammar or not, without a mirror.
     pub fn with_digest(registry: Text, repository: Text, digest: Text) -> Reference
         ensures registry { registry_of result ≡ registry }
         ensures mirror { mirror_of result ≡ None }
@@ -102,7 +102,7 @@ impl Reference {
         }
     }
 
-    /// The same registry, mirror and repository, with this digest in the place of tag and digest.
+    /// Copies registry, mirror and repository, with this digest replacing tag and digest.
     pub fn clone_with_digest(&self, alloc: Global, digest: Text) -> Result<Reference, AllocError>
         ensures registry { IfOk result (λ r. registry_of r ≡ registry_of self.now) }
         ensures mirror { IfOk result (λ r. mirror_of r ≡ mirror_of self.now) }
@@ -123,7 +123,7 @@ impl Reference {
         })
     }
 
-    /// From now on this registry is asked in the place of the reference's own.
+    /// Sets a mirror, which replaces the reference's registry in requests.
     pub fn set_mirror_registry(&mut self, registry: Text)
         ensures registry { registry_of self.new ≡ registry_of self.old }
         ensures mirror { mirror_of self.new ≡ Some registry }
@@ -134,14 +134,14 @@ impl Reference {
         self.mirror = Some(registry);
     }
 
-    /// The registry's host, and its port where one is named, as the reference names them.
+    /// Returns the registry's host, with its port if one is named, as the reference names them.
     pub fn registry(&self) -> &str
         ensures { result.now ≡ registry_of self.now }
     {
         self.registry.as_str()
     }
 
-    /// The registry that is asked: the mirror, and for `docker.io` the host at which it answers.
+    /// Returns the registry that receives requests: the mirror if set, and for `docker.io` the host that serves it.
     pub fn resolve_registry(&self) -> &str
         ensures { result.now ≡ resolved_registry self.now }
     {
@@ -152,28 +152,28 @@ impl Reference {
         }
     }
 
-    /// The repository within the registry, as `library/busybox`.
+    /// Returns the repository within the registry, for example `library/busybox`.
     pub fn repository(&self) -> &str
         ensures { result.now ≡ repository_of self.now }
     {
         self.repository.as_str()
     }
 
-    /// The tag, where there is one.
+    /// Returns the tag, if there is one.
     pub fn tag(&self) -> Option<&str>
         ensures { option_copied result ≡ tag_of self.now }
     {
         self.tag.as_ref().map(|tag| tag.as_str())
     }
 
-    /// The digest, where there is one.
+    /// Returns the digest, if there is one.
     pub fn digest(&self) -> Option<&str>
         ensures { option_copied result ≡ digest_of self.now }
     {
         self.digest.as_ref().map(|digest| digest.as_str())
     }
 
-    /// The registry that a mirror is asked for, where there is a mirror.
+    /// Returns the registry for which the mirror is asked, if there is a mirror.
     pub fn namespace(&self) -> Option<&str>
         ensures { option_copied result ≡ namespace_of self.now }
     {
@@ -183,7 +183,7 @@ impl Reference {
         }
     }
 
-    /// `registry/repository`, then `:tag` and `@digest` where they are there. It does not show the mirror.
+    /// Returns `registry/repository`, then `:tag` and `@digest` if present. The mirror is omitted.
     pub fn whole(&self, alloc: Global) -> Result<Text, AllocError>
         ensures { IfOk result (λ t. t ≡ whole_text self.now) }
     {
@@ -195,7 +195,7 @@ impl Reference {
         Ok(whole)
     }
 
-    /// Whether this text is read as this very reference.
+    /// Returns whether this text parses to this reference.
     fn is_read_from(&self, alloc: Global, text: &str) -> Result<bool, AllocError>
         ensures { IfOk result (λ b. b ≡ is_read_as self.now (reference_of text.now)) }
     {
@@ -210,7 +210,7 @@ impl Reference {
         }
     }
 
-    /// Whether no mirror is set and the reference's text parses to the same four parts.
+    /// Returns whether no mirror is set and the reference's text parses to the same four parts.
     pub fn reads_back(&self, alloc: Global) -> Result<bool, AllocError>
         ensures value { IfOk result (λ b. b ≡ reads_back self.now) }
         ensures same { IfOk result (λ b.
@@ -222,7 +222,7 @@ impl Reference {
     }
 }
 
-/// Adds a part behind its mark, where there is one.
+/// Appends a mark and a part, if the part is present.
 fn push_marked(whole: &mut Text, mark: &str, part: Option<&str>) -> Result<(), AllocError>
     ensures { OnOk result (whole.new ≡ whole.old ++ marked mark.now (option_copied part.entry)) }
 {
@@ -249,7 +249,7 @@ impl Copied for Reference {
     }
 }
 
-/// Equality is that of all fields, the mirror among them.
+/// References are equal if all fields are equal, including the mirror.
 impl PartialEq for Reference {
     ghost use Rattle.std.specs.Cmp.{partial_equiv_from_equiv};
     ghost use Rattle.oci_names.specs.Reference.{is_same};

@@ -1,4 +1,4 @@
-//! Where the bytes come from of a stream that is pushed.
+//! Sources of the bytes of a pushed stream.
 #![tactic(auto)]
 
 mod memory_pieces;

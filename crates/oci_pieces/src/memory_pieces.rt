@@ -1,4 +1,4 @@
-// Pieces that stand in memory.
+// Pieces in memory.
 ghost use Rattle.std.specs.Prelude.{◌≡◌, ◌≤◌, length, [], Some, Contains, IfOk, OnOk, OnErr, IsErrOf};
 ghost use Rattle.std.specs.Io.KnownBytes.{Keeps, IsAtEnd};
 ghost use Rattle.json_values.specs.Counts.{Rose, Stays, raised};
@@ -9,7 +9,7 @@ use json_values::{Blob, Copied, List};
 use oci_transport::LinkError;
 use std::alloc::Global;
 
-/// Gives pieces that stand in memory, in order, and fails at the calls whose numbers, counted from 0, it was given.
+/// Returns pieces in memory, in order, and fails at the calls with the given numbers, counted from 0.
 #[derive(Drop)]
 pub struct MemoryPieces {
     pieces: List<Blob>,
@@ -24,7 +24,7 @@ pub struct MemoryPieces {
 impl MemoryPieces {
     ghost use Rattle.oci_pieces.specs.MemoryPieces.{spring, calls_of, failing_of};
 
-    /// All of the pieces are left, none of which is empty, and nothing was asked yet.
+    /// Creates a source with all of the pieces left, none of which is empty.
     pub fn new(_alloc: Global, pieces: List<Blob>, failing: List<u64>) -> MemoryPieces
         requires { NoneEmpty pieces }
         ensures left { (spring result).left ≡ Some (joined pieces) }

@@ -1,4 +1,4 @@
-// Where the pieces of a stream come from.
+// Sources of the pieces of a stream.
 ghost use Rattle.std.specs.Prelude.{◌≡◌, ◌≤◌, [], IfOk, OnOk, IsErrOf};
 ghost use Rattle.std.specs.Io.KnownBytes.{IsAtEnd};
 ghost use Rattle.json_values.specs.Counts.{Rose, Stays};
@@ -8,13 +8,13 @@ use json_values::Blob;
 use oci_transport::LinkError;
 use std::alloc::Global;
 
-/// Gives the bytes of a stream piece by piece.
+/// Returns the bytes of a stream piece by piece.
 pub trait PieceSource {
-    /// The bytes that are left, where it tells them, and the count of its faults.
+    /// The bytes that are left, if it exposes them, and its fault count.
     ghost state: { Self → Spring };
 
-    /// The next piece, which is the front of the bytes that are left. An empty one ends them. The count of faults rises
-    /// where it answers `Failed`, and stays where it gives a piece.
+    /// Returns the next piece, which is a prefix of the bytes that are left. An empty piece ends them. Returns `Failed`
+    /// if the source failed: the fault count increases then, and is unchanged if a piece is returned.
     fn piece(&mut self, alloc: Global) -> Result<Blob, LinkError>
         ensures count { (state self.old).faults ≤ (state self.new).faults }
         ensures front { IfOk result (λ piece. Takes piece (state self.old) (state self.new)) }
@@ -22,7 +22,7 @@ pub trait PieceSource {
         ensures fault { IsErrOf result LinkError.Failed → Rose (state self.old).faults (state self.new).faults }
         ensures served { OnOk result (Stays (state self.old).faults (state self.new).faults) };
 
-    /// How often it failed, up to the greatest count.
+    /// Returns the number of failures so far, saturating at `u64::MAX`.
     fn faults(&self) -> u64
         ensures { result ≡ (state self.now).faults };
 }

@@ -1,4 +1,4 @@
--- The test of what a promise picks is exact.
+-- The test of a promised choice is exact.
 use Rattle.std.proofs.Common.{◌≡◌, ◌↔◌, ◌||◌, ◌&&◌, ℕ, Bool, true, false, IsTrue, cond, List, [], ◌∷◌, bytes_eq, Option, Some, None, option_map, refl, sym, ap}
 use Rattle.std.specs.Bool.{Decides}
 use Rattle.std.specs.List.{find, Any as AnyOf}

@@ -1,4 +1,4 @@
--- Which image of an index a resolver of platforms may pick.
+-- Which image of an index a platform resolver may select.
 use Rattle.std.specs.Prelude.{◌≡◌, ℕ, Bool, false, ◌&&◌, List, Option, Some, None, bytes_eq}
 use Rattle.std.specs.List.{find, list_any, Any as AnyOf}
 use Rattle.std.specs.Option.{option_map_or}
@@ -7,13 +7,13 @@ use Rattle.oci_platforms.specs.declared.promise.ResolverPromise.{ResolverPromise
 use Rattle.oci_platforms.specs.declared.promise.ResolverPromise.TheVariants.{FirstMatch, Fixed, Any}
 use Rattle.oci_platforms.specs.Resolvers.{is_for, first_for}
 
--- the promise allows this answer on these entries
+-- the promise allows this result for these entries
 abbrev pub Promised : ResolverPromise → List ImageIndexEntry → Option (List ℕ) → Type 0
 Promised (FirstMatch os architecture) entries answer = answer ≡ first_for os architecture entries
 Promised (Fixed digest) entries answer = answer ≡ Some digest
 Promised Any entries answer = Unit {0}
 
--- what a resolver that keeps this promise and asks nobody answers
+-- the result of a resolver that keeps this promise without external input
 abbrev pub resolved : ResolverPromise → List ImageIndexEntry → Option (List ℕ)
 resolved (FirstMatch os architecture) entries = first_for os architecture entries
 resolved (Fixed digest) entries = Some digest

@@ -1,5 +1,5 @@
-//! Which image of an index is meant: a resolver of platforms, and what it promises. No client and no request is known
-//! here.
+//! Selects an image of an index: a platform resolver, and what it promises. This crate knows neither clients nor
+//! requests.
 #![tactic(auto)]
 
 mod promise;

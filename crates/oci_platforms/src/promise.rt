@@ -1,4 +1,4 @@
-//! What a resolver of platforms promises.
+//! What a platform resolver promises.
 ghost use Rattle.std.specs.Prelude.{◌≡◌, ◌↔◌, IsTrue};
 ghost use Rattle.oci_platforms.specs.Promise.{Picks, lists, picks};
 
@@ -8,20 +8,20 @@ use oci_descriptors::ImageIndexEntry;
 use oci_names::{Arch, Os};
 use std::alloc::{AllocError, Global};
 
-/// What a resolver answers on the entries of an index (OCI image specification, image-index.md).
+/// What a resolver returns for the entries of an index (OCI image specification, image-index.md).
 #[derive(Debug, Drop)]
 pub enum ResolverPromise {
-    /// The digest of the first entry whose platform has this system and this architecture, none where there is no such
+    /// The digest of the first entry whose platform has this operating system and architecture, `None` without such an
     /// entry.
     FirstMatch { os: Os, architecture: Arch },
-    /// This digest, whatever the entries are.
+    /// This digest, for any entries.
     Fixed { digest: Text },
-    /// Anything.
+    /// Any result.
     Any,
 }
 
 impl ResolverPromise {
-    /// Whether the promise allows this digest, and an entry has it.
+    /// Returns whether the promise allows this digest, and an entry has it.
     pub fn picks(&self, manifests: &[ImageIndexEntry], digest: &str) -> bool
         ensures same { result ≡ picks self.now manifests.now digest.now }
         ensures exact { IsTrue result ↔ Picks self.now manifests.now digest.now }

@@ -1,4 +1,4 @@
-//! A resolver of platforms.
+//! A platform resolver.
 ghost use Rattle.std.specs.Prelude.{◌≡◌, IfOk};
 ghost use Rattle.oci_platforms.specs.Promise.{Promised, resolved};
 ghost use Rattle.oci_platforms.specs.declared.promise.ResolverPromise.TheVariants.{FirstMatch, Fixed};
@@ -11,7 +11,7 @@ use oci_names::{Arch, Os};
 use std::alloc::{AllocError, Global};
 use std::marker::Model;
 
-/// Picks the image of an index that is meant, by the digest of its entry. A contract sees what it promises.
+/// Selects an image of an index by the digest of its entry. A contract sees what it promises.
 #[derive(Debug, Drop)]
 pub struct PlatformResolver {
     promise: ResolverPromise,
@@ -26,7 +26,7 @@ impl Model for PlatformResolver {
 }
 
 impl PlatformResolver {
-    /// Picks the first entry for this system and architecture.
+    /// Creates a resolver that selects the first entry for this operating system and architecture.
     pub fn first_match(os: Os, architecture: Arch) -> PlatformResolver
         ensures { result ≡ FirstMatch os architecture }
     {
@@ -35,7 +35,7 @@ impl PlatformResolver {
         }
     }
 
-    /// Picks this digest, whatever the entries are.
+    /// Creates a resolver that selects this digest for any entries.
     pub fn fixed(digest: Text) -> PlatformResolver
         ensures { result ≡ Fixed digest }
     {
@@ -44,14 +44,14 @@ impl PlatformResolver {
         }
     }
 
-    /// What it promises.
+    /// Returns what it promises.
     pub fn promise(&self) -> &ResolverPromise
         ensures { result.now ≡ self.now }
     {
         &self.promise
     }
 
-    /// What the resolver picks: it answers as its promise says, and none where any answer is promised.
+    /// Returns the selected digest as promised, and `None` if any result is promised.
     pub fn resolve(
         &self,
         alloc: Global,

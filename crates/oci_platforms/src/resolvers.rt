@@ -1,4 +1,4 @@
-//! The resolvers that come with this.
+//! The provided resolvers.
 ghost use Rattle.std.specs.Prelude.{◌≡◌, IfOk, codes, option_copied};
 ghost use Rattle.std.specs.List.{find};
 ghost use Rattle.oci_platforms.specs.Resolvers.{first_for, is_for};
@@ -8,7 +8,7 @@ use oci_descriptors::ImageIndexEntry;
 use oci_names::{Arch, Os};
 use std::alloc::{AllocError, Global};
 
-/// The digest of the first entry for Linux on 64 bits of x86.
+/// Returns the digest of the first entry for Linux on 64-bit x86.
 pub fn linux_amd64_resolver(
     alloc: Global,
     manifests: &[ImageIndexEntry],
@@ -18,7 +18,7 @@ pub fn linux_amd64_resolver(
     first_for(alloc, Os::LINUX, Arch::AMD64, manifests)
 }
 
-/// The digest of the first entry for Windows on 64 bits of x86.
+/// Returns the digest of the first entry for Windows on 64-bit x86.
 pub fn windows_amd64_resolver(
     alloc: Global,
     manifests: &[ImageIndexEntry],
@@ -28,7 +28,7 @@ pub fn windows_amd64_resolver(
     first_for(alloc, Os::WINDOWS, Arch::AMD64, manifests)
 }
 
-/// The digest of the first entry for the system and architecture that the caller runs on.
+/// Returns the digest of the first entry for the operating system and architecture of the caller.
 pub fn current_platform_resolver(
     alloc: Global,
     os: &Os,
@@ -57,7 +57,7 @@ fn first_for(
     }
 }
 
-// The first entry for this system and architecture.
+// Returns the first entry for this operating system and architecture.
 pub(crate) fn first_entry<'a>(
     os: &str,
     architecture: &str,
@@ -70,7 +70,7 @@ pub(crate) fn first_entry<'a>(
         .find(|entry| is_for(os, architecture, entry))
 }
 
-// Whether the entry is for this system and architecture.
+// Returns whether the entry is for this operating system and architecture.
 fn is_for(os: &str, architecture: &str, entry: &ImageIndexEntry) -> bool
     ensures { result ≡ is_for os.now architecture.now entry.now }
 {

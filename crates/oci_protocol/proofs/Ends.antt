@@ -6,7 +6,7 @@ use Rattle.oci_protocol.specs.Proto.{Proto, Done, Ask, Recall, Keep, Consult, bi
 use Rattle.oci_protocol.specs.Runs.{Runs, Performs, Breaks, Outcome, Meets}
 use Rattle.oci_protocol.specs.Ends.{Ends, OnAnswer, UnlessMemory}
 
--- each answer is so
+-- if Q holds for every result, each protocol ends with Q
 pub Ends-any : {K A : Type 0} (Q : A → Type 0) (p : Proto K A) → ((a : A) → Q a) → Ends Q p
 unfolding Ends
 Ends-any Q (Done a) all = all a
@@ -28,7 +28,7 @@ unfolding Ends
 unless P Q f each (Ok a) h = each a h
 unless P Q f each (Err e) h = tt
 
--- what is so of the first answer, and then of the second
+-- P holds for the first result; given that, Q holds for the second
 pub Ends-next : {K A B E : Type 0} (P : A → Type 0) (Q : B → Type 0) (p : Proto K (Result A E)) (f : A → Proto K (Result B E)) → Ends (OnAnswer P) p → ((a : A) → P a → Ends (OnAnswer Q) (f a)) → Ends (OnAnswer Q) (p >>= f)
 Ends-next P Q p f h each = Ends-bind (OnAnswer P) (OnAnswer Q) p (unless_refused f) h (unless P Q f each)
 
@@ -42,7 +42,7 @@ Runs-ends Q (Recall next) k l m n c a h r = Runs-ends Q (next k) k l m n c a (h 
 Runs-ends Q (Keep kept rest) k l m n c a h r = Runs-ends Q rest kept l m n c a h r
 Runs-ends Q (Consult next) k l m n c a h r = Runs-ends Q (next r.0) k l m n c a (h r.0) r.1
 
--- so it is of a call's result
+-- Q holds for the result of the call
 pub Meets-ends : {K A E : Type 0} {of_memory : E → Bool} (Q : Result A E → Type 0) {p : Proto K (Result A E)} {old new : Link} {k l : K} {r : Result A E} → Ends Q p → Meets of_memory p old new k l r → UnlessMemory of_memory Q r
 Meets-ends {K} {A} {E} {of_memory} Q {p} {old} {new} {k} {l} {r} h met = by_result r met.outcome where
   performed : (r : Result A E) → Performs p old new k l r → Q r
@@ -56,7 +56,7 @@ Meets-ends {K} {A} {E} {of_memory} Q {p} {old} {new} {k} {l} {r} h met = by_resu
   by_result (Ok a) run = performed (Ok a) run
   by_result (Err e) run = by_memory (of_memory e) e run
 
--- what is so of each answer, and what follows from it
+-- `Ends` is monotone: P of each result implies Q
 pub Ends-more : {K A : Type 0} (P Q : A → Type 0) (p : Proto K A) → Ends P p → ((a : A) → P a → Q a) → Ends Q p
 unfolding Ends
 Ends-more P Q (Done a) h each = each a h

@@ -8,7 +8,7 @@ use Rattle.oci_transport.specs.declared.message.Exchange.{Exchange}
 use Rattle.oci_protocol.specs.Proto.{Reading, Reply, Proto, Done, Ask, Recall, Keep, Consult, bind, unless_refused, ◌>>=◌}
 use Rattle.oci_protocol.specs.Runs.{Hears, Runs, RunsBy, Stops, Performs, Breaks, Outcome, Meets}
 
--- a run of one protocol and a run of the one that its answer gives are a run of both
+-- a run of p and a run of what its result leads to are together a run of `bind p f`
 pub Runs-bind : {K A B : Type 0} (p : Proto K A) (f : A → Proto K B) (k l j : K) (m n o : ℕ) (c d : List Exchange) (a : A) (b : B) → Runs p k m c n l a → Runs (f a) l n d o j b → Runs (bind p f) k m (c ++ d) o j b
 unfolding Runs bind
 Runs-bind (Done x) f k l j m n o [] d a b r s = rw (r.2, r.1, r.0) s
@@ -19,7 +19,7 @@ Runs-bind (Recall next) f k l j m n o c d a b r s = Runs-bind (next k) f k l j m
 Runs-bind (Keep kept rest) f k l j m n o c d a b r s = Runs-bind rest f kept l j m n o c d a b r s
 Runs-bind (Consult next) f k l j m n o c d a b r s = (r.0, Runs-bind (next r.0) f k l j m n o c d a b r.1 s)
 
--- the same by what is answered
+-- the same for a transport that responds by t
 pub RunsBy-bind : {K A B : Type 0} (t : Answering) (place : ℕ) (p : Proto K A) (f : A → Proto K B) (k l j : K) (m n o : ℕ) (c d : List Exchange) (a : A) (b : B) → RunsBy t place p k m c n l a → RunsBy t (place + length c) (f a) l n d o j b → RunsBy t place (bind p f) k m (c ++ d) o j b
 unfolding RunsBy bind
 RunsBy-bind t place (Done x) f k l j m n o [] d a b r s = rw (r.2, r.1, r.0) (subst (λ q. RunsBy t q (f a) l n d o j b) (omega arith) s)
@@ -30,7 +30,7 @@ RunsBy-bind t place (Recall next) f k l j m n o c d a b r s = RunsBy-bind t plac
 RunsBy-bind t place (Keep kept rest) f k l j m n o c d a b r s = RunsBy-bind t place rest f kept l j m n o c d a b r s
 RunsBy-bind t place (Consult next) f k l j m n o c d a b r s = (r.0, RunsBy-bind t place (next r.0) f k l j m n o c d a b r.1 s)
 
--- and it is a run
+-- a run by t is a run
 pub RunsBy-runs : {K A : Type 0} (t : Answering) (place : ℕ) (p : Proto K A) (k l : K) (m n : ℕ) (c : List Exchange) (a : A) → RunsBy t place p k m c n l a → Runs p k m c n l a
 unfolding RunsBy Runs
 RunsBy-runs t place (Done x) k l m n [] a r = r
@@ -41,7 +41,7 @@ RunsBy-runs t place (Recall next) k l m n c a r = RunsBy-runs t place (next k) k
 RunsBy-runs t place (Keep kept rest) k l m n c a r = RunsBy-runs t place rest kept l m n c a r
 RunsBy-runs t place (Consult next) k l m n c a r = (r.0, RunsBy-runs t place (next r.0) k l m n c a r.1)
 
--- nothing was done yet
+-- no request has been made yet
 pub Stops-start : {K A : Type 0} (p : Proto K A) (k : K) (m : ℕ) → Stops p k m [] k
 unfolding Stops
 Stops-start (Done x) k m = refl
@@ -50,7 +50,7 @@ Stops-start (Recall next) k m = Stops-start (next k) k m
 Stops-start (Keep kept rest) k m = inl (refl, refl)
 Stops-start (Consult next) k m = (None, Stops-start (next None) k m)
 
--- a front of the first part is a front of both
+-- a prefix of a run of the first part is a prefix of a run of both
 pub Stops-first : {K A B : Type 0} (p : Proto K A) (f : A → Proto K B) (k l : K) (m : ℕ) (c : List Exchange) → Stops p k m c l → Stops (bind p f) k m c l
 unfolding Stops bind
 Stops-first (Done x) f k l m [] s = rw (← s) (Stops-start (f x) k m)
@@ -63,7 +63,7 @@ Stops-first (Keep kept rest) f k l m c (inl s) = inl s
 Stops-first (Keep kept rest) f k l m c (inr s) = inr (Stops-first rest f kept l m c s)
 Stops-first (Consult next) f k l m c s = (s.0, Stops-first (next s.0) f k l m c s.1)
 
--- a run of the first part and a front of what its answer gives are a front of both
+-- a run of the first part and a prefix of what its result leads to are a prefix of a run of both
 pub Stops-second : {K A B : Type 0} (p : Proto K A) (f : A → Proto K B) (k l j : K) (m n : ℕ) (c d : List Exchange) (a : A) → Runs p k m c n l a → Stops (f a) l n d j → Stops (bind p f) k m (c ++ d) j
 unfolding Runs Stops bind
 Stops-second (Done x) f k l j m n [] d a r s = rw (r.2, r.1, r.0) s
@@ -74,7 +74,7 @@ Stops-second (Recall next) f k l j m n c d a r s = Stops-second (next k) f k l j
 Stops-second (Keep kept rest) f k l j m n c d a r s = inr (Stops-second rest f kept l j m n c d a r s)
 Stops-second (Consult next) f k l j m n c d a r s = (r.0, Stops-second (next r.0) f k l j m n c d a r.1 s)
 
--- the count of faults never falls in a run
+-- the fault count never decreases in a run
 pub Runs-count : {K A : Type 0} (p : Proto K A) (k l : K) (m n : ℕ) (c : List Exchange) (a : A) → Runs p k m c n l a → m ≤ n
 unfolding Runs
 Runs-count (Done x) k l m n [] a r = omega (arith, r.0)
@@ -85,7 +85,7 @@ Runs-count (Recall next) k l m n c a r = Runs-count (next k) k l m n c a r
 Runs-count (Keep kept rest) k l m n c a r = Runs-count rest kept l m n c a r
 Runs-count (Consult next) k l m n c a r = Runs-count (next r.0) k l m n c a r.1
 
--- what needs no request
+-- a protocol that makes no request
 pub Performs-done : {K A : Type 0} (link : Link) (k : K) (a : A) → Performs (Done a) link link k k a
 unfolding Runs RunsBy
 Performs-done link k a = record { conversation = []; told = Extends-none link; runs = (refl, refl, refl); runs_by = λ t before by told. (refl, refl, refl) }
@@ -120,7 +120,7 @@ Breaks-second {p} f {old} {mid} {new} {k} {l} {j} {a} first second = record {
   count = omega (arith, Runs-count p k l old.faults mid.faults first.conversation a first.runs, second.count);
 }
 
--- what makes runs of p into runs of q, and fronts into fronts, makes outcomes into outcomes
+-- if each run of p extends to one of q, and each prefix likewise, then each outcome of p is one of q
 pub outcome_by : {K A E : Type 0} (of_memory : E → Bool) (p : Proto K (Result A E)) (q : Proto K (Result A E)) (old mid new : Link) (k j l : K)
     → ((x : Result A E) → Performs p mid new j l x → Performs q old new k l x) → (Breaks p mid new j l → Breaks q old new k l)
     → (r : Result A E) → Outcome of_memory p mid new j l r → Outcome of_memory q old new k l r
@@ -130,14 +130,14 @@ outcome_by {K} {A} {E} of_memory p q old mid new k j l performs breaks (Err e) h
   refused true h = breaks h
   refused false h = performs (Err e) h
 
--- a step that was answered, and then what its answer gives
+-- a step that returned `Ok`, and then what its result leads to
 pub Meets-next : {K A B E : Type 0} {of_memory : E → Bool} {p : Proto K (Result A E)} (f : A → Proto K (Result B E)) {old mid new : Link} {k l j : K} {a : A} {r : Result B E}
     → Meets of_memory p old mid k l (Ok a) → Meets of_memory (f a) mid new l j r → Meets of_memory (p >>= f) old new k j r
 Meets-next {of_memory} {p} f {old} {mid} {new} {k} {l} {j} {a} {r} first second = record {
   outcome = outcome_by of_memory (f a) (p >>= f) old mid new k l j (λ x h. Performs-bind (unless_refused f) first.outcome h) (λ h. Breaks-second (unless_refused f) first.outcome h) r second.outcome;
 }
 
--- a step that was refused, or cut off, ends it all
+-- a step that returned an error, or ran out of memory, ends the whole call
 pub Meets-refused : {K A B E : Type 0} {of_memory : E → Bool} {p : Proto K (Result A E)} (f : A → Proto K (Result B E)) {old new : Link} {k l : K} {e : E}
     → Meets of_memory p old new k l (Err e) → Meets of_memory (p >>= f) old new k l (Err e)
 Meets-refused {K} {A} {B} {E} {of_memory} {p} f {old} {new} {k} {l} {e} first = record { outcome = refused (of_memory e) first.outcome } where
@@ -145,15 +145,15 @@ Meets-refused {K} {A} {B} {E} {of_memory} {p} f {old} {new} {k} {l} {e} first = 
   refused true h = Breaks-first (unless_refused f) h
   refused false h = Performs-bind (unless_refused f) h (Performs-done new l (Err e))
 
--- the answer is there
+-- the result is already `Ok`
 pub Meets-ok : {K A E : Type 0} (of_memory : E → Bool) (link : Link) (k : K) (a : A) → Meets of_memory (Done (Ok a)) link link k k (Ok a)
 Meets-ok of_memory link k a = record { outcome = Performs-done link k (Ok a) }
 
--- the refusal is there
+-- the result is already an error
 pub Meets-err : {K A E : Type 0} (of_memory : E → Bool) (link : Link) (k : K) (e : E) → of_memory e ≡ false → Meets {A = A} of_memory (Done (Err e)) link link k k (Err e)
 Meets-err {K} {A} {E} of_memory link k e h = record { outcome = rw h (Performs-done link k (Err e)) }
 
--- memory was wanting before a request was made
+-- memory ran out before a request was made
 pub Meets-memory : {K A E : Type 0} (of_memory : E → Bool) (p : Proto K (Result A E)) (link : Link) (k : K) (e : E) → of_memory e ≡ true → Meets of_memory p link link k k (Err e)
 Meets-memory of_memory p link k e h = record { outcome = rw h (Breaks-start p link k) }
 
@@ -165,7 +165,7 @@ breaks-recall : {K A : Type 0} (next : K → Proto K A) {old new : Link} {k l : 
 unfolding Stops
 breaks-recall next h = record { conversation = h.conversation; told = h.told; stops = h.stops; count = h.count }
 
--- what is kept is looked at
+-- the client state is read
 pub Meets-recall : {K A E : Type 0} {of_memory : E → Bool} (next : K → Proto K (Result A E)) {old new : Link} {k l : K} {r : Result A E} → Meets of_memory (next k) old new k l r → Meets of_memory (Recall next) old new k l r
 Meets-recall {of_memory} next {old} {new} {k} {l} {r} rest = record {
   outcome = outcome_by of_memory (next k) (Recall next) old old new k k l (λ x h. performs-recall next h) (λ h. breaks-recall next h) r rest.outcome;
@@ -179,7 +179,7 @@ breaks-keep : {K A : Type 0} (kept : K) (rest : Proto K A) {old new : Link} {k l
 unfolding Stops
 breaks-keep kept rest h = record { conversation = h.conversation; told = h.told; stops = inr h.stops; count = h.count }
 
--- something else is kept
+-- the client state is replaced
 pub Meets-keep : {K A E : Type 0} {of_memory : E → Bool} (kept : K) (rest : Proto K (Result A E)) {old new : Link} {k l : K} {r : Result A E} → Meets of_memory rest old new kept l r → Meets of_memory (Keep kept rest) old new k l r
 Meets-keep {of_memory} kept rest {old} {new} {k} {l} {r} met = record {
   outcome = outcome_by of_memory rest (Keep kept rest) old old new k kept l (λ x h. performs-keep kept rest h) (λ h. breaks-keep kept rest h) r met.outcome;
@@ -193,7 +193,7 @@ breaks-consult : {K A : Type 0} (next : Option (List ℕ) → Proto K A) (said :
 unfolding Stops
 breaks-consult next said h = record { conversation = h.conversation; told = h.told; stops = (said, h.stops); count = h.count }
 
--- this is said from outside
+-- the external input is `said`
 pub Meets-consult : {K A E : Type 0} {of_memory : E → Bool} (next : Option (List ℕ) → Proto K (Result A E)) (said : Option (List ℕ)) {old new : Link} {k l : K} {r : Result A E} → Meets of_memory (next said) old new k l r → Meets of_memory (Consult next) old new k l r
 Meets-consult {of_memory} next said {old} {new} {k} {l} {r} rest = record {
   outcome = outcome_by of_memory (next said) (Consult next) old old new k k l (λ x h. performs-consult next said h) (λ h. breaks-consult next said h) r rest.outcome;
@@ -220,7 +220,7 @@ breaks-ask next {old} {mid} {new} {reply} first h = record {
   count = omega (arith, first.replies.count, h.count);
 }
 
--- a request was answered so, and then what the reply gives
+-- a request got this reply, and then what the reply leads to
 pub Meets-ask : {K A E : Type 0} {of_memory : E → Bool} {request : Request} {reading : AnswerHead → Reading} (next : Reply → Proto K (Result A E)) {old mid new : Link} {k l : K} {reply : Reply} {r : Result A E}
     → Hears request reading old mid reply → Meets of_memory (next reply) mid new k l r → Meets of_memory (Ask request reading next) old new k l r
 Meets-ask {of_memory} {request} {reading} next {old} {mid} {new} {k} {l} {reply} {r} first rest = record {
@@ -233,14 +233,14 @@ cut-stops request reading next k m [] h = refl
 cut-stops request reading next k m (e ∷ []) h = inl (h.0, h.1, refl, refl)
 cut-stops request reading next k m (e ∷ f ∷ c) h = absurd h
 
--- memory was wanting at a request
+-- memory ran out at a request
 pub Meets-cut : {K A E : Type 0} (of_memory : E → Bool) (request : Request) (reading : AnswerHead → Reading) (next : Reply → Proto K (Result A E)) {old new : Link} (k : K) (e : E)
     → AddsAtMost request old new → old.faults ≤ new.faults → of_memory e ≡ true → Meets of_memory (Ask request reading next) old new k k (Err e)
 Meets-cut of_memory request reading next {old} k e cut le h = record {
   outcome = rw h (record { conversation = cut.conversation; told = cut.added; stops = cut-stops request reading next k old.faults cut.conversation cut.most; count = le });
 }
 
--- a step whose refusal is looked at, and then what the row makes of it
+-- a step whose error is inspected, and then what the row computes from it
 pub Meets-caught : {K A B E : Type 0} {of_memory : E → Bool} {p : Proto K A} (f : A → Proto K (Result B E)) {old mid new : Link} {k l j : K} {a : A} {r : Result B E}
     → Performs p old mid k l a → Meets of_memory (f a) mid new l j r → Meets of_memory (bind p f) old new k j r
 Meets-caught {of_memory} {p} f {old} {mid} {new} {k} {l} {j} {a} {r} first second = record {

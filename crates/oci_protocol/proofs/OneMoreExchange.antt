@@ -34,7 +34,7 @@ follows_more n request left left' last next head old mid new follows is sent le 
   trail = trail_more n request old.faults follows.conversation left' last mid.faults _ new.faults head next (rw is at follows.trail) (sym to) (headed_replies last head sent.body mid.faults new.faults le);
 }
 
--- one less is left
+-- one redirect fewer is left
 one_less : (left : ℕ) → left ≢ 0 → left ≡ suc (left - 1)
 one_less zero h = absurd (h refl)
 one_less (suc n) h = ap suc (omega arith)
@@ -66,7 +66,7 @@ misses n request left last old mid new follows added rose le = record { left = l
 pub cuts : (n : ℕ) (request : Request) (left : ℕ) (last : Request) (old mid new : Link) → Follows n request left last old mid → AddsAtMost last mid new → mid.faults ≤ new.faults → Cuts n request old new
 cuts n request left last old mid new follows cut le = record { left = left; last = last; mid = mid; follows = follows; cut = cut; count = le }
 
--- memory was wanting after the answer came
+-- memory ran out after the response was received
 pub answered_at_most : (last : Request) (head : AnswerHead) (old new : Link) → Answers last head old new → AddsAtMost last old new
 answered_at_most last head old new sent = record { conversation = _; added = sent.added; most = (refl, refl) }
 

@@ -3,7 +3,7 @@ use Rattle.oci_transport.specs.declared.message.Exchange.{Exchange}
 use Rattle.oci_protocol.specs.Proto.{Proto, Done, Ask, Recall, Keep, Consult, bind, unless_refused, ◌>>=◌}
 use Rattle.oci_protocol.specs.Runs.{Runs}
 
--- a run of two parts in turn
+-- a run of two parts in sequence
 pub record Parts {K A B : Type 0} (p : Proto K A) (f : A → Proto K B) (k : K) (m : ℕ) (c : List Exchange) (n : ℕ) (j : K) (b : B) : Type 0 where
   pub first : List Exchange
   pub second : List Exchange
@@ -14,7 +14,7 @@ pub record Parts {K A B : Type 0} (p : Proto K A) (f : A → Proto K B) (k : K) 
   pub runs_first : Runs p k m first count between answer
   pub runs_second : Runs (f answer) between count second n j b
 
--- each run of both is one of each
+-- each run of `bind p f` is a run of p and then one of f
 pub Runs-parts : {K A B : Type 0} (p : Proto K A) (f : A → Proto K B) (k : K) (m : ℕ) (c : List Exchange) (n : ℕ) (j : K) (b : B) → Runs (bind p f) k m c n j b → Parts p f k m c n j b
 unfolding Runs bind
 Runs-parts (Done x) f k m c n j b r = record { first = []; second = c; joined = refl; between = k; count = m; answer = x; runs_first = (refl, refl, refl); runs_second = r }
@@ -32,7 +32,7 @@ Runs-parts (Consult next) f k m c n j b r =
     let parts = Runs-parts (next r.0) f k m c n j b r.1 in
     record { first = parts.first; second = parts.second; joined = parts.joined; between = parts.between; count = parts.count; answer = parts.answer; runs_first = (r.0, parts.runs_first); runs_second = parts.runs_second }
 
--- a run of two parts in turn, neither refused
+-- a run of two parts in sequence, both of which return `Ok`
 pub record OkParts {K A B E : Type 0} (p : Proto K (Result A E)) (f : A → Proto K (Result B E)) (k : K) (m : ℕ) (c : List Exchange) (n : ℕ) (j : K) (b : B) : Type 0 where
   pub first : List Exchange
   pub second : List Exchange
@@ -43,7 +43,7 @@ pub record OkParts {K A B E : Type 0} (p : Proto K (Result A E)) (f : A → Prot
   pub runs_first : Runs p k m first count between (Ok answer)
   pub runs_second : Runs (f answer) between count second n j (Ok b)
 
--- a protocol that is done has made no request, and answers what it has
+-- `Done x` makes no request and returns x
 pub Runs-done : {K A : Type 0} (x : A) (k : K) (m : ℕ) (c : List Exchange) (n : ℕ) (l : K) (a : A) → Runs (Done x) k m c n l a → (c ≡ []) × (k ≡ l) × (x ≡ a)
 unfolding Runs
 Runs-done x k m [] n l a r = (refl, r.1, r.2)

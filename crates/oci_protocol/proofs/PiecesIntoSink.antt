@@ -46,7 +46,7 @@ poured_more limit taken piece from to' to old mid new before between after p tol
   };
 }
 
--- an empty piece ends it
+-- an empty piece ends the body
 pub poured_whole : (limit taken : ℕ) (piece : List ℕ) (from to : Digesters) (old mid new : Link) (before after : Tray) → Poured limit taken from to old mid before after → Takes piece mid new → length piece ≡ 0 → Pours limit from to old new before after
 poured_whole limit taken piece from to old mid new before after p takes empty = record {
   body = p.body;
@@ -60,7 +60,7 @@ poured_whole limit taken piece from to old mid new before after p takes empty = 
   hashed = p.so_far.hashed;
 }
 
--- what was put so far is a front
+-- what the sink has accepted so far is a prefix of the body
 pub poured_front : (limit taken : ℕ) (from to : Digesters) (old mid : Link) (before after new : Tray) → Poured limit taken from to old mid before after → Adds [] after new → PoursFront old before new
 poured_front limit taken from to old mid before after new p none = record {
   front = p.body;
@@ -68,7 +68,7 @@ poured_front limit taken from to old mid before after new p none = record {
   put = record { took = λ bytes h. none.took (bytes ++ p.body) (p.so_far.put.took bytes h) ∙ ap Some (append-nil (bytes ++ p.body)) };
 }
 
--- and so is what was put with a front of the next piece
+-- this also holds when a prefix of the next piece is added
 pub poured_part : (limit taken : ℕ) (piece : List ℕ) (from to : Digesters) (old mid new : Link) (before between after : Tray) → Poured limit taken from to old mid before between → Takes piece mid new → AddsFront piece between after → PoursFront old before after
 poured_part limit taken piece from to old mid new before between after p takes part = record {
   front = p.body ++ part.front;

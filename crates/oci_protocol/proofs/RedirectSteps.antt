@@ -14,7 +14,7 @@ use Rattle.oci_protocol.proofs.Conversations.{Extends-more, Extends-still, Exten
 use Rattle.oci_protocol.proofs.Laws.{Meets-ask, Meets-cut, outcome_by}
 use Rattle.oci_protocol.proofs.OneMoreExchange.{follows_count}
 
--- a redirect's reply, as the followed request reads it
+-- the reply of a redirect, as the followed request parses it
 turned_replies : (request : Request) (reading : AnswerHead → Reading) (m : ℕ) (e : Exchange) (between : ℕ) (head : AnswerHead) (next : Request) → redirected request head ≡ Some next → Replies request read_none m e between (Headed head) → Replies request (turned request reading) m e between (Headed head)
 unfolding turned
 turned_replies request reading m e between head next to r = record {
@@ -33,7 +33,7 @@ trail_runs zero request reading next m (e ∷ c) left last between k d after l a
 trail_runs (suc n) request reading next m (e ∷ c) left last between k d after l a t r =
     (t.0, Headed t.1, turned_replies request reading m e t.0 t.1 t.2 t.3 t.4, rw t.3 (trail_runs n t.2 reading next t.0 c left last between k d after l a t.5 r))
 
--- the same by what is answered: no body of a redirect is read
+-- the same for a transport that responds by t: no body of a redirect is read
 trail_runs_by : {K A : Type 0} (t : Answering) (place : ℕ) (n : ℕ) (request : Request) (reading : AnswerHead → Reading) (next : Request → Reply → Proto K A) (m : ℕ) (c : List Exchange) (left : ℕ) (last : Request) (between : ℕ) (k : K) (d : List Exchange) (after : ℕ) (l : K) (a : A)
     → Trail n request m c left last between → RunsBy t (place + length c) (follow left last reading next) k between d after l a → RunsBy t place (follow n request reading next) k m (c ++ d) after l a
 unfolding Trail RunsBy follow
@@ -50,7 +50,7 @@ trail_stops zero request reading next m (e ∷ c) left last between k d l t s = 
 trail_stops (suc n) request reading next m (e ∷ c) left last between k d l t s =
     inr (t.0, Headed t.1, turned_replies request reading m e t.0 t.1 t.2 t.3 t.4, rw t.3 (trail_stops n t.2 reading next t.0 c left last between k d l t.5 s))
 
--- what the last request does, the first does
+-- what a run does from the last request, it does from the first
 pub follows_met : {K A E : Type 0} {of_memory : E → Bool} (n : ℕ) (request : Request) (reading : AnswerHead → Reading) (next : Request → Reply → Proto K (Result A E)) (left : ℕ) (last : Request) (old mid : Link) {new : Link} {k l : K} {r : Result A E}
     → Follows n request left last old mid → Meets of_memory (follow left last reading next) mid new k l r → Meets of_memory (follow n request reading next) old new k l r
 follows_met {K} {A} {E} {of_memory} n request reading next left last old mid {new} {k} {l} {r} f met = record { outcome = outcome_by of_memory (follow left last reading next) (follow n request reading next) old mid new k k l performs breaks r met.outcome } where
@@ -67,14 +67,14 @@ follows_met {K} {A} {E} {of_memory} n request reading next left last old mid {ne
   breaks : Breaks (follow left last reading next) mid new k l → Breaks (follow n request reading next) old new k l
   breaks h = record { conversation = f.conversation ++ h.conversation; told = Extends-more old mid new f.conversation h.conversation f.told h.told; stops = trail_stops n request reading next old.faults f.conversation left last mid.faults k h.conversation l f.trail h.stops; count = omega (arith, follows_count n request left last old mid f, h.count) }
 
--- the last answer is read as it is to be
+-- the last response is parsed by the given reading
 final_reading : (left : ℕ) (last : Request) (reading : AnswerHead → Reading) (head : AnswerHead) → IsFinal left last head → reading_at left last reading head ≡ reading head
 unfolding reading_at turned
 final_reading zero last reading head final = refl
 final_reading (suc left) last reading head (inl none) = absurd (cc none)
 final_reading (suc left) last reading head (inr none) = ap (λ (o : Option Request). unread_if o (reading head)) none
 
--- this reply is no redirect that is followed
+-- this reply is not a redirect that is followed
 abbrev Stays : ℕ → Request → Reply → Type 0
 Stays left last (Headed head) = IsFinal left last head
 Stays left last reply = Unit {0}
@@ -110,12 +110,12 @@ reached_headed n request reading next head last {old} {new} reach unread rest = 
 limit_at : (left : ℕ) (last : Request) (reading : AnswerHead → Reading) (head : AnswerHead) (limit : ℕ) → IsFinal left last head → limit_of (reading head) ≡ Some limit → limit_of (reading_at left last reading head) ≡ Some limit
 limit_at left last reading head limit final is = ap limit_of (final_reading left last reading head final) ∙ is
 
--- where the body of the answer breaks off
+-- where the body of the response is truncated
 breaks_at : (head : AnswerHead) (last : Request) (old mid : Link) (sent : Answers last head old mid) (t : Answering) (before : List Exchange) (bytes : ℕ) → old.answers ≡ Some t → old.told ≡ Some before → t.breaks (length before) ≡ Some bytes
     → BreaksOff (exchange_of last (Some (answer_of head sent.body)) old) (answer_of head sent.body) bytes mid
 breaks_at head last old mid sent t before bytes by shown breaks = record { table = t; before = before; answers = sent.added.stays.steady t by; told = sent.added.told before shown; answered = sym (sent.added.table t before by shown).0; breaks = breaks }
 
--- the body was read whole
+-- the whole body was read
 pub reached_answered : {K A E : Type 0} {of_memory : E → Bool} (n : ℕ) (request : Request) (reading : AnswerHead → Reading) (next : Request → Reply → Proto K (Result A E)) (head : AnswerHead) (last : Request) (limit : ℕ) (body : List ℕ) {old mid new end : Link} {k l : K} {r : Result A E}
     → Reaches n request head last old mid → limit_of (reading head) ≡ Some limit → mid.faults ≤ new.faults → new.told ≡ mid.told → Steady mid new → length body ≤ limit → ((rest : List ℕ) → mid.rest ≡ Some rest → body ≡ rest) → EndsUnbroken mid new
     → Meets of_memory (next last (Answered (answer_of head body))) new end k l r → Meets of_memory (follow n request reading next) old end k l r
@@ -153,7 +153,7 @@ reached_long n request reading next head last limit {old} {mid} {new} reach is l
       read : AnswerHead → Reading
       read = reading_at reach.left last reading
 
-      -- that of the last answer, as far as it is told
+      -- the last exchange, as far as it is exposed
       sent : Exchange
       sent = exchange_of last (Some (answer_of head reach.sent.body)) reach.mid
 
@@ -175,7 +175,7 @@ reached_long n request reading next head last limit {old} {mid} {new} reach is l
       by_told None none = hears (replicate (limit + 1) 0) (omega (arith, length-replicate {A = ℕ} (limit + 1) 0)) (Extends-untold reach.mid new _ none (Steady-more reach.mid mid new reach.sent.added.stays steady)) (λ t before by shown. absurd (cc (none, shown)))
       by_told (Some before) h = hears reach.sent.body (longer reach.sent.body limit new (long.past reach.sent.body (reach.sent.rest before h))) (Extends-still reach.mid mid new _ reach.sent.added same steady) passed
 
--- a fault came while the body was read
+-- a fault occurred while the body was read
 pub reached_failed : {K A E : Type 0} {of_memory : E → Bool} (n : ℕ) (request : Request) (reading : AnswerHead → Reading) (next : Request → Reply → Proto K (Result A E)) (head : AnswerHead) (last : Request) {old mid new end : Link} {k l : K} {r : Result A E}
     → Reaches n request head last old mid → mid.faults ≤ new.faults → new.told ≡ mid.told → Steady mid new → Rose mid.faults new.faults
     → Meets of_memory (next last Failed) new end k l r → Meets of_memory (follow n request reading next) old end k l r
@@ -199,13 +199,13 @@ reached_spilled n request reading next head last limit {old} {mid} {new} reach i
       unbroken = λ t before by told. tt;
     }) rest)
 
--- memory was wanting while the body was read, or before
+-- memory ran out while the body was read, or before
 pub reached_cut : {K A E : Type 0} (of_memory : E → Bool) (n : ℕ) (request : Request) (reading : AnswerHead → Reading) (next : Request → Reply → Proto K (Result A E)) (head : AnswerHead) (last : Request) {old mid new : Link} (k : K) (e : E)
     → Reaches n request head last old mid → mid.faults ≤ new.faults → new.told ≡ mid.told → Steady mid new → of_memory e ≡ true → Meets of_memory (follow n request reading next) old new k k (Err e)
 reached_cut of_memory n request reading next head last {old} {mid} {new} k e reach le same steady is = follows_met n request reading next reach.left last old reach.mid reach.follows
     (follow_cut of_memory reach.left last reading next k e (record { conversation = _; added = Extends-still reach.mid mid new _ reach.sent.added same steady; most = (refl, refl) }) (omega (arith, reach.count)) is)
 
--- no answer came
+-- no response arrived
 pub missed : {K A E : Type 0} {of_memory : E → Bool} (n : ℕ) (request : Request) (reading : AnswerHead → Reading) (next : Request → Reply → Proto K (Result A E)) {old new end : Link} {k l : K} {r : Result A E}
     → Misses n request old new → ((last : Request) → Meets of_memory (next last Failed) new end k l r) → Meets of_memory (follow n request reading next) old end k l r
 missed n request reading next {old} {new} m rest = follows_met n request reading next m.left m.last old m.mid m.follows
@@ -216,7 +216,7 @@ missed n request reading next {old} {new} m rest = follows_met n request reading
       unbroken = λ t before by told. tt;
     }) (rest m.last))
 
--- memory was wanting
+-- memory ran out
 pub cut : {K A E : Type 0} (of_memory : E → Bool) (n : ℕ) (request : Request) (reading : AnswerHead → Reading) (next : Request → Reply → Proto K (Result A E)) {old new : Link} (k : K) (e : E)
     → Cuts n request old new → of_memory e ≡ true → Meets of_memory (follow n request reading next) old new k k (Err e)
 cut of_memory n request reading next {old} {new} k e c is = follows_met n request reading next c.left c.last old c.mid c.follows (follow_cut of_memory c.left c.last reading next k e c.cut c.count is)

@@ -10,7 +10,7 @@ use Rattle.oci_protocol.specs.Runs.{head_part, Replies, Runs}
 use Rattle.oci_protocol.specs.Follow.{unread_if, turned, go_if, turn, follow, Trail, IsFinal}
 use Rattle.oci_protocol.specs.Trails.{Settles, Trailed}
 
--- what is read is no redirect
+-- what is read is not a redirect
 read_settled : (to : Option Request) (reading : Reading) (limit : ℕ) → limit_of (unread_if to reading) ≡ Some limit → (to ≡ None) × (limit_of reading ≡ Some limit)
 read_settled None reading limit h = (refl, h)
 read_settled (Some s) reading limit h = absurd (cc h)
@@ -19,7 +19,7 @@ pipe_settled : (to : Option Request) (reading : Reading) (limit : ℕ) → unrea
 pipe_settled None reading limit h = h
 pipe_settled (Some s) reading limit h = absurd (cc h)
 
--- the reply to the last request, as the row reads it
+-- the reply to the last request, as the row parses it
 last_reply : (request : Request) (reading : AnswerHead → Reading) (n m : ℕ) (e : Exchange) (after : ℕ) (reply : Reply) → Settles (suc n) request reply → Replies request (turned request reading) m e after reply → Replies request reading m e after reply
 unfolding turned
 last_reply request reading n m e after (Headed head) (inl none) r = absurd (cc none)
@@ -76,12 +76,12 @@ settles_zero request Failed = tt
 settles_zero request TooLong = tt
 settles_zero request SinkFailed = tt
 
--- an answer whose body was read is no redirect
+-- a response whose body was read is not a redirect
 answered : (n : ℕ) (request : Request) (reading : AnswerHead → Reading) (m : ℕ) (e : Exchange) (after : ℕ) (answer : Answer) → Replies request (turned request reading) m e after (Answered answer) → IsFinal (suc n) request (head_part answer)
 unfolding turned
 answered n request reading m e after answer r = inr (read_settled (redirected request (head_part answer)) (reading (head_part answer)) r.reply_is.0 r.reply_is.2).0
 
--- each run of a request that is followed
+-- each run of a request whose redirects are followed
 pub Runs-trailed : {K A : Type 0} (n : ℕ) (request : Request) (reading : AnswerHead → Reading) (next : Request → Reply → Proto K A) (k : K) (m : ℕ) (c : List Exchange) (after : ℕ) (l : K) (a : A) → Runs (follow n request reading next) k m c after l a → Trailed n request reading next k m c after l a
 unfolding Runs follow
 Runs-trailed zero request reading next k m [] after l a r = absurd r

@@ -1,4 +1,4 @@
--- What holds where a safe protocol has ended, or was cut off.
+-- What holds when a `Safe` protocol has ended or was cut off.
 use Rattle.std.proofs.Common.{◌≡◌, inl, inr, ℕ, Bool, false, List, [], ◌∷◌, ◌++◌, Result, Ok, Err, sym, ap, subst, ◌∙◌, append_assoc, append-nil}
 use Rattle.oci_transport.specs.Link.{Link}
 use Rattle.oci_transport.specs.declared.message.Request.{Request}
@@ -7,7 +7,7 @@ use Rattle.oci_protocol.specs.Proto.{Proto, Done, Ask, Recall, Keep, Consult}
 use Rattle.oci_protocol.specs.Runs.{Runs, Stops, Performs, Meets, Told}
 use Rattle.oci_protocol.specs.Safe.{Safe}
 
--- what is so of the answer of a run, after what was seen and its exchanges
+-- Q holds for the result of a run, after the exchanges before it and its own
 pub Runs-ends-safe : {K A : Type 0} (P : K → List Exchange → Request → Type 0) (I : K → List Exchange → Type 0) (Q : K → List Exchange → A → Type 0) (p : Proto K A) (k l : K) (m n : ℕ) (seen c : List Exchange) (a : A) → Safe P I Q k seen p → Runs p k m c n l a → Q l (seen ++ c) a
 unfolding Safe Runs
 Runs-ends-safe P I Q (Done x) k l m n seen [] a h r = rw (append-nil seen, ← r.1, ← r.2) h
@@ -18,7 +18,7 @@ Runs-ends-safe P I Q (Recall next) k l m n seen c a h r = Runs-ends-safe P I Q (
 Runs-ends-safe P I Q (Keep kept rest) k l m n seen c a h r = Runs-ends-safe P I Q rest kept l m n seen c a h.1 r
 Runs-ends-safe P I Q (Consult next) k l m n seen c a h r = Runs-ends-safe P I Q (next r.0) k l m n seen c a (h r.0) r.1
 
--- so it is of a call's answer
+-- Q holds for the `Ok` result of a call
 pub Meets-ends-safe : {K A E : Type 0} {of_memory : E → Bool} (P : K → List Exchange → Request → Type 0) (I : K → List Exchange → Type 0) (Q : K → List Exchange → Result A E → Type 0) {p : Proto K (Result A E)} {old new : Link} {k l : K} {a : A}
     → Safe P I Q k [] p → Meets of_memory p old new k l (Ok a) → Told (λ c. Q l c (Ok a)) old new
 Meets-ends-safe P I Q {p} {old} {new} {k} {l} {a} h met = record {
@@ -27,21 +27,21 @@ Meets-ends-safe P I Q {p} {old} {new} {k} {l} {a} h met = record {
   holds = Runs-ends-safe P I Q p k l old.faults new.faults [] met.outcome.conversation (Ok a) h met.outcome.runs;
 }
 
--- and of its refusal, where memory was not the cause
+-- the same for an error other than out of memory
 pub Meets-refusal-safe : {K A E : Type 0} {of_memory : E → Bool} (P : K → List Exchange → Request → Type 0) (I : K → List Exchange → Type 0) (Q : K → List Exchange → Result A E → Type 0) {p : Proto K (Result A E)} {old new : Link} {k l : K} {e : E}
     → of_memory e ≡ false → Safe P I Q k [] p → Meets of_memory p old new k l (Err e) → Told (λ c. Q l c (Err e)) old new
 Meets-refusal-safe P I Q {p} {old} {new} {k} {l} {e} is h met = performed (rw is at met.outcome) where
   performed : Performs p old new k l (Err e) → Told (λ c. Q l c (Err e)) old new
   performed done = record { conversation = done.conversation; told = done.told; holds = Runs-ends-safe P I Q p k l old.faults new.faults [] done.conversation (Err e) h done.runs }
 
--- what was kept last, after a front of the exchanges
+-- the client state that was stored last, after a prefix of the exchanges
 pub record KeptAfter {K : Type 0} (I : K → List Exchange → Type 0) (l : K) (c : List Exchange) : Type 0 where
   pub front : List Exchange
   pub rest : List Exchange
   pub split : c ≡ front ++ rest
   pub holds : I l front
 
--- where a run was cut off, what is kept was so when it was kept
+-- if a run was cut off, the client state had I when it was stored
 pub Stops-kept : {K A : Type 0} (P : K → List Exchange → Request → Type 0) (I : K → List Exchange → Type 0) (Q : K → List Exchange → A → Type 0) (p : Proto K A) (k l : K) (m : ℕ) (before since c : List Exchange) → I k before → Safe P I Q k (before ++ since) p → Stops p k m c l → KeptAfter I l (before ++ since ++ c)
 unfolding Safe Stops
 Stops-kept P I Q (Done x) k l m before since [] i h s = record { front = before; rest = since; split = append-nil (before ++ since); holds = rw (← s) i }

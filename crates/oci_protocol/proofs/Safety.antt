@@ -10,7 +10,7 @@ use Rattle.oci_protocol.specs.Runs.{Replies, Runs, Stops, Performs, Breaks, Outc
 use Rattle.oci_protocol.specs.Follow.{go_if, turn, turned, follow}
 use Rattle.oci_protocol.specs.Safe.{Safe, EachAfter}
 
--- what is safe, and then what its answers make safe
+-- `bind`: a safe protocol, and then what its results make safe
 pub Safe-bind : {K A B : Type 0} (P : K → List Exchange → Request → Type 0) (I : K → List Exchange → Type 0) (R : K → List Exchange → A → Type 0) (Q : K → List Exchange → B → Type 0) (p : Proto K A) (f : A → Proto K B) (k : K) (seen : List Exchange)
     → Safe P I R k seen p → ((l : K) (c : List Exchange) (a : A) → R l c a → Safe P I Q l c (f a)) → Safe P I Q k seen (bind p f)
 unfolding Safe bind
@@ -20,7 +20,7 @@ Safe-bind P I R Q (Recall next) f k seen h each = Safe-bind P I R Q (next k) f k
 Safe-bind P I R Q (Keep kept rest) f k seen h each = (h.0, Safe-bind P I R Q rest f kept seen h.1 each)
 Safe-bind P I R Q (Consult next) f k seen h each = λ said. Safe-bind P I R Q (next said) f k seen (h said) each
 
--- what holds after a step, or after its refusal
+-- what holds after a step, or after its error
 abbrev pub Either : {K A E : Type 0} → (K → List Exchange → A → Type 0) → (K → List Exchange → Type 0) → K → List Exchange → Result A E → Type 0
 Either R I k c (Ok a) = R k c a
 Either R I k c (Err e) = I k c
@@ -38,7 +38,7 @@ Safe-next P I R Q p f k seen h each = Safe-bind P I (Either R I) (Either Q I) p 
 abbrev pub Moves : {K : Type 0} → (K → List Exchange → Request → Type 0) → K → Type 0
 Moves P k = (c : List Exchange) (e : Exchange) (r s : Request) (head : AnswerHead) → redirected r head ≡ Some s → P k c r → P k (c ++ e ∷ []) s
 
--- what may be asked with S ends well
+-- a request with S may be sent, and what follows each of its replies is safe
 abbrev pub EndsWell : {K A : Type 0} → (K → List Exchange → Request → Type 0) → (K → List Exchange → Request → Type 0) → (K → List Exchange → Type 0) → (K → List Exchange → A → Type 0) → (Request → Reply → Proto K A) → K → Type 0
 EndsWell S P I Q next k = (last : Request) (c : List Exchange) (e : Exchange) (before after : ℕ) (other : AnswerHead → Reading) (reply : Reply) → S k c last → Replies last other before e after reply → Safe P I Q k (c ++ e ∷ []) (next last reply)
 
@@ -54,8 +54,8 @@ turn_safe S P I Q n request reading next k seen may moves each again e before af
 turn_safe S P I Q n request reading next k seen may moves each again e before after TooLong r = each request seen e before after (turned request reading) TooLong may r
 turn_safe S P I Q n request reading next k seen may moves each again e before after SinkFailed r = each request seen e before after (turned request reading) SinkFailed may r
 
--- A request whose redirects are followed: S holds of it, and of each request that one with S leads
--- to, and may be asked.
+-- A request whose redirects are followed: S holds for it and for each request that a redirect from one with S leads to,
+-- and S allows it to be sent.
 pub Safe-follow : {K A : Type 0} (S P : K → List Exchange → Request → Type 0) (I : K → List Exchange → Type 0) (Q : K → List Exchange → A → Type 0) (n : ℕ) (request : Request) (reading : AnswerHead → Reading) (next : Request → Reply → Proto K A) (k : K) (seen : List Exchange)
     → S k seen request → ((c : List Exchange) (r : Request) → S k c r → P k c r) → Moves S k → EndsWell S P I Q next k
     → Safe P I Q k seen (follow n request reading next)
@@ -63,7 +63,7 @@ unfolding Safe follow
 Safe-follow S P I Q zero request reading next k seen may asks moves each = (asks seen request may, λ e before after reply r. each request seen e before after reading reply may r)
 Safe-follow S P I Q (suc n) request reading next k seen may asks moves each = (asks seen request may, λ e before after reply r. turn_safe S P I Q n request reading next k seen may moves each (λ s c h. Safe-follow S P I Q n s reading next k c h asks moves each) e before after reply r)
 
--- a request that is not followed
+-- a request whose redirects are not followed
 pub Safe-once : {K A : Type 0} (P : K → List Exchange → Request → Type 0) (I : K → List Exchange → Type 0) (Q : K → List Exchange → A → Type 0) (request : Request) (reading : AnswerHead → Reading) (next : Request → Reply → Proto K A) (k : K) (seen : List Exchange)
     → P k seen request → ((e : Exchange) (before after : ℕ) (reply : Reply) → Replies request reading before e after reply → Safe P I Q k (seen ++ e ∷ []) (next request reply))
     → Safe P I Q k seen (follow 0 request reading next)
@@ -100,7 +100,7 @@ Stops-safe P I Q (Keep kept rest) k l m seen [] h s = tt
 Stops-safe P I Q (Keep kept rest) k l m seen (e ∷ c) h (inl s) = absurd (cc (s.0))
 Stops-safe P I Q (Keep kept rest) k l m seen (e ∷ c) h (inr s) = Stops-safe P I Q rest kept l m seen (e ∷ c) h.1 s
 
--- so each request of a call may be asked after those before it
+-- each request of a call may be sent after the exchanges before it
 pub Meets-safe : {K A E : Type 0} {of_memory : E → Bool} (P : List Exchange → Request → Type 0) (I : K → List Exchange → Type 0) (Q : K → List Exchange → Result A E → Type 0) {p : Proto K (Result A E)} {old new : Link} {k l : K} {r : Result A E} → Safe (λ k. P) I Q k [] p → Meets of_memory p old new k l r → Told (EachAfter P []) old new
 Meets-safe {K} {A} {E} {of_memory} P I Q {p} {old} {new} {k} {l} {r} h met = by_result r met.outcome where
   performed : (r : Result A E) → Performs p old new k l r → Told (EachAfter P []) old new

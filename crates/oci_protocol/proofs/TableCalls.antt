@@ -1,4 +1,4 @@
--- A call over a transport that answers by a table, and where nothing fails, comes to what the table says.
+-- A call over a transport that responds by a table, without faults, returns what the table determines.
 use Rattle.std.proofs.Common.{◌≡◌, ◌≢◌, ◌<◌, ◌^◌, ◌-◌, ℕ, Bool, true, false, List, Some, Result, Ok, Err, length, sym, ap, ◌∙◌, arith}
 use Rattle.std.specs.Prelude.{MatchBool}
 use Rattle.oci_transport.specs.Link.{Link, Answering, NeverFails}
@@ -9,7 +9,7 @@ use Rattle.oci_protocol.specs.Ends.{UnlessMemory}
 use Rattle.oci_protocol.specs.Drive.{Driven, Drives, Spilt}
 use Rattle.oci_protocol.proofs.TableRuns.{Runs-driven}
 
--- the answer that is driven, unless memory or the sink, whose refusal is x, failed
+-- the result that `driven` computes, unless memory ran out or the sink, whose error is x, failed
 pub Meets-driven : {K A E : Type 0} {of_memory : E → Bool} (x : E) {t : Answering} {p : Proto K (Result A E)} {after : ℕ} {before : List Exchange} {old new : Link} {k l j : K} {a : A} {r : Result A E}
     → Spilt (Err x) p → old.answers ≡ Some t → NeverFails t → old.told ≡ Some before → old.faults < 2 ^ 64 - 1 → Drives t p (length before) after k j a → Meets of_memory p old new k l r → r ≢ Err x
     → UnlessMemory of_memory (λ r. (l ≡ j) × (r ≡ Ok a)) r

@@ -1,4 +1,4 @@
--- A run without faults comes to what the table says.
+-- A run without faults returns what the table determines.
 use Rattle.std.specs.Prelude.{nat_lt}
 use Rattle.std.proofs.Common.{◌≡◌, Bool, true, false, if◌then◌else◌, ◌≢◌, ◌<◌, ◌≤◌, ◌+◌, ◌^◌, ◌-◌, ℕ, suc, zero, List, [], ◌∷◌, Option, Some, None, Result, Ok, length, refl, sym, ap, subst, ◌∙◌, arith}
 use Rattle.std.proofs.lemmas.Bool.{le-ltb, lt-ltb}
@@ -27,7 +27,7 @@ read_long Unread limit answer is lt = absurd (cc is)
 read_long (Within n) limit answer is lt = let eq : n ≡ limit = cc is in rw (eq, lt-ltb limit (length answer.body) lt) refl
 read_long (Piped n) limit answer is lt = let eq : n ≡ limit = cc is in rw (eq, lt-ltb limit (length answer.body) lt) refl
 
--- without a fault of the transport or the sink the reply is that of the answer
+-- without a fault of the transport or the sink, the reply is that of the response
 one_reply : (reading : AnswerHead → Reading) (e : Exchange) (after : ℕ) (reply : Reply) → after ≤ e.faults → e.faults < 2 ^ 64 - 1 → reply ≢ SinkFailed → IsReply reading e after reply → reply ≡ reply_to reading e.answer
 one_reply reading e after (Headed head) le lt other h = rw (h.1, h.2) refl
 one_reply reading e after (Answered answer) le lt other h = rw h.1 (sym (read_short (reading (head_part answer)) h.0 answer h.2 h.3))
@@ -35,7 +35,7 @@ one_reply reading e after Failed le lt other h = absurd (omega (arith, h))
 one_reply reading e after TooLong le lt other h = rw h.2 (sym (read_long (reading (head_part h.0)) h.1 h.0 h.3 h.4))
 one_reply reading e after SinkFailed le lt other h = absurd (other refl)
 
--- a run without faults, whose answer is not that of a failing sink
+-- a run without faults whose result is not that of a failing sink
 pub Runs-driven : {K A : Type 0} (x : A) (t : Answering) (p : Proto K A) (place : ℕ) (k l : K) (m n : ℕ) (c : List Exchange) (a : A) → Spilt x p → a ≢ x → AnsweredBy t place c → n ≤ m → m < 2 ^ 64 - 1 → Runs p k m c n l a → driven t p place k ≡ record { place = place + length c; kept = l; answer = a }
 unfolding Spilt Runs driven
 Runs-driven x t (Done y) place k l m n [] a spilt other h le lt r = let here : place ≡ place + 0 = omega arith in λ i. record { place = here i; kept = r.1 i; answer = r.2 i }
@@ -54,7 +54,7 @@ Runs-driven x t (Recall next) place k l m n c a spilt other h le lt r = Runs-dri
 Runs-driven x t (Keep kept rest) place k l m n c a spilt other h le lt r = Runs-driven x t rest place kept l m n c a spilt other h le lt r
 Runs-driven x t (Consult next) place k l m n c a spilt other h le lt r = absurd spilt
 
--- one part, and after it what its answer gives
+-- one part, and then what its result leads to
 pub driven-bind : {K A B : Type 0} (t : Answering) (p : Proto K A) (f : A → Proto K B) (place : ℕ) (k : K) → driven t (bind p f) place k ≡ driven t (f (driven t p place k).answer) (driven t p place k).place (driven t p place k).kept
 unfolding driven bind
 driven-bind t (Done a) f place k = refl
@@ -70,7 +70,7 @@ Drives-done = record { drives = refl }
 pub Drives-next : {K A B E : Type 0} {t : Answering} {p : Proto K (Result A E)} (f : A → Proto K (Result B E)) {place mid after : ℕ} {k l j : K} {a : A} {b : B} → Drives t p place mid k l a → Drives t (f a) mid after l j b → Drives t (p >>= f) place after k j b
 Drives-next {t = t} {p = p} f {place = place} {k = k} first second = record { drives = driven-bind t p (unless_refused f) place k ∙ (rw first.drives second.drives) }
 
--- a part whose refusal is looked at, where there is none
+-- a part whose error is inspected, if there is none
 pub Drives-caught : {K A B E F : Type 0} {t : Answering} {p : Proto K (Result A E)} (f : Result A E → Proto K (Result B F)) {place mid after : ℕ} {k l j : K} {a : A} {b : B} → Drives t p place mid k l a → Drives t (f (Ok a)) mid after l j b → Drives t (bind p f) place after k j b
 Drives-caught {t = t} {p = p} f {place = place} {k = k} first second = record { drives = driven-bind t p f place k ∙ (rw first.drives second.drives) }
 
@@ -82,7 +82,7 @@ pub Drives-keep : {K A E : Type 0} {t : Answering} (kept : K) (rest : Proto K (R
 unfolding driven
 Drives-keep kept rest h = record { drives = h.drives }
 
--- the answer is no redirect, or none is followed any more
+-- the response is not a redirect, or no further redirect is followed
 abbrev pub Stands : ℕ → Request → Answer → Type 0
 Stands zero request answer = Unit {0}
 Stands (suc n) request answer = redirected request (head_part answer) ≡ None
@@ -98,7 +98,7 @@ turn_stands {K} {A} request go next answer reading none = by_reading reading whe
   by_reading (Within limit) = by_length (nat_lt limit (length answer.body))
   by_reading (Piped limit) = by_length (nat_lt limit (length answer.body))
 
--- a request whose answer is no redirect that is followed
+-- a request whose response is not a redirect that is followed
 pub Drives-follow : {K A E : Type 0} {t : Answering} (n : ℕ) (request : Request) (reading : AnswerHead → Reading) (next : Request → Reply → Proto K (Result A E)) (answer : Answer) {place after : ℕ} {k l : K} {a : A}
     → t.answer place request ≡ Some answer → Stands n request answer → Drives t (next request (reply_of (reading (head_part answer)) answer)) (suc place) after k l a → Drives t (follow n request reading next) place after k l a
 unfolding driven follow turned
@@ -109,7 +109,7 @@ Drives-follow {t = t} (suc n) request reading next answer {place = place} {k = k
       ∙ ap (λ p. driven t p (suc place) k) (turn_stands request (λ r. follow n r reading next) (next request) answer (reading (head_part answer)) none) ∙ h.drives;
 }
 
--- a request whose answer leads to another
+-- a request whose response redirects to another
 pub Drives-redirected : {K A E : Type 0} {t : Answering} (n : ℕ) (request : Request) (reading : AnswerHead → Reading) (next : Request → Reply → Proto K (Result A E)) (answer : Answer) (to : Request) {place after : ℕ} {k l : K} {a : A}
     → t.answer place request ≡ Some answer → redirected request (head_part answer) ≡ Some to → Drives t (follow n to reading next) (suc place) after k l a → Drives t (follow (suc n) request reading next) place after k l a
 unfolding driven follow turned

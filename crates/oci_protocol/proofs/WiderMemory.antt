@@ -1,4 +1,4 @@
--- What is so of a protocol is so of it over more that is kept.
+-- What holds for a protocol holds for it over a larger client state.
 use Rattle.std.proofs.Common.{◌≡◌, inl, inr, ℕ, suc, Bool, true, false, List, [], None, ◌∷◌, ◌++◌, Result, Ok, Err, ap}
 use Rattle.std.specs.Prelude.{MatchBool}
 use Rattle.oci_transport.specs.Link.{Link, Answering}
@@ -14,7 +14,7 @@ use Rattle.oci_protocol.specs.Shows.{Shows, ShowsKept}
 
 -- ---- runs
 
--- a run is a run over more that is kept, which stays as it is
+-- a run is a run over the larger client state, whose other part is unchanged
 pub Runs-lifted : {K C A : Type 0} (p : Proto K A) (x : C) (k l : K) (m n : ℕ) (c : List Exchange) (a : A) → Runs p k m c n l a → Runs (lifted p) (k, x) m c n (l, x) a
 unfolding Runs lifted
 Runs-lifted (Done y) x k l m n [] a r = (r.0, ap (λ k. (k, x)) r.1, r.2)
@@ -35,7 +35,7 @@ RunsBy-lifted t place (Recall next) x k l m n c a r = RunsBy-lifted t place (nex
 RunsBy-lifted t place (Keep kept rest) x k l m n c a r = RunsBy-lifted t place rest x kept l m n c a r
 RunsBy-lifted t place (Consult next) x k l m n c a r = (r.0, RunsBy-lifted t place (next r.0) x k l m n c a r.1)
 
--- and a run over more is a run
+-- a run over the larger client state is a run
 pub Runs-unlifted : {K C A : Type 0} (p : Proto K A) (k l : K × C) (m n : ℕ) (c : List Exchange) (a : A) → Runs (lifted p) k m c n l a → Runs p k.0 m c n l.0 a × (k.1 ≡ l.1)
 unfolding Runs lifted
 Runs-unlifted (Done y) k l m n [] a r = ((r.0, ap (λ k. k.0) r.1, r.2), ap (λ k. k.1) r.1)
@@ -64,7 +64,7 @@ performs p x {old} {new} {k} {l} {a} h = record { conversation = h.conversation;
 breaks : {K C A : Type 0} (p : Proto K A) (x : C) {old new : Link} {k l : K} → Breaks p old new k l → Breaks (lifted p) old new (k, x) (l, x)
 breaks p x {old} {new} {k} {l} h = record { conversation = h.conversation; told = h.told; stops = Stops-lifted p x k l old.faults h.conversation h.stops; count = h.count }
 
--- so a call that knows less is one that keeps more as it is
+-- a call that knows only the first part leaves the second unchanged
 pub Meets-lifted : {K C A E : Type 0} {of_memory : E → Bool} {p : Proto K (Result A E)} (x : C) {old new : Link} {k l : K} {r : Result A E} → Meets of_memory p old new k l r → Meets of_memory (lifted p) old new (k, x) (l, x) r
 Meets-lifted {K} {C} {A} {E} {of_memory} {p} x {old} {new} {k} {l} {r} met = record { outcome = by_result r met.outcome } where
   by_memory : (b : Bool) (e : E) → MatchBool b (Breaks p old new k l) (Performs p old new k l (Err e)) → MatchBool b (Breaks (lifted p) old new (k, x) (l, x)) (Performs (lifted p) old new (k, x) (l, x) (Err e))
@@ -75,16 +75,16 @@ Meets-lifted {K} {C} {A} {E} {of_memory} {p} x {old} {new} {k} {l} {r} met = rec
   by_result (Ok a) h = performs p x h
   by_result (Err e) h = by_memory (of_memory e) e h
 
--- ---- what all runs show
+-- ---- what every run has
 
 pub Shows-lifted : {K C A : Type 0} (Q : ℕ → List Exchange → ℕ → A → Type 0) (p : Proto K A) → Shows Q p → Shows {K = K × C} Q (lifted p)
 Shows-lifted Q p h = record { shows = λ k l m n c a r. h.shows k.0 l.0 m n c a (Runs-unlifted p k l m n c a r).0 }
 
--- also of what is kept; the rest of it stays
+-- the same with the client state; its other part is unchanged
 pub ShowsKept-lifted : {K C A : Type 0} (Q : K → ℕ → List Exchange → ℕ → K → A → Type 0) (p : Proto K A) → ShowsKept Q p → ShowsKept {K = K × C} (λ k m c n l a. Q k.0 m c n l.0 a × (k.1 ≡ l.1)) (lifted p)
 ShowsKept-lifted Q p h = record { shows = λ k l m n c a r. let parts = Runs-unlifted p k l m n c a r in (h.shows k.0 l.0 m n c a parts.0, parts.1) }
 
--- what may be asked, kept and answered
+-- what may be requested, stored and returned
 pub Safe-lifted : {K C A : Type 0} (P : K → List Exchange → Request → Type 0) (I : K → List Exchange → Type 0) (Q : K → List Exchange → A → Type 0) (p : Proto K A) (k : K) (x : C) (seen : List Exchange) → Safe P I Q k seen p → Safe (λ (k : K × C). P k.0) (λ (k : K × C). I k.0) (λ (k : K × C). Q k.0) (k, x) seen (lifted p)
 unfolding Safe lifted
 Safe-lifted P I Q (Done a) k x seen h = h
@@ -109,7 +109,7 @@ Spilt-lifted C x (Recall next) h = λ k. Spilt-lifted C x (next k.0) (h k.0)
 Spilt-lifted C x (Keep kept rest) h = λ k. Spilt-lifted C x rest h
 Spilt-lifted C x (Consult next) h = absurd h
 
--- ---- what it comes to over a table
+-- ---- the evaluation over a table
 
 pub driven-lifted : {K C A : Type 0} (t : Answering) (p : Proto K A) (x : C) (place after : ℕ) (k l : K) (a : A) → driven t p place k ≡ record { place = after; kept = l; answer = a } → driven t (lifted p) place (k, x) ≡ record { place = after; kept = (l, x); answer = a }
 unfolding driven lifted

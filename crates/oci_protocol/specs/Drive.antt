@@ -1,4 +1,4 @@
--- What a protocol comes to where a transport answers by a table and nothing fails.
+-- The result of a protocol if a transport responds by a table and nothing fails.
 use Rattle.std.specs.Prelude.{◌≡◌, ℕ, suc, Option, Some, None, Result, Ok, if◌then◌else◌, nat_lt, length}
 use Rattle.oci_transport.specs.Link.{Answering}
 use Rattle.oci_transport.specs.declared.message.Answer.{Answer}
@@ -8,22 +8,22 @@ use Rattle.oci_protocol.specs.Proto.{SinkFailed, Proto, Done, Ask, Recall, Keep,
 use Rattle.oci_protocol.specs.Runs.{head_part}
 use Rattle.oci_protocol.specs.Ends.{Ends}
 
--- the reply where a body is read within a limit
+-- the reply if a body is read within a limit
 abbrev pub within_reply : ℕ → Answer → Reply
 within_reply limit answer = if nat_lt limit (length answer.body) then TooLong else Answered answer
 
--- the reply of an answer that is read so
+-- the reply of a response with this reading
 abbrev pub reply_of : Reading → Answer → Reply
 reply_of Unread answer = Headed (head_part answer)
 reply_of (Within limit) answer = within_reply limit answer
 reply_of (Piped limit) answer = within_reply limit answer
 
--- the reply where a transport answers this, or fails
+-- the reply if a transport gives this response, or none
 abbrev pub reply_to : (AnswerHead → Reading) → Option Answer → Reply
 reply_to reading None = Failed
 reply_to reading (Some answer) = reply_of (reading (head_part answer)) answer
 
--- what a protocol comes to from this place of a conversation: the place after it, what is kept, and its answer
+-- the result of a protocol from this index of a conversation: the index after it, the client state, and the result
 pub record Driven (K A : Type 0) : Type 0 where
   pub place : ℕ
   pub kept : K
@@ -34,15 +34,15 @@ driven t (Done a) place k = record { place = place; kept = k; answer = a }
 driven t (Ask request reading next) place k = driven t (next (reply_to reading (t.answer place request))) (suc place) k
 driven t (Recall next) place k = driven t (next k) place k
 driven t (Keep kept rest) place k = driven t rest place kept
--- where nothing is said
+-- without external input
 driven t (Consult next) place k = driven t (next None) place k
 
--- it comes to this answer, and keeps l in the place of k
+-- the protocol returns `Ok a`, and the client state k becomes l
 pub record Drives {K A E : Type 0} (t : Answering) (p : Proto K (Result A E)) (place after : ℕ) (k l : K)
     (a : A) : Type 0 where
   pub drives : driven t p place k ≡ record { place = after; kept = l; answer = Ok a }
 
--- where the sink fails, this is the answer, and nothing is asked outside
+-- x is the result after each failure of the sink, and the protocol takes no external input
 unfoldable pub Spilt : {K A : Type 0} → A → Proto K A → Type 0
 Spilt x (Done a) = Unit {0}
 Spilt x (Ask request reading next) = Ends (λ a. a ≡ x) (next SinkFailed) × ((reply : Reply) → Spilt x (next reply))

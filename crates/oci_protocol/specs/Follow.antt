@@ -24,21 +24,20 @@ abbrev pub turn : {K A : Type 0} → Request → (Request → Proto K A) → (Re
 turn request go next (Headed head) = go_if (redirected request head) go (next (Headed head))
 turn request go next reply = next reply
 
--- A request whose redirects are followed, at most so many. What comes next knows the last request
--- and the reply to it.
+-- A request whose redirects are followed, at most n of them. What comes next gets the last request and the reply to it.
 unfoldable pub follow : {K A : Type 0} → ℕ → Request → (AnswerHead → Reading) → (Request → Reply → Proto K A)
     → Proto K A
 follow zero request reading next = Ask request reading (next request)
 follow (suc n) request reading next = Ask request (turned request reading) (turn request
     (λ r. follow n r reading next) (next request))
 
--- how the answer to a request is read that may be followed so often
+-- how the response to a request is read of which n redirects may be followed
 unfoldable pub reading_at : ℕ → Request → (AnswerHead → Reading) → AnswerHead → Reading
 reading_at zero request reading = reading
 reading_at (suc n) request reading = turned request reading
 
--- From this request, which may be followed n times, each exchange led to the next request. The last
--- request is not among them, and may be followed so often.
+-- From this request, of which n redirects may be followed, each exchange led to the next request. The last request is
+-- not among the exchanges; `left` redirects of it may be followed.
 unfoldable pub Trail : ℕ → Request → ℕ → List Exchange → ℕ → Request → ℕ → Type 0
 Trail n request m [] left last after = (n ≡ left) × (request ≡ last) × (m ≡ after)
 Trail zero request m (e ∷ c) left last after = ⊥
@@ -51,11 +50,11 @@ pub record Follows (n : ℕ) (request : Request) (left : ℕ) (last : Request) (
   pub told : Extends old new conversation
   pub trail : Trail n request old.faults conversation left last new.faults
 
--- the answer to this request is no redirect that is followed
+-- the response to this request is not a redirect that is followed
 abbrev pub IsFinal : ℕ → Request → AnswerHead → Type 0
 IsFinal left request head = (left ≡ zero) ⊎ (redirected request head ≡ None)
 
--- the head of the last answer came, and its body can be taken now
+-- the head of the last response was received, and its body can be taken now
 pub record Reaches (n : ℕ) (request : Request) (head : AnswerHead) (last : Request) (old new : Link) : Type 0 where
   pub left : ℕ
   pub mid : Link
@@ -64,7 +63,7 @@ pub record Reaches (n : ℕ) (request : Request) (head : AnswerHead) (last : Req
   pub sent : Answers last head mid new
   pub count : mid.faults ≤ new.faults
 
--- a request was not answered
+-- a request got no response
 pub record Misses (n : ℕ) (request : Request) (old new : Link) : Type 0 where
   pub left : ℕ
   pub last : Request
@@ -74,7 +73,7 @@ pub record Misses (n : ℕ) (request : Request) (old new : Link) : Type 0 where
   pub rose : Rose mid.faults new.faults
   pub count : mid.faults ≤ new.faults
 
--- memory was wanting
+-- memory ran out
 pub record Cuts (n : ℕ) (request : Request) (old new : Link) : Type 0 where
   pub left : ℕ
   pub last : Request

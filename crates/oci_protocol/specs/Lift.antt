@@ -1,7 +1,7 @@
--- A protocol over more that is kept than it knows of.
+-- A protocol over a larger client state.
 use Rattle.oci_protocol.specs.Proto.{Proto, Done, Ask, Recall, Keep, Consult}
 
--- the same requests and answers, which leave the second of two things that are kept as it is
+-- the same requests and results, with the second part of the client state unchanged
 unfoldable pub lifted : {K C A : Type 0} → Proto K A → Proto (K × C) A
 lifted (Done a) = Done a
 lifted (Ask request reading next) = Ask request reading (λ reply. lifted (next reply))

@@ -5,14 +5,14 @@ use Rattle.oci_digests.specs.declared.digester.Algorithm.{Algorithm}
 use Rattle.oci_digests.specs.declared.both.Digesters.{Digesters}
 use Rattle.oci_digests.specs.Both.{BothHold}
 
--- these bytes were taken, hashed and put
+-- the bytes `body` were taken, hashed and written to the sink
 pub record PouredSoFar (body : List ℕ) (from to : Digesters) (old new : Link) (before after : Tray) : Type 0 where
   pub taken : HasTaken body old new
   pub put : Adds body before after
   pub count : before.faults ≤ after.faults
   pub hashed : (a : Option Algorithm) (b : Algorithm) → BothHold from a b [] → BothHold to a b body
 
--- the whole body was, and it is within the limit
+-- the whole body was, and it has at most `limit` bytes
 pub record Pours (limit : ℕ) (from to : Digesters) (old new : Link) (before after : Tray) : Type 0 where
   pub body : List ℕ
   pub small : length body ≤ limit
@@ -21,7 +21,7 @@ pub record Pours (limit : ℕ) (from to : Digesters) (old new : Link) (before af
   pub put : Adds body before after
   pub hashed : (a : Option Algorithm) (b : Algorithm) → BothHold from a b [] → BothHold to a b body
 
--- a front of it was put
+-- a prefix of the body was written to the sink
 pub record PoursFront (old : Link) (before after : Tray) : Type 0 where
   pub front : List ℕ
   pub part : (rest : List ℕ) → old.rest ≡ Some rest → (left : List ℕ) × (rest ≡ front ++ left)

@@ -3,20 +3,20 @@ use Rattle.oci_transport.specs.declared.message.Request.{Request}
 use Rattle.oci_transport.specs.declared.message.Answer.{Answer}
 use Rattle.oci_transport.specs.declared.message.AnswerHead.{AnswerHead}
 
--- how an answer's body is read, once its head is known: not at all, whole where it has no more
--- bytes than this, or piece by piece into a sink, again where it has no more
+-- how the body of a response is read, once its head is known: not at all; whole if it has at most this many bytes; or
+-- piece by piece into a sink, with the same limit
 pub data Reading : Type 0 where
   Unread : Reading
   Within : (limit : ℕ) → Reading
   Piped : (limit : ℕ) → Reading
 
--- how many bytes a body may have that is read
+-- the limit of a body that is read
 abbrev pub limit_of : Reading → Option ℕ
 limit_of Unread = None
 limit_of (Within limit) = Some limit
 limit_of (Piped limit) = Some limit
 
--- whatever the head is
+-- for every head
 unfoldable pub read_none : AnswerHead → Reading
 read_none head = Unread
 
@@ -31,9 +31,8 @@ pub data Reply : Type 0 where
   TooLong : Reply
   SinkFailed : Reply
 
--- A protocol with answers in A and something kept in K: it ends with an answer, or makes a request
--- and goes on by the reply, or looks at what is kept, or keeps something else, or goes on by what is
--- said from outside, which no exchange determines: some bytes, or none.
+-- A protocol with results in A and client state in K: it ends with a result, makes a request and continues by the
+-- reply, reads the client state, replaces it, or continues by external input: some bytes, or none.
 pub data Proto (K A : Type 0) : Type 0 where
   Done : (answer : A) → Proto K A
   Ask : (request : Request) → (reading : AnswerHead → Reading) → (next : Reply → Proto K A) → Proto K A
@@ -41,7 +40,7 @@ pub data Proto (K A : Type 0) : Type 0 where
   Keep : (kept : K) → (rest : Proto K A) → Proto K A
   Consult : (next : Option (List ℕ) → Proto K A) → Proto K A
 
--- one protocol, and then the one that its answer gives
+-- one protocol, and then the one that its result leads to
 unfoldable pub bind : {K A B : Type 0} → Proto K A → (A → Proto K B) → Proto K B
 bind (Done a) f = f a
 bind (Ask request reading next) f = Ask request reading (λ reply. bind (next reply) f)
@@ -49,7 +48,7 @@ bind (Recall next) f = Recall (λ kept. bind (next kept) f)
 bind (Keep kept rest) f = Keep kept (bind rest f)
 bind (Consult next) f = Consult (λ said. bind (next said) f)
 
--- an error ends it
+-- an error ends the protocol
 abbrev pub unless_refused : {K A B E : Type 0} → (A → Proto K (Result B E)) → Result A E → Proto K (Result B E)
 unless_refused f (Ok a) = f a
 unless_refused f (Err e) = Done (Err e)

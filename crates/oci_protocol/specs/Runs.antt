@@ -12,7 +12,7 @@ use Rattle.oci_protocol.specs.Proto.{TooLong, SinkFailed, Proto, Done, Ask, Reca
 abbrev pub head_part : Answer → AnswerHead
 head_part answer = record { status = answer.status; headers = answer.headers }
 
--- this reply may come of this exchange, if the count of faults stood here after it
+-- this reply is possible for this exchange if the fault count after it is `after`
 abbrev pub IsReply : (AnswerHead → Reading) → Exchange → ℕ → Reply → Type 0
 IsReply reading e after (Headed head) = (body : List ℕ) × (e.answer ≡ Some (answer_of head body))
     × (reading head ≡ Unread)
@@ -24,7 +24,7 @@ IsReply reading e after TooLong = (answer : Answer) × (limit : ℕ) × (e.answe
 IsReply reading e after SinkFailed = (answer : Answer) × (limit : ℕ) × (e.answer ≡ Some answer)
     × (reading (head_part answer) ≡ Piped limit)
 
--- the exchange is that of the request, sent at this count, and this reply may come of it
+-- the exchange is that of the request, sent at the fault count `before`, and this reply is possible for it
 pub record Replies (request : Request)
     (reading : AnswerHead → Reading) (before : ℕ) (e : Exchange) (after : ℕ) (reply : Reply) : Type 0 where
   pub request_is : e.request ≡ request
@@ -32,7 +32,7 @@ pub record Replies (request : Request)
   pub count : before ≤ after
   pub reply_is : IsReply reading e after reply
 
--- a body that is known to break off was read past that place only behind its fault: the count rose
+-- a body that is known to be truncated was read beyond that index only after its fault: the fault count increased
 abbrev pub IsUnbroken : Answering → ℕ → (AnswerHead → Reading) → Exchange → ℕ → Reply → Type 0
 IsUnbroken t place reading e after (Answered answer) = (bytes : ℕ) → t.breaks place ≡ Some bytes
     → Rose e.faults after
@@ -41,7 +41,7 @@ IsUnbroken t place reading e after TooLong = (answer : Answer) (limit bytes : �
     → Rose e.faults after
 IsUnbroken t place reading e after reply = Unit {0}
 
--- one exchange came, where exchanges are told, and this reply of it
+-- one exchange was added, if exchanges are exposed, and this is its reply
 pub record Hears (request : Request) (reading : AnswerHead → Reading) (old new : Link) (reply : Reply) : Type 0 where
   pub exchange : Exchange
   pub told : Extends old new (exchange ∷ [])
@@ -49,14 +49,14 @@ pub record Hears (request : Request) (reading : AnswerHead → Reading) (old new
   pub unbroken : (t : Answering) (before : List Exchange) → old.answers ≡ Some t → old.told ≡ Some before
       → IsUnbroken t (length before) reading exchange new.faults reply
 
--- what is so of the exchanges that came, where exchanges are told
+-- P holds for the added exchanges, if exchanges are exposed
 pub record Told (P : List Exchange → Type 0) (old new : Link) : Type 0 where
   pub conversation : List Exchange
   pub told : Extends old new conversation
   pub holds : P conversation
 
--- From the kept k and the count m, the exchanges c are the whole run of the protocol, which leaves
--- the kept l and the count n, and answers a.
+-- From the client state k and the fault count m, the exchanges c are a complete run of the protocol, which ends with
+-- the client state l, the fault count n and the result a.
 unfoldable pub Runs : {K A : Type 0} → Proto K A → K → ℕ → List Exchange → ℕ → K → A → Type 0
 Runs (Done x) k m [] n l a = (m ≡ n) × (k ≡ l) × (x ≡ a)
 Runs (Done x) k m (e ∷ c) n l a = ⊥
@@ -67,7 +67,7 @@ Runs (Recall next) k m c n l a = Runs (next k) k m c n l a
 Runs (Keep kept rest) k m c n l a = Runs rest kept m c n l a
 Runs (Consult next) k m c n l a = (said : Option (List ℕ)) × Runs (next said) k m c n l a
 
--- The same over what a transport answers by, from this place of its whole conversation on.
+-- The same for a transport that responds by t, from this index of its whole conversation on.
 unfoldable pub RunsBy : {K A : Type 0}
     → Answering → ℕ → Proto K A → K → ℕ → List Exchange → ℕ → K → A → Type 0
 RunsBy t place (Done x) k m [] n l a = (m ≡ n) × (k ≡ l) × (x ≡ a)
@@ -80,8 +80,8 @@ RunsBy t place (Recall next) k m c n l a = RunsBy t place (next k) k m c n l a
 RunsBy t place (Keep kept rest) k m c n l a = RunsBy t place rest kept m c n l a
 RunsBy t place (Consult next) k m c n l a = (said : Option (List ℕ)) × RunsBy t place (next said) k m c n l a
 
--- The exchanges c are a front of a run, cut off anywhere, also before the last one's answer was
--- read. Where it was cut off, l was kept.
+-- The exchanges c are a prefix of a run, cut off anywhere, also before the body of the last response was read. The
+-- client state was l then.
 unfoldable pub Stops : {K A : Type 0} → Proto K A → K → ℕ → List Exchange → K → Type 0
 Stops (Done x) k m [] l = k ≡ l
 Stops (Done x) k m (e ∷ c) l = ⊥
@@ -92,8 +92,8 @@ Stops (Recall next) k m c l = Stops (next k) k m c l
 Stops (Keep kept rest) k m c l = ((c ≡ []) × (k ≡ l)) ⊎ Stops rest kept m c l
 Stops (Consult next) k m c l = (said : Option (List ℕ)) × Stops (next said) k m c l
 
--- The protocol ran whole over the transport, from old to new. The conversation is what was told,
--- where exchanges are told.
+-- The protocol had a complete run over the transport, from old to new. The conversation is the exposed one, if
+-- exchanges are exposed.
 pub record Performs {K A : Type 0} (p : Proto K A) (old new : Link) (k l : K) (a : A) : Type 0 where
   pub conversation : List Exchange
   pub told : Extends old new conversation
@@ -101,21 +101,20 @@ pub record Performs {K A : Type 0} (p : Proto K A) (old new : Link) (k l : K) (a
   pub runs_by : (t : Answering) (before : List Exchange) → old.answers ≡ Some t → old.told ≡ Some before
       → RunsBy t (length before) p k old.faults conversation new.faults l a
 
--- a front of it did
+-- a prefix of it had
 pub record Breaks {K A : Type 0} (p : Proto K A) (old new : Link) (k l : K) : Type 0 where
   pub conversation : List Exchange
   pub told : Extends old new conversation
   pub stops : Stops p k old.faults conversation l
   pub count : old.faults ≤ new.faults
 
--- a result that a protocol answers, or an error of memory that cut it off
+-- a result of the protocol, or an out-of-memory error that cut it off
 abbrev pub Outcome : {K A E : Type 0} → (E → Bool) → Proto K (Result A E) → Link → Link → K → K → Result A E → Type 0
 Outcome of_memory p old new k l (Ok a) = Performs p old new k l (Ok a)
 Outcome of_memory p old new k l (Err e) = MatchBool (of_memory e) (Breaks p old new k l)
     (Performs p old new k l (Err e))
 
--- What a call did: it ran this protocol, and answers what the protocol answers. An error of memory
--- may have cut it off anywhere.
+-- The call performed this protocol and returns its result. An out-of-memory error may have cut it off anywhere.
 pub record Meets {K A E : Type 0}
     (of_memory : E → Bool) (p : Proto K (Result A E)) (old new : Link) (k l : K) (r : Result A E) : Type 0 where
   pub outcome : Outcome of_memory p old new k l r

@@ -1,4 +1,4 @@
--- What is so of each whole run of a protocol.
+-- Properties of every complete run of a protocol.
 use Rattle.std.specs.Prelude.{◌≡◌, ℕ, List, [], ◌∷◌, ◌++◌, Result, Ok, Err}
 use Rattle.oci_transport.specs.declared.message.Request.{Request}
 use Rattle.oci_transport.specs.declared.message.AnswerHead.{AnswerHead}
@@ -8,26 +8,26 @@ use Rattle.oci_protocol.specs.Runs.{Replies, Runs}
 use Rattle.oci_protocol.specs.Follow.{Trail}
 use Rattle.oci_protocol.specs.Trails.{Settles}
 
--- of each whole run this is so: of the count before it, its exchanges, the count after it, and its answer
+-- Q holds for every complete run: the fault count before it, its exchanges, the fault count after it, and its result
 pub record Shows {K A : Type 0} (Q : ℕ → List Exchange → ℕ → A → Type 0) (p : Proto K A) : Type 0 where
   pub shows : (k l : K) (m n : ℕ) (c : List Exchange) (a : A) → Runs p k m c n l a → Q m c n a
 
--- The same, also of what is kept before it and after it.
+-- The same, also for the client state before and after it.
 pub record ShowsKept {K A : Type 0} (Q : K → ℕ → List Exchange → ℕ → K → A → Type 0) (p : Proto K A) : Type 0 where
   pub shows : (k l : K) (m n : ℕ) (c : List Exchange) (a : A) → Runs p k m c n l a → Q k m c n l a
 
--- this is so where it answers, and that where it refuses
+-- P holds for an `Ok`, R for an error
 abbrev pub ByAnswer : {A E : Type 0} → (ℕ → List Exchange → ℕ → A → Type 0)
     → (ℕ → List Exchange → ℕ → E → Type 0) → ℕ → List Exchange → ℕ → Result A E → Type 0
 ByAnswer P R m c n (Ok a) = P m c n a
 ByAnswer P R m c n (Err e) = R m c n e
 
--- this is so where it answers
+-- P holds for an `Ok`
 abbrev pub WhereOk : {A E : Type 0} → (ℕ → List Exchange → ℕ → A → Type 0) → ℕ → List Exchange → ℕ → Result A E → Type 0
 WhereOk P = ByAnswer P (λ m c n e. Unit {0})
 
--- The exchanges are those of a request that is followed: its redirects, and the last one, to this
--- request and with this reply.
+-- The exchanges are those of a request whose redirects are followed: its redirects, and the last one, to `last` and
+-- with this reply.
 pub record Heard (n : ℕ) (request : Request)
     (reading : AnswerHead → Reading) (m : ℕ) (c : List Exchange) (after : ℕ)
     (last : Request) (reply : Reply) : Type 0 where

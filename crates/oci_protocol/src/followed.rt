@@ -1,4 +1,4 @@
-// A request whose redirects are followed, up to the head of the last answer.
+// Sends a request, following redirects up to the head of the last response.
 ghost use Rattle.std.specs.Prelude.{◌≡◌, ◌≤◌, IfOk, IsErrOf};
 ghost use Rattle.oci_protocol.specs.Follow.{Reaches, Misses, Cuts};
 
@@ -7,15 +7,15 @@ use json_values::Copied;
 use oci_transport::{AnswerHead, LinkError, Request, Transport, redirected};
 use std::alloc::Global;
 
-/// The last request, and the head of its answer.
+/// The last request, and the head of its response.
 #[derive(Drop)]
 pub struct Reached {
     pub request: Request,
     pub head: AnswerHead,
 }
 
-/// Sends a request and follows its redirects, at most `times` of them. No body is read, so that of the last answer can
-/// be taken.
+/// Sends a request and follows its redirects, at most `times` of them. Reads no body: that of the last response can be
+/// taken next.
 pub fn reach<T: Transport>(
     alloc: Global,
     transport: &mut T,

@@ -1,4 +1,4 @@
-//! The protocol as trees of requests: their runs over a transport, and the laws of these.
+//! The protocol as trees of requests: their runs over a transport, and the laws of these runs.
 #![tactic(auto)]
 
 mod followed;

@@ -1,4 +1,4 @@
-// An answer's body, piece by piece into a sink.
+// Reads the body of a response, piece by piece, into a sink.
 ghost use Rattle.std.specs.Prelude.{◌≡◌, ◌≤◌, OnOk, OnErr, IsErrOf};
 ghost use Rattle.json_values.specs.Counts.{Rose};
 ghost use Rattle.oci_transport.specs.Link.{Steady, TakesPast};
@@ -10,19 +10,19 @@ use oci_transport::{LinkError, Transport};
 use std::alloc::{AllocError, Global};
 use thiserror::Error;
 
-/// Why a body did not go into a sink whole.
+/// Why a body did not reach a sink whole.
 #[derive(Clone, Copy, Debug, PartialEq, Eq, Error)]
 pub enum PourError {
-    /// The transport failed, and its count of faults rose.
+    /// The transport failed, and its fault count increased.
     #[error("the connection failed while a body was read: send the request again")]
     TransportFault,
-    /// More bytes came than the limit.
+    /// The body has more than `limit` bytes.
     #[error("the body has more bytes than its limit: read it with a greater one")]
     BodyTooLong,
-    /// The sink failed, and its count of faults rose.
+    /// The sink failed, and its fault count increased.
     #[error("the sink failed: look at where the bytes go")]
     SinkFault,
-    /// The allocator had no memory.
+    /// The allocator ran out of memory.
     #[error("out of memory: free some and try again")]
     WantOfMemory,
 }
@@ -33,8 +33,8 @@ impl Copied for PourError {
     }
 }
 
-/// Takes the body of the last answer, where it has no more than `limit` bytes, hashes it and puts it into the sink.
-/// After a refusal the sink took a front of the body.
+/// Takes the body of the last response, hashes it and writes it to the sink, if it has at most `limit` bytes. Whatever
+/// it returns, the sink holds a prefix of the body.
 pub fn pour<T: Transport, S: Sink>(
     alloc: Global,
     transport: &mut T,

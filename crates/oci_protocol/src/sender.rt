@@ -1,4 +1,4 @@
-// A transport of which nothing can be taken.
+// A transport from which no body can be read.
 ghost use Rattle.std.specs.Prelude.{◌≡◌, ◌≤◌, IfOk, IsErrOf};
 ghost use Rattle.json_values.specs.Counts.{Rose};
 ghost use Rattle.oci_transport.specs.Link.{Link, Answers, AddsUnanswered, AddsAtMost};
@@ -6,11 +6,11 @@ ghost use Rattle.oci_transport.specs.Link.{Link, Answers, AddsUnanswered, AddsAt
 use oci_transport::{AnswerHead, LinkError, Request, Transport};
 use std::alloc::Global;
 
-/// What a transport is to whom no body is meant: it sends, and has no call for a piece of an answer's body.
+/// A transport whose user must read no body: it sends, but has no call for a piece of a response's body.
 pub trait Sender {
     ghost state: { Self → Link };
 
-    /// Sends a request as the transport does, of whose answer nothing is taken.
+    /// Sends a request as the transport does. The body of the response cannot be taken.
     fn ask(&mut self, alloc: Global, request: &Request) -> Result<AnswerHead, LinkError>
         ensures count { (state self.old).faults ≤ (state self.new).faults }
         ensures answered { IfOk result (λ head. Answers request.now head (state self.old) (state self.new)) }

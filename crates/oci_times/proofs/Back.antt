@@ -1,4 +1,4 @@
--- A time that is written reads back.
+-- A written time parses to the same time.
 use Rattle.std.proofs.Common.{◌≡◌, ℕ, suc, ◌+◌, ◌-◌, ◌*◌, ◌/◌, ◌%◌, ◌<◌, ◌≤◌, Bool, true, false, ◌&&◌, ◌==◌, nat_lt, nat_le, List, [], ◌∷◌, ◌++◌, length, drop, Some, None, is_none, true≢false, ◌||◌, ℤ, pos, refl, sym, ap, ◌∙◌, arith}
 use Rattle.std.specs.Prelude.{if◌then◌else◌, codes}
 use Rattle.std.proofs.lemmas.Bool.Decides.{nat_tests}
@@ -32,7 +32,7 @@ two_read n =
     let e : n / 10 % 10 * 10 + n % 10 ≡ n % 100 = omega arith in
     simp (digit_is, digit_counts, e)
 
--- a fraction and `Z` read back
+-- a fraction and `Z` round-trip
 record FractionBack (f : List ℕ) (n : ℕ) : Type 0 where
   count : ℕ
   more : ℕ
@@ -102,7 +102,7 @@ same_parts m s =
     let second : m.second ≡ m.second % 100 = omega (arith, s.second) in
     λ i. record { year = year i; month = month i; day = day i; hour = hour i; minute = minute i; second = second i; nanosecond = m.nanosecond }
 
--- the date and the time of day, before whatever follows
+-- the date and the time of day, before any rest
 front : Moment → List ℕ → List ℕ
 front m rest = date_text m ++ codes "T" ++ clock_text m ++ rest
 

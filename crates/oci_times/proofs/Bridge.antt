@@ -1,4 +1,4 @@
--- The tests of a moment, and the calendar's facts.
+-- The tests of a moment, and facts about the calendar.
 use Rattle.std.proofs.Common.{◌≡◌, ℕ, ◌<◌, ◌≤◌, Bool, true, false, ◌&&◌, Some, None, refl, sym, ap, subst, ◌∙◌, arith, ℤ, to_z, w8, w16, w32, true≢false}
 use Rattle.std.specs.Prelude.{pos, unsigned_abs, if◌then◌else◌}
 use Rattle.std.proofs.lemmas.Bool.Decides.{nat_tests}
@@ -27,7 +27,7 @@ day_told m e = grind (arith, nat_tests, e)
 pub clock_told : (m : Moment) → is_clock m ≡ true → IsClockOf m
 clock_told m e = grind (arith, nat_tests, e)
 
--- what neither a calendar nor a clock shows
+-- a moment that is not valid in the calendar and on a clock
 pub checked_unmade : (m : Moment) → ((IsDayOf m × IsClockOf m) → ⊥) → None ≡ checked m
 checked_unmade m h = by (is_day m) (is_clock m) refl refl
   where

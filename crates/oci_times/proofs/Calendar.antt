@@ -1,4 +1,4 @@
--- The day after, and the day before, are those of the calendar, and so an offset is added or taken away.
+-- The day after and the day before are those of the calendar, so that offsets are added and subtracted.
 use Rattle.std.proofs.Common.{◌≡◌, ℕ, ◌+◌, ◌-◌, ◌/◌, ◌%◌, ◌≤◌, Bool, true, false, ◌&&◌, ◌||◌, ◌==◌, nat_lt, nat_le, Option, Some, None, is_none, true≢false, ℤ, pos, refl, sym, ap, subst, ◌∙◌, arith}
 use Rattle.std.specs.Prelude.{if◌then◌else◌, unwrap_or}
 use Rattle.std.proofs.lemmas.Bool.{leb-true, leb-false, ltb-false, eqb-false}
@@ -88,7 +88,7 @@ day_after_is_next m n h clock e =
 
 -- ---- the offset
 
--- the day of m, so many minutes after its midnight
+-- the day of m, at the given minute
 abbrev IsAt : Moment → ℕ → Moment → Type 0
 IsAt m minutes n = (day_number n ≡ day_number m) × (minutes_of n ≡ minutes)
 
@@ -117,7 +117,7 @@ parts_shown m shown = by (is_day m) (is_clock m) refl refl shown
     by true false day clock e = absurd (none_is m e)
     by false b day clock e = absurd (none_is m e)
 
--- so many minutes later is a sum
+-- adding minutes
 pub later_is_sum : (m n : Moment) (minutes : ℕ) → checked m ≡ Some m → later m minutes ≡ Some n → minute_number n ≡ minute_number m + minutes
 later_is_sum m n minutes shown e = by (nat_lt (minutes_of m + minutes) 1440) refl e
   where
@@ -144,7 +144,7 @@ few_days y m = by (m == 2) (is_leap_year y) ((m == 4) || (m == 6) || (m == 9) ||
 abbrev pub dated : Moment → ℕ → ℕ → ℕ → Moment
 dated m year month day = record m { year = year; month = month; day = day }
 
--- the last day of the month, which the calendar has
+-- the last day of the month in the calendar
 record IsLast (m : Moment) (year month : ℕ) (n : Moment) : Type 0 where
   there : IsDayOf (dated m year month (days_in_month (pos year) month))
   same : n ≡ dated m year month (days_in_month (pos year) month)
@@ -175,7 +175,7 @@ last_of_four m n year month clock e = by (is_day (dated m year month 31)) (is_da
         last_at m n year month 28 h (last_of_month (dated m year month 28) h r) (some_is _ n e)
     by false false false false true p q r s clock e = absurd (none_is n e)
 
--- no month that the calendar has is without a last day
+-- every month of the calendar has a last day
 pub first_month : (m : Moment) → IsDayOf m → is_clock m ≡ true → on_last_day m m.year (m.month - 1) ≡ None → m.month ≡ 1
 first_month m h clock none = by (nat_le 2 m.month) refl
   where
@@ -255,7 +255,7 @@ at_minute_of_previous m n minutes (Some d) h clock same e =
     let at = at_minute_is d n minutes e in
     (ap (λ x. x + 1) at.0 ∙ previous.0, at.1)
 
--- so many minutes earlier is a difference, which a sum undoes
+-- subtracting minutes, which adding them undoes
 pub earlier_is_difference : (m n : Moment) (minutes : ℕ) → minutes ≤ 1440 → checked m ≡ Some m → earlier m minutes ≡ Some n → minute_number n + minutes ≡ minute_number m
 earlier_is_difference m n minutes few shown e = by (nat_le minutes (minutes_of m)) refl e
   where

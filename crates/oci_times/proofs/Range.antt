@@ -1,4 +1,4 @@
--- There is no time exactly outside the years 0000 to 9999.
+-- An offset yields no time if and only if it leaves the years 0000 to 9999.
 use Rattle.std.proofs.Common.{◌≡◌, ℕ, ◌+◌, ◌-◌, ◌/◌, ◌%◌, ◌<◌, ◌≤◌, Bool, true, false, ◌&&◌, ◌==◌, nat_lt, nat_le, Option, Some, None, true≢false, pos, refl, sym, ap, subst, ◌∙◌, arith}
 use Rattle.std.specs.Prelude.{if◌then◌else◌, ⊤}
 use Rattle.std.proofs.lemmas.Bool.Decides.{nat_tests}
@@ -12,7 +12,7 @@ use Rattle.oci_times.specs.Offset.{Offset}
 use Rattle.oci_times.proofs.Bridge.{IsDayOf, day_told, day_test, clock_told, clock_test}
 use Rattle.oci_times.proofs.Calendar.{some_days, last_of_month, last_of_year, none_is, no_day, parts_shown, first_month, first_day, dated, later_is_sum, earlier_is_difference}
 
--- ---- a day that there is, at each minute
+-- ---- a valid day, at each minute
 
 both : (a b : Bool) → a ≡ true → b ≡ true → (a && b) ≡ true
 both a b p q = ap (λ x. x && b) p ∙ q
@@ -31,7 +31,7 @@ not_none m k day clock small e =
     let x = record m { hour = k / 60; minute = k % 60 } in
     none_is x (sym e ∙ ap (λ b. if b then Some x else None) (both (is_day m) (is_clock x) day (some_clock m k clock small)))
 
--- a moment that is there is one of the calendar and of the clock
+-- a moment that is valid in the calendar and on a clock
 abbrev Shown : Option Moment → Type 0
 Shown None = ⊤
 Shown (Some n) = (is_day n && is_clock n) ≡ true

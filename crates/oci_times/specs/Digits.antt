@@ -13,6 +13,6 @@ digit_value b = b - 48
 unfoldable pub two_digits : ℕ → ℕ → Option ℕ
 two_digits a b = if is_digit a && is_digit b then Some (digit_value a * 10 + digit_value b) else None
 
--- the number of the two digits at this place
+-- the number of the two digits at this index
 abbrev pub two_at : ℕ → List ℕ → Option ℕ
 two_at i text = two_digits (slice_index text i) (slice_index text (i + 1))

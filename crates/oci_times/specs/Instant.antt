@@ -1,4 +1,4 @@
--- Moments as numbers, by which earlier and later are sums.
+-- Moments as numbers, so that offsets are sums.
 use Rattle.std.specs.Prelude.{◌≡◌, ◌↔◌, ℕ, ◌+◌, ◌*◌, ◌<◌, ◌≤◌, pos, Bool, true, false, Some, None}
 use Rattle.jiff_core.specs.Calendar.{day_count}
 use Rattle.oci_times.specs.Moment.{Moment, checked}
@@ -10,16 +10,16 @@ use Rattle.oci_times.specs.Offset.{Offset}
 abbrev pub day_number : Moment → ℕ
 day_number m = day_count (pos m.year) m.month m.day
 
--- the minutes of a clock whose days have 24 hours
+-- the minutes of a clock with days of 24 hours
 abbrev pub minute_number : Moment → ℕ
 minute_number m = day_number m * 1440 + minutes_of m
 
--- the second moment is that of the first one on a clock that is ahead of UTC, or behind it, by so many minutes
+-- the second moment is the UTC time of the first one on a clock that is ahead of UTC, or behind it, by these minutes
 abbrev pub IsMoved : Bool → ℕ → Moment → Moment → Type 0
 IsMoved true minutes m n = minute_number n + minutes ≡ minute_number m
 IsMoved false minutes m n = minute_number n ≡ minute_number m + minutes
 
--- an offset moves the count of minutes by its own
+-- an offset changes the number of minutes by its own
 abbrev pub MovesMinutes : Type 0
 MovesMinutes = (offset : Offset) (m n : Moment) → checked m ≡ Some m → offset.1 < 1440
     → in_utc offset m ≡ Some n → IsMoved offset.0 offset.1 m n
@@ -35,7 +35,7 @@ abbrev pub IsOutside : Bool → ℕ → Moment → Type 0
 IsOutside true minutes m = IsFirstDay m × (minutes_of m < minutes)
 IsOutside false minutes m = IsLastDay m × (1440 ≤ minutes_of m + minutes)
 
--- an offset gives no time exactly where it leads out of the years 0000 to 9999
+-- an offset yields no time if and only if it leaves the years 0000 to 9999
 abbrev pub NoTimeOutside : Type 0
 NoTimeOutside = (offset : Offset) (m : Moment) → checked m ≡ Some m → offset.1 < 1440
     → (in_utc offset m ≡ None) ↔ IsOutside offset.0 offset.1 m

@@ -14,17 +14,17 @@ pub record Moment : Type 0 where
   pub second : ℕ
   pub nanosecond : ℕ
 
--- the calendar has the day
+-- whether the day is in the calendar
 abbrev pub is_day : Moment → Bool
 is_day m =
     nat_lt m.year 10000 && nat_le 1 m.month && nat_le m.month 12
     && nat_le 1 m.day && nat_le m.day (days_in_month (pos m.year) m.month)
 
--- a clock shows the time
+-- whether the time is on a clock
 abbrev pub is_clock : Moment → Bool
 is_clock m = nat_lt m.hour 24 && nat_lt m.minute 60 && nat_lt m.second 60 && nat_lt m.nanosecond 1000000000
 
--- the moment, if there is such a one
+-- the moment, if it is valid
 abbrev pub checked : Moment → Option Moment
 checked m = if is_day m && is_clock m then Some m else None
 
@@ -40,7 +40,7 @@ moment_at utc = record {
   nanosecond = utc.time.subsec_nanosecond;
 }
 
--- equality in every part
+-- equality of all parts
 abbrev pub is_same : Moment → Moment → Bool
 is_same a b =
     (a.year == b.year) && (a.month == b.month) && (a.day == b.day)

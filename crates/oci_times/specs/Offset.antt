@@ -4,7 +4,7 @@ use Rattle.std.specs.Prelude.{◌&&◌, ◌||◌, ◌==◌, nat_lt, if◌then◌
 use Rattle.json_tables.specs.Reading.{◌>>=◌}
 use Rattle.oci_times.specs.Digits.{two_at}
 
--- how far a clock is from UTC: whether it is ahead, and by how many minutes
+-- the offset of a clock from UTC: whether it is ahead, and by how many minutes
 abbrev pub Offset : Type 0
 Offset = Bool × ℕ
 

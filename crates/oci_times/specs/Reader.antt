@@ -1,4 +1,4 @@
--- Times in texts (RFC 3339, 5.6), with seconds to 59.
+-- Parsing of times (RFC 3339, 5.6), with seconds up to 59.
 use Rattle.std.specs.Prelude.{ℕ, suc, ◌+◌, ◌-◌, ◌*◌, ◌/◌, List, [], ◌∷◌, length, drop, Bool}
 use Rattle.std.specs.Prelude.{◌&&◌, ◌||◌, ◌==◌, nat_lt, nat_le, if◌then◌else◌, Option, Some, None, slice_index}
 use Rattle.serde_json.specs.Data.{Data}
@@ -35,12 +35,12 @@ civil_of nanosecond text = if has_marks text then (do
     nanosecond = nanosecond;
   })) else None
 
--- how many digits the text begins with
+-- the number of leading digits
 abbrev pub digit_count : List ℕ → ℕ
 digit_count [] = 0
 digit_count (b ∷ text) = if is_digit b then suc (digit_count text) else 0
 
--- the nanoseconds of the digits that the text begins with, the first of which counts so many of them
+-- the nanoseconds of the leading digits, given the value of the first one
 abbrev pub nanoseconds_by : ℕ → List ℕ → ℕ
 nanoseconds_by place [] = 0
 nanoseconds_by place (b ∷ text) = if is_digit b then digit_value b * place + nanoseconds_by (place / 10) text else 0
@@ -48,7 +48,7 @@ nanoseconds_by place (b ∷ text) = if is_digit b then digit_value b * place + n
 abbrev pub has_fraction : List ℕ → Bool
 has_fraction text = slice_index text 0 == 46
 
--- the length of a fraction of `.` and 1 to 9 digits; it may be left out
+-- the length of an optional fraction: `.` and 1 to 9 digits
 abbrev pub fraction_length : List ℕ → Option ℕ
 fraction_length text =
     if has_fraction text
@@ -59,7 +59,7 @@ fraction_length text =
 abbrev pub nanoseconds : List ℕ → ℕ
 nanoseconds text = if has_fraction text then nanoseconds_by 100000000 (drop 1 text) else 0
 
--- the moment in UTC at which a clock with this offset shows that one
+-- the UTC time at which a clock with this offset shows the civil time
 abbrev pub in_utc : Offset → Moment → Option Moment
 in_utc offset m = if offset.0 then earlier m offset.1 else later m offset.1
 

@@ -2,7 +2,7 @@
 use Rattle.std.specs.Prelude.{ℕ, ◌+◌, ◌-◌, ◌*◌, ◌/◌, ◌%◌, ◌==◌, nat_lt, nat_le, if◌then◌else◌, Option, Some, None}
 use Rattle.oci_times.specs.Moment.{Moment, checked}
 
--- the first that is there
+-- the first one if present, otherwise the second
 abbrev pub or_else : Option Moment → Option Moment → Option Moment
 or_else None other = other
 or_else (Some m) other = Some m
@@ -31,11 +31,11 @@ day_before m =
 abbrev pub minutes_of : Moment → ℕ
 minutes_of m = m.hour * 60 + m.minute
 
--- the same day, so many minutes after midnight
+-- the same day, `minutes` after midnight
 abbrev pub at_minute : Moment → ℕ → Option Moment
 at_minute m minutes = checked (record m { hour = minutes / 60; minute = minutes % 60 })
 
--- so many minutes after midnight of the day, if there is one
+-- the given minutes after midnight of the day, if there is one
 abbrev pub at_minute_of : Option Moment → ℕ → Option Moment
 at_minute_of None minutes = None
 at_minute_of (Some m) minutes = at_minute m minutes

@@ -11,7 +11,7 @@ fn is_digit(byte: u8) -> bool
     48 <= byte && byte <= 57
 }
 
-// The number of the two digits at this place.
+// Returns the number of the two digits at this index.
 #[tactic(auto, unfolding(crate::specs::Digits::is_digit, crate::specs::Digits::two_digits))]
 pub(crate) fn two_at(place: usize, text: &[u8]) -> Option<u8>
     requires { place + 1 < length text.now }
@@ -26,7 +26,7 @@ pub(crate) fn two_at(place: usize, text: &[u8]) -> Option<u8>
     }
 }
 
-// How many digits the text begins with.
+// Returns the number of leading digits.
 pub(crate) fn digit_count(text: &[u8]) -> usize
     ensures value { result ≡ digit_count text.now }
     ensures within { result ≤ length text.now }
@@ -41,7 +41,7 @@ pub(crate) fn digit_count(text: &[u8]) -> usize
     count
 }
 
-// What a digit counts at its place.
+// Returns the nanoseconds that a digit contributes.
 #[tactic(auto, using(crate::proofs::Shares::digit_share), unfolding(crate::specs::Digits::is_digit))]
 fn share(byte: u8, place: u32) -> u32
     requires digit { IsTrue (is_digit byte) }
@@ -52,7 +52,7 @@ fn share(byte: u8, place: u32) -> u32
     (byte - 48) as u32 * place
 }
 
-// The nanoseconds of the digits after a decimal point that the text begins with.
+// Returns the nanoseconds of the leading digits after a decimal point.
 pub(crate) fn nanoseconds(text: &[u8]) -> u32
     ensures value { result ≡ nanoseconds_by 100000000 text.now }
     ensures small { result < 1000000000 }

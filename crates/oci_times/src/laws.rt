@@ -1,7 +1,7 @@
-// Laws of offsets, as contracts of functions that do nothing.
+// Laws of offsets, as contracts of functions without effect.
 ghost use Rattle.oci_times.specs.Instant.{MovesMinutes, NoTimeOutside};
 
-/// An offset moves the count of minutes by its own, and gives no time exactly where it leads out of the years 0000
+/// An offset changes the number of minutes by its own, and yields no time if and only if it leaves the years 0000
 /// to 9999.
 pub fn offsets_move_minutes()
     ensures moves { MovesMinutes }

@@ -5,7 +5,7 @@ ghost use Rattle.oci_times.specs.Offset.{numeric_offset, offset_of};
 
 use crate::digits::{digit_count, nanoseconds as nanoseconds_of_digits, two_at};
 
-// The length of a fraction of a second, which may be left out.
+// Returns the length of an optional fraction of a second.
 pub(crate) fn fraction_length(text: &[u8]) -> Option<usize>
     ensures value { result ≡ fraction_length text.now }
     ensures within { IfSome result (λ n. n ≤ length text.now) }
@@ -21,7 +21,7 @@ pub(crate) fn fraction_length(text: &[u8]) -> Option<usize>
     }
 }
 
-// The nanoseconds of the fraction.
+// Returns the nanoseconds of the fraction.
 pub(crate) fn nanoseconds(text: &[u8]) -> u32
     ensures value { result ≡ nanoseconds text.now }
     ensures small { result < 1000000000 }
@@ -32,7 +32,7 @@ pub(crate) fn nanoseconds(text: &[u8]) -> u32
     nanoseconds_of_digits(&text[1..])
 }
 
-// Whether a clock is ahead of UTC, and by how many minutes.
+// Returns whether a clock is ahead of UTC, and by how many minutes.
 pub(crate) fn offset_in(text: &[u8]) -> Option<(bool, u16)>
     ensures value { result ≡ offset_of text.now }
     ensures small { IfSome result (λ offset. offset.1 < 1440) }
@@ -43,7 +43,7 @@ pub(crate) fn offset_in(text: &[u8]) -> Option<(bool, u16)>
     numeric_offset(text)
 }
 
-// `+hh:mm` or `-hh:mm`.
+// Parses `+hh:mm` or `-hh:mm`.
 fn numeric_offset(text: &[u8]) -> Option<(bool, u16)>
     ensures value { result ≡ numeric_offset text.now }
     ensures small { IfSome result (λ offset. offset.1 < 1440) }

@@ -1,4 +1,4 @@
-// Times in texts.
+// Parses times.
 ghost use Rattle.std.specs.Prelude.{◌≡◌, ◌+◌, ◌<◌, ◌≤◌, length, drop};
 ghost use Rattle.oci_times.specs.Reader.{has_marks, civil_of, in_utc, moment_of, time_of};
 
@@ -40,7 +40,7 @@ fn civil_in(text: &[u8], nanosecond: u32) -> Option<Time>
     Time::from_parts(year, month, day, hour, minute, second, nanosecond)
 }
 
-// What follows so many bytes.
+// Skips `count` bytes.
 fn after(count: usize, text: &[u8]) -> &[u8]
     requires { count ≤ length text.now }
     ensures value { result.now ≡ drop count text.now }
@@ -63,7 +63,7 @@ fn moment_in(text: &[u8]) -> Option<Time>
     in_utc(offset, &civil)
 }
 
-// The moment in UTC at which a clock with this offset shows the civil one.
+// Returns the UTC time at which a clock with this offset shows the civil time.
 fn in_utc(offset: (bool, u16), civil: &Time) -> Option<Time>
     requires { offset.1 < 1440 }
     ensures { result ≡ in_utc offset civil.now }

@@ -49,7 +49,7 @@ fn day_before(time: &Time) -> Option<Time>
     on_last_day(time, year - 1, 12)
 }
 
-// So many minutes later.
+// Adds `minutes`.
 pub(crate) fn later(time: &Time, minutes: u16) -> Option<Time>
     requires { minutes < 1440 }
     ensures { result ≡ later time.now minutes }
@@ -64,7 +64,7 @@ pub(crate) fn later(time: &Time, minutes: u16) -> Option<Time>
     next.at_minute(minute - 1440)
 }
 
-// So many minutes earlier.
+// Subtracts `minutes`.
 pub(crate) fn earlier(time: &Time, minutes: u16) -> Option<Time>
     requires { minutes < 1440 }
     ensures { result ≡ earlier time.now minutes }

@@ -26,7 +26,7 @@ impl Model for Time {
 }
 
 impl Time {
-    /// None exactly where the year is negative: a `DateTime` ends with the year 9999.
+    /// Wraps a UTC time. Returns `None` if and only if the year is negative: a `DateTime` ends with the year 9999.
     pub fn new(utc: DateTime) -> Option<Time>
         ensures range { IsSome result ↔ IsBetween (pos 0) (pos 9999) utc.date.year }
         ensures value { IfSome result (λ time. time ≡ moment_at utc) }
@@ -37,7 +37,7 @@ impl Time {
         Some(Time { utc })
     }
 
-    /// The civil date and time in UTC.
+    /// Returns the civil date and time in UTC.
     pub fn utc(&self) -> DateTime
         ensures value { moment_at result ≡ self.now }
         ensures range { IsBetween (pos 0) (pos 9999) result.date.year }
@@ -45,7 +45,7 @@ impl Time {
         self.utc
     }
 
-    // The moment of these parts, if there is one.
+    // Returns the moment of these parts, if it is valid.
     pub(crate) fn from_parts(
         year: u16,
         month: u8,
@@ -135,7 +135,7 @@ impl Time {
         self.utc.hour() as u16 * 60 + self.utc.minute() as u16
     }
 
-    // The same time on this day.
+    // Returns the same time of day on this day.
     pub(crate) fn on_day(&self, year: u16, month: u8, day: u8) -> Option<Time>
         requires { year ≤ 10000 × month < 100 × day < 100 }
         ensures { result ≡ on_day self.now year month day }
@@ -152,7 +152,7 @@ impl Time {
         )
     }
 
-    // The same day, so many minutes after midnight.
+    // Returns the time `minutes` after midnight on the same day.
     pub(crate) fn at_minute(&self, minutes: u16) -> Option<Time>
         requires { minutes < 1440 }
         ensures { result ≡ at_minute self.now minutes }
@@ -176,7 +176,7 @@ impl Copied for Time {
     }
 }
 
-/// Equality is that of the civil date and time.
+/// Times are equal if their civil dates and times are equal.
 impl PartialEq for Time {
     ghost use Rattle.std.specs.Cmp.{partial_equiv_from_equiv};
     ghost use Rattle.oci_times.specs.Moment.{is_same};

@@ -1,4 +1,4 @@
-// Times as texts.
+// Formats times.
 ghost use Rattle.std.specs.Prelude.{◌≡◌, ◌++◌, [], ◌∷◌, OnOk, IfOk, string_bytes, Some};
 ghost use Rattle.oci_times.specs.Moment.{checked};
 ghost use Rattle.oci_times.specs.Writer.{digit, two, three, date_text, clock_text, civil_text};
@@ -59,7 +59,7 @@ fn put_clock(text: &mut String, time: &Time) -> Result<(), AllocError>
     Ok(())
 }
 
-// The fewest of 0, 3, 6 and 9 digits that are exact.
+// Appends the fewest of 0, 3, 6 and 9 digits that are exact.
 fn put_fraction(text: &mut String, time: &Time) -> Result<(), AllocError>
     ensures shown { OnOk result (checked time.now ≡ Some time.now) }
     ensures bytes { OnOk result
@@ -103,7 +103,7 @@ fn put_time(text: &mut String, time: &Time) -> Result<(), AllocError>
     Ok(())
 }
 
-// The text in UTC.
+// Returns the text in UTC.
 fn time_text(alloc: Global, time: &Time) -> Result<String, AllocError>
     ensures shown { OnOk result (checked time.now ≡ Some time.now) }
     ensures exact { IfOk result (λ text. string_bytes text ≡ moment_text time.now) }

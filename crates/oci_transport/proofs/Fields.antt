@@ -1,4 +1,4 @@
--- Texts are UTF-8, names are found in any case, and what is so of all headers stays.
+-- Header text is UTF-8, lookup ignores the case of names, and the invariant of headers is preserved.
 use Rattle.std.proofs.Common.{◌≡◌, ◌↔◌, ◌<◌, ◌≤◌, ◌+◌, ℕ, suc, Bool, true, false, not, cond, List, [], ◌∷◌, ◌++◌, Option, Some, None}
 use Rattle.std.proofs.Common.{refl, sym, ap, subst, ◌∙◌, IsTrue, true≢false, length, length-append, arith}
 use Rattle.std.specs.Prelude.{All, T, ◌&&◌, sum_by, unwrap_or, nat_le}
@@ -32,7 +32,7 @@ all_below bs h = λ k d lt. text_below _ (AllPass-from_list_all is_text_byte bs 
 pub text_is_utf8 : (bs : List ℕ) → is_text bs ≡ true → IsUtf8 bs
 text_is_utf8 bs h = IsUtf8-from_ascii bs (IsAscii-from_all bs (all_below bs h))
 
--- ---- names in any case
+-- ---- lookup ignoring case
 
 tied : (r : Ordering) → IsTrue (is_eq r) → r ≡ Equal
 tied Less h = absurd (true≢false (sym h))
@@ -61,7 +61,7 @@ kept_is_without name m = same_map nat_list_cmp_total (slice_cmp-IsAntisymmetric 
     ∙ ap (λ o. cond (eq_by_cmp by_bytes q (lowercase name)) None o) (sym (get-entries m q))
     ∙ sym (get-remove nat_list_cmp_total m (lowercase name) q))
 
--- ---- what is so of all headers
+-- ---- the invariant of headers
 
 abbrev Entries : Type 0
 Entries = List (List ℕ × List (List ℕ))

@@ -1,4 +1,4 @@
--- What a script's answers come from.
+-- Where the answers of a script come from.
 use Rattle.std.proofs.Common.{◌≡◌, suc, Bool, true, false, List, [], ◌∷◌, ◌++◌, length, drop, slice_get, Some, None, Option, if◌then◌else◌, refl, sym, ap, subst, ◌∙◌, arith}
 use Rattle.std.proofs.lemmas.Option.{slice_get_past}
 use Rattle.oci_transport.specs.Link.{Link, NeverFails, Steady, Extends, Answers, answer_of}
@@ -13,7 +13,7 @@ use Rattle.oci_transport.specs.declared.message.Exchange.{Exchange}
 some_is : {A : Type 0} (x y : A) → Some x ≡ Some y → x ≡ y
 some_is x y h = cc h
 
--- behind its last answer a script fails
+-- after its last answer a script fails
 never : (items : List Recorded) → NeverFails (answering items) → ⊥
 unfolding answering
 never items h = let past : may_fail (slice_get items (length items)) ≡ true = rw (slice_get_past items (length items) (omega arith)) refl in cc (h (length items), past)
@@ -25,7 +25,7 @@ same_answers items old new before after = record {
   quiet = λ a h quiet. absurd (never items (subst NeverFails (some_is _ _ (sym h ∙ before)) quiet));
 }
 
--- the exchange has the recorded answer of its place
+-- the exchange has the recorded answer at its index
 pub told_next : (items : List Recorded) (old new : Link) (before : List Exchange) (e : Exchange) → old.answers ≡ Some (answering items) → new.answers ≡ Some (answering items) → old.told ≡ Some before → new.told ≡ Some (before ++ e ∷ [])
     → e.answer ≡ recorded_answer (slice_get items (length before)) → Extends old new (e ∷ [])
 unfolding answering
@@ -59,7 +59,7 @@ length_next (y ∷ xs) x = ap suc (length_next xs x)
 pub rest_next : (items : List Recorded) (before : List Exchange) (e : Exchange) (answer : Answer) → recorded_answer (slice_get items (length before)) ≡ Some answer → joined (drop 0 (last_pieces items (length (before ++ e ∷ [])))) ≡ answer.body
 rest_next items before e answer is = ap (λ n. joined (drop 0 (last_pieces items n))) (length_next before e) ∙ body_of (slice_get items (length before)) answer is
 
--- after a send that failed nothing is left
+-- after a failed send no body is left
 pub nothing_next : (items : List Recorded) (before : List Exchange) (e : Exchange) → recorded_answer (slice_get items (length before)) ≡ None → joined (drop 0 (last_pieces items (length (before ++ e ∷ [])))) ≡ []
 nothing_next items before e none = ap (λ n. joined (drop 0 (last_pieces items n))) (length_next before e) ∙ nothing_of (slice_get items (length before)) none
 

@@ -1,4 +1,4 @@
--- A script gives what stands behind a break of a body, and its end, only behind its fault.
+-- A script gives the bytes after a truncation of a body, and its end, only after its fault.
 use Rattle.std.proofs.Common.{◌≡◌, ◌≢◌, ◌≤◌, ◌<◌, ◌+◌, ℕ, suc, zero, Bool, true, false, List, [], ◌∷◌, ◌++◌, length, slice_get, take, drop, Some, None, Option, if◌then◌else◌, refl, sym, ap, subst, ◌∙◌, arith}
 use Rattle.std.specs.Prelude.{IsTrue, ◌&&◌, nat_le, nat_eq, is_some, option_map}
 use Rattle.std.proofs.Common.{length-append, get_or}
@@ -40,7 +40,7 @@ none_past (Some n) = le_true 0 n (omega arith)
 pub met_sent : (items : List Recorded) (told : List Exchange) (e : Exchange) (count : ℕ) → e.faults ≤ count → HasMet items (told ++ e ∷ []) 0 false count
 met_sent items told e count le = both _ _ (ap (λ n. nat_le n count) (count_last told e count) ∙ le_true e.faults count le) (none_past (last_stop items (length (told ++ e ∷ []))))
 
--- what a call for a piece stops before, if it was not stopped yet
+-- the number of pieces before which a call fails, if it has not failed yet
 abbrev stop_by : Bool → Option ℕ → Option ℕ
 stop_by stopped last = if stopped then None else last
 
@@ -54,7 +54,7 @@ met_fault false last given sent count same h =
     let le : sent ≤ count = le_of sent count (parts (nat_le sent count) (not_past last given) h).0 in
     le_true (raised sent) (raised count) (omega (arith, le))
 
--- a fault was met
+-- a fault occurred
 pub met_stop : (items : List Recorded) (told : List Exchange) (given : ℕ) (stopped : Bool) (count : ℕ) (stop : Option ℕ) → stop ≡ (if stopped then None else last_stop items (length told)) → option_eq nat_eq stop (Some given) ≡ true → HasMet items told given stopped count → HasMet items told given true (raised count)
 met_stop items [] given true count stop is same h = absurd (cc (is, same))
 met_stop items [] given false count stop is same h = absurd (cc (is, same))
@@ -71,7 +71,7 @@ met_more false last given sent count other h =
     let halves = parts (nat_le sent count) (not_past last given) h in
     both (nat_le sent count) (not_past last (given + 1)) halves.0 (past_more last given other halves.1)
 
--- a piece was given
+-- a piece was returned
 pub met_given : (items : List Recorded) (told : List Exchange) (given : ℕ) (stopped : Bool) (count : ℕ) (stop : Option ℕ) → stop ≡ (if stopped then None else last_stop items (length told)) → option_eq nat_eq stop (Some given) ≡ false → HasMet items told given stopped count → HasMet items told (given + 1) stopped count
 met_given items told given stopped count stop is other h = met_more stopped (last_stop items (length told)) given (last_count told count) count (rw is at other) h
 
@@ -118,7 +118,7 @@ takes_none pieces given link all rest ends unbroken = record {
   front = λ left h. (left, refl, h, λ none. some_is _ _ (sym h ∙ rest ∙ ap (λ ps. Some (joined ps)) (drop_past given pieces all)));
 }
 
--- where the answer of the last of these exchanges breaks off
+-- where the answer of the last of these exchanges is truncated
 record LastOf (items : List Recorded) (told : List Exchange) (count : ℕ) (e : Exchange) (body : List ℕ) (bytes : ℕ) : Type 0 where
   place : ℕ
   sent_is : length told ≡ suc place
@@ -139,7 +139,7 @@ last_of items told count old answers telling e answer bytes b =
       break_is = ap (λ (t : Answering). t.breaks (length b.before)) table ∙ b.breaks;
     }
 
--- a break is a number of pieces
+-- a truncation is given by a number of pieces
 break_some : (pieces : List (List ℕ)) (o : Option ℕ) (bytes : ℕ) → option_map (bytes_within pieces) o ≡ Some bytes → is_some o ≡ true
 break_some pieces None bytes h = cc h
 break_some pieces (Some n) bytes h = refl
@@ -155,7 +155,7 @@ ends_unbroken items told given stopped count stop is other h all old new answers
     (ap (λ n. met (last_stop items n) given stopped (last_count told count) count) (sym l.sent_is) ∙ h) in
     rw (← l.count_is, faults) rose
 
--- the bytes of a front of the pieces, and of the others
+-- the bytes of a prefix of the pieces, and of the others
 bytes_split : (n : ℕ) (pieces : List (List ℕ)) → bytes_within pieces n + length (joined (drop n pieces)) ≡ length (joined pieces)
 bytes_split zero pieces = omega arith
 bytes_split (suc n) [] = refl
@@ -167,7 +167,7 @@ bytes_more (suc m) zero pieces h = absurd (omega (arith, h))
 bytes_more (suc m) (suc n) [] h = omega arith
 bytes_more (suc m) (suc n) (p ∷ ps) h = omega (arith, bytes_more m n ps (omega (arith, h)), length-append p (joined (take m ps)), length-append p (joined (take n ps)))
 
--- behind the break only where the fault was met
+-- the bytes after the truncation only if the fault occurred
 rose_past : (pieces : List (List ℕ)) (stop : Option ℕ) (stopped : Bool) (given sent count bytes : ℕ) → option_map (bytes_within pieces) stop ≡ Some bytes → bytes + length (joined (drop given pieces)) < length (joined pieces) → met stop given stopped sent count ≡ true → Rose sent count
 rose_past pieces stop true given sent count bytes is past h = le_of (raised sent) count h
 rose_past pieces None false given sent count bytes is past h = absurd (cc is)

@@ -1,4 +1,4 @@
--- A script stays calm where no recorded answer fails.
+-- A script satisfies `calm` if no recorded answer fails.
 use Rattle.std.proofs.Common.{◌≡◌, ◌+◌, ℕ, suc, zero, Bool, true, false, List, [], ◌∷◌, ◌++◌, length, slice_get, Some, None, Option, if◌then◌else◌, refl, sym, ap, subst, ◌∙◌, length-append, arith}
 use Rattle.std.specs.Prelude.{IsTrue, ◌||◌, ◌&&◌, nat_eq, is_some}
 use Rattle.std.proofs.lemmas.Bool.Decides.{nat_tests}
@@ -25,7 +25,7 @@ count_push : (c : List Exchange) (e : Exchange) (n : ℕ) → e.faults ≡ n →
 count_push [] e n is = is
 count_push (x ∷ c) e n is = refl
 
--- one more exchange, sent at the last count
+-- one more exchange, sent at the last fault count
 calm_more : (fails : ℕ → Bool) (place : ℕ) (c : List Exchange) (e : Exchange) (n : ℕ) → e.faults ≡ n → calm fails place (c ++ e ∷ []) n ≡ calm fails place c n
 calm_more fails place [] e n is = ap (λ b. (fails place || b) && true) (ap (λ m. nat_eq n m) is ∙ nat_eq_self n) ∙ ap (λ b. b && true) (either_true (fails place))
 calm_more fails place (x ∷ c) e n is = λ i. (fails place || nat_eq (count_push c e n is i) x.faults) && calm_more fails (suc place) c e n is i
@@ -33,7 +33,7 @@ calm_more fails place (x ∷ c) e n is = λ i. (fails place || nat_eq (count_pus
 pub calm_push : (fails : ℕ → Bool) (c : List Exchange) (e : Exchange) (n : ℕ) → e.faults ≡ n → IsTrue (calm fails 0 c n) → IsTrue (calm fails 0 (c ++ e ∷ []) n)
 calm_push fails c e n is h = subst IsTrue (sym (calm_more fails 0 c e n is)) h
 
--- a fault at the last exchange, where something may fail
+-- a fault at the last exchange, if something may fail there
 calm_rose : (fails : ℕ → Bool) (place : ℕ) (c : List Exchange) (last n m : ℕ) → length c ≡ suc last → fails (place + last) ≡ true → calm fails place c n ≡ true → calm fails place c m ≡ true
 calm_rose fails place [] last n m is f h = absurd (omega (arith, is))
 calm_rose fails place (e ∷ []) zero n m is f h =
@@ -76,7 +76,7 @@ calm_stop items [] given n m stop h = h
 calm_stop items (e ∷ c) given n m stop h =
     calm_rose (λ place. may_fail (slice_get items place)) 0 (e ∷ c) (length c) n m refl (ap (λ place. may_fail (slice_get items place)) (omega arith) ∙ stop_fails (slice_get items (length c)) given stop) h
 
--- a send that failed, and its fault
+-- a failed send, and its fault
 pub calm_failed : (items : List Recorded) (c : List Exchange) (e : Exchange) (n m : ℕ) → e.faults ≡ n → recorded_answer (slice_get items (length c)) ≡ None → IsTrue (calm (answering items).fails 0 c n) → IsTrue (calm (answering items).fails 0 (c ++ e ∷ []) m)
 unfolding answering
 calm_failed items c e n m is none h =

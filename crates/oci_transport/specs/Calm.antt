@@ -2,12 +2,12 @@
 use Rattle.std.specs.Prelude.{ℕ, suc, Bool, true, ◌||◌, ◌&&◌, nat_eq, List, [], ◌∷◌}
 use Rattle.oci_transport.specs.declared.message.Exchange.{Exchange}
 
--- the count as the first of these exchanges was sent, or the last count where there is none
+-- the fault count when the first of these exchanges was sent, or the last count if there is none
 abbrev pub next_count : List Exchange → ℕ → ℕ
 next_count [] count = count
 next_count (e ∷ c) count = e.faults
 
--- each exchange, from this place on, stands where something may fail, or the count after it is the
+-- for each exchange, starting at this index, something may fail there, or the fault count after it is the
 -- one before it
 abbrev pub calm : (ℕ → Bool) → ℕ → List Exchange → ℕ → Bool
 calm fails place [] count = true

@@ -1,4 +1,4 @@
--- The names of headers: each public constant is its text.
+-- The names of headers: the text of each public constant.
 use Rattle.std.specs.Prelude.{◌≡◌, refl}
 use Rattle.oci_transport.specs.Headers.{digest_header}
 use Rattle.oci_transport.specs.declared.headers.TheConstants.{DIGEST_HEADER}

@@ -10,7 +10,7 @@ use Rattle.json_values.specs.Places.{by_bytes}
 use Rattle.http_header.specs.FieldName.{IsHeaderName}
 use Rattle.http_header.specs.Token.{lowercase}
 
--- the header that names the digest of what was answered (OCI distribution specification, "Pulling manifests")
+-- the response header with the digest of the body (OCI distribution specification, "Pulling manifests")
 abbrev pub digest_header : List ℕ
 digest_header = codes "docker-content-digest"
 
@@ -18,7 +18,7 @@ digest_header = codes "docker-content-digest"
 abbrev pub Fields : Type 0
 Fields = FinMap by_bytes (List (List ℕ))
 
--- the values of a name, in order; the case of its letters does not matter
+-- the values of a name, in order; the case of the name is ignored
 abbrev pub values_of : List ℕ → Fields → List (List ℕ)
 values_of name m = unwrap_or (map.get m (lowercase name)) []
 
@@ -26,45 +26,45 @@ values_of name m = unwrap_or (map.get m (lowercase name)) []
 abbrev pub first_of : List ℕ → Fields → Option (List ℕ)
 first_of name m = slice_get (values_of name m) 0
 
--- with this value behind the others of a name in lower case
+-- with this value added last to those of a name in lower case
 abbrev pub with_value : Fields → List ℕ → List ℕ → Fields
 with_value m lower value = map.insert m lower (unwrap_or (map.get m lower) [] ++ value ∷ [])
 
--- with this value behind the others of its name
+-- with this value added last to those of its name
 abbrev pub added : Fields → List ℕ → List ℕ → Fields
 added m name value = with_value m (lowercase name) value
 
--- with no value of this name
+-- without values of this name
 abbrev pub without : List ℕ → Fields → Fields
 without name m = map.remove m (lowercase name)
 
--- how many values there are in all
+-- the number of values
 abbrev pub held : Fields → ℕ
 held m = sum_by (λ e. length e.1) (map.entries m)
 
--- what is so of all headers: the names are field names in lower case, and at most 1000 values stand
+-- the invariant of headers: the names are field names in lower case, and there are at most 1000 values
 pub record AreFields (m : Fields) : Type 0 where
   pub names : All (λ e. IsHeaderName e.0) (map.entries m)
   pub most : held m ≤ 1000
 
--- a byte of a value: no control byte but the tab
+-- a byte of a value: not a control byte, except the tab
 abbrev pub is_value_byte : ℕ → Bool
 is_value_byte b = (b == 9 || nat_le 32 b) && not (b == 127)
 
 abbrev pub is_header_value : List ℕ → Bool
 is_header_value value = list_all is_value_byte value
 
--- a byte of a text: a tab, or visible ASCII or a space
+-- a byte of a text: a tab, a space or visible ASCII
 abbrev pub is_text_byte : ℕ → Bool
 is_text_byte b = b == 9 || (nat_le 32 b && nat_le b 126)
 
 abbrev pub is_text : List ℕ → Bool
 is_text value = list_all is_text_byte value
 
--- a value that is text
+-- the value, if it is text
 abbrev pub header_text : List ℕ → Option (List ℕ)
 header_text value = if is_text value then Some value else None
 
--- the fields of other names, inserted from the last one on
+-- the fields with other names, inserted from the last to the first
 abbrev pub kept_fields : List ℕ → List (List ℕ × List (List ℕ)) → Fields
 kept_fields name es = map.from_entries (where_key by_bytes (λ x. not (eq_by_cmp by_bytes (lowercase name) x)) es)

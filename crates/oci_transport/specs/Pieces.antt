@@ -6,6 +6,6 @@ use Rattle.std.specs.List.{flat_map}
 abbrev pub NoneEmpty : List (List ℕ) → Type 0
 NoneEmpty pieces = All (λ piece. 0 < length piece) pieces
 
--- these pieces, one after another
+-- the concatenation of these pieces
 abbrev pub joined : List (List ℕ) → List ℕ
 joined pieces = flat_map (λ piece. piece) pieces

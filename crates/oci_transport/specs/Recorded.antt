@@ -1,4 +1,4 @@
--- Recorded answers, and what they answer by.
+-- Recorded answers, and how a script answers with them.
 use Rattle.std.specs.Prelude.{ℕ, List, length, slice_get, take, Option, Some, None, option_map, if◌then◌else◌}
 use Rattle.oci_transport.specs.declared.recorded.Recorded.{Recorded}
 use Rattle.oci_transport.specs.declared.message.Answer.{Answer}
@@ -9,11 +9,11 @@ use Rattle.json_values.specs.Counts.{raised}
 use Rattle.oci_transport.specs.Calm.{calm}
 use Rattle.oci_transport.specs.declared.message.Exchange.{Exchange}
 
--- a record as a whole answer
+-- a record as a complete answer
 abbrev pub answer_in : Recorded → Answer
 answer_in r = record { status = r.status; headers = r.headers; body = joined r.pieces }
 
--- the answer of a record, none where the send fails or there is no record
+-- the answer of a record, or none if the send fails or there is no record
 abbrev pub recorded_answer : Option Recorded → Option Answer
 recorded_answer None = None
 recorded_answer (Some r) = if r.fails then None else Some (answer_in r)
@@ -23,12 +23,12 @@ abbrev pub pieces_of : Option Recorded → List (List ℕ)
 pieces_of None = []
 pieces_of (Some r) = if r.fails then [] else r.pieces
 
--- a number of pieces, where there are so many
+-- the number, if there are that many pieces
 abbrev pub stop_within : Option ℕ → ℕ → Option ℕ
 stop_within None count = None
 stop_within (Some n) count = if nat_le n count then Some n else None
 
--- before how many of them a call fails
+-- before how many pieces a call fails
 abbrev pub fails_before_of : Option Recorded → Option ℕ
 fails_before_of None = None
 fails_before_of (Some r) = if r.fails then None else stop_within r.fails_before (length r.pieces)
@@ -38,15 +38,15 @@ abbrev pub may_fail : Option Recorded → Bool
 may_fail None = true
 may_fail (Some r) = r.fails || is_some (stop_within r.fails_before (length r.pieces))
 
--- the bytes of so many pieces
+-- the number of bytes in the first n pieces
 abbrev pub bytes_within : List (List ℕ) → ℕ → ℕ
 bytes_within pieces count = length (joined (take count pieces))
 
--- behind how many bytes of its body a call fails
+-- after how many bytes of its body a call fails
 abbrev pub break_of : Option Recorded → Option ℕ
 break_of r = option_map (bytes_within (pieces_of r)) (fails_before_of r)
 
--- one record after another, whatever is asked
+-- one record after another, for any requests
 unfoldable pub answering : List Recorded → Answering
 answering items = record {
   answer = λ place request. recorded_answer (slice_get items place);
@@ -54,37 +54,37 @@ answering items = record {
   breaks = λ place. break_of (slice_get items place);
 }
 
--- these exchanges came of the records, this count stands after them, and it rose only where a record may fail
+-- these exchanges have the recorded answers, and the fault count after them increased only if a record may fail
 abbrev pub IsCalm : List Recorded → List Exchange → ℕ → Type 0
 IsCalm items told count = IsTrue (calm (answering items).fails 0 told count)
 
--- where so many requests were sent, the pieces of the last answer
+-- the pieces of the last answer, given the number of requests sent
 abbrev pub last_pieces : List Recorded → ℕ → List (List ℕ)
 last_pieces items zero = []
 last_pieces items (suc place) = pieces_of (slice_get items place)
 
--- and before how many of them a call fails
+-- before how many of them a call fails
 abbrev pub last_stop : List Recorded → ℕ → Option ℕ
 last_stop items zero = None
 last_stop items (suc place) = fails_before_of (slice_get items place)
 
--- the count as the last of these exchanges was sent, or this one where there is none
+-- the fault count when the last of these exchanges was sent, or this one if there is none
 abbrev pub last_count : List Exchange → ℕ → ℕ
 last_count [] count = count
 last_count (e ∷ []) count = e.faults
 last_count (e ∷ f ∷ c) count = last_count (f ∷ c) count
 
--- no more pieces were given than stand before the fault
+-- no more pieces were returned than come before the fault
 abbrev pub not_past : Option ℕ → ℕ → Bool
 not_past None given = true
 not_past (Some n) given = nat_le given n
 
--- since the last request was sent, at this count, a fault was met, or no piece behind one was given
+-- since the last request was sent, at this fault count, a fault occurred, or no piece after one was returned
 abbrev pub met : Option ℕ → ℕ → Bool → ℕ → ℕ → Bool
 met stop given true sent count = nat_le (raised sent) count
 met stop given false sent count = nat_le sent count && not_past stop given
 
--- so much was given of the last answer
+-- the same for the last of these exchanges, of which `given` pieces were returned
 abbrev pub HasMet : List Recorded → List Exchange → ℕ → Bool → ℕ → Type 0
 HasMet items told given stopped count =
     IsTrue (met (last_stop items (length told)) given stopped (last_count told count) count)

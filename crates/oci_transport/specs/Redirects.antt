@@ -1,4 +1,4 @@
--- Where a redirect leads.
+-- The target of a redirect.
 use Rattle.std.specs.Prelude.{ℕ, Bool, true, false, ◌&&◌, ◌||◌, List, Option, Some, None, Ok, Err, codes, nat_eq}
 use Rattle.std.specs.Prelude.{if◌then◌else◌}
 use Rattle.url.specs.Parts.{Parts, serialize}
@@ -27,7 +27,7 @@ abbrev pub kept_headers : Bool → Fields → Fields
 kept_headers true headers = headers
 kept_headers false headers = without (codes "authorization") headers
 
--- the same request of another text, with no credentials where its URL is elsewhere
+-- the same request to another URL, without credentials if its origin is different
 abbrev pub moved : Request → Parts → List ℕ → Option Parts → Option Request
 moved request base text None = None
 moved request base text (Some url) = Some (record {
@@ -37,11 +37,11 @@ moved request base text (Some url) = Some (record {
   body = request.body;
 })
 
--- the text of a location against a URL
+-- the text of a location resolved against a URL
 unfoldable pub joined_text : Parts → List ℕ → Option (List ℕ)
 joined_text base location = text_of (parse_url (Some base) location)
 
--- as `request_url` reads it
+-- as `request_url` parses it
 abbrev pub moved_text : Request → Parts → Option (List ℕ) → Option Request
 moved_text request base None = None
 moved_text request base (Some text) = moved request base text (request_url text)
@@ -54,12 +54,12 @@ abbrev pub moved_to : Request → Option (List ℕ) → Option Request
 moved_to request None = None
 moved_to request (Some location) = moved_from request location (request_url request.url)
 
--- the first location, where it is text
+-- the first location, if it is text
 abbrev pub location_of : Option (List ℕ) → Option (List ℕ)
 location_of (Some value) = header_text value
 location_of None = None
 
--- the request that an answer of this head leads to, where it is a redirect
+-- the request to which an answer with this head leads, if it is a redirect
 unfoldable pub redirected : Request → AnswerHead → Option Request
 redirected request head =
     if may_follow request.method && is_redirect_status head.status

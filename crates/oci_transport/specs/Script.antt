@@ -1,4 +1,4 @@
--- What a script shows.
+-- The state of a script.
 use Rattle.std.specs.Prelude.{◌≡◌, ℕ, List, length, drop, slice_get, Option, Some, None, if◌then◌else◌}
 use Rattle.oci_transport.specs.declared.script.Script.{Script}
 use Rattle.oci_transport.specs.declared.recorded.Recorded.{Recorded}
@@ -11,11 +11,11 @@ use Rattle.oci_transport.specs.Recorded.{recorded_answer, fails_before_of, answe
 abbrev pub answers_of : Script → List Recorded
 answers_of s = s.answers
 
--- how many requests were sent, which is the place of the next answer
+-- the number of requests sent, which is the index of the next answer
 abbrev pub place_of : Script → ℕ
 place_of s = length s.told
 
--- the next answer, none where the next send fails
+-- the next answer, or none if the next send fails
 abbrev pub next_answer : Script → Option Answer
 next_answer s = recorded_answer (slice_get s.answers (place_of s))
 
@@ -23,7 +23,7 @@ next_answer s = recorded_answer (slice_get s.answers (place_of s))
 abbrev pub next_stop : Script → Option ℕ
 next_stop s = fails_before_of (slice_get s.answers (place_of s))
 
--- how many pieces of the last answer were given
+-- the number of pieces returned of the last answer
 abbrev pub given_of : Script → ℕ
 given_of s = s.given
 
@@ -31,17 +31,17 @@ given_of s = s.given
 abbrev pub stop_of : Script → Option ℕ
 stop_of s = if s.stopped then None else last_stop s.answers (length s.told)
 
--- a call failed where it had to, once, and gave nothing
+-- a call failed at its recorded fault, once, and returned nothing
 pub record StopsAt (old new : Script) : Type 0 where
   pub there : stop_of old ≡ Some (given_of old)
   pub once : stop_of new ≡ None
   pub given : given_of new ≡ given_of old
 
--- what was not given of the last answer
+-- the rest of the last answer
 abbrev pub left_of : Script → List ℕ
 left_of s = joined (drop s.given (last_pieces s.answers (length s.told)))
 
--- a script tells all that it did
+-- a script exposes all that it did
 abbrev pub state_of : Script → Link
 state_of s = record {
   told = Some s.told;

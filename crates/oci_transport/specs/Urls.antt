@@ -8,13 +8,13 @@ use Rattle.url.specs.Scheme.{default_port}
 use Rattle.url.specs.Input.{is_empty}
 use Rattle.url.specs.Parser.{Parsed, parse_url}
 
--- requests go to `http` and `https` URLs with no user name and no password
+-- requests go to `http` and `https` URLs without user name and password
 abbrev pub is_web : Parts → Bool
 is_web url =
     (bytes_eq url.scheme (codes "http") || bytes_eq url.scheme (codes "https"))
     && (is_empty url.username && is_empty url.password)
 
--- what was read, where it is such a URL
+-- the parsed URL, if it is of this form
 abbrev pub readable : Parsed Parts → Option Parts
 readable (Ok url) = if is_web url then Some url else None
 readable (Err e) = None
@@ -30,7 +30,7 @@ registry_text scheme registry = scheme ++ codes "://" ++ registry
 abbrev pub host_of : Parts → Option (List ℕ)
 host_of url = option_map host_text (nonempty_host url)
 
--- the port that is given, or else the known one of the scheme
+-- the given port, or the scheme's default port
 abbrev pub port_of : Parts → Option ℕ
 port_of url = option_or url.port (default_port url.scheme)
 
@@ -48,11 +48,11 @@ same_port a b = false
 unfoldable pub same_place : Parts → Parts → Bool
 same_place a b = same_text (host_of a) (host_of b) && same_port (port_of a) (port_of b)
 
--- the same scheme too
+-- the same scheme, host and port
 unfoldable pub same_origin : Parts → Parts → Bool
 same_origin a b = bytes_eq a.scheme b.scheme && same_place a b
 
--- The URL goes to the registry: the same host and port, and not `http` where the registry is `https`.
+-- The URL goes to the registry: the same host and port, and not `http` if the registry is `https`.
 unfoldable pub targets : Parts → Parts → Bool
 targets url registry =
     same_place url registry

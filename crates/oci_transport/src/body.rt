@@ -8,16 +8,16 @@ use json_values::{Blob, Copied};
 use std::alloc::{AllocError, Global};
 use thiserror::Error;
 
-/// Why a body was not read.
+/// Why a body could not be read.
 #[derive(Clone, Copy, Debug, PartialEq, Eq, Error)]
 pub enum BodyError {
-    /// The transport failed, and its count of faults rose.
+    /// The transport failed, and its fault count increased.
     #[error("the connection failed while a body was read: send the request again")]
     TransportFault,
-    /// More bytes came than the limit.
+    /// The body is longer than the limit.
     #[error("the body has more bytes than its limit: read it with a greater one")]
     BodyTooLong,
-    /// The allocator had no memory.
+    /// The allocator is out of memory.
     #[error("out of memory: free some and try again")]
     WantOfMemory,
 }
@@ -36,7 +36,7 @@ impl From<AllocError> for BodyError {
     }
 }
 
-/// The whole body of the last answer, where it has no more than `limit` bytes. After `Ok` nothing is left of it.
+/// Returns the whole body of the last answer, if it has at most `limit` bytes. After `Ok` nothing of it is left.
 pub fn read_body<T: Transport>(
     alloc: Global,
     transport: &mut T,

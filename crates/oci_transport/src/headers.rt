@@ -18,11 +18,11 @@ use std::alloc::{AllocError, AllocFailed, Global};
 use std::marker::Model;
 use thiserror::Error;
 
-/// The header that names the digest of what was answered (OCI distribution specification, "Pulling manifests").
+/// The response header with the digest of the body (OCI distribution specification, "Pulling manifests").
 pub const DIGEST_HEADER: &str = "docker-content-digest";
 
 /// Header fields (RFC 9110, section 5): at most 1000 values. A contract sees a map from each name, which is a field
-/// name in lower case, to its values in order. The case of a name that is asked for does not matter.
+/// name in lower case, to its values in order. Lookup ignores the case of the name.
 #[derive(Drop)]
 pub struct Headers {
     alloc: Global,
@@ -46,19 +46,19 @@ impl Model for Headers {
     ghost invariant = { λ h. AreFields h.fields };
 }
 
-/// Why a header was not added.
+/// Why a header could not be added.
 #[derive(Clone, Copy, Debug, PartialEq, Eq, Error)]
 pub enum HeaderError {
-    /// The name is no field name (RFC 9110, section 5.1).
+    /// The name is not a field name (RFC 9110, section 5.1).
     #[error("the name is no header name: give letters, digits and marks of a token alone")]
     BadName,
     /// The value has a control byte other than a tab.
     #[error("the value has a control byte: give none but the tab")]
     BadValue,
-    /// 1000 values are held.
+    /// There are 1000 values already.
     #[error("there are 1000 header values already: leave some out")]
     TooMany,
-    /// The allocator had no memory.
+    /// The allocator is out of memory.
     #[error("out of memory: free some and try again")]
     WantOfMemory,
 }
@@ -86,7 +86,7 @@ impl<T: Drop> From<AllocFailed<T>> for HeaderError {
 }
 
 impl Headers {
-    /// No header yet.
+    /// Returns headers without values.
     pub fn new(alloc: Global) -> Headers
         ensures { result ≡ map.empty }
     {
@@ -96,7 +96,7 @@ impl Headers {
         }
     }
 
-    /// Adds a value behind the others of its name.
+    /// Adds a value after the others of its name.
     pub fn add(&mut self, name: &str, value: &[u8]) -> Result<(), HeaderError>
         ensures ok { OnOk result (self.new ≡ added self.old name.now value.now) }
         ensures err { OnErr result (self.new ≡ self.old) }
@@ -119,14 +119,14 @@ impl Headers {
         Ok(())
     }
 
-    /// The first value of a name.
+    /// Returns the first value of a name.
     pub fn first(&self, name: &str) -> Option<&[u8]>
         ensures { option_copied result ≡ first_of name.now self.now }
     {
         self.value_at(name, 0)
     }
 
-    /// The name, in lower case, at this place in the order of the names' bytes.
+    /// Returns the name, in lower case, at this index in the order of the names' bytes.
     pub fn name_at(&self, place: usize) -> Option<&str>
         ensures name { option_copied result ≡ slice_get (map.keys self.now) place }
         ensures fields { AreFields self.now }
@@ -137,7 +137,7 @@ impl Headers {
         }
     }
 
-    /// The value at this place, counted from 0, of a name.
+    /// Returns the value of a name at this index, counted from 0.
     pub fn value_at(&self, name: &str, place: usize) -> Option<&[u8]>
         ensures { option_copied result ≡ slice_get (values_of name.now self.now) place }
     {
@@ -156,7 +156,7 @@ impl Headers {
         values_in(self.fields.entries(), name)
     }
 
-    /// A copy with no value of this name.
+    /// Copies the headers without the values of this name.
     pub fn without(&self, alloc: Global, name: &str) -> Result<Headers, AllocError>
         ensures { IfOk result (λ headers. headers ≡ without name.now self.now) }
     {
@@ -174,7 +174,7 @@ impl Copied for Headers {
     }
 }
 
-/// A header's value as text: each byte is a tab, a space or visible ASCII.
+/// Returns a header's value as text, if each byte is a tab, a space or visible ASCII.
 pub fn header_text(value: &[u8]) -> Option<&str>
     ensures { option_copied result ≡ header_text value.now }
 {
@@ -203,7 +203,7 @@ fn is_header_value(value: &[u8]) -> bool
         .all(|byte| (*byte == 9 || 32 <= *byte) && !(*byte == 127))
 }
 
-// The name in lower case.
+// Returns the name in lower case.
 fn field_name(alloc: Global, name: &str) -> Result<Text, HeaderError>
     ensures ok { IfOk result (λ field. field ≡ lowercase name.now) }
     ensures lower { IfOk result (λ field. IsHeaderName field) }
@@ -221,7 +221,7 @@ fn field_name(alloc: Global, name: &str) -> Result<Text, HeaderError>
     }
 }
 
-// A value behind the others of a name in lower case.
+// Adds a value after the others of a name in lower case.
 fn insert(
     alloc: Global,
     fields: &mut TextMap<List<Blob>>,
@@ -240,7 +240,7 @@ fn insert(
     Ok(())
 }
 
-// These values, and one more.
+// Appends a value to these.
 fn with_last(
     alloc: Global,
     values: Option<&List<Blob>>,
@@ -256,7 +256,7 @@ fn with_last(
     Ok(more)
 }
 
-// How many values there are, up to the greatest number.
+// Returns the number of values, saturating.
 fn count_values(fields: &[(Text, List<Blob>)]) -> usize
     ensures { result ≡ min (sum_by (λ e. length e.1) fields.now) (2 ^ 64 - 1) }
 {
@@ -273,7 +273,7 @@ fn is_full(fields: &[(Text, List<Blob>)]) -> bool
     count_values(fields) >= 1000
 }
 
-// Whether a name in lower case is this one in any case.
+// Returns whether a name in lower case is this one, ignoring case.
 fn is_named(lower: &str, name: &str) -> bool
     requires { IsHeaderName lower.now }
     ensures { result ≡ eq_by_cmp by_bytes (lowercase name.now) lower.now }
@@ -281,7 +281,7 @@ fn is_named(lower: &str, name: &str) -> bool
     name.eq_ignore_ascii_case(lower)
 }
 
-// The values of a name.
+// Returns the values of a name.
 fn values_in<'a>(fields: &'a [(Text, List<Blob>)], name: &str) -> Option<&'a List<Blob>>
     requires { All (λ e. IsHeaderName e.0) fields.now }
     ensures { option_copied result ≡ find by_bytes (lowercase name.now) fields.now }
@@ -294,7 +294,7 @@ fn values_in<'a>(fields: &'a [(Text, List<Blob>)], name: &str) -> Option<&'a Lis
     None
 }
 
-// The fields of other names, from the last one on.
+// Returns the fields with other names, starting at the last one.
 fn others(
     alloc: Global,
     fields: &[(Text, List<Blob>)],

@@ -1,4 +1,4 @@
-//! Requests, answers, and the transport that carries them.
+//! Requests, answers, and the transports that carry them.
 #![tactic(auto)]
 
 mod body;

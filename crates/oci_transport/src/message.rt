@@ -22,14 +22,14 @@ pub struct Request {
     pub body: Blob,
 }
 
-/// What comes before an answer's body.
+/// The status and headers of an answer.
 #[derive(Drop)]
 pub struct AnswerHead {
     pub status: u16,
     pub headers: Headers,
 }
 
-/// A whole answer.
+/// A complete answer.
 #[derive(Drop)]
 pub struct Answer {
     pub status: u16,
@@ -37,7 +37,7 @@ pub struct Answer {
     pub body: Blob,
 }
 
-/// A request with its whole answer, or with none where the send failed, and the count of faults as it was sent.
+/// A request with its complete answer, or with none if the send failed, and the fault count when it was sent.
 #[derive(Drop)]
 pub struct Exchange {
     pub request: Request,
@@ -45,7 +45,7 @@ pub struct Exchange {
     pub faults: u64,
 }
 
-/// Exchanges in their order.
+/// Exchanges in order.
 pub type Conversation = List<Exchange>;
 
 impl Copied for Method {

@@ -4,16 +4,16 @@ use crate::headers::Headers;
 use json_values::{Blob, Copied, List, copied};
 use std::alloc::{AllocError, Global};
 
-/// A recorded answer, or a send that fails.
+/// A recorded answer, or a failing send.
 #[derive(Drop)]
 pub struct Recorded {
-    /// The send fails, and the other fields say nothing.
+    /// The send fails, and the other fields are ignored.
     pub fails: bool,
     pub status: u16,
     pub headers: Headers,
-    /// The body, in pieces that are not empty.
+    /// The body, in non-empty pieces.
     pub pieces: List<Blob>,
-    /// The call fails, once, before which this many pieces of the body were given.
+    /// The call after this many pieces of the body fails, once.
     pub fails_before: Option<u64>,
     ghost none_empty: { NoneEmpty pieces },
 }

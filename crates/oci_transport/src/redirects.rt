@@ -1,4 +1,4 @@
-// Where a redirect leads.
+// The target of a redirect.
 ghost use Rattle.std.specs.Prelude.{◌≡◌, IfOk, IsErrOf, Some, None};
 ghost use Rattle.oci_transport.specs.Redirects.{joined_text, may_follow, is_redirect_status, kept_headers, moved};
 ghost use Rattle.oci_transport.specs.Redirects.{moved_text, moved_from, moved_to, redirected};
@@ -70,7 +70,7 @@ fn moved(
     })
 }
 
-// The text is read as that of any request.
+// Parses the text as the URL of any request.
 fn moved_text(
     alloc: Global,
     request: &Request,
@@ -117,9 +117,9 @@ fn moved_to(alloc: Global, request: &Request, location: &str) -> Result<Option<R
     }
 }
 
-/// The request that an answer of this head leads to (RFC 9110, section 15.4): the request was GET or HEAD, the status
-/// is 301, 302, 303, 307 or 308, and the first `location` is text that reads, against the request's URL, as the URL of
-/// a request. The new request has no `authorization` where its scheme, host or port is another.
+/// Returns the request to which an answer with this head leads (RFC 9110, section 15.4), if the request was GET or
+/// HEAD, the status is 301, 302, 303, 307 or 308, and the first `location`, resolved against the request's URL, is the
+/// URL of a request. The new request has no `authorization` if its scheme, host or port differs.
 #[tactic(auto, unfolding(crate::specs::Redirects::redirected))]
 pub fn redirected(
     alloc: Global,

@@ -11,7 +11,7 @@ use crate::transport::{LinkError, Transport};
 use json_values::{Blob, Copied, List, copied};
 use std::alloc::{AllocError, Global};
 
-/// Gives its answers in order, whatever is asked, and fails after the last of them. It tells all that it did.
+/// Returns its answers in order, for any requests, and fails after the last of them. It exposes all that it did.
 #[derive(Drop)]
 pub struct Script {
     answers: List<Recorded>,
@@ -26,7 +26,7 @@ pub struct Script {
 impl Script {
     ghost use Rattle.oci_transport.specs.Script.{state_of, answers_of, stop_of};
 
-    /// A script of these answers, of which none was given yet.
+    /// Creates a script of these answers.
     pub fn new(alloc: Global, answers: List<Recorded>) -> Script
         ensures told { (state_of result).told ≡ Some [] }
         ensures faults { (state_of result).faults ≡ 0 }
@@ -42,7 +42,7 @@ impl Script {
         }
     }
 
-    // Before how many pieces of the last answer a call will fail.
+    // Returns before how many pieces of the last answer a call will fail.
     fn stop(&self) -> Option<u64>
         ensures { result ≡ stop_of self.now }
     {
@@ -52,7 +52,7 @@ impl Script {
         last_stop(self.answers.as_slice(), self.told.as_slice().len())
     }
 
-    /// All exchanges so far.
+    /// Returns all exchanges so far.
     pub fn conversation(&self) -> &Conversation
         ensures told { Some result.now ≡ (state_of self.now).told }
         ensures calm { IsCalm (answers_of self.now) result.now (state_of self.now).faults }
@@ -177,7 +177,7 @@ impl Transport for Script {
     }
 }
 
-// The answer at this place, its body whole. None where the send fails or the list has ended.
+// Returns the answer at this index, its body in one piece. Returns `None` if the send fails or the list has ended.
 fn recorded_answer(
     alloc: Global,
     answers: &[Recorded],
@@ -202,7 +202,7 @@ fn recorded_answer(
     }
 }
 
-// The pieces as one.
+// Joins the pieces.
 fn join(alloc: Global, pieces: &[Blob]) -> Result<Blob, AllocError>
     ensures { IfOk result (λ body. body ≡ joined pieces.now) }
 {
@@ -213,7 +213,7 @@ fn join(alloc: Global, pieces: &[Blob]) -> Result<Blob, AllocError>
     Ok(body)
 }
 
-// The pieces of the last answer, where so many requests were sent.
+// Returns the pieces of the last answer, given the number of requests sent.
 fn last_pieces(answers: &[Recorded], sent: usize) -> &[Blob]
     ensures pieces { result.now ≡ last_pieces answers.now sent }
     ensures none_empty { NoneEmpty result.now }
@@ -232,7 +232,7 @@ fn last_pieces(answers: &[Recorded], sent: usize) -> &[Blob]
     }
 }
 
-// Before how many pieces of the last answer a call fails.
+// Returns before how many pieces of the last answer a call fails.
 fn last_stop(answers: &[Recorded], sent: usize) -> Option<u64>
     ensures { result ≡ last_stop answers.now sent }
 {
@@ -250,7 +250,7 @@ fn last_stop(answers: &[Recorded], sent: usize) -> Option<u64>
     }
 }
 
-// A number of pieces, where there are so many.
+// Returns the number, if there are that many pieces.
 fn stop_within(fails_before: Option<u64>, pieces: usize) -> Option<u64>
     ensures { result ≡ stop_within fails_before pieces }
 {

@@ -1,4 +1,4 @@
-// What carries requests to a registry, and its answers back.
+// Carries requests to a registry, and returns its answers.
 ghost use Rattle.std.specs.Prelude.{◌≡◌, ◌≤◌, [], IfOk, IsErrOf};
 ghost use Rattle.json_values.specs.Counts.{Rose};
 ghost use Rattle.oci_transport.specs.Link.{Link, Steady, Answers, AddsUnanswered, AddsAtMost, LeavesRest, Takes};
@@ -9,13 +9,13 @@ use json_values::{Blob, Copied};
 use std::alloc::{AllocError, AllocFailed, Global};
 use thiserror::Error;
 
-/// Why a transport did not answer.
+/// Why a transport returned no answer.
 #[derive(Clone, Copy, Debug, PartialEq, Eq, Error)]
 pub enum LinkError {
-    /// The connection failed, and the count of faults rose.
+    /// The connection failed, and the fault count increased.
     #[error("the connection failed: send the request again")]
     Failed,
-    /// The allocator had no memory.
+    /// The allocator is out of memory.
     #[error("out of memory: free some and try again")]
     WantOfMemory,
 }
@@ -44,12 +44,12 @@ impl<T: Drop> From<AllocFailed<T>> for LinkError {
 
 /// Carries requests, one after another, and the bodies of their answers piece by piece.
 pub trait Transport {
-    /// The exchanges so far, the rest of the last answer's body, the count of faults, and what it answers by. Of a
-    /// transport that does not tell its exchanges, what it answers by says nothing.
+    /// The exchanges so far, the rest of the last answer's body, the fault count, and how the transport answers, which
+    /// means nothing unless it exposes its exchanges.
     ghost state: { Self → Link };
 
-    /// Sends a request, and answers the head of its answer, of whose body nothing is taken yet. `Failed` where no
-    /// answer came: then nothing can be taken, also of an answer before.
+    /// Sends a request and returns the status and headers of the answer; its body is still unread. Returns `Failed` if
+    /// no answer arrived: then no body can be read, not even that of the answer before.
     fn send(&mut self, alloc: Global, request: &Request) -> Result<AnswerHead, LinkError>
         ensures count { (state self.old).faults ≤ (state self.new).faults }
         ensures answered { IfOk result (λ head.
@@ -63,7 +63,7 @@ pub trait Transport {
         ensures memory { IsErrOf result LinkError.WantOfMemory
             → AddsAtMost request.now (state self.old) (state self.new) };
 
-    /// The next piece of the last answer's body. An empty one ends it.
+    /// Returns the next piece of the last answer's body. An empty piece ends the body.
     fn piece(&mut self, alloc: Global) -> Result<Blob, LinkError>
         ensures told { (state self.new).told ≡ (state self.old).told }
         ensures steady { Steady (state self.old) (state self.new) }
@@ -72,7 +72,7 @@ pub trait Transport {
         ensures fault { IsErrOf result LinkError.Failed
             → Rose (state self.old).faults (state self.new).faults };
 
-    /// How often it failed, up to the greatest count.
+    /// Returns the number of failures so far, saturating at `u64::MAX`.
     fn faults(&self) -> u64
         ensures { result ≡ (state self.now).faults };
 }

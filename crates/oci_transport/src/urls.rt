@@ -8,13 +8,13 @@ use std::alloc::{AllocError, Global};
 use thiserror::Error;
 use url::{ParseError, Url};
 
-/// Why a text is no URL of a request.
+/// Why a string is not the URL of a request.
 #[derive(Clone, Copy, Debug, PartialEq, Eq, Error)]
 pub enum UrlError {
-    /// It does not read as a URL, its scheme is neither `http` nor `https`, or it has a user name or a password.
+    /// It is not a URL, its scheme is neither `http` nor `https`, or it has a user name or a password.
     #[error("not a URL that a request can go to: give http or https, a host, and no user or password")]
     Refused,
-    /// The allocator had no memory.
+    /// The allocator is out of memory.
     #[error("out of memory: free some and try again")]
     WantOfMemory,
 }
@@ -32,7 +32,7 @@ fn is_web(url: &Url) -> bool
         && (url.username().is_empty() && url.password().is_none())
 }
 
-/// The URL of a request: an `http` or `https` URL with no user name and no password.
+/// Parses the URL of a request: an `http` or `https` URL without user name and password.
 #[tactic(auto, unfolding(crate::specs::Urls::request_url))]
 pub fn request_url(alloc: Global, text: &str) -> Result<Url, UrlError>
     ensures ok { IfOk result (λ url. request_url text.now ≡ Some url) }
@@ -51,7 +51,7 @@ pub fn request_url(alloc: Global, text: &str) -> Result<Url, UrlError>
     }
 }
 
-/// The URL of a registry, as `scheme://registry` reads.
+/// Parses the URL of a registry: the URL of the text `scheme://registry`.
 pub fn registry_url(alloc: Global, scheme: &str, registry: &str) -> Result<Url, UrlError>
     ensures ok { IfOk result (λ url.
         request_url (registry_text scheme.now registry.now) ≡ Some url) }
@@ -103,8 +103,8 @@ pub(crate) fn same_origin(a: &Url, b: &Url) -> bool
     a.scheme() == b.scheme() && same_place(a, b)
 }
 
-/// Whether the URL goes to the registry: equal hosts, equal ports (given or known), and not `http` where the registry's
-/// URL is `https`.
+/// Returns whether the URL goes to the registry: equal hosts, equal ports (given or default), and not `http` if the
+/// registry's URL is `https`.
 #[tactic(auto, unfolding(crate::specs::Urls::targets))]
 pub fn targets(url: &Url, registry_url: &Url) -> bool
     ensures { result ≡ targets url.now registry_url.now }

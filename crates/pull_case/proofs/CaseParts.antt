@@ -1,4 +1,4 @@
--- What holds of each case.
+-- Properties of every case.
 use Rattle.std.proofs.Common.{◌≡◌, codes, ℕ, ◌<◌, List, Bool, true, nat_lt, if◌then◌else◌, length, Option, Some, None, Result, Ok, Err, IfSome, IsOk, is_ok, refl, subst, arith}
 use Rattle.std.proofs.lemmas.Bool.Decides.{nat_tests}
 use Rattle.std.specs.Prelude.{[], false, IsTrue, option_map}
@@ -35,7 +35,7 @@ passed_here : {A : Type 0} (test : A → Bool) (b : Bool) (x a : A) → test x �
 passed_here test true x a p q = cc
 passed_here test b x a p q = cc
 
--- what was read passes the test
+-- a value that was read passes the test
 passed : {A : Type 0} (test : A → Bool) (o : Option A) (a : A) → (o >>= passing test) ≡ Some a → test a ≡ true
 passed test None a e = cc
 passed test (Some x) a e = passed_here test (test x) x a refl e
@@ -77,7 +77,7 @@ registry_leads : (d : Data) (r : Registry) → registry_of d ≡ Some r → Lead
 unfolding registry_of
 registry_leads d r e = one_leads (get (codes "answers") d) (get (codes "shelf") d) r e
 
--- what holds of each value behind what was read holds where that is there
+-- a property of each value after what was read holds for it, if it is present
 pub through : {A B : Type 0} (P : B → Type 0) (o : Option A) (k : A → Option B) → ((a : A) → o ≡ Some a → IfSome (k a) P)
     → IfSome (o >>= k) P
 through P None k h = tt
@@ -109,7 +109,7 @@ members_of d =
     through (HasRead d) (at_name (unless_absent (judge_by []) judge_of) (codes "vouched") d) _ (λ vouched _.
     (is_reference, are_moments, is_registry))))))))))))))))
 
--- what follows from what holds of a value that is there
+-- a consequence of a property of a value, if the value is present
 follows : {A : Type 0} (P Q : A → Type 0) (o : Option A) → IfSome o P → ((a : A) → P a → Q a) → IfSome o Q
 follows P Q None h f = tt
 follows P Q (Some a) h f = f a h
@@ -123,7 +123,7 @@ pub case_timed : (d : Data) → IfSome (case_of d) (λ case. 0 < length case.mom
 case_timed d =
     follows _ _ (case_of d) (members_of d) (λ case h. has_moments (get (codes "moments") d) case.moments h.1)
 
--- the same of the case that JSON says
+-- the same for the case in JSON data
 pub json_ready : (o : Option Data) → IfSome (o >>= case_of) IsReady
 json_ready None = tt
 json_ready (Some d) = case_ready d

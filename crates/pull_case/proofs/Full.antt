@@ -1,4 +1,4 @@
--- Pieces of which none is empty.
+-- Pieces none of which is empty.
 use Rattle.std.proofs.Common.{◌≡◌, ◌∙◌, ℕ, ◌<◌, List, [], ◌∷◌, length, Some, None, option_map, refl, ap, arith}
 use Rattle.std.proofs.Math.Nat.{zero-lt-suc}
 use Rattle.std.proofs.Props.{props}

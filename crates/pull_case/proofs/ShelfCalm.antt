@@ -1,4 +1,4 @@
--- A shelf's transport stays one of which no exchange failed.
+-- No exchange of a shelf's transport fails.
 use Rattle.std.proofs.Common.{◌≡◌, List, [], ◌∷◌, ◌++◌, Some, Result, Ok, Err, false, refl, sym, subst, ◌∙◌}
 use Rattle.std.specs.Prelude.{IfOk, IsErrOf, IsTrue}
 use Rattle.oci_transport.specs.Calm.{calm}
@@ -26,7 +26,7 @@ still_quiet (Ok head) request old new answered fails memory quiet = λ told is.
 still_quiet (Err Failed) request old new answered fails memory quiet = absurd (fails refl)
 still_quiet (Err WantOfMemory) request old new answered fails memory quiet = subst IsQuiet (sym (memory refl)) quiet
 
--- nothing of a shelf fails
+-- a shelf has no faults
 pub shelf_calm : (shelf : Shelf) (told : List Exchange) → IsTrue (calm (λ place. false) 0 told 0) → IsTrue (calm (answering shelf).fails 0 told 0)
 unfolding answering
 shelf_calm shelf told h = h

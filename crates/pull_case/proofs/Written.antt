@@ -1,4 +1,4 @@
--- What constraints that are written accept is the same whatever a policy's boxes mean, since none of them is a box.
+-- Written constraints accept the same whatever a policy's boxes mean, since none of them is a box.
 use Rattle.std.proofs.Common.{◌≡◌, ℕ, Bool, ◌&&◌, List, [], ◌∷◌, refl, ap, ◌∙◌}
 use Rattle.std.specs.List.{list_all}
 use Rattle.cosign_layers.specs.Constraint.{has_no_item, accepts}

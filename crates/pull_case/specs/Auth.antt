@@ -23,7 +23,7 @@ bearer_of d = do
   token ← required text_of (codes "bearer") d
   Some (Bearer token)
 
--- `anonymous` is none, and an object has the one or the other
+-- `anonymous`, or an object with either a user name and a password or a token
 unfoldable pub auth_of : Data → Option RegistryAuth
 auth_of (string text) = if bytes_eq text (codes "anonymous") then Some Anonymous else None
 auth_of d = option_or (basic_of d) (bearer_of d)

@@ -1,4 +1,4 @@
--- Recorded cases: what to pull, under which policy, and what the registry answers.
+-- Recorded cases: what to pull, under which policy, and what the registry responds with.
 use Rattle.std.specs.Prelude.{ℕ, nat_lt, false, List, [], ◌∷◌, Option, Some, None, is_ok, IsOk, length, codes}
 use Rattle.std.specs.FinMap.{empty}
 use Rattle.serde_json.specs.Data.{Data}
@@ -19,14 +19,14 @@ use Rattle.pull_case.specs.Registry.{registry_of, Leads}
 use Rattle.pull_case.specs.Trust.{signature_of, judge_of, judge_by, log_keys_of}
 use Rattle.pull_case.specs.declared.case.Case.{Case}
 
--- a text that reads as a reference
+-- a string that parses as a reference
 unfoldable pub reference_text_of : Data → Option (List ℕ)
 reference_text_of d = text_of d >>= passing (λ text. is_ok (reference_of text))
 
 unfoldable pub protocol_of : Data → Option ClientProtocol
 protocol_of d = text_of d >>= protocol_named
 
--- a list of at least one moment
+-- a list with at least one moment
 unfoldable pub moments_of : Data → Option (List ℕ)
 moments_of d = list_of u64_of d >>= passing (λ moments. nat_lt 0 (length moments))
 
@@ -50,10 +50,10 @@ members =
     ∷ codes "shelf"
     ∷ []
 
--- An object with no members but these. The protocol may be absent, which is `https`, the credentials, which are
--- anonymous, the platform, which is none, as null is, whether answers are kept, which they are not, the limit of a
--- body, which is the client's own, and the keys of logs and what is vouched, which are none. Exactly one of `answers`
--- and `shelf` is there.
+-- An object with no other members. Members may be absent: the protocol (then `https`), the credentials (then
+-- anonymous), the platform (then none, as with null), `caching` (then off), the limit of a body (then the client's
+-- default), the keys of logs and the vouched certificates (then none). Exactly one of `answers` and `shelf` is
+-- present.
 unfoldable pub case_of : Data → Option Case
 case_of d = do
   known ← only members d
@@ -88,10 +88,10 @@ case_of d = do
     registry = registry;
   })
 
--- the case that a JSON text without floats says
+-- the case in a JSON text without floats
 abbrev pub case_in : List ℕ → Option Case
 case_in bytes = plain_json_of bytes >>= case_of
 
--- its reference reads as one, and the redirects of its shelf lead to an end
+-- its reference parses, and the redirects of its shelf all end
 abbrev pub IsReady : Case → Type 0
 IsReady case = IsOk (reference_of case.reference) × Leads case.registry

@@ -1,4 +1,4 @@
--- Constraints of a policy as a case writes them.
+-- Constraints of a policy as written in a case.
 use Rattle.std.specs.Prelude.{[], ◌∷◌, Option, Some, option_map, codes}
 use Rattle.std.specs.Option.{option_or}
 use Rattle.serde_json.specs.Data.{Data}
@@ -12,14 +12,14 @@ use Rattle.pull_case.specs.Members.{null_or}
 use Rattle.pull_case.specs.declared.constraint.WrittenConstraint.{WrittenConstraint}
 use Rattle.pull_case.specs.declared.constraint.WrittenConstraint.TheVariants.{Annotations, Email, Url}
 
--- pairs that have to stand in a payload
+-- pairs that a payload must contain
 unfoldable pub annotations_of : Data → Option AnnotationVerifier
 annotations_of d = do
   known ← only (codes "annotations" ∷ []) d
   annotations ← required (map_of text_of) (codes "annotations") d
   Some (record { annotations = annotations })
 
--- an email and its issuer, which null leaves open
+-- an email and its issuer; null accepts every issuer
 unfoldable pub email_of : Data → Option CertSubjectEmailVerifier
 email_of d = do
   known ← only (codes "email" ∷ codes "issuer" ∷ []) d
@@ -35,10 +35,10 @@ url_of d = do
   issuer ← required text_of (codes "issuer") d
   Some (record { url = url; issuer = issuer })
 
--- a constraint on whom a certificate was given to
+-- a constraint on a certificate's subject
 abbrev pub subject_of : Data → Option WrittenConstraint
 subject_of d = option_or (option_map Email (email_of d)) (option_map Url (url_of d))
 
--- a constraint of one of the three forms
+-- a constraint in one of the three forms
 unfoldable pub constraint_of : Data → Option WrittenConstraint
 constraint_of d = option_or (option_map Annotations (annotations_of d)) (subject_of d)

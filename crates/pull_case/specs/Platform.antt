@@ -1,4 +1,4 @@
--- Which image of an index is meant.
+-- Which image of an index is selected.
 use Rattle.std.specs.Prelude.{ℕ, List, [], ◌∷◌, length, nat_lt, ◌==◌, Option, Some, None, codes, if◌then◌else◌}
 use Rattle.std.specs.List.{position_or_len, before_first, after_first}
 use Rattle.serde_json.specs.Data.{Data, string}
@@ -8,7 +8,7 @@ use Rattle.json_tables.specs.Member.{required}
 use Rattle.oci_platforms.specs.declared.promise.ResolverPromise.{ResolverPromise}
 use Rattle.oci_platforms.specs.declared.promise.ResolverPromise.TheVariants.{FirstMatch, Fixed}
 
--- a system and an architecture, before and behind the first slash
+-- an operating system and an architecture, before and after the first slash
 abbrev pub platform_named : List ℕ → Option ResolverPromise
 platform_named text =
     if nat_lt (position_or_len (λ b. b == 47) text) (length text)
@@ -22,7 +22,7 @@ fixed_of d = do
   digest ← required text_of (codes "digest") d
   Some (Fixed digest)
 
--- the first image for a system and an architecture, or the image of a digest
+-- the first image for an operating system and an architecture, or the image of a digest
 unfoldable pub platform_of : Data → Option ResolverPromise
 platform_of (string text) = platform_named text
 platform_of d = fixed_of d

@@ -11,7 +11,7 @@ use Rattle.pull_case.specs.declared.case.Case.{Case}
 use Rattle.pull_case.specs.declared.constraint.WrittenConstraint.{WrittenConstraint}
 use Rattle.pull_case.specs.declared.constraint.WrittenConstraint.TheVariants as written
 
--- the constraint that is written
+-- the constraint that is written in the case
 abbrev pub constraint_by : {V : Type 0} {H : V → Type 0} → WrittenConstraint → Constraint V H
 constraint_by (written.Annotations asked) = constraint.Annotations asked
 constraint_by (written.Email asked) = constraint.Email asked
@@ -21,11 +21,11 @@ constraint_by (written.Url asked) = constraint.Url asked
 abbrev pub constraints_by : {V : Type 0} {H : V → Type 0} → List WrittenConstraint → List (Constraint V H)
 constraints_by written = map constraint_by written
 
--- the policy of a case; no box of a caller stands in it
+-- the policy of a case; it has no box of a caller
 abbrev pub policy_of : Case → PullPolicy ⊥ (λ v. ⊥)
 policy_of case = record { keys = case.keys; constraints = constraints_by case.constraints }
 
--- whom a case trusts: the signatures that are valid, what is vouched of certificates, and the keys of logs
+-- whom a case trusts: the signatures that are valid, the vouched certificates, and the keys of logs
 abbrev pub trust_of : Case → Trust
 trust_of case = trust (valid_in (record { rows = case.signatures })) (vouched_in case.vouched) case.log_keys
 

@@ -1,4 +1,4 @@
--- What a case's registry answers: recorded answers, or those of a shelf.
+-- The responses of a case's registry: recorded answers, or those of a shelf.
 use Rattle.std.specs.Prelude.{Option, Some, None, option_map, IsTrue, codes}
 use Rattle.serde_json.specs.Data.{Data}
 use Rattle.serde_json.specs.Find.{get}
@@ -12,7 +12,7 @@ use Rattle.pull_case.specs.Shelf.{shelf_of}
 use Rattle.pull_case.specs.declared.registry.Registry.{Registry}
 use Rattle.pull_case.specs.declared.registry.Registry.TheVariants.{Answers, Shelf}
 
--- exactly one of the two is there
+-- exactly one of the two is present
 abbrev pub one_of : Option Data → Option Data → Option Registry
 one_of (Some answers) None = option_map Answers (list_of answer_of answers)
 one_of None (Some shelf) = option_map Shelf (shelf_of shelf)
@@ -23,12 +23,12 @@ one_of None None = None
 unfoldable pub registry_of : Data → Option Registry
 registry_of d = one_of (get (codes "answers") d) (get (codes "shelf") d)
 
--- the redirects of a shelf lead to an end
+-- the redirects of a shelf all end
 abbrev pub Leads : Registry → Type 0
 Leads (Answers answers) = Unit {0}
 Leads (Shelf shelf) = IsTrue (redirects_lead shelf)
 
--- one recorded answer after another, or the table of answers of the shelf
+-- the recorded answers one after another, or the shelf's response table
 abbrev pub answering_by : Registry → Answering
 answering_by (Answers answers) = recorded.answering answers
 answering_by (Shelf held) = shelf.answering held

@@ -1,4 +1,4 @@
--- What a replay of a case's registry shows.
+-- The state of a replay of a case's registry.
 use Rattle.std.specs.Prelude.{◌≡◌, IsTrue, List, Some, None}
 use Rattle.oci_transport.specs.Calm.{calm}
 use Rattle.oci_transport.specs.Link.{Link, Answering}
@@ -21,17 +21,17 @@ abbrev pub answering_of : Replay → Answering
 answering_of (Script s) = recorded.answering (script.answers_of s)
 answering_of (Shelf t) = shelf.answering (shelf.shelf_of t.transport)
 
--- the next request gets no answer: its send is recorded as one that fails, or the records have ended
+-- the next request gets no answer: its send is recorded as one that fails, or no records are left
 abbrev pub IsUnanswered : Replay → Type 0
 IsUnanswered (Script s) = script.next_answer s ≡ None
 IsUnanswered (Shelf t) = ⊥
 
--- a fault is recorded before the next piece, and was not met yet
+-- a fault is recorded before the next piece, and has not occurred yet
 abbrev pub FaultIsNext : Replay → Type 0
 FaultIsNext (Script s) = script.stop_of s ≡ Some (script.given_of s)
 FaultIsNext (Shelf t) = ⊥
 
--- it failed only where what it answers by may fail
+-- it failed only if its recording or shelf may fail
 abbrev pub IsCalm : Replay → Type 0
 IsCalm replay = (told : List Exchange) → (state_of replay).told ≡ Some told
     → IsTrue (calm (answering_of replay).fails 0 told (state_of replay).faults)

@@ -1,4 +1,4 @@
--- A registry in memory, as a case writes it.
+-- A registry in memory, as written in a case.
 use Rattle.std.specs.Prelude.{List, [], ◌∷◌, ℕ, Option, Some, codes}
 use Rattle.std.specs.FinMap.{empty}
 use Rattle.serde_json.specs.Data.{Data}
@@ -31,7 +31,7 @@ shelf_members =
     ∷ []
 
 -- A repository with its maps: from tags to digests, from digests to documents, to blobs and to lists of referrers,
--- and from URLs to those that they redirect to, which may be absent.
+-- and, which may be absent, from URLs to the URLs that they redirect to.
 unfoldable pub maps_of : Data → Option Shelf
 maps_of d = do
   known ← only shelf_members d
@@ -50,6 +50,6 @@ maps_of d = do
     redirects = redirects;
   })
 
--- a shelf is one whose redirects lead to an end
+-- a shelf, whose redirects all end
 abbrev pub shelf_of : Data → Option Shelf
 shelf_of d = maps_of d >>= passing redirects_lead

@@ -1,4 +1,4 @@
--- Whom a case trusts: signatures that are valid, certificates that are vouched for, keys of logs.
+-- Whom a case trusts: valid signatures, vouched certificates, keys of logs.
 use Rattle.std.specs.Prelude.{ℕ, List, [], ◌∷◌, Option, Some, None, codes, if◌then◌else◌}
 use Rattle.std.specs.FinMap.{FinMap}
 use Rattle.serde_json.specs.Data.{Data}
@@ -21,7 +21,7 @@ signature_of d = do
   signature ← required bytes_of (codes "signature") d
   Some (record { key = key; message = message; signature = signature })
 
--- what is vouched of one certificate
+-- what is vouched for one certificate
 unfoldable pub vouched_of : Data → Option VouchedRow
 vouched_of d = do
   known ← only (codes "certificate" ∷ codes "key" ∷ codes "email" ∷ codes "url" ∷ codes "issuer" ∷ []) d
@@ -35,11 +35,11 @@ vouched_of d = do
 abbrev pub judge_by : List VouchedRow → TableJudge
 judge_by rows = record { rows = rows }
 
--- rows of which no two have one certificate
+-- rows of which no two have the same certificate
 abbrev pub judge_with : List VouchedRow → Option TableJudge
 judge_with rows = if has_two_equal rows then None else Some (judge_by rows)
 
--- a list of what is vouched, of distinct certificates
+-- a list of what is vouched for distinct certificates
 unfoldable pub judge_of : Data → Option TableJudge
 judge_of d = list_of vouched_of d >>= judge_with
 

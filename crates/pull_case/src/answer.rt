@@ -66,7 +66,7 @@ fn read_answer(alloc: Global, value: &Value) -> Result<Recorded, ReadError>
     })
 }
 
-// The status, a number from 100 to 999.
+// The status, an integer from 100 to 999.
 fn read_status(alloc: Global, value: &Value) -> Result<u16, ReadError>
     ensures { Gives result (required status_of (codes "status") (view value.now)) }
 {
@@ -77,7 +77,7 @@ fn read_status(alloc: Global, value: &Value) -> Result<u16, ReadError>
     Ok(status)
 }
 
-// The pieces of the body; none where the member is absent.
+// The pieces of the body; none if the member is absent.
 fn read_pieces(alloc: Global, value: &Value) -> Result<List<Blob>, ReadError>
     ensures { Gives result (at_name (unless_absent [] (list_of bytes_of)) (codes "pieces") (view value.now)) }
 {
@@ -87,7 +87,7 @@ fn read_pieces(alloc: Global, value: &Value) -> Result<List<Blob>, ReadError>
     }
 }
 
-// Before how many pieces a call fails; never where the member is absent.
+// Before how many pieces a call fails; never if the member is absent.
 fn read_fault(alloc: Global, value: &Value) -> Result<Option<u64>, ReadError>
     ensures { Gives result (at_name (unless_absent None number_of) (codes "fault") (view value.now)) }
 {

@@ -15,41 +15,41 @@ use oci_platforms::PlatformResolver;
 use serde_json::Value;
 use std::alloc::{AllocError, Global};
 
-/// A recorded case: a JSON object with a member of each field's name and no others. Bytes are a text, which stands for
-/// its UTF-8, or `{"base64": text}` with a text in padded standard base64 (RFC 4648, 4).
+/// A recorded case: a JSON object with exactly one member for each field, of the field's name. Bytes are a string,
+/// which means its UTF-8, or `{"base64": text}` with padded standard base64 (RFC 4648, 4).
 #[derive(Drop)]
 pub struct Case {
-    /// A text that reads as a reference.
+    /// A string that parses as a reference.
     pub reference: Text,
-    /// `"http"` or `"https"`; `https` where the member is absent.
+    /// `"http"` or `"https"`; `https` if the member is absent.
     pub protocol: ClientProtocol,
-    /// `"anonymous"`, `{"basic": [user, password]}` or `{"bearer": token}`; anonymous where the member is absent.
+    /// `"anonymous"`, `{"basic": [user, password]}` or `{"bearer": token}`; anonymous if the member is absent.
     pub auth: RegistryAuth,
-    /// A list of texts, the media types of layers that are accepted.
+    /// A list of strings, the accepted media types of layers.
     pub accepted: List<Text>,
     /// `"os/architecture"`, split at the first slash, for the first image of an index that is for it, or
-    /// `{"digest": text}` for the image of that digest; an index is refused where the member is absent or null.
+    /// `{"digest": text}` for the image of that digest; an index is refused if the member is absent or null.
     pub platform: Option<PlatformResolver>,
-    /// Whether the client keeps answers between its pulls; it does not where the member is absent.
+    /// Whether the client caches responses between its pulls; false if the member is absent.
     pub caching: bool,
-    /// A list of at least one number, in seconds since 1970, at each of which the image is pulled.
+    /// A list with at least one integer, in seconds since 1970: the image is pulled at each.
     pub moments: List<u64>,
-    /// How many bytes a body may have that is held; the client's own limit where the member is absent.
+    /// The maximum number of bytes of a body that is held; the client's default if the member is absent.
     pub limit: Option<u64>,
     /// A list of bytes, the keys of the policy.
     pub keys: List<Blob>,
     /// The constraints of the policy, a list of `{"annotations": {name: text}}`, `{"email": text, "issuer": text or
     /// null}` and `{"url": text, "issuer": text}`.
     pub constraints: List<WrittenConstraint>,
-    /// An object from the ids of transparency logs to bytes, their keys; none where the member is absent.
+    /// An object from the ids of transparency logs to bytes, their keys; none if the member is absent.
     pub log_keys: LogKeys,
     /// A list of `{"key": bytes, "message": text, "signature": bytes}`, the signatures that are valid.
     pub signatures: List<SignedRow>,
-    /// A list of `{"certificate": bytes, "key": bytes, "email": text, "url": text, "issuer": text}` of which the last
-    /// three may be absent or null: what is vouched of certificates, no two of which are equal; nothing where the
-    /// member is absent.
+    /// A list of `{"certificate": bytes, "key": bytes, "email": text, "url": text, "issuer": text}`, the last three of
+    /// which may be absent or null: what is vouched for certificates, no two of which are equal; nothing if the member
+    /// is absent.
     pub vouched: TableJudge,
-    /// What the registry answers: the member `answers` or the member `shelf`, and not both.
+    /// The registry's responses: the member `answers` or the member `shelf`, not both.
     pub registry: Registry,
 }
 
@@ -71,7 +71,7 @@ const NAMES: &[&str] = &[
     "shelf",
 ];
 
-// The members from each one on, as they stand in `NAMES`; the registry is read by itself.
+// The members from each one on, in the order of `NAMES`; the registry is read by itself.
 type Judge = (OrUsual<TableJudge>, ());
 
 type Signatures = (Entries<SignedRow>, Judge);
@@ -141,8 +141,8 @@ impl Reads for Case {
     }
 }
 
-/// Reads a case. None exactly where the bytes are no JSON text (RFC 8259) that nests at most 127 deep, where a float
-/// stands in it, or where it is no object of the members that `Case` names.
+/// Parses a case. Returns `None` if and only if the bytes are not a JSON text (RFC 8259) with at most 127 levels of
+/// nesting, contain a float, or are not an object with the members of `Case`.
 pub fn read_case(alloc: Global, bytes: &[u8]) -> Result<Option<Case>, AllocError>
     ensures exact { IfOk result (λ found. found ≡ case_in bytes.now) }
     ensures ready { IfOk result (λ found. IfSome found IsReady) }

@@ -1,4 +1,4 @@
-// Constraints of a policy as a case writes them.
+// Constraints of a policy as written in a case.
 ghost use Rattle.std.specs.Prelude.{codes, option_map};
 ghost use Rattle.serde_json.specs.View.{view};
 ghost use Rattle.json_tables.specs.Outcomes.{Gives};
@@ -14,7 +14,7 @@ use json_values::{Copied, Text};
 use serde_json::Value;
 use std::alloc::{AllocError, Global};
 
-/// A constraint of a policy that a case can write.
+/// A constraint of a policy that can be written in a case.
 #[derive(Drop)]
 pub enum WrittenConstraint {
     /// `{"annotations": {name: text}}`
@@ -43,7 +43,7 @@ impl Entry for WrittenConstraint {
     }
 }
 
-// A constraint on whom a certificate was given to.
+// A constraint on a certificate's subject.
 fn read_subject(alloc: Global, value: &Value) -> Result<WrittenConstraint, ReadError>
     ensures { Gives result (subject_of (view value.now)) }
 {
@@ -86,7 +86,7 @@ fn read_url(alloc: Global, value: &Value) -> Result<CertSubjectUrlVerifier, Read
     Ok(CertSubjectUrlVerifier { url, issuer })
 }
 
-// The issuer, which null leaves open.
+// The issuer; null accepts every issuer.
 fn read_issuer(alloc: Global, value: &Value) -> Result<Option<Text>, ReadError>
     ensures { Gives result (required (null_or text_of) (codes "issuer") (view value.now)) }
 {

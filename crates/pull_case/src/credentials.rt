@@ -33,7 +33,7 @@ impl Usual for RegistryAuth {
     }
 }
 
-// A user name and a password, or else a token.
+// A user name and a password, or a token.
 fn read_object(alloc: Global, value: &Value) -> Result<RegistryAuth, ReadError>
     ensures { Gives result (option_or (basic_of (view value.now)) (bearer_of (view value.now))) }
 {

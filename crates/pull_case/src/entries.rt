@@ -1,4 +1,4 @@
-// Members whose values are of other crates' types, and lists of such.
+// Members and lists whose values have types of other crates.
 ghost use Rattle.serde_json.specs.Data.{Data};
 ghost use Rattle.serde_json.specs.View.{view, items_view, members_view};
 ghost use Rattle.std.specs.Prelude.{◌≡◌, Option};
@@ -14,12 +14,12 @@ use serde_json::{Map, Value};
 use std::alloc::Global;
 use std::marker::Model;
 
-/// What an entry of a list, or a member, is read as.
+/// The type of a member, or of an entry of a list.
 pub trait Entry: Sized {
-    /// What a value reads as.
+    /// What a JSON value parses as.
     ghost entry: { Data → Option Self };
 
-    /// `Shape` exactly where the value does not read.
+    /// Parses a value. Returns `Shape` if and only if the value does not match.
     fn read_entry(alloc: Global, value: &Value) -> Result<Self, ReadError>
         ensures { Gives result (entry (view value.now)) };
 }
@@ -104,7 +104,7 @@ fn read_map<T: Entry + Drop>(
     Ok(found)
 }
 
-/// What an absent member stands for.
+/// The value of an absent member.
 pub trait Usual: Entry {
     ghost usual: { Self };
 

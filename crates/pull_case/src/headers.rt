@@ -13,7 +13,7 @@ use oci_transport::{HeaderError, Headers};
 use serde_json::Value;
 use std::alloc::Global;
 
-/// The headers, a list of pairs of a name and a text; none where the member is absent.
+/// Reads the headers, a list of pairs of a name and a string; none if the member is absent.
 pub fn read_headers(alloc: Global, value: &Value) -> Result<Headers, ReadError>
     ensures { Gives result (at_name (unless_absent empty headers_of) (codes "headers") (view value.now)) }
 {
@@ -35,7 +35,7 @@ fn headers_from(alloc: Global, pairs: &[(Text, Text)]) -> Result<Headers, ReadEr
     Ok(headers)
 }
 
-// Adds a header behind the others of its name.
+// Appends a header to the others of its name.
 fn add_header(headers: &mut Headers, name: &str, text: &str) -> Result<(), ReadError>
     ensures { Adds result headers.old headers.new (name.now, text.now) }
 {

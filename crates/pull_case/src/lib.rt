@@ -1,4 +1,4 @@
-//! Recorded cases: what to pull, under which policy, and what the registry answers, read from JSON by their table.
+//! Recorded cases: what to pull, under which policy, and what the registry responds with, read from JSON by a table.
 #![tactic(auto)]
 
 mod answer;

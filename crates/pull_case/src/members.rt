@@ -1,4 +1,4 @@
-// Members of a case that have a rule of their own.
+// Members of a case with rules of their own.
 ghost use Rattle.std.specs.Prelude.{◌≡◌, IfOk, Some, is_ok, option_map};
 ghost use Rattle.json_tables.specs.Member.{present};
 ghost use Rattle.oci_names.specs.Reference.{reference_of};
@@ -16,7 +16,7 @@ use serde_json::Value;
 use std::alloc::{AllocError, Global};
 use std::marker::Model;
 
-/// A text that reads as a reference. A contract sees the text.
+/// A string that parses as a reference. A contract sees the string.
 #[derive(Drop)]
 pub struct ReferenceText {
     pub text: Text,
@@ -44,7 +44,7 @@ impl Member for ReferenceText {
     }
 }
 
-// Whether the text reads as a reference.
+// Whether the string parses as a reference.
 fn is_reference(alloc: Global, text: &str) -> Result<bool, AllocError>
     ensures { IfOk result (λ b. b ≡ is_ok (reference_of text.now)) }
 {
@@ -89,7 +89,7 @@ fn protocol_named(text: &str) -> Option<ClientProtocol>
     }
 }
 
-// A number, where there is one.
+// An integer, if present.
 impl Entry for Option<u64> {
     ghost entry = { number_of };
 

@@ -1,4 +1,4 @@
-// Which image of an index is meant.
+// Which image of an index is selected.
 ghost use Rattle.serde_json.specs.View.{view};
 ghost use Rattle.json_tables.specs.Outcomes.{Gives};
 ghost use Rattle.json_tables.specs.Member.{unless_null};
@@ -12,7 +12,7 @@ use serde_json::Value;
 use std::alloc::Global;
 use std::marker::Model;
 
-/// The resolver of platforms, where one is asked for. A contract sees its promise.
+/// The platform resolver, if one is given. A contract sees its promise.
 #[derive(Drop)]
 pub struct Platform {
     pub resolver: Option<PlatformResolver>,
@@ -53,7 +53,7 @@ fn read_platform(alloc: Global, value: &Value) -> Result<PlatformResolver, ReadE
     }
 }
 
-// A system and an architecture, before and behind the first slash.
+// An operating system and an architecture, before and after the first slash.
 fn read_named(alloc: Global, text: &str) -> Result<PlatformResolver, ReadError>
     ensures { Gives result (platform_named text.now) }
 {

@@ -7,7 +7,7 @@ use cosign_layers::Constraint;
 use json_values::{Copied, List};
 use std::alloc::{AllocError, Global};
 
-/// The constraints that are written, in order.
+/// Returns the constraints that are written in the case, in order.
 pub fn constraints_from(
     alloc: Global,
     written: &[WrittenConstraint],
@@ -21,7 +21,7 @@ pub fn constraints_from(
     Ok(constraints)
 }
 
-// The constraint that is written.
+// The constraint that is written in the case.
 fn constraint_from(alloc: Global, written: &WrittenConstraint) -> Result<Constraint, AllocError>
     ensures { IfOk result (λ constraint. constraint ≡ constraint_by written.now) }
 {

@@ -1,4 +1,4 @@
-// A shelf's transport that had no fault so far.
+// A shelf's transport without faults so far.
 ghost use Rattle.std.specs.Prelude.{◌≡◌, [], IsTrue, Some, false};
 ghost use Rattle.oci_transport.specs.Calm.{calm};
 ghost use Rattle.oci_link.specs.Leads.{redirects_lead};
@@ -10,7 +10,7 @@ use oci_link::{Shelf, ShelfTransport};
 use oci_transport::{AnswerHead, Conversation, LinkError, Request, Transport};
 use std::alloc::Global;
 
-/// The transport of a shelf, which tells that no exchange of it failed.
+/// The transport of a shelf, with the fact that no exchange of it failed.
 #[derive(Drop)]
 pub struct QuietShelf {
     transport: ShelfTransport,
@@ -18,7 +18,7 @@ pub struct QuietShelf {
 }
 
 impl QuietShelf {
-    /// Answers from this shelf, whose redirects have to lead.
+    /// Returns a transport that responds from this shelf, whose redirects must all end.
     pub fn new(alloc: Global, shelf: Shelf) -> QuietShelf
         requires { IsTrue (redirects_lead shelf) }
         ensures told { (state_of result.transport).told ≡ Some [] }
@@ -31,7 +31,7 @@ impl QuietShelf {
         }
     }
 
-    /// All exchanges so far.
+    /// Returns all exchanges so far.
     pub fn conversation(&self) -> &Conversation
         ensures told { Some result.now ≡ (state_of self.now.transport).told }
         ensures calm { IsTrue (calm (λ place. false) 0 result.now 0) }

@@ -1,4 +1,4 @@
-// What a case's registry answers.
+// The responses of a case's registry.
 ghost use Rattle.serde_json.specs.View.{view};
 ghost use Rattle.json_tables.specs.Outcomes.{Gives};
 ghost use Rattle.pull_case.specs.Registry.{registry_of};
@@ -12,21 +12,20 @@ use oci_transport::Recorded;
 use serde_json::Value;
 use std::alloc::Global;
 
-/// What the registry of a case answers.
+/// The responses of a case's registry.
 #[derive(Drop)]
 pub enum Registry {
     /// A list of answers, in order. Each is `"fail"`, a send that fails, or an object with the member `status`
-    /// (100 to 999) and perhaps `headers` (a list of pairs of a name and a text, which `Headers::add` takes),
-    /// `pieces` (the body, a list of bytes of which none is empty) and `fault` (before how many pieces a call
-    /// fails).
+    /// (100 to 999) and optionally `headers` (a list of pairs of a name and a string, which `Headers::add` accepts),
+    /// `pieces` (the body, a list of bytes none of which is empty) and `fault` (before how many pieces a call fails).
     Answers(List<Recorded>),
     /// `{"repository": text, "tags": {tag: digest}, "documents": {digest: {"media_type": text, "content": bytes}},
-    /// "blobs": {digest: bytes}, "referrers": {digest: bytes}}`, and perhaps `redirects`, an object from URLs to
-    /// those that they redirect to, which have to lead (`Shelf::redirects_lead`).
+    /// "blobs": {digest: bytes}, "referrers": {digest: bytes}}`, and optionally `redirects`, an object from URLs to
+    /// the URLs that they redirect to, which must all end (`Shelf::redirects_lead`).
     Shelf(Shelf),
 }
 
-/// Exactly one of the members `answers` and `shelf`.
+/// Reads exactly one of the members `answers` and `shelf`.
 #[tactic(auto, unfolding(crate::specs::Registry::registry_of))]
 pub fn read_registry(alloc: Global, value: &Value) -> Result<Registry, ReadError>
     ensures { Gives result (registry_of (view value.now)) }

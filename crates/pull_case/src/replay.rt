@@ -1,4 +1,4 @@
-// A transport that answers as a case says.
+// A transport that responds as a case says.
 ghost use Rattle.std.specs.Prelude.{◌≡◌, [], IsTrue, Some};
 ghost use Rattle.oci_transport.specs.Calm.{calm};
 ghost use Rattle.pull_case.specs.Registry.{Leads, answering_by};
@@ -10,18 +10,18 @@ use json_values::Blob;
 use oci_transport::{AnswerHead, Conversation, LinkError, Request, Script, Transport};
 use std::alloc::Global;
 
-/// Answers as the registry of a case, and tells all that it did. It fails only where a recorded answer says so, or
-/// behind the last of them.
+/// Responds as the registry of a case, and exposes everything that it did. It fails only if a recorded answer says so,
+/// or after the last of them.
 #[derive(Drop)]
 pub enum Replay {
     /// Recorded answers, in order.
     Script(Script),
-    /// The table of answers of a shelf.
+    /// The response table of a shelf.
     Shelf(QuietShelf),
 }
 
 impl Replay {
-    /// A replay of this registry, of which nothing was asked yet.
+    /// Returns a replay of this registry that has received no request yet.
     pub fn new(alloc: Global, registry: Registry) -> Replay
         requires { Leads registry }
         ensures told { (state_of result).told ≡ Some [] }
@@ -34,7 +34,7 @@ impl Replay {
         }
     }
 
-    /// All exchanges so far.
+    /// Returns all exchanges so far.
     pub fn conversation(&self) -> &Conversation
         ensures told { Some result.now ≡ (state_of self.now).told }
         ensures calm { IsTrue (calm (answering_of self.now).fails 0 result.now (state_of self.now).faults) }

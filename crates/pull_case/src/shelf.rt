@@ -1,4 +1,4 @@
-// A registry in memory, as a case writes it.
+// A registry in memory, as written in a case.
 ghost use Rattle.serde_json.specs.View.{view};
 ghost use Rattle.json_tables.specs.Outcomes.{Gives};
 ghost use Rattle.pull_case.specs.Shelf.{maps_of, shelf_of};
@@ -59,7 +59,7 @@ const NAMES: &[&str] = &[
     "redirects",
 ];
 
-// The members from each one on, as they stand in `NAMES`.
+// The members from each one on, in the order of `NAMES`.
 type Redirects = (OrUsual<Annotations>, ());
 
 type Referrers = (ShelfBlobs, Redirects);
@@ -72,7 +72,7 @@ type Tags = (Annotations, Documents);
 
 type Members = (Text, Tags);
 
-// The maps of a shelf, whether its redirects lead or not.
+// The maps of a shelf, whether its redirects end or not.
 #[tactic(auto, unfolding(crate::specs::Shelf::maps_of))]
 fn read_maps(alloc: Global, value: &Value) -> Result<Shelf, ReadError>
     ensures { Gives result (maps_of (view value.now)) }
@@ -92,7 +92,7 @@ fn read_maps(alloc: Global, value: &Value) -> Result<Shelf, ReadError>
     })
 }
 
-/// A shelf, whose redirects lead.
+/// Reads a shelf whose redirects all end.
 pub fn read_shelf(alloc: Global, value: &Value) -> Result<Shelf, ReadError>
     ensures { Gives result (shelf_of (view value.now)) }
 {

@@ -1,4 +1,4 @@
-// Whom a case trusts: signatures that are valid, certificates that are vouched for, keys of logs.
+// Whom a case trusts: valid signatures, vouched certificates, keys of logs.
 ghost use Rattle.std.specs.Prelude.{◌≡◌, []};
 ghost use Rattle.std.specs.FinMap.{empty};
 ghost use Rattle.serde_json.specs.View.{view};

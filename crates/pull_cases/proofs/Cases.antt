@@ -47,7 +47,7 @@ use Rattle.std.specs.FinMap.{FinMap}
 policy_is : {V : Type 0} {H : V → Type 0} (policy : PullPolicy V H) (case : Case) → policy.keys ≡ case.keys → policy.constraints ≡ constraints_by case.constraints → policy ≡ record { keys = case.keys; constraints = constraints_by case.constraints }
 policy_is policy case keys constraints = rw (← keys, ← constraints) refl
 
--- the row of a policy that a case gives is the case's
+-- the row of the policy that a case yields is the case's row
 row_same : {V : Type 0} {H : V → Type 0} (policy : PullPolicy V H) (own : Owns V H) (case : Case) (image : Reference) → policy ≡ record { keys = case.keys; constraints = constraints_by case.constraints }
     → row_by (meaning policy own (trust_of case)) (settings_of case) image case.auth case.accepted ≡ row_of case image
 row_same {V} {H} policy own case image is =
@@ -64,7 +64,7 @@ each_sound : (case : Case) (image : Reference) (k l : Kept) (m n : ℕ) (talks :
 each_sound case image k l m n [] h = tt
 each_sound case image k l m n (talk ∷ talks) h = (sound_result case image talk.before talk.moment m h.2 talk.conversation talk.result ((verified_seen talk.before (within (settings_of case) talk.moment) (meaning_of case) image case.auth case.accepted).seen h.1 m h.2 talk.conversation talk.result h.3), each_sound case image h.1 l h.2 n talks h.4)
 
--- what was played of a case is its report
+-- what was replayed of a case is its report
 pub reports_case : {V : Type 0} {H : V → Type 0} (policy : PullPolicy V H) (own : DynBox V Global H → SignatureLayer → Bool) (case : Case) (image : Reference) (l : Kept) (made : Report)
     → reference_of case.reference ≡ Ok image → policy.keys ≡ case.keys → policy.constraints ≡ constraints_by case.constraints
     → Played (row_by (meaning policy own (trust_of case)) (settings_of case) image case.auth case.accepted) case.registry case.moments (fresh case.caching) l made → ReportsCase case made
@@ -88,11 +88,11 @@ reports_case policy own case image l made reads keys constraints played =
       refused = played.refused;
     }
 
--- the client of a case's settings keeps nothing yet
+-- a client with a case's settings is new
 pub fresh_as : {shown : Client} (usual : ClientConfig) (case : Case) → usual ≡ default_config → shown ≡ fresh_state (config_by usual (client_in case)) case.caching → shown ≡ record { settings = settings_of case; kept = fresh case.caching }
 fresh_as usual case as_usual is = is ∙ ap (λ u. fresh_state (config_by u (client_in case)) case.caching) as_usual
 
--- what the pulls of an opened case ask for, and what they are held to
+-- the terms of the pulls of an opened case
 abbrev pub terms_in : {V : Type 0} {H : V → Type 0} → Opened → List (Constraint V H) → Terms V H
 terms_in o constraints = record {
   image = o.image;
@@ -103,7 +103,7 @@ terms_in o constraints = record {
   judge = o.judge;
 }
 
--- the same, of a client that was made fresh
+-- the same for a new client
 pub reports_fresh : {V : Type 0} {H : V → Type 0} (own : Owns V H) (case : Case) (terms : Terms V H) (client : Client) (log_keys : FinMap by_bytes (List ℕ)) (moments : List ℕ) (l : Kept) (made : Report)
     → client ≡ record { settings = settings_of case; kept = fresh case.caching } → log_keys ≡ case.log_keys → moments ≡ case.moments
     → registry_auth terms.auth ≡ case.auth → terms.accepted ≡ case.accepted
@@ -114,7 +114,7 @@ reports_fresh own case terms client log_keys moments l made is logs_are moments_
     reports_case terms.policy own case (reference_in terms.image) l made reads keys constraints
     (rw (is, logs_are, moments_are, auth_is, accepted_are, verifier_is, judge_is) at played)
 
--- the same, of a case that was opened
+-- the same for a case that was opened
 pub reports_opened : {V : Type 0} {H : V → Type 0} (own : Owns V H) (case : Case) (asked : Asked) (o : Opened) (constraints : List (Constraint V H)) (moments : List ℕ) (l : Kept) (made : Report)
     → asked.usual ≡ default_config → Opens asked case o → moments ≡ o.moments
     → registry_auth asked.auth ≡ case.auth → reference_of case.reference ≡ Ok (reference_in asked.image) → constraints ≡ constraints_by case.constraints

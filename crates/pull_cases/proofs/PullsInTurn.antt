@@ -1,4 +1,4 @@
--- Pulls one after another.
+-- Pulls in sequence.
 use Rattle.std.proofs.Common.{◌≡◌, ℕ, Bool, true, false, not, ◌&&◌, ◌||◌, List, [], ◌∷◌, ◌++◌, map, Result, Ok, Err, refl, sym, ap, subst, ◌∙◌, append_assoc, append-nil, arith}
 use Rattle.std.specs.Prelude.{MatchBool, IsTrue, OnOk, Some, length, take, drop, get_or, ◌+◌, ◌-◌, ◌<◌, ◌≤◌}
 use native.Mathlib.Numerals.{unary_clauses}
@@ -39,7 +39,7 @@ turn_more row t place k l j m n o (first ∷ talks) talk h is run =
     let behind : place + length (joined (first ∷ talks)) ≡ (place + length first.conversation) + length (joined talks) = omega (arith, length-append first.conversation (joined talks)) in
     (h.0, h.1, h.2, h.3, turn_more row t (place + length first.conversation) h.1 l j h.2 n o talks talk h.4 is (subst (λ q. RunsBy t q (row talk.moment) talk.before n talk.conversation o j talk.result) behind run))
 
--- pulls in turn, whatever answers them
+-- pulls in sequence, whatever the responses
 abbrev pub Turns : (ℕ → Whole VerifiedImage) → Kept → ℕ → List Talk → Kept → ℕ → Type 0
 Turns row k m [] l n = (k ≡ l) × (m ≡ n)
 Turns row k m (talk ∷ talks) l n =
@@ -108,7 +108,7 @@ round {row} {moment} {mid} {new} {k} {l} {before} {after} c r told run done byte
 pub none_yet : {row : ℕ → Whole VerifiedImage} {link : Link} {k : Kept} (made : Report) → Extends link link [] → made.bytes ≡ [] → made.refused ≡ false → Rounds row [] link link k k made
 none_yet made told bytes refused = record { talks = []; moments_are = refl; told = told; in_turn = λ t shown by telling. (refl, refl); whole = tt; written = bytes; refused = refused }
 
--- a pull that memory did not cut off was made whole
+-- a pull that did not run out of memory is complete
 pub whole : {p : Whole VerifiedImage} {old new : Link} {k l : Kept} (r : Result VerifiedImage PullRefusal) → is_wanting r ≡ false → Meets is_memory p old new k l r → Performs p old new k l r
 whole (Ok v) is met = met.outcome
 whole {p} {old} {new} {k} {l} (Err e) is met = rw is at met.outcome
@@ -116,7 +116,7 @@ whole {p} {old} {new} {k} {l} (Err e) is met = rw is at met.outcome
 behind : (before added after : List Exchange) → after ≡ before ++ added → drop (length before) after ≡ added
 behind before added after is = rw is (drop-append_seam before added)
 
--- a pull whose conversation was cut off from the whole of a replay
+-- a pull whose conversation is the last part of a replay's conversation
 pub told_round : {row : ℕ → Whole VerifiedImage} {moment : ℕ} {mid new : Link} {k l : Kept} {before after : Report} (r : Result VerifiedImage PullRefusal) (old_told new_told : List Exchange)
     → Some old_told ≡ mid.told → Some new_told ≡ new.told → is_wanting r ≡ false → Meets is_memory (row moment) mid new k l r
     → after.bytes ≡ before.bytes ++ report moment (take (length new_told - length old_told) (drop (length old_told) new_told)) r → after.refused ≡ (before.refused || not (is_answered r)) → Round row moment mid new k l before after
@@ -125,18 +125,18 @@ told_round {row} {moment} {mid} {new} {k} {l} {before} {after} r old_told new_to
     let all : new_told ≡ old_told ++ p.conversation = cc (new_is ∙ p.told.told old_told (sym old_is)) in
     round {row = row} {moment = moment} {mid = mid} {new = new} {k = k} {l = l} {before = before} {after = after} p.conversation r p.told p.runs_by done (bytes ∙ ap (λ (c : List Exchange). before.bytes ++ report moment c r) (take_rest new_told (length old_told) ∙ behind old_told p.conversation new_told all)) refused
 
--- one pull more, by the same row
+-- one more pull, by the same row
 pub next_round : {row same : ℕ → Whole VerifiedImage} {moments all : List ℕ} {moment : ℕ} {start mid new : Link} {j k l : Kept} {before after : Report}
     → same ≡ row → all ≡ moments ++ moment ∷ [] → Rounds row moments start mid j k before → Round same moment mid new k l before after → Rounds row all start new j l after
 next_round {row} {same} {moments} {all} {moment} {start} {mid} {new} {j} {k} {l} {before} {after} is more rounds next =
     subst (λ (ms : List ℕ). Rounds row ms start new j l after) (sym more) ((subst (λ (r : ℕ → Whole VerifiedImage). Round r moment mid new k l before after) is next).more moments start j rounds)
 
--- equal settings and equal keys of logs give one row
+-- equal settings and equal keys of logs give equal rows
 pub row_as : {V : Type 0} {H : V → Type 0} (own : Owns V H) (terms : Terms V H) {s t : Settings} {k l : FinMap by_bytes (List ℕ)} → s ≡ t → k ≡ l → row_for own terms s k ≡ row_for own terms t l
 row_as own terms {s} {t} {k} {l} e f =
     ap (λ (x : Settings). row_for own terms x k) e ∙ ap (λ (x : FinMap by_bytes (List ℕ)). row_for own terms t x) f
 
--- a replay answers by its registry
+-- a replay responds from its registry
 pub answers_by : (replay : Replay) → (state_of replay).answers ≡ Some (answering_of replay)
 answers_by (Script s) = refl
 answers_by (Shelf t) = refl
@@ -163,11 +163,11 @@ played {row} {moments} {k} {l} {made} registry first last told faults table roun
 calm_none : (fails : ℕ → Bool) (n : ℕ) (c : List Exchange) → [] ≡ c → IsTrue (calm fails 0 c n)
 calm_none fails n c is = rw (← is) refl
 
--- nothing was asked of a new replay
+-- a new replay has received no request
 pub new_is_calm : (replay : Replay) → (state_of replay).told ≡ Some [] → IsCalm replay
 new_is_calm replay is = λ told told_is. calm_none (answering_of replay).fails (state_of replay).faults told (cc (sym is ∙ told_is))
 
--- what the conversation of a replay says of it
+-- a property of a replay, from its conversation
 pub told_is_calm : (replay : Replay) (all : List Exchange) → Some all ≡ (state_of replay).told → IsTrue (calm (answering_of replay).fails 0 all (state_of replay).faults) → IsCalm replay
 told_is_calm replay all is holds = λ told told_is. subst (λ (c : List Exchange). IsTrue (calm (answering_of replay).fails 0 c (state_of replay).faults)) (cc (is ∙ told_is)) holds
 
@@ -177,7 +177,7 @@ front_le a c b is = rw (is, length-append) (le-add_right (length a) (length c))
 longer : {old new : Link} (c a b : List Exchange) → Extends old new c → Some a ≡ old.told → Some b ≡ new.told → length a ≤ length b
 longer c a b added a_is b_is = front_le a c b (cc (b_is ∙ added.told a (sym a_is)))
 
--- a call tells no fewer exchanges than were told before it
+-- a call exposes at least the exchanges that were exposed before it
 pub no_shorter : {p : Whole VerifiedImage} {old new : Link} {k l : Kept} (r : Result VerifiedImage PullRefusal) (a b : List Exchange) → Some a ≡ old.told → Some b ≡ new.told → Meets is_memory p old new k l r → length a ≤ length b
 no_shorter (Ok v) a b a_is b_is met = longer met.outcome.conversation a b met.outcome.told a_is b_is
 no_shorter {p} {old} {new} {k} {l} (Err e) a b a_is b_is met = by_memory (is_memory e) met.outcome where

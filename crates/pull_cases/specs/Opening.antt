@@ -1,4 +1,4 @@
--- A case whose client is made.
+-- A case with the client that was built for it.
 use Rattle.std.specs.Prelude.{◌≡◌}
 use Rattle.cosign_client.specs.Builder.{fresh_state}
 use Rattle.cosign_client.specs.State.{client_state}
@@ -8,7 +8,7 @@ use Rattle.pull_setup.specs.declared.asked.Asked.{Asked}
 use Rattle.pull_setup.specs.declared.client.WrittenClient.{WrittenClient}
 use Rattle.pull_cases.specs.declared.pulls.Opened.{Opened}
 
--- what a case says of its client
+-- the client settings of a case
 abbrev pub client_in : Case → WrittenClient
 client_in case = record {
   protocol = case.protocol;
@@ -18,7 +18,7 @@ client_in case = record {
   log_keys = case.log_keys;
 }
 
--- the client keeps nothing yet, and all else is what was asked and what the case says
+-- the client is new, and all other parts are from `asked` and the case
 pub record Opens (asked : Asked) (case : Case) (o : Opened) : Type 0 where
   pub client : client_state o.client ≡ fresh_state (config_by asked.usual (client_in case)) case.caching
   pub log_keys : o.client.rekor_pub_keys ≡ case.log_keys

@@ -1,4 +1,4 @@
--- The pulls of a case: one at each of its moments, by one client, over what the case's registry answers.
+-- The pulls of a case: one at each of its moments, by one client, over the responses of the case's registry.
 use Rattle.std.specs.Prelude.{◌≡◌, ◌+◌, length, ℕ, Bool, true, false, not, IsTrue, ◌&&◌, List, [], ◌∷◌, map, flat_map}
 use Rattle.std.specs.Prelude.{Option, Some}
 use Rattle.std.specs.Prelude.{None, Result, Ok, Err, codes}
@@ -23,7 +23,7 @@ use Rattle.pull_report.specs.Report.{report}
 use Rattle.pull_setup.specs.Clients.{settings_by, fresh}
 use Rattle.pull_cases.specs.declared.report.Report.{Report}
 
--- one pull: what the client kept before it, its moment, its conversation and its result
+-- one pull: the client state before it, its moment, its conversation and its result
 pub record Talk : Type 0 where
   pub before : Kept
   pub moment : ℕ
@@ -36,14 +36,14 @@ moment_of talk = talk.moment
 abbrev pub conversation_of : Talk → List Exchange
 conversation_of talk = talk.conversation
 
--- all exchanges, one pull's after another's
+-- the exchanges of all pulls, in order
 abbrev pub joined : List Talk → List Exchange
 joined talks = flat_map conversation_of talks
 
 abbrev pub report_of : Talk → List ℕ
 report_of talk = report talk.moment talk.conversation talk.result
 
--- what is written of the pulls
+-- the reports of the pulls
 abbrev pub reports : List Talk → List ℕ
 reports talks = flat_map report_of talks
 
@@ -51,12 +51,12 @@ abbrev pub is_answered : Result VerifiedImage PullRefusal → Bool
 is_answered (Ok image) = true
 is_answered (Err refusal) = false
 
--- whether memory was wanting
+-- whether memory ran out
 abbrev pub is_wanting : Result VerifiedImage PullRefusal → Bool
 is_wanting (Ok image) = false
 is_wanting (Err refusal) = is_memory refusal
 
--- memory was wanting in none of the pulls
+-- memory ran out in none of the pulls
 abbrev pub EachWhole : List Talk → Type 0
 EachWhole [] = Unit {0}
 EachWhole (talk ∷ talks) = (is_wanting talk.result ≡ false) × EachWhole talks
@@ -66,8 +66,8 @@ abbrev pub all_answered : List Talk → Bool
 all_answered [] = true
 all_answered (talk ∷ talks) = is_answered talk.result && all_answered talks
 
--- pulls in turn, over what a registry answers from this place on: each is a whole run of its row, and goes on from what
--- the one before it kept
+-- Pulls in sequence, over a registry's responses from `place` on: each is a complete run of its row, and starts with
+-- the client state that the one before it left.
 abbrev pub InTurn : (ℕ → Whole VerifiedImage) → Answering → ℕ → Kept → ℕ → List Talk → Kept → ℕ → Type 0
 InTurn row t place k m [] l n = (k ≡ l) × (m ≡ n)
 InTurn row t place k m (talk ∷ talks) l n =
@@ -83,8 +83,7 @@ abbrev pub row_of : Case → Reference → ℕ → Whole VerifiedImage
 row_of case image moment =
     verified (meaning_of case) (within (settings_of case) moment) image case.auth case.accepted
 
--- an image that was answered has a chain that holds, and comes of this conversation; its digest may still have been
--- kept
+-- the chain of a pulled image holds, and comes from this conversation; its digest may have been fresh in the cache
 abbrev pub SoundResult : Case → Reference → Kept → ℕ → List Exchange → Result VerifiedImage PullRefusal → Type 0
 SoundResult case image k moment c (Ok v) =
     Sound k (within (settings_of case) moment) (meaning_of case) image case.auth case.accepted c v
@@ -95,10 +94,10 @@ EachSound case image [] = Unit {0}
 EachSound case image (talk ∷ talks) =
     SoundResult case image talk.before talk.moment talk.conversation talk.result × EachSound case image talks
 
--- The pulls of a case by a client that was fresh before the first. Each exchange was answered by the recorded answer
--- at its place, or by the table of the shelf. A transport's fault stands only where one is recorded: over a shelf
--- nothing may fail, and the counts of the exchanges and the last one are equal. A fault that is recorded inside a body
--- is met where that body is read whole. Memory was wanting in none of them.
+-- The pulls of a case by a client that was new before the first. Each exchange has the recorded answer at its index, or
+-- the answer of the shelf's table. The transport failed only if a fault is recorded: over a shelf nothing may fail,
+-- and the fault counts of all exchanges and the last one are equal. A fault recorded inside a body occurs if that body
+-- is read to its end. Memory ran out in none of the pulls.
 pub record Pulled (case : Case) (talks : List Talk) : Type 0 where
   pub image : Reference
   pub reads : reference_of case.reference ≡ Ok image
@@ -111,7 +110,7 @@ pub record Pulled (case : Case) (talks : List Talk) : Type 0 where
   pub sound : EachSound case image talks
   pub whole : EachWhole talks
 
--- what was made of a case is the report of its pulls
+-- the output of a case is the report of its pulls
 pub record ReportsCase (case : Case) (made : Report) : Type 0 where
   pub talks : List Talk
   pub pulled : Pulled case talks

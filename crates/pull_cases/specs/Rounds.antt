@@ -1,4 +1,4 @@
--- The pulls so far, and what the client and the replay came to.
+-- The pulls so far, with the state of the client and the replay.
 use Rattle.std.specs.Prelude.{◌≡◌, ℕ, not, IsTrue, List, ◌∷◌, [], ◌++◌, map, length, Some}
 use Rattle.std.specs.FinMap.{FinMap}
 use Rattle.oci_transport.specs.Link.{Link, Answering, Extends, AnsweredBy}
@@ -24,12 +24,12 @@ use Rattle.pull_cases.specs.declared.pulls.Terms.{Terms}
 use Rattle.pull_cases.specs.declared.report.Report.{Report}
 use Rattle.pull_cases.specs.Pulls.{Talk, moment_of, joined, reports, all_answered, InTurn, EachWhole}
 
--- the pull of an image at a moment, by these settings, credentials and this policy
+-- the pull of an image at a moment, with these settings, credentials and this policy
 abbrev pub row_by : {V : Type 0} {H : V → Type 0}
     → Meaning V H → Settings → Reference → RegistryAuth → List (List ℕ) → ℕ → Whole VerifiedImage
 row_by meaning s image a accepted moment = verified meaning (within s moment) image a accepted
 
--- the pull at a moment that these terms ask for, by a client of these settings that knows these logs
+-- the pull at a moment by these terms, by a client with these settings that knows these logs
 abbrev pub row_for : {V : Type 0} {H : V → Type 0}
     → Owns V H → Terms V H → Settings → FinMap by_bytes (List ℕ) → ℕ → Whole VerifiedImage
 row_for own terms settings log_keys =
@@ -48,13 +48,13 @@ pub record Rounds (row : ℕ → Whole VerifiedImage) (moments : List ℕ) (old 
   pub written : made.bytes ≡ reports talks
   pub refused : made.refused ≡ not (all_answered talks)
 
--- behind any pulls that led here, one more at this moment
+-- after any pulls that led here, one more at this moment
 pub record Round (row : ℕ → Whole VerifiedImage) (moment : ℕ) (mid new : Link) (k l : Kept) (before after : Report)
     : Type 0 where
   pub more : (moments : List ℕ) (start : Link) (j : Kept)
       → Rounds row moments start mid j k before → Rounds row (moments ++ moment ∷ []) start new j l after
 
--- pulls at these moments over what this registry answers, with their report
+-- pulls at these moments over the responses of this registry, with their report
 pub record Played (row : ℕ → Whole VerifiedImage) (registry : Registry) (moments : List ℕ) (k l : Kept)
     (made : Report) : Type 0 where
   pub talks : List Talk

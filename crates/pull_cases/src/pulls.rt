@@ -25,7 +25,7 @@ use pull_setup::{Asked, WrittenClient, ask_for, client_by};
 use sig_registry::{Auth, OciReference};
 use std::alloc::{AllocError, Global};
 
-// Whether memory was wanting.
+// Whether memory ran out.
 fn is_wanting(outcome: &Result<VerifiedImage, PullRefusal>) -> bool
     ensures { result ≡ is_wanting outcome.now }
 {
@@ -35,7 +35,7 @@ fn is_wanting(outcome: &Result<VerifiedImage, PullRefusal>) -> bool
     }
 }
 
-// Adds the report of a pull, unless memory cut the pull off.
+// Appends the report of a pull, unless memory ran out in it.
 fn add_report(
     alloc: Global,
     report: &mut Report,
@@ -57,7 +57,7 @@ fn add_report(
     Ok(())
 }
 
-// What each pull of a case asks for, and what it holds an answer to.
+// The arguments and the terms of each pull of a case.
 #[derive(Drop)]
 struct Terms {
     image: OciReference,
@@ -68,7 +68,7 @@ struct Terms {
     judge: TableJudge,
 }
 
-// One pull, whose report goes behind those that are there.
+// One pull, whose report is appended.
 fn pull_at(
     alloc: Global,
     client: &mut Client,
@@ -103,7 +103,7 @@ fn pull_at(
     added
 }
 
-// One pull at each moment, in turn, over what this registry answers.
+// One pull at each moment, in order, over the responses of this registry.
 fn pull_each(
     alloc: Global,
     client: &mut Client,
@@ -127,7 +127,7 @@ fn pull_each(
     Ok(report)
 }
 
-// A case whose client is made, with what its pulls are held to.
+// A case with the client that was built for it, and the terms of its pulls.
 #[derive(Drop)]
 struct Opened {
     client: Client,
@@ -167,7 +167,7 @@ fn open_case(alloc: Global, asked: Asked, case: Case) -> Opened
     }
 }
 
-// The pulls of a case, once all is there that memory is taken for before the first request.
+// The pulls of a case, after everything is allocated that the first request needs.
 fn make_pulls(
     alloc: Global,
     asked: Asked,
@@ -203,7 +203,7 @@ fn make_pulls(
     report
 }
 
-// The pulls of a case whose reference was read.
+// The pulls of a case whose reference was parsed.
 fn pull_asked(alloc: Global, asked: Asked, case: Case) -> Result<Report, AllocError>
     requires { IsReady case }
     ensures { asked.usual ≡ default_config → registry_auth asked.auth ≡ case.auth
@@ -215,7 +215,7 @@ fn pull_asked(alloc: Global, asked: Asked, case: Case) -> Result<Report, AllocEr
     }
 }
 
-/// Makes the pulls of a case over what its registry answers, and writes their report.
+/// Performs the pulls of a case over the responses of its registry, and writes their report.
 pub fn pull_case(alloc: Global, case: Case) -> Result<Report, AllocError>
     requires { IsReady case }
     ensures { IfOk result (ReportsCase case) }
@@ -232,5 +232,5 @@ fn without_memory(_case: Case) -> Result<Report, AllocError>
     Err(AllocError)
 }
 
-// A function that lets a value go does nothing else, so that each of its many parts is let go where nothing is known.
+// Drops both in a function without other facts, so that each of their many parts is dropped once.
 fn let_both_go(_client: Client, _terms: Terms) {}

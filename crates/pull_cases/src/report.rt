@@ -1,7 +1,7 @@
-// What was written.
+// The output of the pulls.
 use json_values::Blob;
 
-/// What was written for the input, and whether it says that something was refused.
+/// The output for the input, and whether it reports a refusal.
 #[derive(Drop)]
 pub struct Report {
     pub bytes: Blob,

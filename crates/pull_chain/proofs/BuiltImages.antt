@@ -1,4 +1,4 @@
--- The one image that can be built of a written chain.
+-- The unique image that can be built from a written chain.
 use Rattle.std.proofs.Common.{◌≡◌, ℕ, false, List, Option, Some, None, sym, ap, subst, ◌∙◌}
 use Rattle.oci_digests.specs.Names.{digest_text}
 use Rattle.oci_digests.specs.declared.digester.Algorithm.TheVariants.{Sha256}
@@ -24,7 +24,7 @@ pub gives_one : (trust : Trust) (d : List ℕ) (written : WrittenSignature) (nam
 gives_one trust d written named layer is gives law =
     subst (λ (n : List ℕ). GivesOne trust d (input_by n written) (Some layer)) is (gives, λ other h. law.one_layer other layer h gives)
 
--- a layer that is rejected is none
+-- a layer that is rejected yields none
 pub gives_none : (trust : Trust) (d : List ℕ) (written : WrittenSignature) (named : List ℕ) (x : LayerRejection) → named ≡ digest_text Sha256 written.content
     → is_memory x ≡ false → RejectedUnlessMemory trust d (input_by named written) x → HasOneOutcome trust d (input_by named written) → GivesOne trust d (input_of written) None
 gives_none trust d written named x is other rejects law =
@@ -51,12 +51,12 @@ built trust chain digest read found manifest signature parts image digest_is rea
       λ other h. h.is ∙ same_image chain (some_is _ _ (sym h.reads ∙ reads)) (one.1 other.signature h.gives) ∙ sym whole,
     )
 
--- without a layer none is built
+-- without a layer, none is built
 pub no_signature : (trust : Trust) (chain : WrittenChain) (digest : List ℕ) (read : Option SignatureLayer) → digest ≡ chain.digest → read ≡ None
     → GivesOne trust digest (input_of chain.signature) read → Builds trust chain None
 no_signature trust chain digest read digest_is read_is gives =
     let none : GivesOne trust chain.digest (input_of chain.signature) None = rw (digest_is, read_is) at gives in λ found h. none found.signature h.gives
 
--- and without a manifest
+-- without a manifest, none is built
 pub no_manifest : (trust : Trust) (chain : WrittenChain) (found : Option OciImageManifest) → found ≡ None → found ≡ manifest_in chain → Builds trust chain None
 no_manifest trust chain found none in_chain = λ image h. absurd (cc (sym none ∙ in_chain ∙ h.reads))

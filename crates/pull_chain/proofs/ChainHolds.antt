@@ -31,12 +31,12 @@ built_holds m image accepted promise chain found holds built exact = (
   λ under. exact.1 (subst (λ (v : VerifiedImage). Chain m image accepted promise v) (built.1 under.found under.built) under.holds),
 )
 
--- where none can be built
+-- if none can be built
 none_holds : {V : Type 0} {H : V → Type 0} (m : Meaning V H) (image : Reference) (accepted : List (List ℕ)) (promise : Option ResolverPromise) (chain : WrittenChain)
     → Builds m.trust chain None → IsTrue false ↔ HoldsUnder m image accepted promise chain
 none_holds m image accepted promise chain none = ((λ h. absurd (cc h)), (λ under. absurd (none under.found under.built)))
 
--- what was checked of the image that was built
+-- the checks on the image that was built
 pub checked_holds : {V : Type 0} {H : V → Type 0} {E : Type 0} (m : Meaning V H) (image : Reference) (accepted given : List (List ℕ)) (promise asked : Option ResolverPromise) (chain : WrittenChain) (read : Option VerifiedImage) (found : VerifiedImage) (r : Result Bool E)
     → given ≡ accepted → asked ≡ promise → read ≡ Some found → Builds m.trust chain read
     → IfOk r (λ holds. IsTrue holds ↔ Chain m image given asked found) → IfOk r (λ holds. IsTrue holds ↔ HoldsUnder m image accepted promise chain)

@@ -1,4 +1,4 @@
--- What holds of the case of each input.
+-- Properties of the case of each input.
 use Rattle.std.proofs.Common.{◌≡◌, Option, Some, None, IfSome, codes, refl}
 use Rattle.std.specs.Prelude.{[], ◌∷◌}
 use Rattle.serde_json.specs.Data.{Data}
@@ -15,7 +15,7 @@ use Rattle.pull_chain.specs.declared.input.ChainInput.{ChainInput}
 abbrev InputReady : ChainInput → Type 0
 InputReady input = IsReady input.case
 
--- what holds of each value behind what was read holds where that is there
+-- a property of each value after what was read holds for it, if it is present
 through : {A B : Type 0} (P : B → Type 0) (o : Option A) (k : A → Option B) → ((a : A) → o ≡ Some a → IfSome (k a) P)
     → IfSome (o >>= k) P
 through P None k h = tt

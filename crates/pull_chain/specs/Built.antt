@@ -1,4 +1,4 @@
--- The image that a written chain says.
+-- The image of a written chain.
 use Rattle.std.specs.Prelude.{◌≡◌, ℕ, List, [], ◌∷◌, length, ◌==◌, if◌then◌else◌, Option, Some, None}
 use Rattle.json_tables.specs.Plain.{read_plain}
 use Rattle.json_tables.specs.Reading.{◌>>=◌}
@@ -19,7 +19,7 @@ use Rattle.pull_chain.specs.declared.input.WrittenEntry.{WrittenEntry}
 use Rattle.pull_chain.specs.declared.input.WrittenSignature.{WrittenSignature}
 use Rattle.pull_chain.specs.declared.built.Parts.{Parts}
 
--- the document of the manifest: that of the entry, else the first one
+-- the document of the manifest: the entry's, or the first one if there is no entry
 abbrev pub manifest_bytes : Option WrittenEntry → List ℕ → List ℕ
 manifest_bytes None first = first
 manifest_bytes (Some entry) first = entry.content
@@ -29,7 +29,7 @@ abbrev pub manifest_digest : Option WrittenEntry → List ℕ → List ℕ
 manifest_digest None digest = digest
 manifest_digest (Some entry) digest = entry.digest
 
--- the digest of the index that led to it, where one did
+-- the digest of the index that led to it, if one did
 abbrev pub list_digest : Option WrittenEntry → List ℕ → Option (List ℕ)
 list_digest None digest = None
 list_digest (Some entry) digest = Some digest
@@ -54,7 +54,7 @@ image_of chain manifest signature = record {
   signature = signature;
 }
 
--- what the signature layer is read from, where it came by this digest
+-- what the signature layer is read from, if it has this digest
 abbrev pub input_by : List ℕ → WrittenSignature → Input
 input_by digest signature = record {
   kind = signature.kind;
@@ -63,39 +63,39 @@ input_by digest signature = record {
   annotations = signature.annotations;
 }
 
--- it came by the SHA-256 text of its bytes
+-- with the SHA-256 text of its bytes as its digest
 abbrev pub input_of : WrittenSignature → Input
 input_of signature = input_by (digest_text Sha256 signature.content) signature
 
--- a manifest that has a descriptor for each of so many layers
+-- a manifest that has a descriptor for each of `n` layers
 abbrev pub of_layers : ℕ → OciImageManifest → Option OciImageManifest
 of_layers count manifest = if length manifest.layers == count then Some manifest else None
 
--- the manifest, where its document reads as one that has a descriptor for each layer
+-- the manifest, if its document parses as one that has a descriptor for each layer
 abbrev pub manifest_in : WrittenChain → Option OciImageManifest
 manifest_in chain =
     read_plain manifest_of (manifest_bytes chain.entry chain.first) >>= of_layers (length chain.layers)
 
--- the image can be built of what is written: its document reads as the manifest, and the signature layer is what its
--- bytes and annotations say of this digest
+-- the image can be built from what is written: its document parses as the manifest, and the signature layer is what its
+-- bytes and annotations say about this digest
 pub record IsBuilt (trust : Trust) (chain : WrittenChain) (found : VerifiedImage) : Type 0 where
   pub reads : manifest_in chain ≡ Some found.manifest
   pub gives : Gives trust chain.digest (input_of chain.signature) found.signature
   pub is : found ≡ image_of chain found.manifest found.signature
 
--- the one layer that the input gives for an image, or none where it gives none
+-- the one layer that the input yields for an image, or `None` if it yields none
 abbrev pub GivesOne : Trust → List ℕ → Input → Option SignatureLayer → Type 0
 GivesOne trust d input (Some layer) =
     Gives trust d input layer × ((other : SignatureLayer) → Gives trust d input other → other ≡ layer)
 GivesOne trust d input None = (layer : SignatureLayer) → Gives trust d input layer → ⊥
 
--- the one image that can be built, or none where none can be
+-- the one image that can be built, or `None` if none can be
 abbrev pub Builds : Trust → WrittenChain → Option VerifiedImage → Type 0
 Builds trust chain (Some found) =
     IsBuilt trust chain found × ((other : VerifiedImage) → IsBuilt trust chain other → other ≡ found)
 Builds trust chain None = (found : VerifiedImage) → IsBuilt trust chain found → ⊥
 
--- those that are written
+-- the parts that are written
 abbrev pub parts_of : WrittenChain → OciImageManifest → Parts
 parts_of chain manifest = record {
   digest = chain.digest;
@@ -107,7 +107,7 @@ parts_of chain manifest = record {
   layers = layers_of manifest.layers chain.layers;
 }
 
--- the image of these
+-- the image of these parts
 abbrev pub image_with : Parts → OciImageManifest → SignatureLayer → VerifiedImage
 image_with parts manifest signature = record {
   digest = parts.digest;

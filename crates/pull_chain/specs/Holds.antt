@@ -11,7 +11,7 @@ use Rattle.pull_chain.specs.Built.{IsBuilt}
 use Rattle.pull_chain.specs.declared.input.ChainInput.{ChainInput}
 use Rattle.pull_chain.specs.declared.input.WrittenChain.{WrittenChain}
 
--- an image can be built of what is written, and its chain holds
+-- an image can be built from what is written, and its chain holds
 pub record HoldsUnder {V : Type 0} {H : V → Type 0} (meaning : Meaning V H) (image : Reference)
     (accepted : List (List ℕ)) (promise : Option ResolverPromise) (chain : WrittenChain) : Type 0 where
   pub found : VerifiedImage

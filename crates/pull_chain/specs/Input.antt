@@ -1,4 +1,4 @@
--- What the word `check` reads: a case, and a chain that is held to it.
+-- The input of `check`: a case, and a chain that is checked against it.
 use Rattle.std.specs.Prelude.{ℕ, List, [], ◌∷◌, Option, Some, None, option_map, if◌then◌else◌, codes, bytes_eq}
 use Rattle.serde_json.specs.Data.{Data}
 use Rattle.json_values.specs.JsonText.{plain_json_of}
@@ -55,8 +55,8 @@ chain_members =
     ∷ codes "signature"
     ∷ []
 
--- The documents and blobs of an image, and its signature layer. The entry may be absent: then the first document is
--- the manifest.
+-- The documents and blobs of an image, and its signature layer. If the entry is absent, the first document is the
+-- manifest.
 unfoldable pub chain_of : Data → Option WrittenChain
 chain_of d = do
   known ← only chain_members d
@@ -75,7 +75,7 @@ chain_of d = do
     signature = signature;
   })
 
--- a case and a chain, and no other members
+-- a case and a chain; no other members
 unfoldable pub chain_input_of : Data → Option ChainInput
 chain_input_of d = do
   known ← only (codes "case" ∷ codes "chain" ∷ []) d
@@ -83,6 +83,6 @@ chain_input_of d = do
   case ← required case_of (codes "case") d
   Some (record { case = case; chain = chain })
 
--- the case and the chain that a JSON text without floats says
+-- the case and the chain in a JSON text without floats
 abbrev pub chain_input_in : List ℕ → Option ChainInput
 chain_input_in bytes = plain_json_of bytes >>= chain_input_of

@@ -1,4 +1,4 @@
-// The image that a written chain says.
+// The image of a written chain.
 ghost use Rattle.std.specs.Prelude.{◌≡◌, IfOk, IfErr};
 ghost use Rattle.cosign_layers.specs.Read.{Gives, HasOneOutcome, RejectedUnlessMemory};
 ghost use Rattle.cosign_layers.specs.Trust.{trust};
@@ -20,7 +20,7 @@ use oci_manifests::blob::Config;
 use oci_manifests::{ImageLayer, OciImageManifest};
 use std::alloc::{AllocError, Global};
 
-// The document of the manifest: that of the entry, else the first one.
+// The document of the manifest: the entry's, or the first one if there is no entry.
 fn manifest_bytes(chain: &WrittenChain) -> &Blob
     ensures { result.now ≡ words.manifest_bytes chain.now.entry chain.now.first }
 {
@@ -40,7 +40,7 @@ fn manifest_digest(chain: &WrittenChain) -> &Text
     }
 }
 
-// The digest of the index that led to it, where one did.
+// The digest of the index that led to it, if one did.
 fn list_digest(
     alloc: Global,
     entry: &Option<WrittenEntry>,
@@ -74,7 +74,7 @@ fn layers_of(
     Ok(layers)
 }
 
-// The parts of an image that its manifest and its signature are not among.
+// The parts of an image except its manifest and its signature.
 #[derive(Drop)]
 struct Parts {
     digest: Text,
@@ -133,7 +133,7 @@ fn image_with(parts: Parts, manifest: OciImageManifest, signature: SignatureLaye
     }
 }
 
-// What the bytes and annotations of the signature layer say of this digest.
+// What the bytes and annotations of the signature layer say about this digest.
 fn read_written<V: SignatureVerifier, O: Offline>(
     alloc: Global,
     log_keys: &LogKeys,
@@ -168,7 +168,7 @@ fn read_written<V: SignatureVerifier, O: Offline>(
     }
 }
 
-// The same by the SHA-256 text of the bytes. None where a check of them fails.
+// The same with the SHA-256 text of the bytes as their digest. `None` if a check fails.
 fn signature_of<V: SignatureVerifier, O: Offline>(
     alloc: Global,
     log_keys: &LogKeys,
@@ -200,7 +200,7 @@ fn signature_of<V: SignatureVerifier, O: Offline>(
     }
 }
 
-/// The image that a written chain says. None where no image can be built of it.
+/// Returns the image of a written chain; `None` if no image can be built from it.
 pub fn image_of<V: SignatureVerifier, O: Offline>(
     alloc: Global,
     log_keys: &LogKeys,
@@ -221,7 +221,7 @@ pub fn image_of<V: SignatureVerifier, O: Offline>(
     Ok(Some(image_with(parts, manifest, signature)))
 }
 
-// The manifest, where its document reads as one that has a descriptor for each layer.
+// The manifest, if its document parses as one that has a descriptor for each layer.
 fn manifest_of(alloc: Global, chain: &WrittenChain) -> Result<Option<OciImageManifest>, AllocError>
     ensures { IfOk result (λ found. found ≡ words.manifest_in chain.now) }
 {

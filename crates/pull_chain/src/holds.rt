@@ -18,7 +18,7 @@ use oci_platforms::{PlatformResolver, ResolverPromise};
 use pull_case::{Case, constraints_from};
 use std::alloc::{AllocError, Global};
 
-// What a chain is held to.
+// The terms that a chain is checked against.
 #[derive(Drop)]
 struct Terms {
     image: Reference,
@@ -30,7 +30,7 @@ struct Terms {
     judge: TableJudge,
 }
 
-// The reference in a text that reads as one.
+// The reference that a text parses as.
 fn image_in(alloc: Global, text: &str) -> Result<Reference, AllocError>
     requires { IsOk (reference_of text.now) }
     ensures { IfOk result (λ image. reference_of text.now ≡ Ok image) }
@@ -42,7 +42,7 @@ fn image_in(alloc: Global, text: &str) -> Result<Reference, AllocError>
     }
 }
 
-// What a resolver promises, where there is one.
+// The promise of a resolver, if there is one.
 fn promise_of(platform: &Option<PlatformResolver>) -> Option<&ResolverPromise>
     ensures { option_copied result ≡ platform.now }
 {
@@ -52,7 +52,7 @@ fn promise_of(platform: &Option<PlatformResolver>) -> Option<&ResolverPromise>
     }
 }
 
-// Whether an image can be built of what is written, and its chain holds under these terms.
+// Whether an image can be built from what is written, and its chain holds under these terms.
 fn holds_under(alloc: Global, terms: &Terms, chain: &WrittenChain) -> Result<bool, AllocError>
     ensures { IfOk result (λ holds. IsTrue holds ↔ HoldsUnder
         (meaning terms.now.policy (λ b. accepts (b.vtable, b.value))
@@ -104,10 +104,10 @@ fn terms_in(case: Case, image: Reference, constraints: List<Constraint>) -> Term
     }
 }
 
-// Lets both go where nothing else is known, so that each of their many parts is let go once.
+// Drops both in a function without other facts, so that each of their many parts is dropped once.
 fn let_go(_terms: Terms, _chain: WrittenChain) {}
 
-/// Whether the chain that is written holds: whether an image can be built of it, of which `check_chain` answers true
+/// Returns whether the written chain holds: whether an image can be built from it for which `check_chain` returns true
 /// under the policy, the tables, the keys of logs, the accepted media types and the platform of the case.
 pub fn chain_holds(alloc: Global, input: ChainInput) -> Result<bool, AllocError>
     requires { IsReady input.case }

@@ -1,4 +1,4 @@
-// What is written of a chain.
+// The input of `check`.
 ghost use Rattle.std.specs.Prelude.{◌≡◌, IfOk, IfSome, None, codes};
 ghost use Rattle.serde_json.specs.View.{view};
 ghost use Rattle.json_tables.specs.Outcomes.{Gives};
@@ -29,15 +29,15 @@ pub struct WrittenEntry {
     pub content: Blob,
 }
 
-/// The documents and blobs of an image, and its signature layer: a JSON object with a member of each field's name and
-/// no others.
+/// The documents and blobs of an image, and its signature layer: a JSON object with exactly one member for each field,
+/// of the field's name.
 #[derive(Drop)]
 pub struct WrittenChain {
-    /// The digest that was answered for the reference.
+    /// The digest that was returned for the reference.
     pub digest: Text,
     /// The document of that digest.
     pub first: Blob,
-    /// The manifest that the first document led to, where that is an index; the member may be absent.
+    /// The manifest that the first document led to, if that is an index; the member may be absent.
     pub entry: Option<WrittenEntry>,
     pub config: Blob,
     /// In the manifest's order.
@@ -45,7 +45,7 @@ pub struct WrittenChain {
     pub signature: WrittenSignature,
 }
 
-/// A case, and a chain that is held to it: `{"case": case, "chain": chain}`.
+/// A case, and a chain that is checked against it: `{"case": case, "chain": chain}`.
 #[derive(Drop)]
 pub struct ChainInput {
     pub case: Case,
@@ -120,7 +120,7 @@ impl Reads for WrittenEntry {
     }
 }
 
-// The manifest that an index led to; none where the member is absent.
+// The manifest that an index led to; `None` if the member is absent.
 fn read_entry(alloc: Global, value: &Value) -> Result<Option<WrittenEntry>, ReadError>
     ensures { Gives result (at_name (unless_absent None some_entry_of) (codes "entry") (view value.now)) }
 {
@@ -171,8 +171,8 @@ impl Reads for ChainInput {
     }
 }
 
-/// Reads a case and a chain. None exactly where the bytes are no JSON text (RFC 8259) that nests at most 127 deep,
-/// where a float stands in it, or where it is no object of a case and a chain.
+/// Parses a case and a chain. Returns `None` if and only if the bytes are not a JSON text (RFC 8259) with at most 127
+/// levels of nesting, contain a float, or are not an object of a case and a chain.
 pub fn read_chain_input(alloc: Global, bytes: &[u8]) -> Result<Option<ChainInput>, AllocError>
     ensures exact { IfOk result (λ found. found ≡ chain_input_in bytes.now) }
     ensures ready { IfOk result (λ found. IfSome found (λ input. IsReady input.case)) }

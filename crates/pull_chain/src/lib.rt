@@ -1,4 +1,4 @@
-//! A recorded chain, held to the policy of a recorded case: what it says, the image that is built of it, and its check.
+//! A recorded chain, checked against the policy of a recorded case: its contents, the image built from it, the check.
 #![tactic(auto)]
 
 mod built;

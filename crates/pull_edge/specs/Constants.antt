@@ -1,4 +1,4 @@
--- The public constant is its number.
+-- The value of the public constant.
 use Rattle.std.specs.Prelude.{◌≡◌, refl}
 use Rattle.pull_edge.specs.declared.reading.TheConstants as constant
 

@@ -1,4 +1,4 @@
--- What a source of bytes in memory shows.
+-- The state of a source of bytes in memory.
 use Rattle.std.specs.Prelude.{ℕ, List, Some, drop}
 use Rattle.pull_edge.specs.declared.memory_source.MemorySource.{MemorySource}
 use Rattle.pull_edge.specs.Source.{Spring}
@@ -6,7 +6,7 @@ use Rattle.pull_edge.specs.Source.{Spring}
 abbrev pub spring : MemorySource → Spring
 spring s = record { left = Some (drop s.at s.content); faults = s.faults }
 
--- how often it was asked, up to the greatest count
+-- the number of calls so far, saturating at `u64::MAX`
 abbrev pub calls_of : MemorySource → ℕ
 calls_of s = s.calls
 

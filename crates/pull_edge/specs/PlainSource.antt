@@ -1,4 +1,4 @@
--- What a source that never fails shows.
+-- The state of a source that never fails.
 use Rattle.std.specs.Prelude.{Some, drop}
 use Rattle.pull_edge.specs.declared.plain_source.PlainSource.{PlainSource}
 use Rattle.pull_edge.specs.Source.{Spring}

@@ -1,4 +1,4 @@
--- Reading a source to its end, of at most so many bytes.
+-- Reading a source to its end, up to `limit` bytes.
 use Rattle.std.specs.Prelude.{ℕ, ◌≤◌, ◌<◌, List, length, Result, Ok, Err}
 use Rattle.std.specs.Io.KnownBytes.{IsAtEnd}
 use Rattle.json_values.specs.Counts.{Rose, Stays}
@@ -6,19 +6,19 @@ use Rattle.pull_edge.specs.Source.{Spring, Takes}
 use Rattle.pull_edge.specs.declared.reading.ReadRefusal.{ReadRefusal}
 use Rattle.pull_edge.specs.declared.reading.ReadRefusal.TheVariants.{TooLong, SourceFault, WantOfMemory}
 
--- these bytes were taken, and none is left
+-- these bytes were read, and none is left
 abbrev pub TakesAll : List ℕ → Spring → Spring → Type 0
 TakesAll bytes old new = Takes bytes old new × IsAtEnd new.left
 
--- at most so many bytes were taken
+-- at most `limit` bytes were read
 abbrev pub TakesWithin : ℕ → Spring → Spring → Type 0
 TakesWithin limit old new = (front : List ℕ) × Takes front old new × (length front ≤ limit)
 
--- more than so many bytes were taken
+-- more than `limit` bytes were read
 abbrev pub TakesMore : ℕ → Spring → Spring → Type 0
 TakesMore limit old new = (front : List ℕ) × Takes front old new × (limit < length front)
 
--- What was taken, by how the reading ended. The count of faults rises where the source failed, and stays otherwise.
+-- The bytes read, for each result. The fault count increases if the source failed, and is unchanged otherwise.
 abbrev pub Reads : ℕ → Result (List ℕ) ReadRefusal → Spring → Spring → Type 0
 Reads limit (Ok bytes) old new = TakesAll bytes old new × (length bytes ≤ limit) × Stays old.faults new.faults
 Reads limit (Err TooLong) old new = TakesMore limit old new × Stays old.faults new.faults

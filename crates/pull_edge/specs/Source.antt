@@ -1,12 +1,12 @@
--- What a source shows, and what a call of it changes.
+-- The state of a source, and how a call changes it.
 use Rattle.std.specs.Prelude.{ℕ, List, Option}
 use Rattle.std.specs.Io.KnownBytes.{Consumes}
 
--- the bytes that are left, where it tells them, and how many faults it had
+-- the bytes that are left, if the source exposes them, and its fault count
 pub record Spring : Type 0 where
   pub left : Option (List ℕ)
   pub faults : ℕ
 
--- these bytes were taken, the first ones of those that were left
+-- these bytes were read, a prefix of those that were left
 abbrev pub Takes : List ℕ → Spring → Spring → Type 0
 Takes bytes old new = Consumes old.left new.left bytes

@@ -1,6 +1,6 @@
 ghost use Rattle.std.specs.Prelude.{◌≡◌, ◌-◌, ◌≤◌, length, take, drop, min};
 
-/// Moves the first bytes of the content from a place on to the front of the room.
+/// Copies a prefix of the content after `at` to the start of the room, and returns its length in bytes.
 pub fn give(content: &[u8], at: usize, room: &mut [u8]) -> usize
     requires { at ≤ length content.now }
     ensures count { result ≡ min (length room.new) (length content.now - at) }

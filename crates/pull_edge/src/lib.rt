@@ -1,4 +1,4 @@
-//! Where a program's bytes come from and go to: sources in memory, standard input and standard output.
+//! The byte sources and sinks of a program: sources in memory, standard input and standard output.
 #![tactic(auto)]
 
 mod give;

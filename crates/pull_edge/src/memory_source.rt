@@ -6,7 +6,7 @@ use crate::give::give;
 use crate::source::{Failed, Source};
 use json_values::{Blob, List};
 
-/// Gives bytes that stand in memory, and fails at the calls whose numbers, counted from 0, it was given.
+/// Returns bytes in memory, and fails at the calls with the given numbers, counted from 0.
 #[derive(Drop)]
 pub struct MemorySource {
     content: Blob,
@@ -20,7 +20,7 @@ pub struct MemorySource {
 impl MemorySource {
     ghost use Rattle.pull_edge.specs.MemorySource.{spring, calls_of, failing_of};
 
-    /// All of the content is left, and nothing was asked yet.
+    /// Creates a source with all of the content left.
     pub fn new(content: Blob, failing: List<u64>) -> MemorySource
         ensures left { (spring result).left ≡ Some content }
         ensures faults { (spring result).faults ≡ 0 }

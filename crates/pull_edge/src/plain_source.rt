@@ -4,7 +4,7 @@ use crate::give::give;
 use crate::source::{Failed, Source};
 use json_values::Blob;
 
-/// Gives bytes that stand in memory, and never fails.
+/// Returns bytes in memory, and never fails.
 #[derive(Drop)]
 pub struct PlainSource {
     content: Blob,
@@ -15,7 +15,7 @@ pub struct PlainSource {
 impl PlainSource {
     ghost use Rattle.pull_edge.specs.PlainSource.{spring};
 
-    /// All of the content is left.
+    /// Creates a source with all of the content left.
     pub fn new(content: Blob) -> PlainSource
         ensures { (spring result).left ≡ Some content }
     {

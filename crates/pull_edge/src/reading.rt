@@ -1,4 +1,4 @@
-// A source as one text.
+// Reads a source to its end.
 ghost use Rattle.std.specs.Prelude.{◌≡◌, ◌≤◌, IfOk, vec_len};
 ghost use Rattle.pull_edge.specs.Reading.{Reads};
 
@@ -7,16 +7,16 @@ use json_values::{Blob, Copied};
 use std::alloc::{AllocError, Global};
 use thiserror::Error;
 
-/// How many bytes a program's input may have.
+/// The greatest length of a program's input in bytes.
 pub const INPUT_LIMIT: u64 = 67108864;
 
-/// How many bytes are taken at most at one time.
+/// The greatest length of a piece in bytes.
 const PIECE: usize = 65536;
 
 /// Why a source was not read to its end.
 #[derive(Clone, Copy, Debug, PartialEq, Eq, Error)]
 pub enum ReadRefusal {
-    /// More bytes than the limit were taken.
+    /// The source has more bytes than the limit.
     #[error("the source has more bytes than the limit: give fewer, or read them with a greater limit")]
     TooLong,
     #[error("the source failed: what was read of it is let go, so read it again from its start")]
@@ -59,7 +59,7 @@ fn zeros(alloc: Global, count: usize) -> Result<Vec<u8>, AllocError>
     vec![in alloc; 0; count]
 }
 
-/// Reads a source to its end, in pieces, and refuses it as soon as more bytes than the limit were taken.
+/// Reads a source to its end, piece by piece. Returns `TooLong` as soon as more than `limit` bytes were read.
 pub fn read_all<S: Source>(alloc: Global, source: &mut S, limit: u64) -> Result<Blob, ReadRefusal>
     ensures reads { Reads limit result (S.state source.old) (S.state source.new) }
     ensures count { (S.state source.old).faults ≤ (S.state source.new).faults }

@@ -1,4 +1,4 @@
-// Where bytes come from.
+// Byte sources.
 ghost use Rattle.std.specs.Prelude.{◌≡◌, ◌≤◌, ◌<◌, length, take, IfOk, OnOk, OnErr};
 ghost use Rattle.std.specs.Io.KnownBytes.{Keeps, IsAtEnd};
 ghost use Rattle.json_values.specs.Counts.{Rose, Stays};
@@ -8,7 +8,7 @@ use json_values::Copied;
 use std::alloc::{AllocError, Global};
 use thiserror::Error;
 
-/// A source gave nothing, and what it has left stays as it was.
+/// The source returned no bytes, and those that are left are unchanged.
 #[derive(Clone, Copy, Debug, PartialEq, Eq, Error)]
 #[error("the source failed: what it has left may be taken by a further call")]
 pub struct Failed;
@@ -19,14 +19,14 @@ impl Copied for Failed {
     }
 }
 
-/// Gives bytes, piece by piece.
+/// Returns bytes, piece by piece.
 pub trait Source {
-    /// The bytes that are left, where it tells them, and the count of its faults.
+    /// The bytes that are left, if it exposes them, and its fault count.
     ghost state: { Self → Spring };
 
-    /// Moves the first bytes that are left to the front of the room, and answers how many.
-    /// No byte into room that is not empty is the end. The count of faults rises where it answers `Failed`, and stays
-    /// otherwise.
+    /// Moves a prefix of the bytes that are left to the start of the room, and returns its length in bytes.
+    /// At the end no byte is moved to non-empty room. Returns `Failed` if the source failed: the fault count increases
+    /// then, and is unchanged otherwise.
     fn take(&mut self, room: &mut [u8]) -> Result<usize, Failed>
         ensures count { (state self.old).faults ≤ (state self.new).faults }
         ensures most { IfOk result (λ n. n ≤ length room.new) }
@@ -36,7 +36,7 @@ pub trait Source {
         ensures fault { OnErr result (Rose (state self.old).faults (state self.new).faults) }
         ensures served { OnOk result (Stays (state self.old).faults (state self.new).faults) };
 
-    /// How often it failed, up to the greatest count.
+    /// Returns the number of failures so far, saturating at `u64::MAX`.
     fn faults(&self) -> u64
         ensures { result ≡ (state self.now).faults };
 }

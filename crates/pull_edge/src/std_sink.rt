@@ -3,8 +3,8 @@ ghost use Rattle.std.specs.Prelude.{◌≡◌};
 use json_values::{Sink, SinkError};
 use std::io::Write;
 
-/// Puts bytes where a writer of std puts them, as standard output. It does not tell them. Each error
-/// of the writer is a fault, and so is a write that takes nothing of a piece that is not empty; nothing else is.
+/// Writes bytes to a `std` writer, for example standard output, and does not expose them. Each error of the writer
+/// is a fault, and so is a write of length 0 of a non-empty piece; nothing else is.
 #[derive(Drop)]
 pub struct StdSink<W> {
     writer: W,
@@ -14,7 +14,7 @@ pub struct StdSink<W> {
 impl<W: Write> StdSink<W> {
     ghost use Rattle.pull_edge.specs.StdSink.{tray};
 
-    /// It had no fault yet.
+    /// Creates a sink without faults.
     pub fn new(writer: W) -> StdSink<W>
         ensures { (tray result).faults ≡ 0 }
     {

@@ -3,7 +3,7 @@ ghost use Rattle.std.specs.Prelude.{◌≡◌};
 use crate::source::{Failed, Source};
 use std::io::Read;
 
-/// Gives what a reader of std gives, as standard input. Each error of the reader is a fault, and nothing else is.
+/// Reads bytes from a `std` reader, for example standard input. Each error of the reader is a fault, nothing else is.
 #[derive(Drop)]
 pub struct StdSource<R> {
     reader: R,
@@ -13,7 +13,7 @@ pub struct StdSource<R> {
 impl<R: Read> StdSource<R> {
     ghost use Rattle.pull_edge.specs.StdSource.{spring};
 
-    /// It had no fault yet.
+    /// Creates a source without faults.
     pub fn new(reader: R) -> StdSource<R>
         ensures left { (spring R.remaining result).left ≡ R.remaining reader }
         ensures faults { (spring R.remaining result).faults ≡ 0 }

@@ -1,4 +1,4 @@
--- What a pull by the generated terms is a run of, and that it is answered over the generated shelf.
+-- The row of a pull by the generated terms, and that it succeeds over the generated shelf.
 use Rattle.std.proofs.Common.{◌≡◌, ℕ, List, [], ◌∷◌, codes, Option, Some, None, Result, Err, IsErrAnd, refl, sym, ap, subst, ◌∙◌}
 use Rattle.std.specs.FinMap.{FinMap, empty}
 use Rattle.std.proofs.lemmas.Result.{err_from_is_err_and}
@@ -28,7 +28,7 @@ use Rattle.generated_image.specs.Shelf.{generated_shelf, HasTwoDigests}
 use Rattle.pull_generated.specs.Terms.{generated_settings, generated_context, fresh, generated_reference, generated_types, any_layer, generated_policy, signed_row, meaning_with, generated_row, PullsGenerated, IsCount}
 use Rattle.pull_generated.proofs.Valid.{valid}
 
--- ---- memory was wanting before
+-- ---- memory ran out before the call
 
 pub wanting : (n : ℕ) {link : Link} (r : Result VerifiedImage PullRefusal) → IsErrAnd r (λ x. x ≡ refusal.WantOfMemory) → PullsGenerated n link link r
 wanting n {link} r h = let at = err_from_is_err_and r h in rw (at.1, at.2) (fresh, Meets-memory is_memory (generated_row n) link fresh refusal.WantOfMemory refl)

@@ -1,4 +1,4 @@
--- The generated shelf is a valid one for its pull, which gives the image or finds that memory is wanting.
+-- The generated shelf is a valid one for its pull, which returns the image or runs out of memory.
 use Rattle.std.proofs.Common.{◌≡◌, ◌≤◌, ℕ, Bool, true, false, inl, cond, ◌||◌, ◌&&◌, List, [], ◌∷◌, ◌++◌, codes, length, Option, Some, None, Result, Ok, Err, IsTrue, unwrap_or, refl, sym, ap, subst, ◌∙◌, arith}
 use Rattle.std.specs.Prelude.{find}
 use Rattle.std.specs.List.{list_any, list_all}
@@ -94,7 +94,7 @@ asked n = record {
   lead = lead n;
 }
 
--- ---- the layer that stands
+-- ---- the layer that satisfies the policy
 
 names_itself : (bytes : List ℕ) → names (sha256_text bytes) bytes ≡ true
 names_itself bytes = (named (sha256_text bytes) bytes).1 (Sha256, refl)

@@ -1,4 +1,4 @@
--- How the generated image is pulled: by a new client that asks for it by its tag, and holds it to one key.
+-- How the generated image is pulled: by a new client that requests it by its tag, under a policy with one key.
 use Rattle.std.specs.Prelude.{ℕ, false, List, [], ◌∷◌, Some, None, codes, ◌≤◌, Result, IfErr}
 use Rattle.std.specs.FinMap as map
 use Rattle.oci_names.specs.declared.reference.Reference.{Reference}
@@ -26,7 +26,7 @@ use Rattle.cosign_rows.specs.declared.refusal.PullRefusal.{PullRefusal}
 use Rattle.generated_image.specs.Shelf.{payload_of}
 use Rattle.generated_image.specs.Texts.{sha256_text, layer_type}
 
--- ---- the client, and what it is asked for
+-- ---- the client and its arguments
 
 abbrev pub generated_settings : Settings
 generated_settings = record {
@@ -40,7 +40,7 @@ generated_settings = record {
 abbrev pub generated_context : Context
 generated_context = within generated_settings 100
 
--- a client that keeps nothing yet, and no answers
+-- a new client without a cache
 abbrev pub fresh : Kept
 fresh = (nothing_kept 60, None)
 
@@ -58,7 +58,7 @@ generated_types = layer_type ∷ []
 
 -- ---- the policy
 
--- each layer will do
+-- accepts each layer
 abbrev pub any_layer : {V : Type 0} {H : V → Type 0} → Constraint V H
 any_layer = Annotations (record { annotations = map.empty })
 
@@ -66,15 +66,15 @@ any_layer = Annotations (record { annotations = map.empty })
 abbrev pub generated_policy : {V : Type 0} {H : V → Type 0} → PullPolicy V H
 generated_policy = record { keys = codes "k1" ∷ []; constraints = any_layer ∷ [] }
 
--- the signature of the payload of the image with so many layers
+-- the signature of the payload of the image with `n` layers
 abbrev pub signed_row : ℕ → SignedRow
 signed_row n = record { key = codes "k1"; message = sha256_text (payload_of n); signature = codes "sig1" }
 
--- that signature is valid and no other; no certificate is vouched for, and no log is known
+-- only that signature is valid; no certificate is vouched for, and no log is known
 abbrev pub generated_trust : ℕ → Trust
 generated_trust n = trust (valid_in (record { rows = signed_row n ∷ [] })) (λ evidence. None) map.empty
 
--- whatever a box of a caller accepts: none stands in the policy
+-- whatever a caller's box accepts: the policy has none
 abbrev pub meaning_with : {V : Type 0} {H : V → Type 0} → Owns V H → ℕ → Meaning V H
 meaning_with own n = meaning generated_policy own (generated_trust n)
 
@@ -86,11 +86,11 @@ generated_meaning n = meaning_with (λ box layer. false) n
 abbrev pub generated_row : ℕ → Whole VerifiedImage
 generated_row n = verified (generated_meaning n) generated_context generated_reference Anonymous generated_types
 
--- a run of it by a client that was new
+-- a run of it by a new client
 abbrev pub PullsGenerated : ℕ → Link → Link → Result VerifiedImage PullRefusal → Type 0
 PullsGenerated n old new result = (kept : Kept) × Meets is_memory (generated_row n) old new fresh kept result
 
--- a refusal has its cause in the exchanges, from such a client to what it came to keep
+-- a refusal has its cause in the exchanges, from a new client to its state afterwards
 abbrev pub IsCaused : ℕ → Link → Link → Result VerifiedImage PullRefusal → Type 0
 IsCaused n old new result = (kept : Kept) × IfErr result (λ e. Told
     (λ c. PullCause (generated_meaning n) generated_context generated_reference Anonymous generated_types

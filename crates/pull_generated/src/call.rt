@@ -18,7 +18,7 @@ use oci_transport::Transport;
 use sig_registry::Auth;
 use std::alloc::Global;
 
-// The same, by what it is a run of, and where it is answered.
+// The same, with the row that it performs and its results over the shelf.
 fn pulled<T: Transport>(
     alloc: Global,
     layers: u32,
@@ -43,9 +43,9 @@ fn pulled<T: Transport>(
     )
 }
 
-/// Pulls the generated image with so many layers over this transport, by a new client: `localhost:5000/gen:v1` over
-/// `http` with no credentials, at the moment 100. A layer has to be signed under one key, `k1`, by the one signature
-/// that is valid: the one that the image's shelf has.
+/// Pulls the generated image with `layers` layers over this transport with a new client: `localhost:5000/gen:v1` over
+/// `http`, without credentials, at the moment 100. The policy has one key, `k1`, and one signature is valid: the one on
+/// the image's shelf.
 pub fn pull_generated<T: Transport>(
     alloc: Global,
     layers: u32,

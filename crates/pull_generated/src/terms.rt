@@ -1,4 +1,4 @@
-// What the generated image is pulled by.
+// The terms that the generated image is pulled by.
 ghost use Rattle.std.specs.Prelude.{◌≡◌, [], ◌∷◌, Some, None, IfOk, codes};
 ghost use Rattle.std.specs.FinMap as map;
 ghost use Rattle.cosign_client.specs.State.{client_state};
@@ -14,7 +14,7 @@ use oci_engine::{ClientConfig, ClientProtocol};
 use sig_registry::{OciClient, OciReference, RegistryClient};
 use std::alloc::{AllocError, Global};
 
-// One key, and one constraint, which each layer meets.
+// One key, and one constraint, which accepts each layer.
 fn policy(alloc: Global) -> Result<PullPolicy, AllocError>
     ensures keys { IfOk result (λ policy. policy.keys ≡ codes "k1" ∷ []) }
     ensures constraints { IfOk result (λ policy. policy.constraints ≡ any_layer ∷ []) }
@@ -51,7 +51,7 @@ fn image(alloc: Global) -> Result<OciReference, AllocError>
     Ok(OciReference::with_tag(registry, repository, tag))
 }
 
-/// A client that keeps nothing yet and knows no logs.
+/// Returns a client that keeps nothing yet and knows no logs.
 pub(crate) fn fresh_client(alloc: Global) -> Result<Client, AllocError>
     ensures state { IfOk result (λ client.
         client_state client ≡ record { settings = generated_settings; kept = fresh }) }
@@ -66,7 +66,7 @@ pub(crate) fn fresh_client(alloc: Global) -> Result<Client, AllocError>
     })
 }
 
-/// What the pull asks for, and what it holds an answer to.
+/// The arguments and the policy of the pull.
 #[derive(Drop)]
 pub(crate) struct Terms {
     pub image: OciReference,

@@ -31,7 +31,7 @@ use Rattle.pull_live.specs.Pulls.{Carries, Collects, Transfer, collected_of}
 use Rattle.pull_live.specs.Shows.{Founded, Shown}
 use Rattle.pull_live.specs.Terms.{IsWhole, PulledBy}
 
--- what a transport's streams show once it is let go
+-- the state of a transport's streams once it is dropped
 abbrev pub Lets : Link → Option Breach → Tray → Spring → Type 0
 Lets t breach tray spring = (taken left : List ℕ) (c : List Exchange) → t.told ≡ Some (opening taken left ∷ c) → ∥ Held taken left tray spring breach c ∥₁
 
@@ -55,7 +55,7 @@ whole_search : (row : Row TrustedLayers) (first last : Link) (k l : Kept) (r : R
 whole_search row first last k l (Ok found) whole met = met.outcome
 whole_search row first last k l (Err e) whole met = rw whole at met.outcome
 
--- the layers of a search that was not cut off
+-- the layers of a search that did not run out of memory
 pub found : (row : Row TrustedLayers) (first last : Link) (breach : Option Breach) (old new : Wire) (k l : Kept) (r : Result TrustedLayers SigstoreError) {E : Type 0} (layers : Result (List SignatureLayer) E)
     → first.told ≡ told_from old.tray.taken old.spring.left [] → first.faults ≡ 0 → Meets of_memory row first last k l r → Lets last breach new.tray new.spring
     → IfOk layers (λ found. found ≡ collected_of r) → IfOk layers (λ found. IsWhole r) → IfOk layers (Collects row old new k l)
@@ -66,17 +66,17 @@ found row first last breach old new k l r (Ok layers) told none met lets are who
 }
 found row first last breach old new k l r (Err e) told none met lets are whole = tt
 
--- a pull that was not cut off
+-- a pull that did not run out of memory
 pub pulled : (row : Whole VerifiedImage) (first last : Link) (breach : Option Breach) (old new : Wire) (k l : Kept) (r : Result VerifiedImage PullRefusal)
     → first.told ≡ told_from old.tray.taken old.spring.left [] → first.faults ≡ 0 → Meets is_memory row first last k l r → Lets last breach new.tray new.spring → PulledBy row old new k l r
 pulled row first last breach old new k l (Ok v) told none met lets = transfer row first last breach old new k l (Ok v) told none met.outcome lets
 pulled row first last breach old new k l (Err e) told none met lets = λ whole. transfer row first last breach old new k l (Err e) told none (rw whole at met.outcome) lets
 
--- what is told of a conversation is shown by the frames that carried it
+-- a property of the exposed conversation holds for the frames that carried it
 pub shown : (P : List Exchange → Type 0) (first last : Link) (breach : Option Breach) (old new : Wire) → first.told ≡ told_from old.tray.taken old.spring.left [] → Told P first last → Lets last breach new.tray new.spring → Shown P old new
 shown P first last breach old new told is lets = (is.conversation, carried first last breach old new is.conversation told is.told lets, is.holds)
 
--- what a pull's answer rests on
+-- why a pull's result is justified
 pub founded : {V : Type 0} {H : V → Type 0} (m : Meaning V H) (s : Context) (image : Reference) (a : RegistryAuth) (accepted : List (List ℕ)) (first last : Link) (breach : Option Breach) (old new : Wire) (k l : Kept) (r : Result VerifiedImage PullRefusal)
     → first.told ≡ told_from old.tray.taken old.spring.left [] → first.faults ≡ 0 → Lets last breach new.tray new.spring
     → IfOk r (λ v. Chain m image accepted s.settings.platform_resolver v) → IfOk r (λ v. Told (λ c. Backed k s image a c v) first last)

@@ -43,7 +43,7 @@ pub passed_begin : (r : Result LiveSettings Status) (s : Status) (old new : Wire
 passed_begin (Ok x) s old new cause is = tt
 passed_begin (Err t) s old new cause is = subst (λ y. BeginCause y old new) (sym is.1) cause
 
--- a frame that is no settings
+-- a frame that is not settings
 pub unread_begins : (s : Status) (d : Data) (old between new : Wire) → Tells begin_head [] old between → Hears d between new → ReadsSettings (Err s) d → BeginCause s old new
 unread_begins status.Pulled d old between new told heard reads = absurd reads
 unread_begins status.Refused d old between new told heard reads = absurd reads
@@ -52,7 +52,7 @@ unread_begins status.HostBroken d old between new told heard reads = absurd read
 unread_begins status.SinkFault d old between new told heard reads = absurd reads
 unread_begins status.WantOfMemory d old between new told heard reads = tt
 
--- ---- the whole
+-- ---- the whole pull
 
 pub begun_says : (s : Status) (settings : LiveSettings) (old begun new : Wire) → Begins settings old begun → Ends (λ r. Live settings r begun new) s new → Says s old new
 begun_says status.Pulled settings old begun new starts h = (h.0, (settings, begun, starts, h.1))

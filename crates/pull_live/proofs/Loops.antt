@@ -1,4 +1,4 @@
--- A list of keys that is read in part.
+-- A list of keys, read in part.
 use Rattle.std.proofs.Common.{◌≡◌, ℕ, List, [], ◌∷◌, ◌++◌, Some, sym, ap, ◌∙◌, ◌+◌, suc, ◌<◌, length, get_or, drop, add-one}
 use Rattle.std.proofs.Math.Seq.{drop-cons}
 use Rattle.serde_json.specs.Data.{item}
@@ -11,7 +11,7 @@ use Rattle.pull_live.specs.Settings.{key_of}
 next_item : (xs : List Value) (i : ℕ) (x : Value) → i < length xs → x ≡ get_or xs i x → items_view (drop i xs) ≡ item (view x) (items_view (drop (i + 1) xs))
 next_item xs i x within is = ap items_view (drop-cons xs i x within) ∙ ap (λ y. item (view y) (items_view (drop (suc i) xs))) (sym is) ∙ ap (λ n. item (view x) (items_view (drop n xs))) (sym (add-one i))
 
--- one key more was read
+-- one more key was read
 pub next_key : (xs : List Value) (i : ℕ) (x : Value) (before after : List (List ℕ)) (key : List ℕ) → i < length xs → x ≡ get_or xs i x
     → items_by key_of (items_view xs) ≡ with_front before (items_by key_of (items_view (drop i xs))) → key_of (view x) ≡ Some key → after ≡ before ++ key ∷ []
     → items_by key_of (items_view xs) ≡ with_front after (items_by key_of (items_view (drop (i + 1) xs)))

@@ -1,4 +1,4 @@
--- What a chain and a cause say is the same whatever a policy's boxes mean, since the settings write none.
+-- A chain and a cause mean the same whatever a policy's boxes mean, since the settings contain none.
 use Rattle.std.proofs.Common.{◌≡◌, ◌<◌, ℕ, suc, Bool, IsTrue, List, [], ◌∷◌, length, Option, Some, None, Result, Ok, Err, refl, sym, ap, ◌∙◌, subst}
 use mathlib.Core.Path.{fun_ext}
 use Rattle.std.specs.Prelude.{find}

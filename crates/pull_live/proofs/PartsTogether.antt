@@ -1,4 +1,4 @@
--- How the parts of a live pull come together.
+-- How the parts of a live pull fit together.
 use Rattle.std.proofs.Common.{◌≡◌, ℕ, Bool, true, false, List, Result, Ok, Err, refl, sym, ap, ◌∙◌, subst}
 use Rattle.std.specs.FinMap.{FinMap}
 use Rattle.json_values.specs.Places.{by_bytes}
@@ -40,7 +40,7 @@ use Rattle.pull_live.specs.declared.status.Status.TheVariants as status
 use Rattle.pull_live.proofs.Meanings.{founded_as}
 use Rattle.pull_live.proofs.Policies.{policy_is, row_same}
 
--- what follows of each outcome follows of the end
+-- a consequence of each result is a consequence of the end
 pub ends_as : {P Q : Result VerifiedImage PullRefusal → Type 0} (s : Status) (new : Wire) → ((r : Result VerifiedImage PullRefusal) → P r → Q r) → Ends P s new → Ends Q s new
 ends_as status.Pulled new f h = (h.0, f (Ok h.0) h.1)
 ends_as status.Refused new f h = (h.0, h.1, f (Err h.0) h.2)
@@ -49,7 +49,7 @@ ends_as status.HostBroken new f h = h
 ends_as status.SinkFault new f h = h
 ends_as status.WantOfMemory new f h = tt
 
--- a pull and what went out of it
+-- a pull, and what was sent for it
 pub finished : (row : Whole VerifiedImage) (Shows : Showing) (blobs : Bool) (k l : Kept) (old pulled new : Wire) (r : Result VerifiedImage PullRefusal) (s : Status)
     → PulledBy row old pulled k l r → Shows k l r old pulled → Delivers blobs r s pulled new → Ends (Finished row Shows blobs k old new) s new
 finished row Shows blobs k l old pulled new (Ok v) status.Pulled pull shows given = (v, (pulled, l, pull, shows, given))
@@ -65,7 +65,7 @@ finished row Shows blobs k l old pulled new (Err e) status.SinkFault pull shows 
 finished row Shows blobs k l old pulled new (Ok v) status.WantOfMemory pull shows given = tt
 finished row Shows blobs k l old pulled new (Err e) status.WantOfMemory pull shows given = tt
 
--- the pull that these terms ask for is that of the settings
+-- the pull by these terms is that of the settings
 row_is : {V : Type 0} {H : V → Type 0} (own : Owns V H) (settings : LiveSettings) (p : Prepared V H) (answers : Answers) → Prepares settings p
     → row_for own p.terms answers p.client.rekor_pub_keys (client_state p.client).settings ≡ pull_row settings answers (reference_in p.terms.image)
 row_is own settings p answers (reads, auth, accepted, moment, keys, constraints, client, logs) =
@@ -75,7 +75,7 @@ search_is : {V : Type 0} {H : V → Type 0} (settings : LiveSettings) (p : Prepa
     → searched_by p.terms p.client.rekor_pub_keys (client_state p.client).settings ≡ search_row settings (reference_in p.terms.image)
 search_is settings p (reads, auth, accepted, moment, keys, constraints, client, logs) = rw (client, logs, moment, auth) refl
 
--- what these terms' pull shows is what that of the settings shows
+-- the properties of the pull by these terms are those of the pull by the settings
 shows_are : {V : Type 0} {H : V → Type 0} (own : Owns V H) (settings : LiveSettings) (p : Prepared V H) (answers : Answers) (k l : Kept) (r : Result VerifiedImage PullRefusal) (old new : Wire) → Prepares settings p
     → PullShows own p.terms answers p.client.rekor_pub_keys (client_state p.client).settings k l r old new
     → Founded (meaning_of settings answers) (context_of settings) (reference_in p.terms.image) settings.auth settings.accepted k l r old new × Confined (context_of settings) (reference_in p.terms.image) settings.auth k l old new
@@ -90,7 +90,7 @@ stays_is : {V : Type 0} {H : V → Type 0} (settings : LiveSettings) (p : Prepar
     → TermsConfined p.terms (client_state p.client).settings k l old new → Confined (context_of settings) (reference_in p.terms.image) settings.auth k l old new
 stays_is settings p k l old new (reads, auth, accepted, moment, keys, constraints, client, logs) stays = rw (client, moment, auth) at stays
 
--- a client and what it is asked, of settings that were opened
+-- a client and its arguments, from settings that were opened
 abbrev pub prepared_in : {V : Type 0} {H : V → Type 0} → Opened → List (Constraint V H) → Prepared V H
 prepared_in o constraints = record {
   client = o.client;
@@ -168,7 +168,7 @@ talked own terms search Stays blobs k kept old searched_at asked new layers answ
           (subst (λ (x : Settings). Finished (row_for own terms answers same_logs x) (PullShows own terms answers same_logs x) blobs kept asked new r) is_settings h);
     }) ends
 
--- a pull that these terms ask for, and what went out of it
+-- a pull by these terms, and what was sent for it
 pub finished_for : {V : Type 0} {H : V → Type 0} (own : Owns V H) (terms : Terms V H) (answers : Answers) (logs : FinMap by_bytes (List ℕ)) (s : Settings) (blobs : Bool) (k l : Kept) (old pulled new : Wire) (r : Result VerifiedImage PullRefusal) (e : Status)
     → PulledBy (row_for own terms answers logs s) old pulled k l r → PullShows own terms answers logs s k l r old pulled → Delivers blobs r e pulled new
     → Ends (Finished (row_for own terms answers logs s) (PullShows own terms answers logs s) blobs k old new) e new

@@ -1,4 +1,4 @@
--- A pull by the settings is the same whatever a policy's boxes mean, since the settings write none.
+-- A pull by the settings is the same whatever a policy's boxes mean, since the settings contain none.
 use Rattle.std.proofs.Common.{◌≡◌, false, refl, ap, ◌∙◌}
 use Rattle.oci_names.specs.declared.reference.Reference.{Reference}
 use Rattle.cosign_layers.specs.Standing.{Owns, meaning}
@@ -14,7 +14,7 @@ use Rattle.pull_live.specs.declared.settings.LiveSettings.{LiveSettings}
 pub policy_is : {V : Type 0} {H : V → Type 0} (policy : PullPolicy V H) (settings : LiveSettings) → policy.keys ≡ settings.keys → policy.constraints ≡ constraints_by settings.constraints → policy ≡ record { keys = settings.keys; constraints = constraints_by settings.constraints }
 policy_is policy settings keys constraints = rw (← keys, ← constraints) refl
 
--- the row of a policy that the settings give is that of the settings
+-- the row of the policy that the settings yield is that of the settings
 pub row_same : {V : Type 0} {H : V → Type 0} (policy : PullPolicy V H) (own : Owns V H) (settings : LiveSettings) (answers : Answers) (image : Reference) → policy ≡ record { keys = settings.keys; constraints = constraints_by settings.constraints }
     → verified (meaning policy own (trust_of settings answers)) (context_of settings) image settings.auth settings.accepted ≡ pull_row settings answers image
 row_same {V} {H} policy own settings answers image is =

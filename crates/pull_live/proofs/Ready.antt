@@ -1,4 +1,4 @@
--- What holds of all settings: their reference reads as one.
+-- A property of all settings: their reference parses.
 use Rattle.std.proofs.Common.{◌≡◌, Option, Some, None, IfSome, subst, codes}
 use Rattle.std.specs.FinMap.{empty}
 use Rattle.serde_json.specs.Data.{Data}

@@ -1,4 +1,4 @@
--- A live pull: the settings, the search, the host's answers, the pull, and what goes out.
+-- A live pull: the settings, the search, the host's answers, the pull, and what is sent.
 use Rattle.std.specs.Prelude.{◌≡◌, true, false, List, [], None, Result, Ok, Err}
 use Rattle.serde_json.specs.Data.{Data}
 use Rattle.oci_names.specs.Reference.{reference_of}
@@ -23,8 +23,8 @@ use Rattle.pull_live.specs.declared.status.Status.{Status}
 use Rattle.pull_live.specs.declared.status.Status.TheVariants as status
 
 -- What was done by these settings, from one state of the streams to another: layers were searched; the host was asked
--- about them; the image was pulled under its answers, by the same client; and what came of that went out. An image has
--- its chain under the host's answers and comes of what came in, a refusal has its cause, and both calls are confined.
+-- about them; the image was pulled under its answers, by the same client; and the result was sent. An image has its
+-- chain under the host's answers and comes from what was received, an error has its cause, and both calls are confined.
 pub record Live (settings : LiveSettings) (r : Result VerifiedImage PullRefusal) (old new : Wire) : Type 0 where
   pub image : Reference
   pub reads : reference_of settings.reference ≡ Ok image
@@ -44,7 +44,7 @@ pub record Live (settings : LiveSettings) (r : Result VerifiedImage PullRefusal)
   pub confined : Confined (context_of settings) image settings.auth kept left asked pulled
   pub given : OutcomeTold settings.blobs r pulled new
 
--- by the status; want of memory says nothing
+-- by the status; out of memory guarantees nothing
 abbrev pub Ends : (Result VerifiedImage PullRefusal → Type 0) → Status → Wire → Type 0
 Ends P status.Pulled new = (v : VerifiedImage) × P (Ok v)
 Ends P status.Refused new = (e : PullRefusal) × (is_memory e ≡ false) × P (Err e)
@@ -53,11 +53,11 @@ Ends P status.HostBroken new = IsBroken new
 Ends P status.SinkFault new = IsUnwritten new
 Ends P status.WantOfMemory new = Unit {0}
 
--- the settings came in as a frame that reads so
+-- a frame was received that parses as these settings
 abbrev pub Begins : LiveSettings → Wire → Wire → Type 0
 Begins settings old new = Asks begin_head [] settings_of settings old new
 
--- a frame came in that is no settings
+-- a frame was received that is not settings
 pub record NoSettings (old new : Wire) : Type 0 where
   pub between : Wire
   pub told : Tells begin_head [] old between
@@ -69,7 +69,7 @@ pub record NoSettings (old new : Wire) : Type 0 where
 abbrev pub Lives : Result VerifiedImage PullRefusal → Wire → Wire → Type 0
 Lives r old new = (settings : LiveSettings) × (begun : Wire) × Begins settings old begun × Live settings r begun new
 
--- what a status says
+-- what a status means
 abbrev pub Says : Status → Wire → Wire → Type 0
 Says status.UnreadableSettings old new = NoSettings old new
 Says other old new = Ends (λ r. Lives r old new) other new

@@ -1,4 +1,4 @@
--- Settings whose client is made.
+-- Settings with the client that was built for them.
 use Rattle.std.specs.Prelude.{◌≡◌, true}
 use Rattle.cosign_client.specs.Builder.{fresh_state}
 use Rattle.cosign_client.specs.State.{client_state}
@@ -8,7 +8,7 @@ use Rattle.pull_setup.specs.declared.client.WrittenClient.{WrittenClient}
 use Rattle.pull_live.specs.declared.opening.Opened.{Opened}
 use Rattle.pull_live.specs.declared.settings.LiveSettings.{LiveSettings}
 
--- what the settings say of the client
+-- the client's part of the settings
 abbrev pub client_in : LiveSettings → WrittenClient
 client_in settings = record {
   protocol = settings.protocol;
@@ -18,7 +18,7 @@ client_in settings = record {
   log_keys = settings.log_keys;
 }
 
--- the client keeps nothing yet, and all else is what was asked and what the settings say
+-- the client is new, and all other parts are from `asked` and the settings
 pub record Opens (asked : Asked) (settings : LiveSettings) (o : Opened) : Type 0 where
   pub client : client_state o.client ≡ fresh_state (config_by asked.usual (client_in settings)) true
   pub log_keys : o.client.rekor_pub_keys ≡ settings.log_keys

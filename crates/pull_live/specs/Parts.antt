@@ -34,7 +34,7 @@ use Rattle.pull_live.specs.declared.settings.LiveSettings.{LiveSettings}
 use Rattle.pull_live.specs.declared.status.Status.{Status}
 use Rattle.pull_live.specs.declared.status.Status.TheVariants as status
 
--- a client that these settings make, and what it is asked
+-- a client with these settings, and its arguments
 abbrev pub Prepares : {V : Type 0} {H : V → Type 0} → LiveSettings → Prepared V H → Type 0
 Prepares settings p =
     (reference_of settings.reference ≡ Ok (reference_in p.terms.image))
@@ -46,7 +46,7 @@ Prepares settings p =
     × (client_state p.client ≡ record { settings = client_settings settings; kept = fresh true })
     × (p.client.rekor_pub_keys ≡ settings.log_keys)
 
--- what a frame reads as
+-- what a frame parses as
 abbrev pub ReadsSettings : Result LiveSettings Status → Data → Type 0
 ReadsSettings (Ok settings) d = settings_of d ≡ Some settings
 ReadsSettings (Err status.UnreadableSettings) d = settings_of d ≡ None
@@ -62,7 +62,7 @@ BeginCause status.HostBroken old new = IsBroken new
 BeginCause status.SinkFault old new = IsUnwritten new
 BeginCause status.WantOfMemory old new = Unit {0}
 
--- how what came of a pull went out
+-- how the result of a pull was sent
 abbrev pub Delivers : Bool → Result VerifiedImage PullRefusal → Status → Wire → Wire → Type 0
 Delivers blobs (Ok v) status.Pulled old new = OutcomeTold blobs (Ok v) old new
 Delivers blobs (Err e) status.Pulled old new = ⊥
@@ -73,18 +73,18 @@ Delivers blobs r status.HostBroken old new = IsBroken new
 Delivers blobs r status.SinkFault old new = IsUnwritten new
 Delivers blobs r status.WantOfMemory old new = Unit {0}
 
--- what a pull shows, by what was kept before and after, its answer, and the streams before and after
+-- a property of a pull: of the client state before and after, its result, and the streams before and after
 abbrev pub Showing : Type 1
 Showing = Kept → Kept → Result VerifiedImage PullRefusal → Wire → Wire → Type 0
 
--- a pull, and what went out of it
+-- a pull, and what was sent for it
 abbrev pub Finished : Whole VerifiedImage → Showing → Bool → Kept → Wire → Wire → Result VerifiedImage PullRefusal
     → Type 0
 Finished row Shows blobs k old new r =
     (pulled : Wire) × (l : Kept) × Transfer row old pulled k l r × Shows k l r old pulled
     × OutcomeTold blobs r pulled new
 
--- the search that these terms ask for
+-- the search by these terms
 abbrev pub searched_by : {V : Type 0} {H : V → Type 0}
     → Terms V H → FinMap by_bytes (List ℕ) → Settings → Row TrustedLayers
 searched_by terms log_keys settings =

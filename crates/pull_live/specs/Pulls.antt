@@ -1,4 +1,4 @@
--- The search and the pull of a live pull, and what they ask by the frames that go out.
+-- The search and the pull of a live pull, and the frames that carry their requests.
 use Rattle.std.specs.Prelude.{◌≡◌, ℕ, false, List, [], Option, Some, None, Result, Ok, Err, codes}
 use Rattle.oci_names.specs.declared.reference.Reference.{Reference}
 use Rattle.oci_transport.specs.declared.message.Exchange.{Exchange}
@@ -33,18 +33,18 @@ client_settings settings = settings_by settings.protocol settings.limit settings
 abbrev pub context_of : LiveSettings → Context
 context_of settings = within (client_settings settings) settings.moment
 
--- the policy; no box of a caller stands in it
+-- the policy; it has no box of a caller
 abbrev pub policy_of : LiveSettings → PullPolicy ⊥ (λ v. ⊥)
 policy_of settings = record { keys = settings.keys; constraints = constraints_by settings.constraints }
 
--- whom the host's answers make us trust
+-- the trust that the host's answers establish
 abbrev pub trust_of : LiveSettings → Answers → Trust
 trust_of settings answers = trust (valid_by answers) (vouched_by answers) settings.log_keys
 
 abbrev pub meaning_of : LiveSettings → Answers → Meaning ⊥ (λ v. ⊥)
 meaning_of settings answers = meaning (policy_of settings) (λ box layer. false) (trust_of settings answers)
 
--- the search for all layers that a signature may make stand
+-- the search for all layers that may satisfy the policy, whatever the signatures
 abbrev pub search_row : LiveSettings → Reference → Row TrustedLayers
 search_row settings image = searched (everyone settings.log_keys) (context_of settings) image settings.auth
 
@@ -53,19 +53,19 @@ abbrev pub pull_row : LiveSettings → Answers → Reference → Whole VerifiedI
 pull_row settings answers image =
     verified (meaning_of settings answers) (context_of settings) image settings.auth settings.accepted
 
--- What went out and came in are the frames of these exchanges, where the streams tell their bytes.
+-- If the streams expose their bytes, what was sent and received are the frames of these exchanges.
 abbrev pub Carries : List Exchange → Wire → Wire → Type 0
 Carries c old new = (taken left : List ℕ) → old.tray.taken ≡ Some taken → old.spring.left ≡ Some left
     → (breach : Option Breach) × ∥ Held taken left new.tray new.spring breach c ∥₁
 
--- a whole run of this row, by the frames that went out and came in
+-- a complete run of this row, by the frames that were sent and received
 pub record Transfer {A : Type 0} (row : Proto Kept A) (old new : Wire) (k l : Kept) (a : A) : Type 0 where
   pub conversation : List Exchange
   pub faults : ℕ
   pub runs : Runs row k 0 conversation faults l a
   pub carried : Carries conversation old new
 
--- the layers that a search found, none where it was refused
+-- the layers that a search found, none if it was refused
 abbrev pub collected_of : Result TrustedLayers SigstoreError → List SignatureLayer
 collected_of (Ok found) = found.collected
 collected_of (Err e) = []

@@ -1,4 +1,4 @@
--- How a refusal goes out.
+-- How an error is sent.
 use Rattle.std.specs.Prelude.{◌≡◌, ◌⊎◌, ℕ, List, [], Bool, Result, Ok, Err}
 use Rattle.std.specs.Str.{IsUtf8}
 use Rattle.cosign_chain.specs.declared.image.VerifiedImage.{VerifiedImage}
@@ -8,11 +8,11 @@ use Rattle.live_host.specs.Heads.{refused_head}
 use Rattle.live_host.specs.Items.{WereTold, image_sent}
 use Rattle.live_host.specs.Wire.{Wire, Tells}
 
--- the lines of a refusal, or nothing where they are no text
+-- the lines of an error, or nothing if they are not UTF-8
 abbrev pub IsReport : PullRefusal → List ℕ → Type 0
 IsReport refusal report = (report ≡ refusal_lines refusal) ⊎ ((IsUtf8 (refusal_lines refusal) → ⊥) × (report ≡ []))
 
--- a refusal went out
+-- an error was sent
 abbrev pub RefusalTold : PullRefusal → Wire → Wire → Type 0
 RefusalTold refusal old new =
     (report : List ℕ) × IsReport refusal report × Tells (refused_head report) [] old new

@@ -45,8 +45,8 @@ keys_of = list_of key_of
 abbrev pub log_keys_of : Data → Option (FinMap by_bytes (List ℕ))
 log_keys_of = map_of key_of
 
--- The frame `settings`, with no members but these. They mean what those of a recorded case mean, but that keys are
--- texts in base64. `blobs` is whether the blobs of layers go out.
+-- The frame `settings`, with no other members. They mean the same as those of a recorded case, but keys are base64
+-- strings. `blobs` is whether the blobs of layers are sent.
 unfoldable pub settings_of : Data → Option LiveSettings
 settings_of d = do
   known ← only members d
@@ -76,6 +76,6 @@ settings_of d = do
     blobs = blobs;
   })
 
--- its reference reads as one
+-- its reference parses
 abbrev pub IsReady : LiveSettings → Type 0
 IsReady settings = IsOk (reference_of settings.reference)

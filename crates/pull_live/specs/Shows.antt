@@ -1,4 +1,4 @@
--- What the conversations of a live pull show.
+-- Properties of the conversations of a live pull.
 use Rattle.std.specs.Prelude.{ℕ, List, Some, Result, Ok, Err}
 use Rattle.oci_names.specs.declared.reference.Reference.{Reference}
 use Rattle.oci_auth.specs.declared.auth.RegistryAuth.{RegistryAuth}
@@ -17,15 +17,15 @@ use Rattle.cosign_rows.specs.declared.refusal.PullRefusal.{PullRefusal}
 use Rattle.live_host.specs.Wire.{Wire}
 use Rattle.pull_live.specs.Pulls.{Carries}
 
--- what went out and came in are the frames of exchanges of which this is so
+-- what was sent and received are the frames of exchanges with the property `P`
 abbrev pub Shown : (List Exchange → Type 0) → Wire → Wire → Type 0
 Shown P old new = (c : List Exchange) × Carries c old new × P c
 
--- credentials and tokens went to the image's registry and to the realm that it names
+-- credentials and tokens were sent only to the image's registry and to the realm that it names
 abbrev pub Confined : Context → Reference → RegistryAuth → Kept → Kept → Wire → Wire → Type 0
 Confined s image a k l old new = Shown (λ c. Within (pulling k.0 s image (Some a)) s.settings l.0 c) old new
 
--- an image has its chain and comes of its conversation; a refusal has its cause there
+-- an image has its chain and comes from its conversation; an error has its cause there
 abbrev pub Founded : {V : Type 0} {H : V → Type 0} → Meaning V H → Context → Reference → RegistryAuth → List (List ℕ)
     → Kept → Kept → Result VerifiedImage PullRefusal → Wire → Wire → Type 0
 Founded meaning s image a accepted k l (Ok v) old new =

@@ -1,4 +1,4 @@
--- The statuses that a live pull ends with.
+-- The exit statuses of a live pull.
 use Rattle.std.specs.Prelude.{ℕ}
 use Rattle.live_host.specs.declared.streams.HostError.{HostError}
 use Rattle.live_host.specs.declared.streams.HostError.TheVariants as host
@@ -14,7 +14,7 @@ code_of status.HostBroken = 4
 code_of status.SinkFault = 5
 code_of status.WantOfMemory = 6
 
--- the status where the host did not take or give a frame
+-- the status if a frame was not sent or received
 abbrev pub status_of : HostError → Status
 status_of host.Broken = status.HostBroken
 status_of host.Unwritten = status.SinkFault

@@ -1,4 +1,4 @@
--- What a pull asks for, whatever a policy's boxes mean.
+-- The pull by given terms, whatever a policy's boxes mean.
 use Rattle.std.specs.Prelude.{◌≡◌, ℕ, false, List, Result, Ok, Err}
 use Rattle.std.specs.FinMap.{FinMap}
 use Rattle.json_values.specs.Places.{by_bytes}
@@ -23,29 +23,29 @@ use Rattle.pull_live.specs.Pulls.{Transfer}
 use Rattle.pull_live.specs.Shows.{Confined, Founded}
 use Rattle.pull_live.specs.declared.pulls.Terms.{Terms}
 
--- the pull that these terms ask for, under the host's answers, by a client of these settings that knows these logs
+-- the pull by these terms, under the host's answers, by a client with these settings that knows these logs
 abbrev pub row_for : {V : Type 0} {H : V → Type 0}
     → Owns V H → Terms V H → Answers → FinMap by_bytes (List ℕ) → Settings → Whole VerifiedImage
 row_for own terms answers log_keys settings =
     verified (meaning terms.policy own (trust (valid_by answers) (vouched_by answers) log_keys))
     (within settings terms.moment) (reference_in terms.image) (registry_auth terms.auth) terms.accepted
 
--- memory was not wanting in a search
+-- the search did not run out of memory
 abbrev pub IsWhole : Result TrustedLayers SigstoreError → Type 0
 IsWhole (Ok found) = Unit {0}
 IsWhole (Err e) = of_memory e ≡ false
 
--- a pull was made whole, unless memory was wanting
+-- a complete run of the pull, unless memory ran out
 abbrev pub PulledBy : Whole VerifiedImage → Wire → Wire → Kept → Kept → Result VerifiedImage PullRefusal → Type 0
 PulledBy row old new k l (Ok v) = Transfer row old new k l (Ok v)
 PulledBy row old new k l (Err e) = is_memory e ≡ false → Transfer row old new k l (Err e)
 
--- credentials go where they may
+-- credentials are confined
 abbrev pub TermsConfined : {V : Type 0} {H : V → Type 0} → Terms V H → Settings → Kept → Kept → Wire → Wire → Type 0
 TermsConfined terms settings =
     Confined (within settings terms.moment) (reference_in terms.image) (registry_auth terms.auth)
 
--- what the pull that these terms ask for shows: its image is founded or its refusal has its cause, and it is confined
+-- the properties of the pull by these terms: its image or its error is justified, and it is confined
 abbrev pub PullShows : {V : Type 0} {H : V → Type 0} → Owns V H → Terms V H → Answers → FinMap by_bytes (List ℕ)
     → Settings → Kept → Kept → Result VerifiedImage PullRefusal → Wire → Wire → Type 0
 PullShows own terms answers log_keys settings k l r old new =

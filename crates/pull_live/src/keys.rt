@@ -1,4 +1,4 @@
-// Keys as texts in base64.
+// Keys as base64 strings.
 ghost use Rattle.serde_json.specs.View.{items_view, members_view};
 ghost use Rattle.std.specs.FinMap.{empty};
 ghost use Rattle.json_tables.specs.Outcomes.{Gives};
@@ -51,7 +51,7 @@ fn read_keys(alloc: Global, items: &[Value]) -> Result<List<Blob>, ReadError>
     Ok(list)
 }
 
-/// Keys by the ids of transparency logs, none where the member is absent. A contract sees the map of their bytes.
+/// Keys by the ids of transparency logs, none if the member is absent. A contract sees the map of their bytes.
 #[derive(Drop)]
 pub(crate) struct KeyMap {
     pub map: LogKeys,

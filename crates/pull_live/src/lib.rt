@@ -1,4 +1,4 @@
-//! A pull with a host that makes the connections and the arithmetic of signatures: what is asked, and what goes out.
+//! A pull with a host that opens the connections and verifies signatures: what is asked, and what is sent.
 #![tactic(auto)]
 
 mod keys;

@@ -23,21 +23,21 @@ use pull_report::let_go;
 use pull_setup::ask_for;
 use std::alloc::Global;
 
-/// How a live pull ended, and the streams as they are then.
+/// How a live pull ended, and the streams at the end.
 #[derive(Drop)]
 pub struct Ended<S, K> {
     pub status: Status,
     pub streams: Streams<S, K>,
 }
 
-// The client of a pull, and what it is asked.
+// The client of a pull, and its arguments.
 #[derive(Drop)]
 struct Prepared {
     client: Client,
     terms: Terms,
 }
 
-// What a frame says, where it is settings.
+// The settings in a frame.
 fn settings_in(alloc: Global, frame: &Json) -> Result<LiveSettings, Status>
     ensures reads { ReadsSettings result frame.now }
     ensures ready { IfOk result IsReady }
@@ -51,7 +51,7 @@ fn settings_in(alloc: Global, frame: &Json) -> Result<LiveSettings, Status>
     }
 }
 
-// Begins, and reads the settings.
+// Begins, and receives the settings.
 fn begin<S: Source, K: Sink>(
     alloc: Global,
     streams: &mut Streams<S, K>,
@@ -69,7 +69,7 @@ fn begin<S: Source, K: Sink>(
     Ok(settings)
 }
 
-// Sends what came of a pull.
+// Sends the result of a pull.
 fn deliver<S: Source, K: Sink>(
     alloc: Global,
     streams: &mut Streams<S, K>,
@@ -117,7 +117,7 @@ fn deliver_refusal<S: Source, K: Sink>(
     }
 }
 
-// The pull under the host's answers, and what goes out of it.
+// The pull under the host's answers, and what is sent for it.
 fn finish<S: Source, K: Sink>(
     alloc: Global,
     streams: Streams<S, K>,
@@ -146,7 +146,7 @@ fn finish<S: Source, K: Sink>(
     Ended { status, streams }
 }
 
-// The search, what the host is asked about the layers that were found, and the pull under its answers.
+// The search, the questions to the host about the found layers, and the pull under its answers.
 fn converse<S: Source, K: Sink>(
     alloc: Global,
     streams: Streams<S, K>,
@@ -227,12 +227,12 @@ fn serve<S: Source, K: Sink>(
     ended
 }
 
-// Lets it go where nothing else is known, so that each of its many parts is let go once.
+// Drops it in a function without other facts, so that each of its many parts is dropped once.
 fn let_prepared_go(_prepared: Prepared) {}
 
-/// Pulls an image with a host, which makes the connections and the arithmetic of signatures, and has the clock: reads
-/// the settings, searches signature layers, asks the host about them, pulls the image under its answers, and sends it,
-/// or why it was refused.
+/// Pulls an image with a host, which opens the connections, verifies signatures and supplies the time: receives the
+/// settings, searches signature layers, asks the host about them, pulls the image under its answers, and sends it, or
+/// why it was refused. Returns the exit status and the streams.
 pub fn run<S: Source, K: Sink>(alloc: Global, streams: Streams<S, K>) -> Ended<S, K>
     ensures says { Says result.status
         (wire S.state K.state streams) (wire S.state K.state result.streams) }

@@ -1,4 +1,4 @@
-// Settings whose client is made.
+// Settings with the client that was built for them.
 ghost use Rattle.pull_live.specs.Opening.{Opens};
 
 use crate::settings::LiveSettings;
@@ -8,7 +8,7 @@ use pull_setup::{Asked, WrittenClient, client_by};
 use sig_registry::{Auth, OciReference};
 use std::alloc::Global;
 
-/// A client, and what it is asked. It keeps answers, so that the search is not asked twice.
+/// A client, and its arguments. It caches responses, so that the search's requests are not sent twice.
 #[derive(Drop)]
 pub(crate) struct Opened {
     pub client: Client,

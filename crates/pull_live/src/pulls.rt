@@ -20,7 +20,7 @@ use pull_edge::Source;
 use sig_registry::{Auth, OciReference, SigstoreError};
 use std::alloc::{AllocError, Global};
 
-/// What a pull asks for, at which moment (in seconds since 1970), and what it holds an answer to.
+/// The arguments of a pull, its moment (in seconds since 1970), and its terms.
 #[derive(Drop)]
 pub(crate) struct Terms {
     pub moment: u64,
@@ -30,7 +30,7 @@ pub(crate) struct Terms {
     pub policy: PullPolicy,
 }
 
-// The layers that were found, none where the search was refused.
+// The layers that were found, none if the search was refused.
 fn collected(
     alloc: Global,
     answer: &Result<TrustedLayers, SigstoreError>,
@@ -45,7 +45,7 @@ fn collected(
     }
 }
 
-/// The layers that a signature may make stand. Nobody is asked yet whether one does.
+/// Searches the layers that may satisfy the policy, whatever the signatures. The host is not asked yet.
 pub(crate) fn search<S: Source, K: Sink>(
     alloc: Global,
     streams: Streams<S, K>,
@@ -79,7 +79,7 @@ pub(crate) fn search<S: Source, K: Sink>(
     (Streams { source, sink }, collected(alloc, &answer))
 }
 
-/// The pull under the host's answers.
+/// Pulls under the host's answers.
 pub(crate) fn pull<S: Source, K: Sink>(
     alloc: Global,
     streams: Streams<S, K>,

@@ -1,4 +1,4 @@
-// How a refusal goes out.
+// How an error is sent.
 ghost use Rattle.std.specs.Prelude.{◌≡◌, IfOk, IfErr, OnOk};
 ghost use Rattle.live_host.specs.HostErrors.{HostCause};
 ghost use Rattle.live_host.specs.Wire.{wire};
@@ -11,7 +11,7 @@ use pull_edge::Source;
 use pull_report::write_refusal;
 use std::alloc::{AllocError, Global};
 
-// The lines of a refusal, or nothing where they are no text.
+// The lines of an error, or nothing if they are not UTF-8.
 fn report_of(alloc: Global, refusal: &PullRefusal) -> Result<Text, AllocError>
     ensures { IfOk result (λ report. IsReport refusal.now report) }
 {

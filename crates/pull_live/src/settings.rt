@@ -16,30 +16,30 @@ use pull_case::{Entries, OrUsual, Platform, ReferenceText, WrittenConstraint};
 use serde_json::Value;
 use std::alloc::Global;
 
-/// What to pull, under which policy: the frame `settings`, with a member of each field's name and no others.
+/// What to pull, under which policy: the frame `settings`, with exactly one member for each field, of the field's name.
 #[derive(Drop)]
 pub struct LiveSettings {
-    /// A text that reads as a reference.
+    /// A string that parses as a reference.
     pub reference: Text,
-    /// `"http"` or `"https"`; `https` where the member is absent.
+    /// `"http"` or `"https"`; `https` if the member is absent.
     pub protocol: ClientProtocol,
-    /// `"anonymous"`, `{"basic": [user, password]}` or `{"bearer": token}`; anonymous where the member is absent.
+    /// `"anonymous"`, `{"basic": [user, password]}` or `{"bearer": token}`; anonymous if the member is absent.
     pub auth: RegistryAuth,
-    /// A list of texts, the media types of layers that are accepted.
+    /// A list of strings, the accepted media types of layers.
     pub accepted: List<Text>,
-    /// `"os/architecture"` or `{"digest": text}`; an index is refused where the member is absent or null.
+    /// `"os/architecture"` or `{"digest": text}`; an index is refused if the member is absent or null.
     pub platform: Option<PlatformResolver>,
     /// When the image is pulled, in seconds since 1970.
     pub moment: u64,
-    /// How many bytes a body may have that is held; the client's own limit where the member is absent.
+    /// The maximum number of bytes of a body that is held; the client's default if the member is absent.
     pub limit: Option<u64>,
-    /// A list of texts in base64, the keys of the policy.
+    /// A list of base64 strings, the keys of the policy.
     pub keys: List<Blob>,
-    /// The constraints of the policy, as a recorded case writes them.
+    /// The constraints of the policy, written as in a recorded case.
     pub constraints: List<WrittenConstraint>,
-    /// An object from the ids of transparency logs to texts in base64, their keys; none where the member is absent.
+    /// An object from the ids of transparency logs to base64 strings, their keys; none if the member is absent.
     pub log_keys: LogKeys,
-    /// Whether the blobs of layers go out.
+    /// Whether the blobs of layers are sent.
     pub blobs: bool,
 }
 
@@ -58,7 +58,7 @@ const NAMES: &[&str] = &[
     "frame",
 ];
 
-// The members from each one on, as they stand in `NAMES`; the frame's name is read by itself.
+// The members from each one on, in the order of `NAMES`; the frame's name is read by itself.
 type Blobs = (bool, ());
 
 type Logs = (KeyMap, Blobs);
@@ -121,7 +121,7 @@ impl Reads for LiveSettings {
     }
 }
 
-/// Reads settings. `Shape` exactly where the value is no frame of the members that `LiveSettings` names.
+/// Reads settings. Returns `Shape` if and only if the value is not a frame with the members of `LiveSettings`.
 pub(crate) fn read_settings(alloc: Global, value: &Value) -> Result<LiveSettings, ReadError>
     ensures exact { Gives result (settings_of (view value.now)) }
     ensures ready { IfOk result IsReady }

@@ -1,4 +1,4 @@
-// The statuses that a live pull ends with.
+// The exit statuses of a live pull.
 ghost use Rattle.std.specs.Prelude.{◌≡◌};
 ghost use Rattle.pull_live.specs.Status.{code_of};
 
@@ -8,22 +8,22 @@ use std::alloc::AllocError;
 /// How a live pull ended.
 #[derive(Clone, Copy, Debug, PartialEq, Eq)]
 pub enum Status {
-    /// The image was pulled, and went out.
+    /// The image was pulled and sent.
     Pulled,
-    /// The pull was refused, and the refusal went out.
+    /// The pull was refused, and the error was sent.
     Refused,
-    /// The settings do not read.
+    /// The settings are malformed.
     UnreadableSettings,
-    /// The host's stream failed, ended, or gave what does not read.
+    /// The host's stream failed, ended, or sent something malformed.
     HostBroken,
     /// The output failed.
     SinkFault,
-    /// Memory was wanting.
+    /// Memory ran out.
     WantOfMemory,
 }
 
 impl Status {
-    /// The number with which the process ends.
+    /// Returns the exit status of the process.
     pub fn code(self) -> u8
         ensures { result ≡ code_of self }
     {

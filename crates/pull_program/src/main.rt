@@ -10,7 +10,7 @@ use std::env::{self, Env};
 use std::io;
 use std::process::ExitCode;
 
-// The words behind the program's name.
+// The command-line arguments after the program's name.
 fn arguments<R: Env + Alloc>(rt: &R, alloc: Global) -> io::Result<List<Text>> {
     let mut words = List::new(alloc);
     for word in env::args(rt)?.skip(1) {
@@ -19,7 +19,7 @@ fn arguments<R: Env + Alloc>(rt: &R, alloc: Global) -> io::Result<List<Text>> {
     Ok(words)
 }
 
-// What a status other than 0 and 1 means, and what to do.
+// What an exit status other than 0 and 1 means, and what to do.
 fn advice(status: u8) -> &'static str {
     match status {
         2 =>
@@ -46,7 +46,7 @@ fn main(rt: HostRuntime) -> ExitCode {
         Err(_) => Status::Usage.code(),
     };
     if status > 1 {
-        // The status says it too, so nothing is lost where the line cannot be written.
+        // The exit status says it too, so nothing is lost if the line cannot be written.
         let _ = eprintln!(rt; "{}", advice(status));
     }
     ExitCode::from(status)

@@ -1,4 +1,4 @@
--- Refusals that keep alike values: their names before these make their prints.
+-- Errors that hold similar values: a variant's name followed by their print is the error's print.
 use Rattle.std.proofs.Common.{◌≡◌, ℕ, List, [], ◌∷◌, ◌⊎◌, ⊎_elim, refl, sym, ap, subst, ◌∙◌}
 use Rattle.engine_terms.specs.Error.{name_of}
 use Rattle.engine_terms.specs.declared.error.OciDistributionError.{OciDistributionError}
@@ -6,7 +6,7 @@ use Rattle.engine_terms.specs.declared.error.OciDistributionError.TheVariants as
 use Rattle.pull_report.specs.Words.{spaced}
 use Rattle.pull_report.specs.Prints.{bytes_print, distribution_print}
 
--- a name before the count of the bytes is the refusal's print
+-- a name followed by the number of bytes is the error's print
 abbrev pub Counts : List ℕ → List ℕ → OciDistributionError → Type 0
 Counts bytes name error = spaced (name ∷ bytes_print bytes ∷ []) ≡ distribution_print error
 

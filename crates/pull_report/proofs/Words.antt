@@ -1,4 +1,4 @@
--- Words with spaces between them.
+-- Words separated by spaces.
 use Rattle.std.proofs.Common.{◌≡◌, ℕ, List, [], ◌∷◌, ◌++◌, sym, ap}
 use Rattle.std.proofs.lemmas.List.{append-nil}
 use Rattle.pull_report.specs.Words.{spaced, behind_spaces}

@@ -12,6 +12,6 @@ method_name Post = codes "POST"
 method_name Put = codes "PUT"
 method_name Patch = codes "PATCH"
 
--- what was asked
+-- the request of the exchange
 abbrev pub exchange_line : Exchange → List ℕ
 exchange_line exchange = line (method_name exchange.request.method ∷ exchange.request.url ∷ [])

@@ -1,6 +1,6 @@
--- Prints: a variant's name, then the values that it keeps in their declared order, each after one space. A text
+-- Prints: a variant's name, then the values that it holds in their declared order, each after one space. A text
 -- is printed as a canonical JSON string, a number in decimal, bytes as their count, and a list of a registry's
--- errors as the count of these.
+-- errors as its length.
 use Rattle.std.specs.Prelude.{ℕ, List, [], ◌∷◌, length, codes, decimal}
 use Rattle.std.specs.Fmt.{signed_decimal}
 use Rattle.json_values.specs.Canon.{quoted_text}
@@ -148,7 +148,7 @@ skipped_print (skipped.Referrer referrer cause) =
 skipped_print (skipped.Layer source layer rejection) =
     spaced (codes "Layer" ∷ source_print source ∷ quoted_text layer ∷ rejection_print rejection ∷ [])
 
--- of the values that `Unsatisfied` keeps, its digest alone
+-- of the values that `Unsatisfied` holds, only the digest
 abbrev pub refusal_print : PullRefusal → List ℕ
 refusal_print pull.EmptyPolicy = codes "EmptyPolicy"
 refusal_print (pull.OciReferenceNotValidError reference) =

@@ -41,7 +41,7 @@ abbrev pub outcome_lines : Result VerifiedImage PullRefusal → List ℕ
 outcome_lines (Ok image) = image_lines image
 outcome_lines (Err refusal) = refusal_lines refusal
 
--- the report of a pull at a moment, in seconds since 1970, with its conversation and its outcome
+-- the report of a pull at a moment, in seconds since 1970, with its conversation and its result
 abbrev pub report : ℕ → List Exchange → Result VerifiedImage PullRefusal → List ℕ
 report moment conversation outcome =
     line (codes "moment" ∷ decimal moment ∷ []) ++ flat_map exchange_line conversation ++ outcome_lines outcome

@@ -1,4 +1,4 @@
-//! What is printed of a pull: its report, and each refusal in one line.
+//! The printed output of a pull: its report, and each refusal in one line.
 #![tactic(auto)]
 
 mod lines;

@@ -1,4 +1,4 @@
-// Lines of a report: words with one space between each two, and a line feed.
+// Lines of a report: words separated by single spaces, ended by a line feed.
 ghost use Rattle.std.specs.Prelude.{◌≡◌, [], ◌∷◌, ◌++◌, OnOk, flat_map};
 ghost use Rattle.pull_report.specs.Words.{line};
 ghost use Rattle.pull_report.specs.Lines.{method_name};
@@ -11,19 +11,19 @@ use oci_descriptors::OciDescriptor;
 use oci_transport::{Exchange, Method};
 use std::alloc::{AllocError, Global};
 
-/// What has a line of its own in a report. Where memory was wanting, what was added of it is left open.
+/// A value with a line of its own in a report. If memory runs out, the bytes appended for it are unspecified.
 pub trait Line {
     ghost use Rattle.std.specs.Prelude.{ℕ, List};
 
     /// The line's bytes.
     ghost line: { Self → List ℕ };
 
-    /// Adds the line at the end.
+    /// Appends the line.
     fn write_line(&self, alloc: Global, out: &mut Blob) -> Result<(), AllocError>
         ensures { OnOk result (out.new ≡ out.old ++ line self.now) };
 }
 
-/// A line of a label and a text as it stands.
+/// Appends a line with a label and a text verbatim.
 pub fn text_line(out: &mut Blob, label: &str, text: &str) -> Result<(), AllocError>
     ensures { OnOk result (out.new ≡ out.old ++ line (label.now ∷ text.now ∷ [])) }
 {
@@ -34,7 +34,7 @@ pub fn text_line(out: &mut Blob, label: &str, text: &str) -> Result<(), AllocErr
     Ok(())
 }
 
-/// A line of a label and a print.
+/// Appends a line with a label and a print.
 pub fn print_line<A: Printed>(
     alloc: Global,
     out: &mut Blob,
@@ -48,7 +48,7 @@ pub fn print_line<A: Printed>(
     Ok(())
 }
 
-/// The line of each item, in order.
+/// Appends the line of each item, in order.
 pub fn write_lines<L: Line>(alloc: Global, out: &mut Blob, items: &[L]) -> Result<(), AllocError>
     ensures { OnOk result (out.new ≡ out.old ++ flat_map L.line items.now) }
 {

@@ -1,38 +1,38 @@
-// Prints: a variant's name, then the values that it keeps, each after one space.
+// Prints: a variant's name, then the values that it holds, each after one space.
 ghost use Rattle.std.specs.Prelude.{◌≡◌, [], ◌∷◌, ◌++◌, OnOk};
 ghost use Rattle.pull_report.specs.Words.{spaced, behind_spaces};
 
 use json_values::Blob;
 use std::alloc::{AllocError, Global};
 
-/// What has a print. Where memory was wanting, what was added of it is left open.
+/// A value with a print. If memory runs out, the bytes appended for it are unspecified.
 pub trait Printed {
     ghost use Rattle.std.specs.Prelude.{ℕ, List};
 
     /// The print's bytes.
     ghost print: { Self → List ℕ };
 
-    /// Adds the print at the end.
+    /// Appends the print.
     fn write_print(&self, alloc: Global, out: &mut Blob) -> Result<(), AllocError>
         ensures { OnOk result (out.new ≡ out.old ++ print self.now) };
 }
 
-/// A word, as it stands.
+/// Appends a word verbatim.
 pub fn word(out: &mut Blob, text: &str) -> Result<(), AllocError>
     ensures { OnOk result (out.new ≡ out.old ++ text.now) }
 {
     out.append(text.as_bytes())
 }
 
-/// Values in a row: none, or a reference to what has a print and the rest of the row. `row!` writes one, of any
-/// length. Where memory was wanting, what was added of their prints is left open.
+/// Values in a row: none, or a reference to a value with a print and the rest of the row. `row!` writes a row of any
+/// length. If memory runs out, the bytes appended for their prints are unspecified.
 pub trait PrintedRow {
     ghost use Rattle.std.specs.Prelude.{ℕ, List};
 
-    /// The print of each.
+    /// The print of each value.
     ghost prints: { Self → List (List ℕ) };
 
-    /// Adds each print at the end, after one space.
+    /// Appends each print after one space.
     fn write_prints(self, alloc: Global, out: &mut Blob) -> Result<(), AllocError>
         ensures { OnOk result (out.new ≡ out.old ++ behind_spaces (prints self)) };
 }
@@ -57,7 +57,7 @@ impl<'a, A: Printed, B: PrintedRow + Drop> PrintedRow for (&'a A, B) {
     }
 }
 
-/// The print of a variant: its name, then the values that it keeps.
+/// Appends the print of a variant: its name, then the values that it holds.
 pub fn print_row<R: PrintedRow + Drop>(
     alloc: Global,
     out: &mut Blob,

@@ -1,4 +1,4 @@
-// The print of a pull's refusal.
+// The print of a pull's error.
 use crate::printed::{Printed, print_row, word};
 use cosign_rows::PullRefusal;
 use json_values::{Blob, row};

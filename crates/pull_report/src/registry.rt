@@ -1,4 +1,4 @@
-// Prints of the refusals of the registry's client.
+// Prints of the errors of the registry's client.
 use crate::printed::{Printed, print_row, word};
 use engine_terms::{GenericCause, OciDistributionError, SpecViolation, TokenBody};
 use json_values::{Blob, row};

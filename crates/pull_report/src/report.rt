@@ -36,8 +36,8 @@ fn write_search(alloc: Global, out: &mut Blob, refusal: &PullRefusal) -> Result<
     Ok(())
 }
 
-/// Adds the lines of a refusal at the end of `out`: its print behind `refused`, and of a search without a layer that
-/// stands what was collected and what was skipped.
+/// Appends the lines of an error to `out`: its print after `refused`, and for a search without a layer that satisfies
+/// the policy what was collected and what was skipped.
 pub fn write_refusal(alloc: Global, out: &mut Blob, refusal: &PullRefusal) -> Result<(), AllocError>
     ensures { OnOk result (out.new ≡ out.old ++ refusal_lines refusal.now) }
 {
@@ -46,7 +46,7 @@ pub fn write_refusal(alloc: Global, out: &mut Blob, refusal: &PullRefusal) -> Re
     Ok(())
 }
 
-/// Adds the lines of an outcome at the end of `out`: those of the image, or those of the refusal.
+/// Appends the lines of a result to `out`: those of the image, or those of the error.
 pub fn write_outcome(
     alloc: Global,
     out: &mut Blob,
@@ -60,8 +60,8 @@ pub fn write_outcome(
     }
 }
 
-/// Adds the report of a pull at the end of `out`: its moment in seconds since 1970, a line for each exchange of
-/// its conversation, and its outcome. Where memory was wanting, what was added of it is left open.
+/// Appends the report of a pull to `out`: its moment in seconds since 1970, a line for each exchange of its
+/// conversation, and its result. If memory runs out, the bytes appended for it are unspecified.
 pub fn write_report(
     alloc: Global,
     out: &mut Blob,
@@ -78,6 +78,6 @@ pub fn write_report(
     Ok(())
 }
 
-/// Lets an outcome go. Where one is dropped beside other values, each of its many cases is proved with them again; here
-/// it stands alone.
+/// Drops a result. If one is dropped beside other values, each of its many cases is proved with them again; here it
+/// is alone.
 pub fn let_go(_outcome: Result<VerifiedImage, PullRefusal>) {}

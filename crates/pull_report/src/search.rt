@@ -1,4 +1,4 @@
-// Prints of what a search for signatures passed over.
+// Prints of what a search for signatures skipped.
 use crate::printed::{Printed, print_row, word};
 use cosign_layers::{LayerPart, LayerRejection};
 use cosign_rows::{SkipCause, Skipped, SourceKind};

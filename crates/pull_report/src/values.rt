@@ -1,4 +1,4 @@
-// Prints of the values that variants keep.
+// Prints of the values that variants hold.
 ghost use Rattle.std.specs.Prelude.{◌≡◌, ◌++◌, OnOk, decimal};
 
 use crate::printed::{Printed, word};
@@ -6,7 +6,7 @@ use json_values::{Blob, Text, write_decimal, write_quoted};
 use oci_errors::OciEnvelope;
 use std::alloc::{AllocError, Global};
 
-/// A number in decimal.
+/// Appends a number in decimal.
 pub fn write_number(alloc: Global, out: &mut Blob, number: u64) -> Result<(), AllocError>
     ensures { OnOk result (out.new ≡ out.old ++ decimal number) }
 {

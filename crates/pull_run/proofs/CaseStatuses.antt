@@ -1,4 +1,4 @@
--- With which status a case ends whose registry has its image.
+-- The exit status for a case whose registry has its image.
 use Rattle.std.proofs.Common.{◌≡◌, ◌≤◌, inl, inr, ℕ, Bool, true, false, not, List, Option, Some, None, length, refl, sym, ap, subst, ◌∙◌}
 use Rattle.json_values.specs.Tray.{Tray}
 use Rattle.pull_edge.specs.Source.{Spring}
@@ -24,7 +24,7 @@ use Rattle.pull_run.proofs.Statuses.{past_all, reads_word}
 same_case : (case other : Case) (told : List ℕ) (old new : Spring) → old.left ≡ Some told → case_in told ≡ Some case → IsRead case_in other old new → other ≡ case
 same_case case other told old new is reads h = cc (sym h.2 ∙ ap case_in (input_is h.0 told old new is h.1) ∙ reads)
 
--- its report says of no refusal
+-- its report contains no refusal
 none_refused : (case other : Case) (made : Report) → HasImage case → other ≡ case → ReportsCase other made → made.refused ≡ true → ⊥
 none_refused case other made has same gives refused =
     let reports : ReportsCase case made = subst (λ (x : Case). ReportsCase x made) same gives in

@@ -1,4 +1,4 @@
--- Counts that are asked for.
+-- The count of layers that `gen` takes.
 use Rattle.std.proofs.Common.{◌≡◌, ◌≤◌, ◌&&◌, ℕ, Bool, true, false, List, [], ◌∷◌, Option, Some, None, option_map, IfSome, codes, refl}
 use Rattle.std.specs.Prelude.{nat_le, bytes_eq, slice_index, ◌==◌, if◌then◌else◌}
 use Rattle.std.proofs.lemmas.Bool.{leb-true}

@@ -1,4 +1,4 @@
--- That what is written of a pull over the generated shelf is what `gen` gives.
+-- The output of a pull over the generated shelf is that of `gen`.
 use Rattle.std.proofs.Common.{◌≡◌, ℕ, List, [], Some, Result, Ok, Err, IfOk, length, sym, ap, ◌∙◌}
 use Rattle.oci_transport.specs.Link.{Link}
 use Rattle.oci_transport.specs.declared.message.Exchange.{Exchange}

@@ -22,7 +22,7 @@ cut_off reads (Err s) read.WantOfMemory old new err is cut = rw is cut
 pub within_limit : (bytes : List ℕ) (old new : Spring) → IsInput bytes old new → TakesWithin input_limit old new
 within_limit bytes old new h = (bytes, h.0.0, h.1)
 
--- memory was wanting behind the whole input
+-- memory ran out after the whole input was read
 pub wanting_behind : {X : Type 0} (reads : List ℕ → Option X) (r : Result X Status) (bytes : List ℕ) (old new : Spring) → IsErr r → IsErrAnd r (λ s. s ≡ status.WantOfMemory) → IsInput bytes old new → ReadsInput reads r old new
 wanting_behind reads (Ok x) bytes old new err is h = absurd (cc err)
 wanting_behind reads (Err s) bytes old new err is h = rw is (within_limit bytes old new h, h.2)
@@ -35,7 +35,7 @@ whole_is None right bytes told is taken end = cc is
 whole_is (Some xs) None bytes told is taken end = absurd taken
 whole_is (Some xs) (Some ys) bytes told is taken end = sym (append-nil bytes) ∙ sym (ap (λ zs. bytes ++ zs) end) ∙ sym taken ∙ cc is
 
--- what was read is what was told
+-- what was read is what the source exposed
 pub input_is : (bytes told : List ℕ) (old new : Spring) → old.left ≡ Some told → IsInput bytes old new → bytes ≡ told
 input_is bytes told old new is h = whole_is old.left new.left bytes told is h.0.0 h.0.1
 

@@ -1,4 +1,4 @@
--- The pulls of a case whose registry is a shelf that has the image are answered.
+-- The pulls of a case succeed if its registry is a shelf that has the image.
 use Rattle.std.specs.Prelude.{nat_eq}
 use Rattle.std.proofs.Common.{◌≡◌, ◌≤◌, ℕ, suc, Bool, true, false, ◌&&◌, ◌||◌, List, [], ◌∷◌, ◌++◌, Result, Ok, Err, refl, sym, ap, ◌∙◌, subst, arith}
 use Rattle.std.proofs.lemmas.Bool.Decides.{nat_tests}
@@ -29,7 +29,7 @@ use Rattle.pull_cases.proofs.PullsInTurn.{Turns, turns}
 use Rattle.pull_cases.specs.Pulls.{Talk, joined, is_answered, all_answered, is_wanting, EachWhole, settings_of, row_of, Pulled}
 use Rattle.pull_setup.specs.Clients.{fresh}
 
--- ---- counts where nothing may fail
+-- ---- fault counts if nothing may fail
 
 left_of : (a b : Bool) → (a && b) ≡ true → a ≡ true
 left_of true b h = refl
@@ -42,14 +42,14 @@ right_of false b h = absurd (cc h)
 same_count : (fails : Bool) (x y : ℕ) → fails ≡ false → (fails || nat_eq x y) ≡ true → x ≡ y
 same_count fails x y never h = let eq : nat_eq x y ≡ true = ap (λ b. b || nat_eq x y) (sym never) ∙ h in grind (arith, nat_tests, eq)
 
--- the last count is that of the first exchange
+-- the last fault count is that of the first exchange
 last_is_first : (fails : ℕ → Bool) → ((place : ℕ) → fails place ≡ false) → (place : ℕ) (e : Exchange) (c : List Exchange) (n : ℕ) → calm fails place (e ∷ c) n ≡ true → n ≡ e.faults
 last_is_first fails never place e [] n h = same_count (fails place) n e.faults (never place) (left_of (fails place || nat_eq n e.faults) true h)
 last_is_first fails never place e (x ∷ c) n h =
     let first = same_count (fails place) x.faults e.faults (never place) (left_of (fails place || nat_eq x.faults e.faults) (calm fails (suc place) (x ∷ c) n) h) in
     last_is_first fails never (suc place) x c n (right_of (fails place || nat_eq x.faults e.faults) (calm fails (suc place) (x ∷ c) n) h) ∙ first
 
--- the first exchange was sent at the count before it
+-- the first exchange was sent at the fault count before it
 first_count : {K A : Type 0} (p : Proto K A) (k l : K) (m n : ℕ) (e : Exchange) (c : List Exchange) (a : A) → Runs p k m (e ∷ c) n l a → e.faults ≡ m
 unfolding Runs
 first_count (Done x) k l m n e c a r = absurd r
@@ -58,7 +58,7 @@ first_count (Recall next) k l m n e c a r = first_count (next k) k l m n e c a r
 first_count (Keep kept rest) k l m n e c a r = first_count rest kept l m n e c a r
 first_count (Consult next) k l m n e c a r = first_count (next r.0) k l m n e c a r.1
 
--- without an exchange the count stays
+-- without an exchange the fault count is unchanged
 none_count : {K A : Type 0} (p : Proto K A) (k l : K) (m n : ℕ) (a : A) → Runs p k m [] n l a → n ≡ m
 unfolding Runs
 none_count (Done x) k l m n a r = sym r.0
@@ -80,7 +80,7 @@ answered_is (Err e) h whole = absurd (cc (sym h ∙ whole))
 same_image : (case : Case) (a b : Reference) → reference_of case.reference ≡ Ok a → reference_of case.reference ≡ Ok b → a ≡ b
 same_image case a b h k = cc (sym h ∙ k)
 
--- ---- pulls in turn
+-- ---- pulls in sequence
 
 first_empty : (c d : List Exchange) → c ++ d ≡ [] → c ≡ []
 first_empty [] d is = refl
@@ -90,7 +90,7 @@ second_empty : (c d : List Exchange) → c ++ d ≡ [] → d ≡ []
 second_empty [] d is = is
 second_empty (e ∷ c) d is = absurd (cc is)
 
--- without an exchange the count stays
+-- without an exchange the fault count is unchanged
 turn_none : (row : ℕ → Whole VerifiedImage) (talks : List Talk) (k l : Kept) (m n : ℕ) → Turns row k m talks l n → joined talks ≡ [] → n ≡ m
 turn_none row [] k l m n turn none = sym turn.1
 turn_none row (talk ∷ talks) k l m n turn none =
@@ -98,7 +98,7 @@ turn_none row (talk ∷ talks) k l m n turn none =
     turn_none row talks turn.1 l turn.2 n turn.4 (second_empty talk.conversation (joined talks) none)
     ∙ none_count (row talk.moment) talk.before turn.1 m turn.2 talk.result (subst (λ (c : List Exchange). Runs (row talk.moment) talk.before m c turn.2 turn.1 talk.result) silent turn.3)
 
--- the first exchange was sent at the count before the pulls
+-- the first exchange was sent at the fault count before the pulls
 turn_first : (row : ℕ → Whole VerifiedImage) (talks : List Talk) (k l : Kept) (m n : ℕ) (e : Exchange) (c : List Exchange) → Turns row k m talks l n → joined talks ≡ e ∷ c → e.faults ≡ m
 turn_first row [] k l m n e c turn is = absurd (cc is)
 turn_first row (talk ∷ talks) k l m n e c turn is = by_conversation talk.conversation refl (turn_first row talks turn.1 l turn.2 n e c turn.4) where
@@ -121,12 +121,12 @@ turn_le : (row : ℕ → Whole VerifiedImage) (talks : List Talk) (k l : Kept) (
 turn_le row [] k l m n turn = omega (arith, turn.1)
 turn_le row (talk ∷ talks) k l m n turn = omega (arith, Runs-count (row talk.moment) talk.before turn.1 m turn.2 talk.conversation talk.result turn.3, turn_le row talks turn.1 l turn.2 n turn.4)
 
--- a conversation that was answered in two parts
+-- a conversation split in two parts
 answered_apart : (t : Answering) (place : ℕ) (c d : List Exchange) → AnsweredBy t place (c ++ d) → AnsweredBy t place c × (there : ℕ) × AnsweredBy t there d
 answered_apart t place [] d answered = (tt, place, answered)
 answered_apart t place (e ∷ c) d answered = let rest = answered_apart t (suc place) c d answered.1 in ((answered.0, rest.0), rest.1, rest.2)
 
--- each pull by a client that is settled is answered, and leaves it settled
+-- each pull by a settled client succeeds, and leaves it settled
 each_answered : (case : Case) (h : HasImage case) (talks : List Talk) (k l : Kept) (place m n : ℕ) → m ≡ 0 → n ≡ 0 → IsSettled (settings_of case) h.image case.auth h.shelf k → Turns (row_of case h.image) k m talks l n → AnsweredBy (answering h.shelf) place (joined talks) → EachWhole talks → all_answered talks ≡ true
 each_answered case h [] k l place m n start end settled turn answered whole = refl
 each_answered case h (talk ∷ talks) k l place m n start end settled turn answered whole =

@@ -1,4 +1,4 @@
--- With which status an input ends, by what the statuses say.
+-- The exit status for an input, from what the statuses mean.
 use Rattle.std.specs.Io.KnownBytes.{Consumes}
 use Rattle.std.proofs.Common.{◌≡◌, ◌≤◌, ◌<◌, inl, inr, ℕ, List, [], ◌∷◌, Option, Some, None, Err, length, option_map, refl, sym, ap, ◌∙◌, arith}
 use Rattle.std.specs.Prelude.{◌↔◌}
@@ -33,7 +33,7 @@ no_input reads Gives status.SinkFault old new before h = absurd h
 no_input reads Gives status.WantOfMemory old new before h = (h.0, h.1, inl refl)
 no_input reads Gives status.TooLong old new before h = (h, refl)
 
--- what was made went out as the status says
+-- the output was written as the status says
 pub put : {X : Type 0} (reads : List ℕ → Option X) (Gives : X → Report → Type 0) (x : X) (made : Report) (s : Status) (old new : Spring) (before after : Tray)
     → IsRead reads x old new → Gives x made → Puts s made before after → SaysTask (task_by reads Gives) s old new before after
 put reads Gives x made status.Done old new before after is gives h = record { made = made; makes = record { input = x; is_read = is; gives = gives }; refused_is = h.0; out = h.1; count = h.2 }
@@ -45,7 +45,7 @@ put reads Gives x made status.SinkFault old new before after is gives h = (recor
 put reads Gives x made status.WantOfMemory old new before after is gives h = (read_within reads x old new is, is.1.2, inr (record { made = made; makes = record { input = x; is_read = is; gives = gives }; out = h.0 }, h.1))
 put reads Gives x made status.TooLong old new before after is gives h = absurd h
 
--- memory was wanting before the writing began
+-- memory ran out before the writing began
 pub none_made : {X : Type 0} (reads : List ℕ → Option X) (Gives : X → Report → Type 0) (x : X) (old new : Spring) (before : Tray) → IsRead reads x old new → SaysTask (task_by reads Gives) status.WantOfMemory old new before before
 none_made reads Gives x old new before is = (read_within reads x old new is, is.1.2, inl refl)
 
@@ -81,7 +81,7 @@ long_ends task status.SinkFault told old new before after is long h = let r = h.
 long_ends task status.WantOfMemory told old new before after is long h = inr (inl refl)
 long_ends task status.TooLong told old new before after is long h = inl refl
 
--- what was taken, where the status is another one than 7
+-- the bytes read, if the status is not 7
 within_past : (code : ℕ) (old new : Spring) → (code ≡ 7 → ⊥) → TakesWithin input_limit old new → EndsPast code old new
 within_past code old new other h told rest left right = ((λ is. absurd (other is)), (λ long. absurd (omega (arith, long, h.2, taken_is old.left new.left h.0 told rest left right h.1))))
 
@@ -108,7 +108,7 @@ not_usage task status.SinkFault old new before after h is = cc
 not_usage task status.WantOfMemory old new before after h is = cc
 not_usage task status.TooLong old new before after h is = cc
 
--- a word that reads input is a command
+-- a subcommand that reads input is a command
 pub reads_word : (words : List (List ℕ)) (word : Word) → word_of words ≡ Some word → command_of words ≡ Some (Reads word)
 reads_word [] word is = absurd (cc is)
 reads_word (w ∷ []) word is = ap (option_map Reads) is
@@ -128,7 +128,7 @@ generated_no_usage n status.SinkFault old new before after h is = cc
 generated_no_usage n status.WantOfMemory old new before after h is = cc
 generated_no_usage n other old new before after h is = absurd h
 
--- how the lines of a generated image went out
+-- how the lines of a generated image were written
 pub puts_generated : (n : ℕ) (made : Report) (s : Status) (spring : Spring) (before after : Tray) → Generated n made → Puts s made before after → SaysGenerated n s spring spring before after
 puts_generated n made status.Done spring before after g h = (refl, (made, g, h.1), h.2)
 puts_generated n made status.Refused spring before after g h = absurd (cc (sym g.refused_is ∙ h.0))

@@ -1,4 +1,4 @@
--- The line that the word `canon` writes.
+-- The output line of `canon`.
 use Rattle.std.specs.Prelude.{◌≡◌, ◌⊎◌, ℕ, Bool, true, false, List, [], ◌∷◌, ◌++◌, Some, codes}
 use Rattle.serde_json.specs.Data.{Data}
 use Rattle.json_events.specs.Canonical.{Canonical}
@@ -6,7 +6,7 @@ use Rattle.json_events.specs.Refused.{refused}
 use Rattle.json_events.specs.declared.error.CanonError.TheVariants.{Float, IntegerOutOfRange}
 use Rattle.pull_cases.specs.declared.report.Report.{Report}
 
--- a line of the value's text
+-- a line with the value's text
 pub record PrintsText (value : Data) (out : List ℕ) : Type 0 where
   pub text : List ℕ
   pub canonical : Canonical value text

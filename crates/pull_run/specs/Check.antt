@@ -1,15 +1,15 @@
--- The line that the word `check` writes.
+-- The output line of `check`.
 use Rattle.std.specs.Prelude.{◌≡◌, ◌↔◌, ℕ, Bool, true, false, List, [], ◌∷◌, ◌++◌, codes}
 use Rattle.pull_chain.specs.Holds.{Holds}
 use Rattle.pull_chain.specs.declared.input.ChainInput.{ChainInput}
 use Rattle.pull_cases.specs.declared.report.Report.{Report}
 
--- the line by whether a chain is refused
+-- the line, by whether a chain is refused
 abbrev pub verdict : Bool → List ℕ
 verdict false = codes "chain holds" ++ 10 ∷ []
 verdict true = codes "chain fails" ++ 10 ∷ []
 
--- `chain holds` exactly where the chain that is written holds, else `chain fails`
+-- `chain holds` if and only if the written chain holds, otherwise `chain fails`
 pub record PrintsVerdict (input : ChainInput) (made : Report) : Type 0 where
   pub exact : made.refused ≡ false ↔ Holds input
   pub line : made.bytes ≡ verdict made.refused

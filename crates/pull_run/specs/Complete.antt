@@ -1,4 +1,4 @@
--- Which cases end with 0: those whose registry is a shelf that has the image, signed as the policy asks.
+-- Which cases end with 0: those whose registry is a shelf that has the image, signed as the policy requires.
 use Rattle.std.specs.Prelude.{◌≡◌, ◌≤◌, ◌⊎◌, ℕ, List, length, Some, Ok}
 use Rattle.json_values.specs.Counts.{Rose}
 use Rattle.json_values.specs.Tray.{Tray}
@@ -16,8 +16,8 @@ use Rattle.pull_cases.specs.Pulls.{settings_of}
 use Rattle.pull_run.specs.Word.{word_of}
 use Rattle.pull_run.specs.declared.word.Word.TheVariants.{Pull}
 
--- its registry is a shelf that has the image, for which a layer under its signature tag or of one of its referrers
--- stands
+-- its registry is a shelf that has the image, and a layer under its signature tag or of one of its referrers stands
+-- for it
 pub record HasImage (case : Case) : Type 0 where
   pub shelf : Shelf
   pub held : case.registry ≡ registries.Shelf shelf
@@ -25,13 +25,13 @@ pub record HasImage (case : Case) : Type 0 where
   pub reads : reference_of case.reference ≡ Ok image
   pub wide : WideShelf (meaning_of case) (settings_of case) image case.auth case.accepted shelf
 
--- with 0, unless memory was wanting, or the source or the sink failed
+-- with 0, unless memory ran out, or the source or the sink failed
 abbrev pub EndsDone : ℕ → Spring → Spring → Tray → Tray → Type 0
 EndsDone code old new before after =
     (code ≡ 0) ⊎ ((code ≡ 6) ⊎ (((code ≡ 4) × Rose old.faults new.faults)
     ⊎ ((code ≡ 5) × Rose before.faults after.faults)))
 
--- the pull of such a case ends so
+-- how the pull of such a case ends
 abbrev pub EndsComplete : List (List ℕ) → ℕ → Spring → Spring → Tray → Tray → Type 0
 EndsComplete words code old new before after = (bytes : List ℕ) (case : Case) → word_of words ≡ Some Pull
     → old.left ≡ Some bytes → length bytes ≤ input_limit → case_in bytes ≡ Some case → HasImage case

@@ -1,4 +1,4 @@
--- What `gen` gives: the lines of a pull of the generated image over its shelf.
+-- The output of `gen`: the lines of a pull of the generated image over its shelf.
 use Rattle.std.specs.Prelude.{◌≡◌, ◌⊎◌, ℕ, false, List, [], ◌∷◌, ◌++◌, Some, Result, Ok, Err, codes, decimal, length}
 use Rattle.json_values.specs.Counts.{Rose, Stays}
 use Rattle.json_values.specs.Tray.{Tray, Adds, AddsPart}
@@ -15,20 +15,20 @@ use Rattle.pull_cases.specs.declared.report.Report.{Report}
 use Rattle.pull_run.specs.declared.status.Status.{Status}
 use Rattle.pull_run.specs.declared.status.Status.TheVariants as status
 
--- how many requests were made, how many layers the image has, and its digest
+-- the number of requests, the number of layers of the image, and its digest
 abbrev pub generated_lines : ℕ → VerifiedImage → List ℕ
 generated_lines requests image =
     line (codes "requests" ∷ decimal requests ∷ [])
     ++ line (codes "layers" ∷ decimal (length image.layers) ∷ [])
     ++ line (codes "ok" ∷ image.digest ∷ [])
 
--- what is written of a pull, and that nothing is where it gave no image
+-- the output of a pull; nothing if it returned no image
 abbrev pub WritesGenerated : ℕ → Result VerifiedImage PullRefusal → Report → Type 0
 WritesGenerated requests (Ok image) made =
     (made.bytes ≡ generated_lines requests image) × (made.refused ≡ false)
 WritesGenerated requests (Err refusal) made = ⊥
 
--- A new transport of the generated shelf answered the pull of this image, whose lines these are.
+-- A new transport of the generated shelf served the pull of this image, whose lines these are.
 pub record Generated (n : ℕ) (made : Report) : Type 0 where
   pub before : Link
   pub answers : before.answers ≡ Some (answering (generated_shelf n))
@@ -41,11 +41,11 @@ pub record Generated (n : ℕ) (made : Report) : Type 0 where
   pub written : made.bytes ≡ generated_lines (length asked) image
   pub refused_is : made.refused ≡ false
 
--- it went out whole, or a front of it that is not all
+-- the output was written whole, or a proper prefix of it
 abbrev pub PutsGenerated : ℕ → (List ℕ → Tray → Tray → Type 0) → Tray → Tray → Type 0
 PutsGenerated n Out before after = (made : Report) × Generated n made × Out made.bytes before after
 
--- what the status says; nothing is read, and nothing was written but where it says so
+-- what the status means; nothing is read, and nothing was written unless it says so
 abbrev pub SaysGenerated : ℕ → Status → Spring → Spring → Tray → Tray → Type 0
 SaysGenerated n status.Done old new before after =
     (new ≡ old) × PutsGenerated n Adds before after × Stays before.faults after.faults

@@ -7,11 +7,11 @@ use Rattle.pull_edge.specs.declared.reading.ReadRefusal.TheVariants as read
 use Rattle.pull_run.specs.declared.status.Status.{Status}
 use Rattle.pull_run.specs.declared.status.Status.TheVariants as status
 
--- how many bytes the input may have
+-- the maximum number of bytes of the input
 abbrev pub input_limit : ℕ
 input_limit = 67108864
 
--- these bytes are the whole input, which was read to its end and is short enough
+-- these bytes are the whole input, which was read to its end and is within the limit
 abbrev pub IsInput : List ℕ → Spring → Spring → Type 0
 IsInput bytes old new = Reads input_limit (Ok bytes) old new
 
@@ -19,15 +19,15 @@ IsInput bytes old new = Reads input_limit (Ok bytes) old new
 abbrev pub IsCut : ReadRefusal → Spring → Spring → Type 0
 IsCut refusal old new = Reads input_limit (Err refusal) old new
 
--- it was read to its end, and reads as nothing
+-- it was read to its end, and does not parse
 abbrev pub IsOther : {X : Type 0} → (List ℕ → Option X) → Spring → Spring → Type 0
 IsOther reads old new = (bytes : List ℕ) × IsInput bytes old new × (reads bytes ≡ None)
 
--- it was read to its end, and reads as this
+-- it was read to its end, and parses as `x`
 abbrev pub IsRead : {X : Type 0} → (List ℕ → Option X) → X → Spring → Spring → Type 0
 IsRead reads x old new = (bytes : List ℕ) × IsInput bytes old new × (reads bytes ≡ Some x)
 
--- what it reads as, or why that was not found; memory may be wanting before all is read, or behind that
+-- what the input parses as, or why that is unknown; memory may run out before or after all is read
 abbrev pub ReadsInput : {X : Type 0} → (List ℕ → Option X) → Result X Status → Spring → Spring → Type 0
 ReadsInput reads (Ok x) old new = IsRead reads x old new
 ReadsInput reads (Err status.UnreadableInput) old new = IsOther reads old new

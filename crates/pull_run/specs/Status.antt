@@ -1,4 +1,4 @@
--- The statuses that the program ends with.
+-- The exit statuses of the program.
 use Rattle.std.specs.Prelude.{ℕ}
 use Rattle.pull_edge.specs.declared.reading.ReadRefusal.{ReadRefusal}
 use Rattle.pull_edge.specs.declared.reading.ReadRefusal.TheVariants as read
@@ -16,7 +16,7 @@ code_of status.SinkFault = 5
 code_of status.WantOfMemory = 6
 code_of status.TooLong = 7
 
--- the status where the input was not read to its end
+-- the status if the input was not read to its end
 abbrev pub status_of : ReadRefusal → Status
 status_of read.TooLong = status.TooLong
 status_of read.SourceFault = status.SourceFault

@@ -1,4 +1,4 @@
--- What each word reads, and what it gives.
+-- The input and the output of each subcommand.
 use Rattle.std.specs.Prelude.{ℕ, List, Option}
 use Rattle.json_values.specs.JsonText.{json_of}
 use Rattle.pull_case.specs.Case.{case_in}
@@ -10,7 +10,7 @@ use Rattle.pull_cases.specs.declared.report.Report.{Report}
 use Rattle.pull_run.specs.declared.word.Word.{Word}
 use Rattle.pull_run.specs.declared.word.Word.TheVariants.{Pull, Canon, Check}
 
--- what the input has to read as, and what is made of that
+-- what the input must parse as, and the output for it
 pub record Task : Type 1 where
   pub Input : Type 0
   pub reads : List ℕ → Option Input
@@ -19,7 +19,7 @@ pub record Task : Type 1 where
 abbrev pub task_by : {X : Type 0} → (List ℕ → Option X) → (X → Report → Type 0) → Task
 task_by {X} reads Gives = record { Input = X; reads = reads; Gives = Gives }
 
--- a word's line: what it reads, and what it gives
+-- the task of a subcommand: what it reads, and what it writes
 abbrev pub task_of : Word → Task
 task_of Pull = task_by case_in ReportsCase
 task_of Canon = task_by json_of PrintsValue

@@ -1,9 +1,9 @@
--- The words that the program takes.
+-- The subcommands.
 use Rattle.std.specs.Prelude.{ℕ, List, [], ◌∷◌, Option, Some, None, if◌then◌else◌, codes, bytes_eq}
 use Rattle.pull_run.specs.declared.word.Word.{Word}
 use Rattle.pull_run.specs.declared.word.Word.TheVariants.{Pull, Canon, Check}
 
--- the one word `pull`, `canon` or `check`
+-- a single argument: `pull`, `canon` or `check`
 abbrev pub word_of : List (List ℕ) → Option Word
 word_of (word ∷ []) =
     if bytes_eq word (codes "pull") then Some Pull

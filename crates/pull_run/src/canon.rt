@@ -1,4 +1,4 @@
-// The word `canon`: the canonical text of the JSON in the input.
+// The subcommand `canon`: the canonical text of the JSON in the input.
 ghost use Rattle.std.specs.Prelude.{◌≡◌, true, IfOk, ⊤};
 ghost use Rattle.json_values.specs.JsonText.{json_of};
 ghost use Rattle.pull_run.specs.Canon.{PrintsValue};
@@ -25,7 +25,7 @@ impl Task for Json {
     }
 }
 
-/// A line of the value's canonical text, or of why it has none.
+/// Returns a line with the value's canonical text, or with why it has none.
 pub fn canon_line(alloc: Global, value: &Json) -> Result<Report, AllocError>
     ensures { IfOk result (PrintsValue value.now) }
 {

@@ -1,4 +1,4 @@
-// The word `check`: whether a recorded chain holds.
+// The subcommand `check`: whether a recorded chain holds.
 ghost use Rattle.std.specs.Prelude.{◌≡◌, IfOk, IfSome};
 ghost use Rattle.pull_case.specs.Case.{IsReady};
 ghost use Rattle.pull_chain.specs.Input.{chain_input_in};
@@ -29,7 +29,7 @@ impl Task for ChainInput {
     }
 }
 
-/// Checks the chain in the input, and writes whether it holds.
+/// Checks the chain in the input, and returns a line that says whether it holds.
 pub fn check_chain(alloc: Global, input: ChainInput) -> Result<Report, AllocError>
     requires { IsReady input.case }
     ensures { IfOk result (PrintsVerdict input) }

@@ -1,4 +1,4 @@
-// What the words ask for.
+// The command that the command-line arguments select.
 ghost use Rattle.std.specs.Prelude.{◌≡◌};
 ghost use Rattle.pull_run.specs.Command.{count_of, command_of};
 
@@ -6,12 +6,12 @@ use crate::word::{Word, word_of};
 use engine_streams::decimal_of;
 use json_values::Text;
 
-/// What the program is asked to do.
+/// A command of the program.
 #[derive(Clone, Copy, Debug, PartialEq, Eq)]
 pub enum Command {
-    /// Reads the input, and writes what the word makes of it.
+    /// Reads the input, and writes the subcommand's output for it.
     Reads(Word),
-    /// Reads nothing: pulls the generated image with so many layers.
+    /// Reads nothing: pulls the generated image with this number of layers.
     Generates(u32),
 }
 
@@ -27,7 +27,7 @@ fn count_of(text: &str) -> Option<u32>
     }
 }
 
-/// What these words ask for, if they are a form that the program takes.
+/// Returns the command that these arguments select, or `None` if they match no supported form.
 pub fn command_of(words: &[Text]) -> Option<Command>
     ensures { result ≡ command_of words.now }
 {

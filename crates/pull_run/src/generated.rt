@@ -15,7 +15,7 @@ use pull_generated::{generated_shelf, pull_generated};
 use pull_report::{let_go, text_line};
 use std::alloc::{AllocError, Global};
 
-// The lines of an image that so many requests gave.
+// The lines of an image that took this number of requests.
 fn lines(alloc: Global, requests: usize, image: &VerifiedImage) -> Result<Blob, AllocError>
     ensures { IfOk result (λ bytes. bytes ≡ generated_lines requests image.now) }
 {
@@ -28,7 +28,7 @@ fn lines(alloc: Global, requests: usize, image: &VerifiedImage) -> Result<Blob, 
     Ok(bytes)
 }
 
-// What is written of the pull, which only memory may have cut off.
+// The output of the pull, which fails only if memory runs out.
 fn written(
     alloc: Global,
     requests: usize,
@@ -50,7 +50,7 @@ fn written(
     }
 }
 
-// Pulls the image with so many layers over a new transport of its shelf, which has all.
+// Pulls the image with `layers` layers over a new transport of its shelf, which has everything.
 fn generated(alloc: Global, layers: u32) -> Result<Report, AllocError>
     requires { IsCount layers }
     ensures { IfOk result (Generated layers) }
@@ -64,7 +64,7 @@ fn generated(alloc: Global, layers: u32) -> Result<Report, AllocError>
     report
 }
 
-/// Writes what the pull of the image with so many layers gives.
+/// Writes the output of the pull of the image with `layers` layers.
 pub(crate) fn serve_generated<K: Sink>(alloc: Global, layers: u32, sink: &mut K) -> Status
     requires { IsCount layers }
     ensures { (spring : Spring) → SaysGenerated layers result spring spring (K.state sink.old) (K.state sink.new) }

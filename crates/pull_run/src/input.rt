@@ -1,4 +1,4 @@
-// What the input reads as.
+// Reading and parsing the input.
 ghost use Rattle.std.specs.Prelude.{IfOk};
 ghost use Rattle.pull_run.specs.Input.{ReadsInput};
 
@@ -7,7 +7,7 @@ use crate::task::Task;
 use pull_edge::{INPUT_LIMIT, Source, read_all};
 use std::alloc::Global;
 
-/// Reads the input to its end, and what it says.
+/// Reads the input to its end, and parses it.
 pub fn read_input<T: Task + Drop, S: Source>(alloc: Global, source: &mut S) -> Result<T, Status>
     ensures reads { ReadsInput T.reads result (S.state source.old) (S.state source.new) }
     ensures valid { IfOk result T.Valid }

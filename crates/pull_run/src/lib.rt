@@ -1,5 +1,5 @@
-//! What the words of the program ask for: pulls of a recorded case with their report, canonical texts of JSON, and
-//! whether a recorded chain holds.
+//! The subcommands of the program: pulls of a recorded case with their report, canonical texts of JSON, and whether a
+//! recorded chain holds.
 #![tactic(auto)]
 
 mod canon;

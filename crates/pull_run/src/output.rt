@@ -1,11 +1,11 @@
-// How what was written goes out.
+// Writing the output.
 ghost use Rattle.pull_run.specs.Output.{Puts};
 
 use crate::status::Status;
 use json_values::{Sink, SinkError, put_all};
 use pull_cases::Report;
 
-/// Writes what was made, and says how that ended.
+/// Writes the output, and returns how that ended.
 pub fn deliver<K: Sink>(sink: &mut K, report: &Report) -> Status
     ensures { Puts result report.now (K.state sink.old) (K.state sink.new) }
 {

@@ -1,4 +1,4 @@
-// From the words and the input to the status.
+// From the arguments and the input to the exit status.
 ghost use Rattle.std.specs.Prelude.{◌≡◌, ◌↔◌, None};
 ghost use Rattle.pull_run.specs.Complete.{EndsComplete};
 ghost use Rattle.pull_run.specs.Program.{SaysTask, SaysCommand, Says, EndsUnread, EndsLong, EndsPast};
@@ -18,7 +18,7 @@ use pull_chain::ChainInput;
 use pull_edge::Source;
 use std::alloc::Global;
 
-// Reads the input, makes what its word gives, and writes that.
+// Reads the input, computes the task's output, and writes it.
 fn serve<T: Task + Drop, S: Source, K: Sink>(alloc: Global, source: &mut S, sink: &mut K) -> Status
     ensures { SaysTask (task_by T.reads T.Gives) result
         (S.state source.old) (S.state source.new) (K.state sink.old) (K.state sink.new) }
@@ -61,7 +61,7 @@ fn serve_command<S: Source, K: Sink>(
     }
 }
 
-/// The program: does what the words ask for, and answers the status that the process ends with.
+/// Runs the program: performs the command that the arguments select, and returns the exit status of the process.
 pub fn run<S: Source, K: Sink>(alloc: Global, words: &[Text], source: &mut S, sink: &mut K) -> u8
     ensures says { Says words.now result
         (S.state source.old) (S.state source.new) (K.state sink.old) (K.state sink.new) }

@@ -1,4 +1,4 @@
-// The word `pull`: the pulls of a recorded case.
+// The subcommand `pull`: the pulls of a recorded case.
 ghost use Rattle.std.specs.Prelude.{◌≡◌, IfOk, IfSome};
 ghost use Rattle.pull_case.specs.Case.{case_in, IsReady};
 ghost use Rattle.pull_cases.specs.Pulls.{ReportsCase};

@@ -1,4 +1,4 @@
-// The statuses that the program ends with.
+// The exit statuses of the program.
 ghost use Rattle.std.specs.Prelude.{◌≡◌};
 ghost use Rattle.pull_run.specs.Status.{code_of};
 
@@ -8,26 +8,26 @@ use std::alloc::AllocError;
 /// How the program ended.
 #[derive(Clone, Copy, Debug, PartialEq, Eq)]
 pub enum Status {
-    /// Each pull answered an image, or the value has a text, and the output went out.
+    /// Each pull returned an image, or the value has a text, and the output was written.
     Done,
-    /// Some pull was refused, or the value has no text, and the output, which says so, went out.
+    /// A pull was refused, or the value has no text, and the output, which says so, was written.
     Refused,
-    /// The words are no form that the program takes. Nothing was read or written.
+    /// The arguments match no supported form. Nothing was read or written.
     Usage,
-    /// The input is no case, or no JSON. Nothing was written.
+    /// The input is not a case, or not JSON. Nothing was written.
     UnreadableInput,
     /// The source failed. Nothing was written.
     SourceFault,
-    /// The sink failed. Not all of the output went out.
+    /// The sink failed. The output was not written whole.
     SinkFault,
-    /// Memory was wanting. Not all of the output went out, or nothing.
+    /// Memory ran out. The output was not written whole, or not at all.
     WantOfMemory,
-    /// More than 67108864 bytes of the input were taken. Nothing was written.
+    /// More than 67108864 bytes of the input were read. Nothing was written.
     TooLong,
 }
 
 impl Status {
-    /// The number with which the process ends.
+    /// Returns the exit status of the process.
     pub fn code(self) -> u8
         ensures { result ≡ code_of self }
     {

@@ -1,10 +1,10 @@
-// The words that the program takes.
+// The subcommands.
 ghost use Rattle.std.specs.Prelude.{◌≡◌};
 ghost use Rattle.pull_run.specs.Word.{word_of};
 
 use json_values::Text;
 
-/// What the program is asked to do.
+/// A subcommand that reads input.
 #[derive(Clone, Copy, Debug, PartialEq, Eq)]
 pub enum Word {
     /// Pulls the image of the case in the input, and writes a report.
@@ -15,7 +15,7 @@ pub enum Word {
     Check,
 }
 
-/// What these words ask for, if they are a form that the program takes.
+/// Returns the subcommand that these arguments select, or `None` if they match no supported form.
 pub fn word_of(words: &[Text]) -> Option<Word>
     ensures { result ≡ word_of words.now }
 {

@@ -1,4 +1,4 @@
--- The client of a program's pulls, whoever says it: a recorded case, or a host by its settings.
+-- The client of a program's pulls, given by a recorded case or by a host's settings.
 use Rattle.std.specs.Prelude.{ℕ, Bool, false, Option, Some, None, codes, unwrap_or}
 use Rattle.oci_auth.specs.Memory.{fresh as nothing_kept}
 use Rattle.oci_engine.specs.declared.config.ClientConfig.{ClientConfig}
@@ -8,11 +8,11 @@ use Rattle.engine_terms.specs.declared.settings.Settings.{Settings}
 use Rattle.sig_calls.specs.Clients.{Kept, no_answers}
 use Rattle.pull_setup.specs.declared.client.WrittenClient.{WrittenClient}
 
--- the limit of a body that is held, or the usual one
+-- the limit of a body that is held, or the default
 abbrev pub limit_by : Option ℕ → ℕ
 limit_by limit = unwrap_or limit 4294967295
 
--- the settings of a client by its protocol, its limit and which image of an index it pulls, else the usual ones
+-- the settings of a client with this protocol, limit and platform resolver, all others default
 abbrev pub settings_by : ClientProtocol → Option ℕ → Option ResolverPromise → Settings
 settings_by protocol limit platform = record {
   protocol = protocol;
@@ -22,11 +22,11 @@ settings_by protocol limit platform = record {
   platform_resolver = platform;
 }
 
--- a client that keeps nothing yet, and will keep answers or not
+-- a new client, with or without a cache
 abbrev pub fresh : Bool → Kept
 fresh caching = (nothing_kept 60, no_answers caching)
 
--- a configuration with what is written of it
+-- a configuration, changed by what is written
 abbrev pub config_by : ClientConfig → WrittenClient → ClientConfig
 config_by usual written = record usual {
   protocol = written.protocol;

@@ -1,4 +1,4 @@
-//! Which image is asked for, and by whom.
+//! The requested image and its credentials.
 ghost use Rattle.std.specs.Prelude.{◌≡◌, Ok, IsOk, IfOk};
 ghost use Rattle.oci_engine.specs.Clients.{default_config};
 ghost use Rattle.oci_names.specs.Reference.{reference_of};
@@ -10,7 +10,7 @@ use oci_engine::ClientConfig;
 use sig_registry::{Auth, OciReference, SigstoreError};
 use std::alloc::{AllocError, Global};
 
-/// Which image is asked for and by whom, and a client's usual configuration.
+/// The requested image and its credentials, and a client's default configuration.
 #[derive(Drop)]
 pub struct Asked {
     pub image: OciReference,
@@ -18,7 +18,7 @@ pub struct Asked {
     pub usual: ClientConfig,
 }
 
-/// All of it that memory is taken for: once it is there, nothing can fail before the first request.
+/// Allocates everything that a pull needs before the first request: after it nothing else can fail before that.
 pub fn ask_for(alloc: Global, reference: &str, auth: &RegistryAuth) -> Result<Asked, AllocError>
     requires { IsOk (reference_of reference.now) }
     ensures image { IfOk result (λ made. reference_of reference.now ≡ Ok (reference_in made.image)) }
@@ -32,7 +32,7 @@ pub fn ask_for(alloc: Global, reference: &str, auth: &RegistryAuth) -> Result<As
     })
 }
 
-/// The reference in a text that reads as one.
+/// Returns the reference that a text parses as.
 pub fn image_in(alloc: Global, text: &str) -> Result<OciReference, AllocError>
     requires { IsOk (reference_of text.now) }
     ensures { IfOk result (λ image. reference_of text.now ≡ Ok (reference_in image)) }

@@ -12,21 +12,21 @@ use oci_platforms::PlatformResolver;
 use sig_registry::{OciCachingClient, OciClient, RegistryClient};
 use std::alloc::Global;
 
-/// What is written of a client. All else of it is as usual.
+/// The written settings of a client. All others have their defaults.
 #[derive(Drop)]
 pub struct WrittenClient {
     pub protocol: ClientProtocol,
-    /// How many bytes a body may have that is held, where it is not the usual limit.
+    /// The maximum number of bytes of a body that is held; `None` is the default limit.
     pub limit: Option<u64>,
-    /// Which image of an index is meant. Where nothing is said of it, an index is refused.
+    /// Selects the image of an index. If `None`, an index is refused.
     pub platform: Option<PlatformResolver>,
-    /// Whether answers are kept between the calls.
+    /// Whether responses are cached between the calls.
     pub caching: bool,
     /// The keys of transparency logs, by their ids.
     pub log_keys: LogKeys,
 }
 
-/// The client that is written. It keeps nothing yet.
+/// Returns a new client with the written settings.
 pub fn client_by(alloc: Global, usual: ClientConfig, written: WrittenClient) -> Client
     ensures state { client_state result ≡ fresh_state (config_by usual written) written.caching }
     ensures log_keys { result.rekor_pub_keys ≡ written.log_keys }

@@ -1,4 +1,4 @@
-//! What the pulls of a program are made of, whoever says it: a recorded case, or a host by its settings.
+//! The parts of a program's pulls, given by a recorded case or by a host's settings.
 #![tactic(auto)]
 
 mod asked;

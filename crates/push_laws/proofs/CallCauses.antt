@@ -1,4 +1,4 @@
--- Why each call that pushes was refused, and that a fault of the transport comes only where its count rose.
+-- Why each call that pushes was refused, and that a fault of the transport is returned only if its count increased.
 use Rattle.std.proofs.Common.{◌≡◌, ℕ, true, List, Option, Result, Err, IfErr, refl}
 use Rattle.json_values.specs.Counts.{Rose}
 use Rattle.oci_names.specs.declared.reference.Reference.{Reference}

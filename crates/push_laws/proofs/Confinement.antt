@@ -1,5 +1,5 @@
--- A push shows credentials and tokens to the image's registry and to the realm that it names, and to nobody else:
--- wherever the locations of its upload lead.
+-- A push sends credentials and tokens only to the image's registry and to the realm that it names, wherever the
+-- locations of its upload lead.
 use Rattle.std.proofs.Common.{◌≡◌, ℕ, zero, suc, Bool, true, false, List, [], ◌∷◌, ◌++◌, ◌-◌, Option, None, Result, Ok, Err, codes, length, refl, sym, ap, subst, ◌∙◌}
 use Rattle.std.specs.Prelude.{if◌then◌else◌}
 use Rattle.url.specs.Parts.{Parts}
@@ -47,11 +47,11 @@ use Rattle.push_laws.proofs.PushedHeaders.{content_made}
 abbrev pub pushing : Memory → Context → Reference → Entry
 pushing k s image = asking k s image Push None
 
--- whatever is answered
+-- for any result
 abbrev pub Kept : Entry → {A : Type 0} → Memory → List Exchange → A → Type 0
 Kept x l c a = Keeps x l c
 
--- what is asked is confined, and what is kept may be shown
+-- requests are confined, and the client state may be sent
 record Bound (x : Entry) (s : Settings) {A : Type 0} (p : Row A) : Type 0 where
   safe : (l : Memory) (c : List Exchange) → Keeps x l c → Safe (Carries x s) (Keeps x) (Kept x) l c p
 
@@ -137,7 +137,7 @@ module _ (k : Memory) (s : Context) (image : Reference) where
   chunks_bound location start [] = bound_done (Ok location)
   chunks_bound location start (chunk ∷ rest) = bound_next (chunk_sent s image location start chunk) _ (chunk_bound location start chunk) (λ next. chunks_bound next _ rest)
 
-  -- ---- pieces, whatever is said
+  -- ---- pieces, for any external input
 
   piece_bound : Bounded next_piece
   unfolding next_piece Safe
@@ -211,7 +211,7 @@ module _ (k : Memory) (s : Context) (image : Reference) where
   unfolding mount_blob
   mount_bound source digest = bound_next (Done (url_read (uploads_text s.settings image))) _ (bound_done _) (λ url. bound_next (sent s image Post (mount_url source digest url) Nothing 201) _ (sent_bound Post (mount_url source digest url) Nothing 201) (λ location. bound_done _))
 
--- ---- what was told
+-- ---- the exposed exchanges
 
 confines : {A : Type 0} (s : Context) (image : Reference) (p : Row A) {old new : Link} {k l : Memory} {r : Result A OciDistributionError} → Bound (pushing k s image) s.settings p → Meets is_memory p old new k l r → Told (Within (pushing k s image) s.settings l) old new
 confines s image p {k = k} {l = l} bound met = let x = pushing k s image in call_within x s.settings (Kept x) l (bound.safe k [] (keeps_first x)) met

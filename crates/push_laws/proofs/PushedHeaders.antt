@@ -1,4 +1,4 @@
--- The header fields of a push change no value of `authorization`, and its body is what it carries.
+-- The header fields of a push change no value of `authorization`, and its body is its content.
 use Rattle.std.proofs.Common.{◌≡◌, ℕ, List, [], ◌∷◌, ◌++◌, Option, Ok, codes, unwrap_or, sym, ap, ◌∙◌}
 use Rattle.std.specs.Prelude.{decimal, length}
 use Rattle.std.specs.FinMap.{get-insert}
@@ -43,7 +43,7 @@ fields_shown (Chunk start bytes) m made is = ranged is where
       let sized = into_ok (with_header m (codes "content-range") (range_text start bytes)) (with_length bytes) typed.0 typed.1 in
       type_shown typed.0 made typed.2 ∙ length_shown bytes sized.0 typed.0 sized.2 ∙ ap shown (with_ok m (codes "content-range") (range_text start bytes) sized.0 sized.1) ∙ range_keeps m (range_text start bytes)
 
--- a request with a content, and the one before it
+-- a request with a content, and the one before adding it
 pub record WithContent (content : Content) (bare request : Request) : Type 0 where
   pub shown_is : values_of (codes "authorization") request.headers ≡ values_of (codes "authorization") bare.headers
   pub method_is : request.method ≡ bare.method

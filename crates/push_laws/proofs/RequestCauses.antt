@@ -1,4 +1,4 @@
--- Why a request of a push was refused, and what location its answer named.
+-- Why a request of a push was refused, and which location its response named.
 use Rattle.std.proofs.Common.{◌≡◌, ◌≢◌, ◌<◌, inl, inr, ℕ, zero, Bool, true, false, arith, List, [], ◌∷◌, ◌++◌, Option, Some, None, Result, Ok, Err, codes, length, refl, sym, ap, subst, ◌∙◌, append-nil, append_assoc}
 use Rattle.std.specs.Prelude.{nat_eq, if◌then◌else◌}
 use Rattle.std.specs.List.{Contains}
@@ -45,7 +45,7 @@ use Rattle.engine_push.specs.declared.content.Content.{Content}
 use Rattle.push_laws.proofs.PushedHeaders.{content_made}
 use Rattle.push_laws.specs.Causes.{IsPushed, AnsweredPush, Named, PushText, CannotBeMade, ShownBy, PushCause}
 
--- ---- which texts may be no URL
+-- ---- which texts may be malformed URLs
 
 pub record Texts (s : Settings) (image : Reference) (T : List Exchange → List ℕ → Type 0) : Type 0 where
   pub registry : (c : List Exchange) → T c (registry_text s image)
@@ -64,14 +64,14 @@ text_more s image c d text (inr (inr h)) = inr (inr (named_more c d h))
 pub named_after : {s : Settings} {image : Reference} (c : List Exchange) {d : List Exchange} {text : List ℕ} → Named s image d text → Named s image (c ++ d) text
 named_after c {d} n = record { exchange = n.exchange; contains = Contains-append_right c d n.exchange n.contains; answer = n.answer; answered = n.answered; value = n.value; header = n.header; text_is = n.text_is }
 
--- of the call, and of what is left of it behind these exchanges
+-- those of the call, and of the rest of the call after these exchanges
 pub call_texts : (s : Settings) (image : Reference) → Texts s image (PushText s image)
 call_texts s image = record { registry = λ c. inl refl; uploads = λ c. inr (inl refl); named = λ c text h. inr (inr h); more = text_more s image }
 
 pub texts_after : {s : Settings} {image : Reference} {T : List Exchange → List ℕ → Type 0} (c : List Exchange) → Texts s image T → Texts s image (λ d. T (c ++ d))
 texts_after {T = T} c t = record { registry = λ d. t.registry (c ++ d); uploads = λ d. t.uploads (c ++ d); named = λ d text h. t.named (c ++ d) text (named_after c h); more = λ d e text h. subst (λ x. T x text) (append_assoc c d e) (t.more (c ++ d) e text h) }
 
--- ---- causes, one step behind the other
+-- ---- causes, one step after another
 
 pub cause_after : (T : List Exchange → List ℕ → Type 0) (Own : OciDistributionError → Type 0) (s : Settings) (c d : List Exchange) (n : ℕ) (e : OciDistributionError) → PushCause (λ d. T (c ++ d)) Own s d n e → PushCause T Own s (c ++ d) n e
 cause_after T Own s c d n (refusal.UrlParseError text) h = h
@@ -83,7 +83,7 @@ cause_after T Own s c d n refusal.WantOfMemory h = tt
 cause_after T Own s c d n _ (inl h) = inl h
 cause_after T Own s c d n _ (inr h) = inr (last_after c h)
 
--- this is so of its exchanges where it answers, and a refusal has its cause
+-- T holds for the exchanges of an `Ok`, and a refusal has its cause
 abbrev pub Shown : (List Exchange → List ℕ → Type 0) → (OciDistributionError → Type 0) → Settings → {A : Type 0} → (List Exchange → A → Type 0) → Row A → Type 0
 Shown T Own s P p = Shows (ByAnswer (λ m c n a. P c a) (λ m c n e. PushCause T Own s c n e)) p
 
@@ -95,14 +95,14 @@ shown_next {A} {B} T Own s P Q p f first each = Shows-each (λ m c n a. P c a) (
       by_answer m start c d o (Ok b) g = g
       by_answer m start c d o (Err e) g = cause_after T Own s c d o e g
 
--- behind these exchanges
+-- after these exchanges
 pub shown_named : (T : List Exchange → List ℕ → Type 0) (Own : OciDistributionError → Type 0) (s : Settings) (image : Reference) (c : List Exchange) (p : Row (List ℕ)) → Shown T Own s (Named s image) p → Shown T Own s (λ d location. Named s image (c ++ d) location) p
 shown_named T Own s image c p h = Shows-more (ByAnswer (λ m d n a. Named s image d a) (λ m d n e. PushCause T Own s d n e)) (ByAnswer (λ m d n a. Named s image (c ++ d) a) (λ m d n e. PushCause T Own s d n e)) p h by_answer where
   by_answer : (m n : ℕ) (d : List Exchange) (r : Result (List ℕ) OciDistributionError) → ByAnswer (λ m d n a. Named s image d a) (λ m d n e. PushCause T Own s d n e) m d n r → ByAnswer (λ m d n a. Named s image (c ++ d) a) (λ m d n e. PushCause T Own s d n e) m d n r
   by_answer m n d (Ok location) g = named_after c g
   by_answer m n d (Err e) g = g
 
--- a step with no request
+-- a step without a request
 pub shown_step : {A B : Type 0} (T : List Exchange → List ℕ → Type 0) (Own : OciDistributionError → Type 0) (s : Settings) (Q : List Exchange → B → Type 0) (r : Result A OciDistributionError) (f : A → Row B)
     → ((a : A) → r ≡ Ok a → Shown T Own s Q (f a)) → ((e : OciDistributionError) → r ≡ Err e → (n : ℕ) → PushCause T Own s [] n e) → Shown T Own s Q (Done r >>= f)
 shown_step T Own s Q r f each refused = Shows-step (ByAnswer (λ m c n b. Q c b) (λ m c n e. PushCause T Own s c n e)) r f each refused
@@ -156,7 +156,7 @@ module _ (T : List Exchange → List ℕ → Type 0) (Own : OciDistributionError
   abbrev Q : ℕ → List Exchange → ℕ → Result (List ℕ) OciDistributionError → Type 0
   Q = ByAnswer (λ m c n location. Named s image c location) (λ m c n e. PushCause T Own s c n e)
 
-  -- the last answer shows what is refused
+  -- the last response shows what is refused
   refused_last : (redirects : List Exchange) (exchange : Exchange) (answer : Answer) (e : OciDistributionError) → IsPushed exchange.request.method → exchange.answer ≡ Some answer → ShownBy e exchange.request.url answer → LastIs (AnsweredPush (ShownBy e)) (redirects ++ exchange ∷ [])
   refused_last redirects exchange answer e pushed answered shown = record { before = redirects; last = exchange; split = refl; holds = (pushed, answer, answered, shown) }
 
@@ -214,13 +214,13 @@ module _ (T : List Exchange → List ℕ → Type 0) (Own : OciDistributionError
   unfolding location_after
   location_shown request pushed = Shows-follow Q 0 request (unless_success s.max_body_bytes) (location_reply s image expected) (location_run request pushed)
 
--- ---- what comes before it: the token step, and the request
+-- ---- what comes before it: the token step, and building the request
 
 module _ (s : Context) (image : Reference) (Own : OciDistributionError → Type 0) where
   abbrev Locates : (List Exchange → List ℕ → Type 0) → Row (List ℕ) → Type 0
   Locates T p = Shown T Own s.settings (Named s.settings image) p
 
-  -- where nothing is said of the answer
+  -- with the response unspecified
   token_shown : (T : List Exchange → List ℕ → Type 0) → Texts s.settings image T → (url : Parts) → Shown T Own s.settings (λ c token. Unit {0}) (authorized s image Push url)
   token_shown T texts url = record { shows = λ k l m n c r run. by_answer m n c r (Runs-ends (NoRegistry s.settings image) (authorized s image Push url) k l m n c r (authorized_fine s image url) run) } where
     by_cause : (n : ℕ) (c : List Exchange) (e : OciDistributionError) → NoRegistry s.settings image {A = Option RegistryTokenType} (Err e) → PushCause T Own s.settings c n e

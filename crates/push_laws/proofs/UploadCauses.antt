@@ -27,7 +27,7 @@ use Rattle.engine_terms.specs.declared.settings.Settings.{Settings}
 use Rattle.push_laws.specs.Causes.{Named, PushText, PushCause, OfBytes, OfStream, OfNamedStream, OfNothing}
 use Rattle.push_laws.proofs.RequestCauses.{Texts, call_texts, texts_after, cause_after, Shown, shown_next, shown_step, shown_done, url_shown, sent_shown}
 
--- what is so of more is so of less
+-- what holds for a larger set of texts holds for a smaller one
 shown_more : {A : Type 0} (T : List Exchange → List ℕ → Type 0) (Own : OciDistributionError → Type 0) (s : Settings) (P Q : List Exchange → A → Type 0) (p : Row A) → ((c : List Exchange) (a : A) → P c a → Q c a) → Shown T Own s P p → Shown T Own s Q p
 shown_more {A} T Own s P Q p more h = Shows-more (ByAnswer (λ m c n a. P c a) (λ m c n e. PushCause T Own s c n e)) (ByAnswer (λ m c n a. Q c a) (λ m c n e. PushCause T Own s c n e)) p h by_answer where
   by_answer : (m n : ℕ) (c : List Exchange) (r : Result A OciDistributionError) → ByAnswer (λ m c n a. P c a) (λ m c n e. PushCause T Own s c n e) m c n r → ByAnswer (λ m c n a. Q c a) (λ m c n e. PushCause T Own s c n e) m c n r
@@ -38,11 +38,11 @@ module _ (s : Context) (image : Reference) (Own : OciDistributionError → Type 
   abbrev AreTexts : (List Exchange → List ℕ → Type 0) → Type 0
   AreTexts T = Texts s.settings image T
 
-  -- where it answers, this is so of it
+  -- P holds for the exchanges and the value of an `Ok`
   abbrev Tells : (List Exchange → List ℕ → Type 0) → {A : Type 0} → (List Exchange → A → Type 0) → Row A → Type 0
   Tells T P p = Shown T Own s.settings P p
 
-  -- what is sent leads to a location that may be read
+  -- what is sent leads to a location that may be parsed
   abbrev Leads : (List Exchange → List ℕ → Type 0) → Row (List ℕ) → Type 0
   Leads T p = Tells T (λ c location. T c location) p
 
@@ -80,7 +80,7 @@ module _ (s : Context) (image : Reference) (Own : OciDistributionError → Type 
   ended_tells : {A : Type 0} (T : List Exchange → List ℕ → Type 0) → AreTexts T → (digest location : List ℕ) (content : Content) (f : List ℕ → A) → T [] location → Tells T Anything (upload_ended s image digest location content >>= λ url. Done (Ok (f url)))
   ended_tells T texts digest location content f here = shown_next T Own s.settings (λ c location. T c location) Anything (upload_ended s image digest location content) _ (ended_leads T texts digest location content here) (λ c url h. shown_done (λ d. T (c ++ d)) Own s.settings (λ d a. Unit {0}) (f url) tt)
 
--- ---- bytes that are at hand
+-- ---- bytes in memory
 
 module _ (s : Context) (image : Reference) (content digest : List ℕ) where
   abbrev Of : OciDistributionError → Type 0
@@ -109,7 +109,7 @@ module _ (s : Context) (image : Reference) (content digest : List ℕ) where
   abbrev Answers : ℕ → List Exchange → ℕ → Result (List ℕ) OciDistributionError → Type 0
   Answers = ByAnswer (λ m c n location. T c location) (λ m c n e. PushCause T Of s.settings c n e)
 
-  -- whichever way it goes
+  -- in either way
   pub blob_shown : Shown (PushText s.settings image) Of s.settings (λ c location. Unit {0}) (push_blob s image content digest)
   unfolding push_blob
   blob_shown = any_tells s image Of T (λ c location. T c location) _ (by_setting s.settings.use_monolithic_push) where
@@ -123,7 +123,7 @@ module _ (s : Context) (image : Reference) (content digest : List ℕ) where
     again : (m n : ℕ) (c : List Exchange) → Shows (λ start d o r. Answers m (c ++ d) o r) (push_whole s image content digest)
     again m n c = Shows-more (ByAnswer (λ m d n location. T (c ++ d) location) (λ m d n e. PushCause (λ d. T (c ++ d)) Of s.settings d n e)) (λ start d o r. Answers m (c ++ d) o r) (push_whole s image content digest) (whole_leads (λ d. T (c ++ d)) (texts_after c texts)) (λ start o d r g. behind m start c d o r g)
 
-    -- what the second part makes of the first one's answer
+    -- what the second part computes from the result of the first
     by_result : (m n : ℕ) (c : List Exchange) (r : Result (List ℕ) OciDistributionError) → Answers m c n r → (k l : Memory) (d : List Exchange) (o : ℕ) (b : Result (List ℕ) OciDistributionError) → Runs (or_whole (push_whole s image content digest) r) k n d o l b → Answers m (c ++ d) o b
     by_result m n c (Ok location) h k l d o b run = done_run (λ start d o b. Answers m (c ++ d) o b) _ k l n o d b (rw append-nil h) run
     by_result m n c (Err e) h k l d o b run = by_test (is_violation e) run where
@@ -142,7 +142,7 @@ module _ (s : Context) (image : Reference) (content digest : List ℕ) where
     by_setting true = whole_leads T texts
     by_setting false = or_shown
 
--- ---- a stream, whatever is said
+-- ---- a stream, for any external input
 
 module _ (s : Context) (image : Reference) (Own : OciDistributionError → Type 0) (fails : Own refusal.SourceFault) (too_long : Own refusal.BodyTooLong) where
   piece_tells : (T : List Exchange → List ℕ → Type 0) → Tells s image Own T (λ c piece. Unit {0}) next_piece
@@ -162,7 +162,7 @@ module _ (s : Context) (image : Reference) (Own : OciDistributionError → Type 
   last_tells T P [] end next a b = a
   last_tells T P (byte ∷ bytes) end next a b = b
 
-  -- where it goes on may be read
+  -- the location at which it continues may be parsed
   abbrev Goes : (List Exchange → List ℕ → Type 0) → List Exchange → Sent → Type 0
   Goes T c sent = T c sent.location
 

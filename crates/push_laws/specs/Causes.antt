@@ -1,5 +1,4 @@
--- Why a push was refused. A refusal that speaks of an answer speaks of the last one of the call, which a request of the
--- push got.
+-- Why a push was refused. A refusal about a response is about the last one of the call, to a request of the push.
 use Rattle.std.specs.Prelude.{◌≡◌, ◌≢◌, ◌<◌, ◌⊎◌, ℕ, true, false, List, [], Option, Some, None, Err, codes, length}
 use Rattle.std.specs.List.{Contains}
 use Rattle.url.specs.Parts.{Parts}
@@ -26,18 +25,18 @@ use Rattle.engine_push.specs.Contents.{with_content}
 use Rattle.engine_push.specs.Locations.{resolved}
 use Rattle.engine_push.specs.declared.content.Content.{Content}
 
--- a request of a push, and of no token step
+-- a request of a push, not of a token step
 abbrev pub IsPushed : Method → Type 0
 IsPushed Post = Unit {0}
 IsPushed Patch = Unit {0}
 IsPushed Put = Unit {0}
 IsPushed _ = ⊥
 
--- it was answered, and this is so of its URL and of the answer
+-- it has a response, and P holds for its URL and the response
 abbrev pub AnsweredPush : (List ℕ → Answer → Type 0) → Exchange → Type 0
 AnsweredPush P e = IsPushed e.request.method × (answer : Answer) × (e.answer ≡ Some answer) × P e.request.url answer
 
--- an answer named this location
+-- a response named this location
 pub record Named (s : Settings) (image : Reference) (c : List Exchange) (text : List ℕ) : Type 0 where
   pub exchange : Exchange
   pub contains : Contains c exchange
@@ -47,16 +46,16 @@ pub record Named (s : Settings) (image : Reference) (c : List Exchange) (text : 
   pub header : first_of (codes "location") answer.headers ≡ Some value
   pub text_is : text ≡ resolved s image value
 
--- the address of the registry or of its uploads is read, or a location
+-- the URL of the registry or of its uploads is parsed, or a location
 abbrev pub PushText : Settings → Reference → List Exchange → List ℕ → Type 0
 PushText s image c text = (text ≡ registry_text s image) ⊎ ((text ≡ uploads_text s image) ⊎ Named s image c text)
 
--- a value that a request would show cannot stand in a header
+-- a value in a request is not a valid header value
 abbrev pub CannotBeMade : Settings → Type 0
 CannotBeMade s = (method : Method) × (url : Parts) × (token : Option RegistryTokenType) × (content : Content)
     × (request_of s method url None token >>= with_content content ≡ Err (refusal.GenericError HeaderText))
 
--- what the last answer shows, as the refusal says
+-- what the last response shows, as the refusal states
 abbrev pub ShownBy : OciDistributionError → List ℕ → Answer → Type 0
 ShownBy (refusal.ServerError code url body) address answer = (code ≡ answer.status) × (url ≡ address)
     × (body ≡ answer.body) × (is_success answer.status ≡ false)
@@ -68,8 +67,8 @@ ShownBy (refusal.HeaderValueError value) address answer = (is_success answer.sta
     × (first_of (codes "location") answer.headers ≡ Some value) × (is_text value ≡ false)
 ShownBy _ address answer = ⊥
 
--- Why a push was refused, of whose texts these may be no URL, and which the call itself may refuse so. Memory may be
--- wanting anywhere.
+-- Why a push was refused: `Text` holds for texts of possibly malformed URLs, `Own` for what the call itself may refuse.
+-- Memory may run out anywhere.
 abbrev pub PushCause : (List Exchange → List ℕ → Type 0) → (OciDistributionError → Type 0) → Settings
     → List Exchange → ℕ → OciDistributionError → Type 0
 PushCause Text Own s c now (refusal.UrlParseError text) = (request_url text ≡ None) × Text c text
@@ -82,12 +81,12 @@ PushCause Text Own s c now e = Own e ⊎ LastIs (AnsweredPush (ShownBy e)) c
 
 -- ---- what a call itself refuses
 
--- bytes that are at hand: there are none
+-- bytes in memory: there are none
 abbrev pub OfBytes : List ℕ → OciDistributionError → Type 0
 OfBytes content refusal.PushNoDataError = content ≡ []
 OfBytes content _ = ⊥
 
--- a stream: its source failed, or gave more bytes than the limit, or its count of bytes is missing or another one
+-- a stream: its source failed, or gave more bytes than the limit, or its size is missing or different
 abbrev pub OfStream : Option ℕ → OciDistributionError → Type 0
 OfStream size refusal.SourceFault = Unit {0}
 OfStream size refusal.BodyTooLong = Unit {0}
@@ -95,7 +94,7 @@ OfStream size (refusal.GenericError NoSize) = size ≡ None
 OfStream size (refusal.GenericError SizeDiffers) = (n : ℕ) × (size ≡ Some n)
 OfStream size _ = ⊥
 
--- a stream whose digest is answered, which may give nothing
+-- a stream whose digest is returned, which may be empty
 abbrev pub OfNamedStream : OciDistributionError → Type 0
 OfNamedStream refusal.PushNoDataError = Unit {0}
 OfNamedStream e = OfStream None e

@@ -1,3 +1,3 @@
-//! What every run of the rows of pushes shows: where credentials go, and why a push was refused. It has definitions and
-//! laws alone.
+//! The properties of every run of the rows of pushes: where credentials go, and why a push was refused. Contains only
+//! definitions and laws.
 #![tactic(auto)]

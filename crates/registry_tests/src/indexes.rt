@@ -1,4 +1,4 @@
-// The calls that an index leads on.
+// Calls on an index.
 use json_values::Text;
 use oci_auth::RegistryAuth;
 use oci_engine::{Client, ClientConfig, PlatformResolver};
@@ -19,13 +19,13 @@ const INDEX: &str =
 const INDEX_DIGEST: &str =
     "sha256:a6d1c218804f4be0005f5cd9dd8fde970ad81ba2d25607eba577c9dde904f39e";
 
-// Its one entry is the index before.
+// Its only entry is the index before.
 const OUTER_INDEX: &str =
     "{\"schemaVersion\":2,\"mediaType\":\"application/vnd.oci.image.index.v1+json\",\
         \"manifests\":[{\"mediaType\":\"application/vnd.oci.image.index.v1+json\",\
         \"digest\":\"sha256:a6d1c218804f4be0005f5cd9dd8fde970ad81ba2d25607eba577c9dde904f39e\",\"size\":1}]}";
 
-// A client, and the image that it asks for.
+// A client, and the image that it requests.
 fn begun(alloc: Global, resolver: Option<PlatformResolver>) -> Option<(Client, Reference)> {
     let mut config = ClientConfig::default(alloc).ok()?;
     config.platform_resolver = resolver;
@@ -44,7 +44,7 @@ fn fixed(alloc: Global, digest: &str) -> Option<PlatformResolver> {
     Some(PlatformResolver::fixed(digest))
 }
 
-// The digest of the manifest that is found, or the name of the refusal.
+// The digest of the manifest that is found, or the name of the error.
 fn outcome(
     alloc: Global,
     resolver: Option<PlatformResolver>,

@@ -1,4 +1,4 @@
-//! Tests of the calls that an index leads on, and of the references that the search takes.
+//! Tests of calls on an index, and of the references that the search accepts.
 #![tactic(auto)]
 
 #[cfg(test)]

@@ -1,4 +1,4 @@
-// The references that the search for signatures takes.
+// The references that the search for signatures accepts.
 use json_values::{Copied, Text};
 use oci_auth::RegistryAuth;
 use sig_registry::{Auth, OciReference, SigstoreError};

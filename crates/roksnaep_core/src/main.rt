@@ -6,7 +6,7 @@ pub use pull_edge::{StdSink, StdSource};
 pub use pull_live::{Ended, Status, run};
 use std::process::ExitCode;
 
-// What a status other than 0 and 1 means, and what to do.
+// What an exit status other than 0 and 1 means, and what to do.
 fn advice(status: u8) -> &'static str {
     match status {
         3 => "the settings do not read: see docs/HOST.md for their members",
@@ -25,7 +25,7 @@ fn main(rt: HostRuntime) -> ExitCode {
     let ended = run(rt.alloc(), streams);
     let status = ended.status.code();
     if status > 1 {
-        // The status says it too, so nothing is lost where the line cannot be written.
+        // The exit status says it too, so nothing is lost if the line cannot be written.
         let _ = eprintln!(rt; "{}", advice(status));
     }
     ExitCode::from(status)

@@ -1,4 +1,4 @@
-// What a client of signatures is built of.
+// The builder of a client of signatures.
 use cosign_client::{Client, ClientBuilder, TrustRoot};
 use cosign_layers::LogKeys;
 use json_values::{Blob, Text};

@@ -41,8 +41,8 @@ const SIGNATURES_DIGEST: &str =
 const NO_REFERRERS: &str =
     r#"{"schemaVersion":2,"mediaType":"application/vnd.oci.image.index.v1+json","manifests":[]}"#;
 
-/// Each answer, after that to the request for a token: those of the search, and those of the image. A token is asked
-/// for once more before the referrers are.
+/// Each answer, after the one to the request for a token: those of the search, and those of the image. A token is
+/// requested once more before the referrers are.
 const ANSWERS: [(&str, &str); 19] = [
     ("", ""),
     (MANIFEST_DIGEST, ""),
@@ -65,7 +65,7 @@ const ANSWERS: [(&str, &str); 19] = [
     (LAYER_DIGEST, "hello world"),
 ];
 
-// What a pull is asked with.
+// The arguments of a pull.
 #[derive(Drop)]
 struct Asked {
     image: OciReference,
@@ -117,7 +117,7 @@ fn all_asked(alloc: Global) -> Option<Asked> {
     })
 }
 
-// Each function below holds one value of many parts and lends it to the next.
+// Each function below holds one value of many parts, and the next one borrows it.
 fn client(alloc: Global) -> Option<Client> {
     ClientBuilder::new().build(alloc).ok()
 }
@@ -156,7 +156,7 @@ fn is_linked(
     }
 }
 
-// What was pulled is let go where nothing is known of it.
+// Drops a pulled image in a function without other facts.
 fn let_image_go(_found: Result<VerifiedImage, PullRefusal>) {}
 
 fn links_over(
@@ -203,7 +203,7 @@ fn counts(found: &Result<TrustedLayers, SigstoreError>) -> Option<(usize, usize)
     }
 }
 
-// What was found is let go where nothing is known of it.
+// Drops what was found in a function without other facts.
 fn let_go(_found: Result<TrustedLayers, SigstoreError>) {}
 
 fn searched(
@@ -252,7 +252,7 @@ fn a_search_collects_the_layers_under_the_tag(rt: HostRuntime) {
     assert!(rt; search(rt.alloc(), 13) == Some((1, 0)));
 }
 
-// Whether the tag is the one under which the signatures of the answered digest stand.
+// Whether the tag is the signature tag of the returned digest.
 fn names_tag(found: &Result<(OciReference, Text), SigstoreError>) -> Option<bool> {
     match found {
         Ok(found) => Some(found.0.tag()? == SIGNATURE_TAG),

@@ -1,4 +1,4 @@
-// Each call to the certificate authority.
+// The calls to Fulcio.
 use crate::recorded::{asked, holds, script, showed};
 use json_values::Text;
 use oci_transport::{Method, Script};
@@ -43,7 +43,7 @@ fn answered(alloc: Global, script: &mut Script) -> Result<CertificateResponse, F
     }
 }
 
-// The certificate, how many are behind it, and whether a timestamp stands beside it.
+// The certificate, the number of certificates after it, and whether it has a separate timestamp.
 fn is_response(response: &CertificateResponse, cert: &str, behind: usize, detached: bool) -> bool {
     response.cert.as_str() == cert
         && response.chain.as_slice().len() == behind
@@ -75,7 +75,7 @@ fn a_chain_comes_with_or_without_a_timestamp(rt: HostRuntime) {
     assert!(rt; holds(second_version(rt.alloc(), detached, 2, true)));
 }
 
-// The first byte of what does not read, or 0 where the chain is too short.
+// The first byte of a malformed body, or 0 if the chain is too short.
 fn refused(alloc: Global, body: &str) -> Option<u8> {
     let mut script = script(alloc, 200, body.as_bytes()).ok()?;
     match answered(alloc, &mut script).err()? {

@@ -1,4 +1,4 @@
-// Each call to the log.
+// The calls to Rekor.
 use crate::recorded::{asked, holds, script, showed};
 use json_values::{Json, List, Text, read_json};
 use oci_transport::{Method, Script};
@@ -10,7 +10,7 @@ use sig_services::{
 };
 use std::alloc::Global;
 
-// An entry as the public log answers it.
+// An entry as the public instance returns it.
 const ENTRY: &str =
     "{\"24296fb24b8ad77a68abfdb2e0b2fa7ec5bb6b4e35ab9cae2e8f1a3f7b1f6c1e2d3c4b5a69788796\":{\"body\":\"eyJhcGlWZ\
         XJzaW9uIjoiMC4wLjEiLCJraW5kIjoiaGFzaGVkcmVrb3JkIiwic3BlYyI6e319\",\"integratedTime\":1656448131,\

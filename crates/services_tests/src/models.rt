@@ -1,4 +1,4 @@
-// Models as they are read and written, and what stands in texts and bytes.
+// Reading and writing of models, and the contents of texts and bytes.
 use crate::recorded::holds;
 use json_tables::Reads;
 use json_values::{ToValue, read_json};
@@ -9,7 +9,7 @@ use sig_models::{
 use sig_services::{ParseResponseError, parse_response, urlencode};
 use std::alloc::Global;
 
-// Whether the text reads as a model that is written as this text.
+// Whether the text parses to a model that is written as this text.
 fn again<T: Reads + ToValue + Drop>(alloc: Global, text: &str) -> Option<bool> {
     let json = read_json(alloc, text.as_bytes()).ok()??;
     let model = T::read_value(alloc, json.value()).ok()?;

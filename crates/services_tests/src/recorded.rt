@@ -1,4 +1,4 @@
-// What the services of the tests are recorded to answer, and what they were asked.
+// The recorded answers of the services in the tests, and the requests that were sent.
 ghost use Rattle.std.specs.Prelude.{IfOk};
 ghost use Rattle.oci_transport.specs.Pieces.{NoneEmpty};
 
@@ -6,7 +6,7 @@ use json_values::{Blob, List};
 use oci_transport::{Exchange, Headers, Method, Recorded, Script};
 use std::alloc::{AllocError, Global};
 
-/// Whether an answer is true.
+/// Whether a result is true.
 pub(crate) fn holds(answer: Option<bool>) -> bool {
     match answer {
         Some(holds) => holds,
@@ -14,7 +14,7 @@ pub(crate) fn holds(answer: Option<bool>) -> bool {
     }
 }
 
-// The body in one piece, where it has any byte.
+// The body in one piece, unless it is empty.
 fn pieces(alloc: Global, body: &[u8]) -> Result<List<Blob>, AllocError>
     ensures { IfOk result (λ pieces. NoneEmpty pieces) }
 {
@@ -25,7 +25,7 @@ fn pieces(alloc: Global, body: &[u8]) -> Result<List<Blob>, AllocError>
     Ok(pieces)
 }
 
-/// One answer.
+/// A script with one answer.
 pub(crate) fn script(alloc: Global, status: u16, body: &[u8]) -> Result<Script, AllocError> {
     let pieces = pieces(alloc, body)?;
     let mut answers = List::new(alloc);
@@ -46,7 +46,7 @@ fn is_request(exchange: &Exchange, method: Method, url: &str, body: &str) -> boo
         && request.body.as_slice() == body.as_bytes()
 }
 
-/// Whether there was one request: by this method, to this URL, with this body.
+/// Whether one request was sent, with this method, this URL and this body.
 pub(crate) fn asked(script: &Script, method: Method, url: &str, body: &str) -> bool {
     match script.conversation().as_slice() {
         [exchange] => is_request(exchange, method, url, body),

@@ -1,4 +1,4 @@
--- Tags that are made of digests.
+-- Tags that are derived from digests.
 use Rattle.std.specs.Prelude.{codes, nat_lt, chars, encode_utf8_all, map as each, if◌then◌else◌}
 use Rattle.std.specs.List.{list_all, list_any}
 use Rattle.std.specs.Str.{IsAscii}
@@ -15,7 +15,7 @@ use Rattle.oci_link.specs.PlainPaths.{is_segment_byte, Segment}
 use Rattle.shelf_laws.proofs.DigestTexts.{and_left, and_right, all_append, all_more, is_lower_digit, digits_of_hash}
 use Rattle.shelf_laws.proofs.References.{digest_length}
 
--- a dash in the place of each colon
+-- a dash replacing each colon
 abbrev dashed : ℕ → ℕ
 dashed c = if c == 58 then 45 else c
 
@@ -70,7 +70,7 @@ name_dashed Sha256 digits = refl
 name_dashed Sha384 digits = refl
 name_dashed Sha512 digits = refl
 
--- a dash in the place of the colon
+-- a dash replaces the colon
 pub dashed_text : (a : Algorithm) (bytes : List ℕ) → with_dashes (digest_text a bytes) ≡ dashed_name a ++ encode_lower (hash_of a bytes)
 dashed_text a bytes =
     let digits = encode_lower (hash_of a bytes) in
@@ -103,7 +103,7 @@ dashed_segment Sha256 bytes = (115, codes "ha256-" ++ encode_lower (hash_of Sha2
 dashed_segment Sha384 bytes = (115, codes "ha384-" ++ encode_lower (hash_of Sha384 bytes), refl, refl, all_append is_segment_byte (codes "ha384-") (encode_lower (hash_of Sha384 bytes)) refl (all_more is_lower_digit is_segment_byte (encode_lower (hash_of Sha384 bytes)) plain_digit (digits_of_hash Sha384 bytes)))
 dashed_segment Sha512 bytes = (115, codes "ha512-" ++ encode_lower (hash_of Sha512 bytes), refl, refl, all_append is_segment_byte (codes "ha512-") (encode_lower (hash_of Sha512 bytes)) refl (all_more is_lower_digit is_segment_byte (encode_lower (hash_of Sha512 bytes)) plain_digit (digits_of_hash Sha512 bytes)))
 
--- and has no colon
+-- and contains no colon
 colonless : (xs : List ℕ) → list_all is_lower_digit xs ≡ true → list_any (λ b. b == 58) xs ≡ false
 colonless [] h = refl
 colonless (x ∷ xs) h = ap (λ b. b || list_any (λ b. b == 58) xs) (tag_digit x (and_left (is_lower_digit x) (list_all is_lower_digit xs) h)) ∙ colonless xs (and_right (is_lower_digit x) (list_all is_lower_digit xs) h)

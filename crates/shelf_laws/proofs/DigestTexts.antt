@@ -1,4 +1,4 @@
--- The text of a digest: what it is made of.
+-- The text of a digest, and which bytes it contains.
 use Rattle.std.specs.Prelude.{slice_index, nat_lt, nat_le}
 use Rattle.std.specs.List.{list_all}
 use Rattle.std.specs.Int.{byte_at, bytes_high_first, to_be_bytes, w32, w64}
@@ -91,6 +91,6 @@ encoded (x ∷ xs) h =
 pub digits_of_hash : (a : Algorithm) (bytes : List ℕ) → list_all is_lower_digit (encode_lower (hash_of a bytes)) ≡ true
 digits_of_hash a bytes = encoded (hash_of a bytes) (hash_bytes a bytes)
 
--- all bytes of a digest text pass what its digits, and the bytes of an algorithm's name, pass
+-- if its digits and the bytes of an algorithm's name pass a test, all bytes of a digest text pass it
 pub digest_all : (p : ℕ → Bool) (a : Algorithm) (bytes : List ℕ) → list_all p (name_of a) ≡ true → ((b : ℕ) → is_lower_digit b ≡ true → p b ≡ true) → list_all p (digest_text a bytes) ≡ true
 digest_all p a bytes name digits = all_append p (name_of a) (encode_lower (hash_of a bytes)) name (all_more is_lower_digit p (encode_lower (hash_of a bytes)) digits (digits_of_hash a bytes))

@@ -1,4 +1,4 @@
--- Documents and blobs of a shelf, as the rows that pull them answer.
+-- Documents and blobs of a shelf, as the rows that pull them return them.
 use Rattle.std.specs.Prelude.{codes, not, nat_lt, nat_eq, nat_le, bytes_eq, slice_get, unwrap_or, if◌then◌else◌}
 use Rattle.std.specs.List.{list_any}
 use Rattle.std.specs.FinMap as map
@@ -65,7 +65,7 @@ use Rattle.shelf_laws.proofs.Places.{item_path, answers_manifest, answers_blob, 
 use Rattle.shelf_laws.proofs.Requests.{yields_ok, IsFor, url_reads, within_reads}
 use Rattle.shelf_laws.proofs.Tokens.{prepared_gives, store_gives}
 
--- ---- the digest of an answer
+-- ---- the digest of a response
 
 value_digit : (b : ℕ) → is_lower_digit b ≡ true → ((b == 9 || nat_le 32 b) && not (b == 127)) ≡ true
 value_digit b h = grind (arith, nat_tests, h)
@@ -114,9 +114,9 @@ type_keeps m kind = by_test (is_header_value kind && nat_lt (held m) 1000) where
   by_test true = ap (λ (o : Option (List (List ℕ))). slice_get (unwrap_or o []) 0) (get-insert nat_list_cmp_total m (codes "content-type") (values_of (codes "content-type") m ++ kind ∷ []) digest_header)
   by_test false = refl
 
--- ---- what is made of an answer
+-- ---- how a response is interpreted
 
--- an answer of status 200 that names this digest, with this body
+-- a response with status 200 that names this digest, with this body
 pub record IsGood (digest body : List ℕ) (x : Answer) : Type 0 where
   pub status : x.status ≡ 200
   pub names : first_of digest_header x.headers ≡ Some digest
@@ -128,7 +128,7 @@ header_is digest bytes named good = ap (λ o. or_digest_error (digest_in o)) goo
 pub accepted_is : (url : List ℕ) (x : Answer) → x.status ≡ 200 → accepted 200 url x ≡ Ok x
 accepted_is url x is = ap (λ n. if nat_eq n 200 then Ok x else Err (refused_answer 200 url x)) is
 
--- the reference has no digest, or this one
+-- the reference has no digest other than this one
 abbrev pub NoOther : Option (List ℕ) → List ℕ → Type 0
 NoOther None digest = Unit {0}
 NoOther (Some own) digest = own ≡ digest
@@ -166,7 +166,7 @@ fits_is digest bytes (Some own) named other =
     let parts = named_parts digest bytes named in
     ap (λ (t : List ℕ). or_digest_error (agreed digest t (parts_of digest) (parts_of t))) other ∙ ap or_digest_error (agrees digest (parts_of digest) parts.0 parts.1)
 
--- ---- what the shelf answers
+-- ---- the responses of the shelf
 
 pub named_segment : (digest bytes : List ℕ) → Names digest bytes → Segment digest
 named_segment digest bytes (a, is) = subst Segment (sym is) (digest_segment a bytes)
@@ -189,7 +189,7 @@ digest_itself shelf digest bytes (a, is) = ap (λ b. if b then Some digest else 
 blob_good : (digest blob : List ℕ) → Names digest blob → IsGood digest blob (bytes_answer (with_digest digest) (Some blob))
 blob_good digest blob named = record { status = refl; names = digest_first digest (digest_value digest blob named); body_is = refl }
 
--- ---- how a blob's answer is read
+-- ---- how a blob's response is read
 
 abbrev own_expected : List ℕ → Algorithm → Expected
 own_expected digest a = record { text = digest; algorithm = a }
@@ -237,7 +237,7 @@ module _ {s : Settings} {registry : List ℕ} {shelf : Shelf} (home : Home s reg
         request asked;
   }
 
-  -- a whole answer
+  -- a whole response
   pub answer_gives : (request : Request) (x : Answer) → Answers shelf request x → length x.body ≤ limit → Gives I (answer shelf) (λ got. got.answer ≡ x) (whole 10 request limit)
   unfolding whole read_within Comes
   answer_gives request x asked le = record {
@@ -273,7 +273,7 @@ module _ {s : Settings} {registry : List ℕ} {shelf : Shelf} (home : Home s reg
         request asked;
   }
 
-  -- the shelf's answer is taken, whatever other places there are
+  -- the shelf's response is used, whatever other places there are
   tried_gives : (places : List Place) (request : Request) (x : Answer) (digest bytes : List ℕ) → Answers shelf request x → Names digest bytes → IsGood digest bytes x → length bytes ≤ limit → Gives I (answer shelf) (λ (b : List ℕ). b ≡ bytes) (tried IntoMemory s digest places request)
   unfolding tried
   tried_gives [] request x digest bytes asked named good le = attempt_gives request x digest bytes asked named good le
@@ -325,7 +325,7 @@ module _ {s : Settings} {registry : List ℕ} {shelf : Shelf} (home : Home s reg
       Gives-next _ (Gives-done (url_read (manifest_text s image)) (url_reads home (manifest_text s image) (item_path shelf.repository (codes "manifests") name_of_image) (manifest_text_is home at) (manifests_plain segment))) (λ url is.
       document_gives digest bytes types url has segment points other listed is.text_is)
 
-  -- the document of the image, with credentials that are handed in
+  -- the document of the image, with credentials that are passed in
   pub raw_gives : (digest bytes types : List ℕ) → HasDocument shelf digest bytes → Segment name_of_image → digest_named shelf name_of_image ≡ Some digest → NoOther (digest_of image) digest → is_header_value types ≡ true → Gives I (answer shelf) (λ found. found ≡ (bytes, digest)) (pull_manifest_raw ctx image a types)
   unfolding pull_manifest_raw
   raw_gives digest bytes types has segment points other listed = Gives-next _ (store_gives home image at a can moment) (λ u stored_is. asked_gives digest bytes types has segment points other listed)

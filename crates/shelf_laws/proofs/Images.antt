@@ -1,4 +1,4 @@
--- Images of a shelf, as the rows that pull them answer.
+-- Images of a shelf, as the rows that pull them return them.
 use Rattle.std.specs.Prelude.{bytes_eq, unwrap_or, slice_index_or, if◌then◌else◌}
 use Rattle.std.specs.List.{All}
 use Rattle.std.specs.FinMap as map
@@ -56,13 +56,13 @@ pub types_accepted : (shelf : Shelf) (accepted : List (List ℕ)) (xs : List Oci
 types_accepted shelf accepted [] some all = absurd (omega (arith, some))
 types_accepted shelf accepted (x ∷ xs) some all = each_accepted shelf accepted (x ∷ xs) all
 
--- the image's digest or tag is this digest on the shelf
+-- the image's digest or tag leads to this digest on the shelf
 pub record Points (shelf : Shelf) (image : Reference) (digest : List ℕ) : Type 0 where
   pub plain : Segment (manifest_name (digest_of image) (tag_of image))
   pub points : digest_named shelf (manifest_name (digest_of image) (tag_of image)) ≡ Some digest
   pub other : NoOther (digest_of image) digest
 
--- a reference by a digest of the shelf
+-- a reference with a digest of the shelf
 pub points_itself : (shelf : Shelf) (image : Reference) (digest bytes : List ℕ) → digest_of image ≡ Some digest → HasDocument shelf digest bytes → Points shelf image digest
 points_itself shelf image digest bytes is has =
     let name : manifest_name (digest_of image) (tag_of image) ≡ digest = ap (λ o. manifest_name o (tag_of image)) is in

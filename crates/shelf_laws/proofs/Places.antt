@@ -1,4 +1,4 @@
--- Which URLs the requests for a shelf's repository have, and what the shelf answers there.
+-- Which URLs the requests for a shelf's repository have, and how the shelf responds there.
 use Rattle.std.specs.Prelude.{codes, not, bytes_eq, nat_lt, slice_get, unwrap_or}
 use Rattle.std.specs.FinMap as map
 use Rattle.std.specs.FinMap.{get-empty, get-insert}
@@ -69,7 +69,7 @@ same_targets a b scheme host port =
     (and_both (same_text (host_of a) (host_of b)) (same_port (port_of a) (port_of b)) (ap (λ o. same_text o (host_of b)) hosts ∙ text_same (host_of b)) (ap (λ o. same_port o (port_of b)) ports ∙ port_same (port_of b)))
     (ap (λ (t : List ℕ). not (secure && not (bytes_eq t (codes "https")))) scheme ∙ never_less secure)
 
--- plain paths read behind a registry that is written plainly
+-- plain paths parse after a registry that is written plainly
 plain_paths : {s : Settings} {registry : List ℕ} (written : IsWrittenPlainly s registry) → PlainPathsRead written.url
 plain_paths {s} {registry} written =
     let front : List ℕ = front_of s registry in
@@ -77,7 +77,7 @@ plain_paths {s} {registry} written =
     let visible = front_all Visible front (codes "/") (subst (All Visible) written.text read.visible) in
     plain_paths_read written.url (read.valid (All-weaker Visible IsByte byte_below front visible))
 
--- no header asks for a token
+-- no header requires a token
 unasked : (value : List ℕ) → first_of (codes "www-authenticate") (redirect_to value).headers ≡ None
 unasked value = by_test (is_header_value value && nat_lt (held map.empty) 1000) where
   nothing : first_of (codes "www-authenticate") map.empty ≡ None
@@ -133,7 +133,7 @@ module _ {s : Settings} {registry : List ℕ} {shelf : Shelf} (home : Home s reg
       asked_at request (codes "v2/" ++ (shelf.repository ++ (codes "/referrers/" ++ name))) x (item_plain shelf.repository (codes "referrers") name home.path (114, codes "eferrers", refl, refl, refl) named) is follows rests
       (λ none path. answer-referrers (without_redirects shelf) request name none path ∙ at)
 
-  -- a URL with the registry's scheme, host and port goes to the registry
+  -- a URL with the registry's scheme, host and port is at the registry
   pub goes_home : (read : Parts) → read.scheme ≡ home.written.url.scheme → read.host ≡ home.written.url.host → read.port ≡ home.written.url.port → targets read home.written.url ≡ true
   goes_home read scheme host port = same_targets read home.written.url scheme host port
 

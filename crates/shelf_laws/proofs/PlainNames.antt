@@ -13,14 +13,14 @@ use Rattle.hex.specs.Hex.{encode_lower}
 use Rattle.oci_link.specs.PlainPaths.{is_first_byte, is_segment_byte, Segment, PlainPath}
 use Rattle.shelf_laws.proofs.DigestTexts.{and_left, and_right, and_both, all_append, all_more, is_lower_digit, digits_of_hash}
 
--- ---- what all bytes of a joined text pass
+-- ---- tests that all bytes of a concatenation pass
 
 pub joined_all : (p : ℕ → Bool) (Item Separator : List ℕ → Type 0) → ((t : List ℕ) → Item t → list_all p t ≡ true) → ((t : List ℕ) → Separator t → list_all p t ≡ true) → (t : List ℕ) → Joined Item Separator t → list_all p t ≡ true
 joined_all p Item Separator item separator _ (Joined.alone t is) = item t is
 joined_all p Item Separator item separator _ (Joined.more t front gap rest is one between others) =
     subst (λ (x : List ℕ). list_all p x ≡ true) (sym is) (all_append p front (gap ++ rest) (item front one) (all_append p gap rest (separator gap between) (joined_all p Item Separator item separator rest others)))
 
--- a text that begins with such a byte
+-- the first byte passes the test
 abbrev Begins : (ℕ → Bool) → List ℕ → Type 0
 Begins p t = (b : ℕ) × (rest : List ℕ) × (t ≡ b ∷ rest) × (p b ≡ true)
 

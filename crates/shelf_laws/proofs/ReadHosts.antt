@@ -1,4 +1,4 @@
--- A host that is read in a URL of http or https is one that a URL may have.
+-- A host that is parsed in a URL of http or https is one that a URL may have.
 use Rattle.std.specs.Prelude.{replicate, codes}
 use Rattle.std.specs.List.{list_any}
 use Rattle.std.specs.Int.{w32, to_be_bytes}
@@ -20,7 +20,7 @@ use Rattle.url.specs.Ipv4.{ends_in_a_number, parse_ipv4}
 use Rattle.url.specs.Parser.{Parsed, and_then}
 use Rattle.url.proofs.HostLemmas.{none_from_list_any, ascii_domain-lower}
 
--- ---- steps that were not refused
+-- ---- steps that returned `Ok`
 
 pub ok_then : {A B P : Type 0} (r : Parsed A) (next : A → Parsed B) (y : B) → and_then r next ≡ Ok y → ((x : A) → r ≡ Ok x → next x ≡ Ok y → P) → P
 ok_then (Ok x) next y e k = k x refl e

@@ -1,4 +1,4 @@
--- What is read as a URL of http or https is a valid URL, and its text is visible.
+-- What parses as a URL of http or https is a valid URL, and its text is visible.
 use Rattle.std.specs.Prelude.{IfSome, is_some, unwrap_or, option_map, decimal, codes, bytes_eq}
 use Rattle.std.specs.Prelude.{◌^◌, nat_lt, nat_eq}
 use Rattle.std.specs.Char.{is_ascii_digit}
@@ -42,7 +42,7 @@ use Rattle.url.proofs.ValidLemmas.{IsValid-with_tail}
 use Rattle.oci_transport.specs.Urls.{is_web, readable, request_url}
 use Rattle.shelf_laws.proofs.ReadHosts.{ok_then, by_test, same_ok, host_valid}
 
--- no space and no control stands for itself in a URL's text
+-- a URL's text contains no unescaped space or control byte
 abbrev pub is_visible : ℕ → Bool
 is_visible b = leb 33 b && leb b 126
 
@@ -136,7 +136,7 @@ is_web_scheme url web = by (bytes_eq url.scheme (codes "http")) refl (and_first 
   by true is h = inl ((bytes_eq-Decides url.scheme (codes "http")).0 is)
   by false is h = inr ((bytes_eq-Decides url.scheme (codes "https")).0 h)
 
--- ---- what stands before the path
+-- ---- what precedes the path
 
 port_valid : (scheme digits : List ℕ) (port : Option ℕ) → parse_port scheme digits ≡ Ok port → IsPortOf scheme port
 unfolding parse_port
@@ -341,7 +341,7 @@ text_visible url head path query fragment =
       ),
     )
 
--- ---- what was read
+-- ---- what was parsed
 
 split_all : (c : ℕ) (xs : List ℕ) → All IsByte xs → All IsByte (split_once c xs).0
 unfolding split_once
@@ -365,7 +365,7 @@ trimmed_all text all =
     let cut = length rest - suffix_len is_c0_control_or_space rest in
     All-filter (λ b. not (is_tab_or_new_line b)) IsByte (take cut rest) (All-take IsByte cut rest (All-drop IsByte front text all))
 
--- what was read of a text
+-- the URL that was parsed from a text
 pub record IsRead (text : List ℕ) (url : Parts) : Type 0 where
   pub kind : kind_of url ≡ SpecialNotFile
   pub visible : All Visible (serialize url)
@@ -411,7 +411,7 @@ readable_is (Ok read) url h = by (is_web read) refl h where
   by true is h = let same : read ≡ url = cc h in (ap Ok same, ap is_web (sym same) ∙ is)
   by false is h = cc h
 
--- what `request_url` reads
+-- what `request_url` parses
 pub url_read_is : (text : List ℕ) (url : Parts) → request_url text ≡ Some url → (parse_url None text ≡ Ok url) × (is_web url ≡ true)
 unfolding request_url
 url_read_is text url is = readable_is (parse_url None text) url is

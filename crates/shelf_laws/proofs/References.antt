@@ -1,4 +1,4 @@
--- What a reference that reads back is made of, and that others of its repository read back too.
+-- The parts of a reference whose text parses to it, and that the same holds for others of its repository.
 use Rattle.std.specs.Prelude.{bytes_eq, codes, not, nat_lt, is_none, unwrap_or, IfSome, if◌then◌else◌}
 use Rattle.std.specs.List.{list_all, list_any}
 use Rattle.std.specs.Option.{option_map_or}
@@ -24,14 +24,14 @@ use Rattle.oci_digests.specs.declared.digester.Algorithm.TheVariants.{Sha256, Sh
 use Rattle.shelf_laws.proofs.DigestTexts.{and_left, and_right, and_both, all_append, all_more, is_lower_digit, digits_of_hash}
 use Rattle.shelf_laws.proofs.PlainNames.{joined_all, domain_slashless}
 
--- ---- cuts
+-- ---- splits
 
 lacks_from : (c : ℕ) (xs : List ℕ) → list_all (λ b. not (b == c)) xs ≡ true → Lacks c xs
 lacks_from c [] h i lt is = absurd (omega (arith, lt))
 lacks_from c (x ∷ xs) h zero lt is = let other = and_left (not (x == c)) (list_all (λ b. not (b == c)) xs) h in grind (arith, nat_tests, other, is)
 lacks_from c (x ∷ xs) h (suc i) lt is = lacks_from c xs (and_right (not (x == c)) (list_all (λ b. not (b == c)) xs) h) i (omega (arith, lt)) is
 
--- no colon and no at sign
+-- not a colon and not an at sign
 abbrev is_name_byte : ℕ → Bool
 is_name_byte b = not (b == 58) && not (b == 64)
 
@@ -78,7 +78,7 @@ one_lacks c b other (suc i) lt is = absurd (omega (arith, lt))
 
 -- ---- texts
 
--- the marks behind a repository
+-- the marks after a repository
 abbrev marks : Option (List ℕ) → Option (List ℕ) → List ℕ
 marks tag digest = marked (codes ":") tag ++ marked (codes "@") digest
 
@@ -103,7 +103,7 @@ name_cut repository (Some t) (Some d) all h =
     ap (λ (x : List ℕ). before 58 (before 64 x)) (sym (append_assoc repository (58 ∷ t) (64 ∷ d)))
     ∙ ap (before 58) (before-at 64 (repository ++ 58 ∷ t) d (lacks_both 64 repository (58 ∷ t) (lacks_at repository all) colon)) ∙ before-at 58 repository t (lacks_colon repository all)
 
--- ---- what is read
+-- ---- what is parsed
 
 accepted_by : (b : Bool) (o : Option ParseError) (n r : Reference) → (if b then Err NameEmpty else option_map_or (λ e. Err e) o (Ok n)) ≡ Ok r → (o ≡ None) × (n ≡ r)
 accepted_by true o n r is = absurd (cc is)
@@ -119,7 +119,7 @@ allowed_by false l o is = absurd (cc is)
 allowed_by true true o is = absurd (cc is)
 allowed_by true false o is = record { grammar = refl; few = refl }
 
--- what a reference that reads back is made of
+-- the parts of a reference whose text parses to it
 pub record Spelled (r : Reference) : Type 0 where
   pub no_mirror : r.mirror ≡ None
   pub domain_is : Domain r.registry
@@ -171,7 +171,7 @@ chosen registry domain_text is named = by_test (is_domain_part registry) refl wh
   by_test true part = (part, is ∙ ap (λ b. if b then registry else codes "docker.io") part)
   by_test false other = let part : is_domain_part registry ≡ true = ap is_domain_part (hub other) in (part, is ∙ ap (λ b. if b then registry else codes "docker.io") part)
 
--- parts that were read as the reference
+-- parts that were parsed as the reference
 record Read (p : Parts) (r : Reference) : Type 0 where
   grammar : InGrammar p
   few : nat_lt 255 (length (repository_named p)) ≡ false
@@ -211,7 +211,7 @@ spelled r back =
     let is = accepted_by (length (whole_text r) == 0) (refusal_of (parts_of (whole_text r))) (reference_named (parts_of (whole_text r))) r (reads_back-means r back) in
     spelled_by (parts_of (whole_text r)) r (read_from (parts_of (whole_text r)) r is.0 is.1) refl refl
 
--- the registry that is asked is a domain too
+-- the registry that is requested is a domain too
 pub resolved_domain : (r : Reference) → Spelled r → Domain (resolved_registry r)
 resolved_domain r h = subst (λ (m : Option (List ℕ)). Domain (unwrap_or m (if bytes_eq r.registry (codes "docker.io") then codes "index.docker.io" else r.registry))) (sym h.no_mirror) (by_test (bytes_eq r.registry (codes "docker.io"))) where
   by_test : (b : Bool) → Domain (if b then codes "index.docker.io" else r.registry)

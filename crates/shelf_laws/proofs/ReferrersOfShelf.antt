@@ -1,4 +1,4 @@
--- The referrers of a digest on a shelf, as the row that pulls them answers.
+-- The referrers of a digest on a shelf, as the row that pulls them returns them.
 use Rattle.std.specs.Prelude.{codes, if◌then◌else◌}
 use Rattle.std.specs.List.{list_any}
 use Rattle.std.specs.FinMap as map
@@ -43,7 +43,7 @@ use Rattle.shelf_laws.proofs.Requests.{yields_ok, IsUrl, url_reads}
 use Rattle.shelf_laws.proofs.SettledRows.{resolved_again}
 use Rattle.shelf_laws.proofs.Tokens.{prepared_gives}
 
--- the tag that stands for a list of referrers
+-- the tag that replaces a list of referrers
 tag_segment : (digest bytes : List ℕ) → Names digest bytes → Segment (referrers_tag digest)
 tag_segment digest bytes (a, is) = subst Segment (sym (ap referrers_tag is ∙ dashed_text a bytes)) (dashed_segment a bytes)
 

@@ -1,4 +1,4 @@
--- The requests that can be made, and how an answer of status 200 comes.
+-- The requests that can be built, and how a response of status 200 is received.
 use Rattle.std.specs.Prelude.{codes, nat_lt, sum_by, unwrap_or, IsTrue, if◌then◌else◌}
 use Rattle.std.specs.FinMap as map
 use Rattle.std.specs.FinMap.{entries-insert, get-empty, get-insert, put}
@@ -60,12 +60,12 @@ header_ok headers name value n good few small =
 
 -- ---- requests
 
--- a token, where there is one, that can stand in a header
+-- a token, if there is one, that is a valid header value
 abbrev pub CanStand : Option RegistryTokenType → Type 0
 CanStand None = Unit {0}
 CanStand (Some token) = is_header_value (authorization_of token) ≡ true
 
--- the request is of this method and for this text
+-- the request has this method and this URL
 pub record IsFor (method : Method) (text : List ℕ) (request : Request) : Type 0 where
   pub method_is : request.method ≡ method
   pub url_is : request.url ≡ text
@@ -83,7 +83,7 @@ request_made s method url types token agent listed can =
     let made = token_ok types_in token (two_held s.user_agent types) can in
     rw (header_ok map.empty (codes "user-agent") s.user_agent 0 agent none_held refl, header_ok agent_in (codes "accept") types 1 listed (one_held s.user_agent) refl, made.1) (record { method_is = refl; url_is = refl })
 
--- a request that lists no types and shows no token
+-- a request that lists no types and contains no token
 pub bare_made : (s : Settings) (method : Method) (url : Parts) → IsTrue (is_header_value s.user_agent) → Yields (IsFor method (serialize url)) (request_of s method url None None)
 unfolding request_of
 bare_made s method url agent = rw (header_ok map.empty (codes "user-agent") s.user_agent 0 agent none_held refl) (record { method_is = refl; url_is = refl })

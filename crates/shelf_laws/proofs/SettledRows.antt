@@ -1,4 +1,4 @@
--- Rows that may answer anything over a shelf leave a client settled.
+-- Rows that may return anything over a shelf leave a client settled.
 use Rattle.std.specs.Prelude.{bytes_eq, codes, unwrap_or, nat_eq, if◌then◌else◌}
 use Rattle.std.proofs.Common.{◌≡◌, ap, ◌∙◌, is_some, ℕ, Bool, true, false, List, [], ◌∷◌, ◌++◌, Option, Some, None, Result, Ok, Err, refl}
 use Rattle.url.specs.Parts.{Parts}
@@ -54,7 +54,7 @@ held_by limit (Refuse e) = tt
 held_by limit Judge = tt
 held_by limit (Pour given own) = tt
 
--- a registry that was resolved is asked as it is
+-- a registry that was resolved is requested unchanged
 hub : (x : List ℕ) (b : Bool) → bytes_eq x (codes "docker.io") ≡ b → (let resolved : List ℕ = if b then codes "index.docker.io" else x in if bytes_eq resolved (codes "docker.io") then codes "index.docker.io" else resolved) ≡ (if b then codes "index.docker.io" else x)
 hub x true is = refl
 hub x false is = ap (λ b. if b then codes "index.docker.io" else x) is

@@ -1,4 +1,4 @@
--- Redirects of a shelf lead to what it has under the path that was asked for.
+-- Redirects of a shelf lead to what it has under the requested path.
 use Rattle.std.specs.Prelude.{codes, nat_lt, sum_by, slice_get, unwrap_or, IsTrue, is_none, if◌then◌else◌}
 use Rattle.std.specs.List.{list_all}
 use Rattle.std.specs.Option.{option_map_or}
@@ -55,7 +55,7 @@ and_right : (a b : Bool) → (a && b) ≡ true → b ≡ true
 and_right true b h = h
 and_right false b h = cc h
 
--- what is so of all entries is so of the one that is found
+-- what holds for all entries holds for the one that is found
 found_all : (p : List ℕ × List ℕ → Bool) (es : List (List ℕ × List ℕ)) (name value : List ℕ) → list_all p es ≡ true → find by_bytes name es ≡ Some value → p (name, value) ≡ true
 found_all p [] name value all is = cc
 found_all p (e ∷ es) name value all is = by_name (eq_by_cmp by_bytes name e.0) refl is (found_all p es name value (and_right (p e) (list_all p es) all)) where
@@ -66,7 +66,7 @@ found_all p (e ∷ es) name value all is = by_name (eq_by_cmp by_bytes name e.0)
       (λ i. p (key i, sym own i)) ∙ and_left (p e) (list_all p es) all
   by_name false other is later = later is
 
--- a redirect of a shelf whose redirects lead
+-- a redirect of a shelf whose redirects all end
 record Leads (shelf : Shelf) (name value : List ℕ) : Type 0 where
   url : Parts
   reads : request_url value ≡ Some url
@@ -115,7 +115,7 @@ byte_below b h = grind (arith, nat_tests)
 value_visible : {shelf : Shelf} {name value : List ℕ} → Leads shelf name value → All Visible value
 value_visible l = subst (All Visible) l.text (request_read _ l.url l.reads).visible
 
--- read against any URL, the value is itself
+-- resolved against any URL, the value is itself
 joins_itself : {shelf : Shelf} {name value : List ℕ} (base : Parts) → Leads shelf name value → joined_text base value ≡ Some value
 unfolding joined_text
 joins_itself {shelf} {name} {value} base l =
@@ -137,7 +137,7 @@ location_first value visible =
     ∙ ap (λ o. slice_get (unwrap_or o []) 0) (get-insert nat_list_cmp_total map.empty (codes "location") (values_of (codes "location") map.empty ++ value ∷ []) (codes "location"))
     ∙ ap (λ (o : Option (List (List ℕ))). slice_get (unwrap_or o [] ++ value ∷ []) 0) (get-empty by_bytes (codes "location"))
 
--- the same request of the value
+-- the same request for the value
 abbrev moved_there : Request → Parts → Parts → List ℕ → Request
 moved_there request base url value = record { method = request.method; url = value; headers = kept_headers (same_origin base url) request.headers; body = request.body }
 
@@ -153,9 +153,9 @@ redirect_leads {shelf} {value} request base follows reads l =
     ∙ ap (moved_text request base) (joins_itself base l)
     ∙ ap (moved request base value) l.reads
 
--- ---- what is answered in the end
+-- ---- the final response
 
--- the request is a GET or HEAD of a URL that reads; under its path the shelf has this answer, which is no redirect
+-- the request is a GET or HEAD of a valid URL; under its path the shelf has this response, which is not a redirect
 pub record Answers (shelf : Shelf) (request : Request) (x : Answer) : Type 0 where
   pub follows : may_follow request.method ≡ true
   pub url : Parts
@@ -224,7 +224,7 @@ module _ {K A : Type 0} {shelf : Shelf} (lead : IsTrue (redirects_lead shelf)) (
   pub Comes-led : (request : Request) → Answers shelf request x → Comes (answer shelf) Q (follow 10 request reading next) k
   Comes-led request asked = Comes-steps 10 request asked (ends_ten shelf request.url lead)
 
--- ---- what the shelf has under its paths, whatever its redirects
+-- ---- what the shelf has under its paths, with any redirects
 
 unredirected : (shelf : Shelf) (request : Request) → map.get shelf.redirects request.url ≡ None → answer shelf request ≡ at_path shelf request.method (path_of request.url)
 unfolding answer

@@ -48,7 +48,7 @@ digest_points : (shelf : Shelf) (own digest : List ℕ) → Encoded own → dige
 digest_points shelf own digest (algorithm, digits, is, word, run) found =
     cc (sym (ap (λ b. if b then Some own else map.get shelf.tags own) (ap (list_any is_colon) is ∙ colon_among algorithm digits)) ∙ found)
 
--- a reference that reads back points to a document of this digest
+-- a reference whose text parses to it points to a document of this digest
 pub image_points : (shelf : Shelf) (image : Reference) (digest bytes : List ℕ) → Spelled image → HasDocument shelf digest bytes → digest_named shelf (manifest_name (digest_of image) (tag_of image)) ≡ Some digest → Points shelf image digest
 image_points shelf image digest bytes spelled has found = by_parts (digest_of image) (tag_of image) refl refl spelled.digest_is spelled.tag_is found where
   by_parts : (d t : Option (List ℕ)) → digest_of image ≡ d → tag_of image ≡ t → IfSome d Encoded → IfSome t Tag → digest_named shelf (manifest_name d t) ≡ Some digest → Points shelf image digest

@@ -1,4 +1,4 @@
--- Steps of a protocol over a table, and what a call over such a transport answers.
+-- Steps of a protocol over a table, and the result of a call over such a transport.
 use Rattle.std.specs.Prelude.{nat_lt, MatchBool}
 use Rattle.std.proofs.Common.{◌≡◌, Bool, true, false, if◌then◌else◌, ◌<◌, ◌≤◌, ◌^◌, ◌-◌, ℕ, suc, zero, List, [], ◌∷◌, Option, Some, None, Result, Ok, Err, length, refl, sym, ap, subst, ◌∙◌, arith}
 use Rattle.std.proofs.lemmas.Bool.{le-ltb, lt-ltb}
@@ -45,21 +45,21 @@ module _ {K : Type 0} {I : K → Type 0} {table : Request → Answer} where
     by_result (Ok a) is = more a is
     by_result (Err e) is = is
 
-  -- a part, and then what its answer gives
+  -- a part, and then what its result leads to
   pub Gives-next : {A B E : Type 0} {P : A → Type 0} {Q : B → Type 0} {p : Proto K (Result A E)} (f : A → Proto K (Result B E)) → Gives I table P p → ((a : A) → P a → Gives I table Q (f a)) → Gives I table Q (p >>= f)
   Gives-next {A} {B} {E} {P} {Q} {p} f h next = record { gives = λ k is. Comes-bind table (λ l r. I l × Yields P r) (λ l r. I l × Yields Q r) p (unless_refused f) k (h.gives k is) (λ l r found. by_result l r found.0 found.1) } where
     by_result : (l : K) (r : Result A E) → I l → Yields P r → Comes table (λ l r. I l × Yields Q r) (unless_refused f r) l
     by_result l (Ok a) is found = (next a found).gives l is
     by_result l (Err e) is found = absurd found
 
-  -- a part whose refusal is looked at
+  -- a part whose error is inspected
   pub Gives-caught : {A B E F : Type 0} {P : A → Type 0} {Q : B → Type 0} {p : Proto K (Result A E)} (f : Result A E → Proto K (Result B F)) → Gives I table P p → ((a : A) → P a → Gives I table Q (f (Ok a))) → Gives I table Q (bind p f)
   Gives-caught {A} {B} {E} {F} {P} {Q} {p} f h next = record { gives = λ k is. Comes-bind table (λ l r. I l × Yields P r) (λ l r. I l × Yields Q r) p f k (h.gives k is) (λ l r found. by_result l r found.0 found.1) } where
     by_result : (l : K) (r : Result A E) → I l → Yields P r → Comes table (λ l r. I l × Yields Q r) (f r) l
     by_result l (Ok a) is found = (next a found).gives l is
     by_result l (Err e) is found = absurd found
 
-  -- a part that only has to keep what is so
+  -- a part that only has to preserve the property of the client state
   pub Gives-after : {A B E : Type 0} {Q : B → Type 0} {p : Proto K A} (f : A → Proto K (Result B E)) → Stays I table p → ((a : A) → Gives I table Q (f a)) → Gives I table Q (bind p f)
   Gives-after {A} {B} {E} {Q} {p} f h next = record { gives = λ k is. Comes-bind table (λ l r. I l) (λ l r. I l × Yields Q r) p f k (h.stays k is) (λ l a found. (next a).gives l found) }
 
@@ -79,7 +79,7 @@ module _ {K : Type 0} {I : K → Type 0} {table : Request → Answer} where
     by_result (Ok a) = next a
     by_result (Err e) = Stays-done (Err e)
 
--- ---- steps whose answer may be that memory was wanting
+-- ---- steps that may return out of memory
 
 module _ {K : Type 0} {I : K → Type 0} {table : Request → Answer} where
   pub Reaches-done : {A : Type 0} {Q : A → Type 0} (a : A) → Q a → Reaches I table Q (Done a)
@@ -101,14 +101,14 @@ module _ {K : Type 0} {I : K → Type 0} {table : Request → Answer} where
   pub Reaches-stays : {A : Type 0} {p : Proto K A} → Stays I table p → Reaches I table (λ a. Unit {0}) p
   Reaches-stays {A} {p} h = record { reaches = λ k is. Comes-more table (λ l a. I l) (λ l a. I l × Unit {0}) p k (h.stays k is) (λ l a stays. (stays, tt)) }
 
-  -- a part that is not refused, and then what its answer gives
+  -- a part that returns `Ok`, and then what its result leads to
   pub Reaches-after : {A B E : Type 0} {P : A → Type 0} {Q : Result B E → Type 0} {p : Proto K (Result A E)} (f : A → Proto K (Result B E)) → Gives I table P p → ((a : A) → P a → Reaches I table Q (f a)) → Reaches I table Q (p >>= f)
   Reaches-after {A} {B} {E} {P} {Q} {p} f h next = Reaches-bind (unless_refused f) (Reaches-gives h) by_result where
     by_result : (r : Result A E) → Yields P r → Reaches I table Q (unless_refused f r)
     by_result (Ok a) is = next a is
     by_result (Err e) is = absurd is
 
-  -- a part where memory may be wanting, and then what its answer gives
+  -- a part where memory may run out, and then what its result leads to
   pub Reaches-next : {A B E : Type 0} {of_memory : E → Bool} {P : A → Type 0} {Q : B → Type 0} {p : Proto K (Result A E)} (f : A → Proto K (Result B E)) → Reaches I table (OrMemory of_memory P) p → ((a : A) → P a → Reaches I table (OrMemory of_memory Q) (f a)) → Reaches I table (OrMemory of_memory Q) (p >>= f)
   Reaches-next {A} {B} {E} {of_memory} {P} {Q} {p} f h next = Reaches-bind (unless_refused f) h by_result where
     by_result : (r : Result A E) → OrMemory of_memory P r → Reaches I table (OrMemory of_memory Q) (unless_refused f r)
@@ -117,7 +117,7 @@ module _ {K : Type 0} {I : K → Type 0} {table : Request → Answer} where
 
 -- ---- requests
 
--- the answer is no redirect, or none is followed any more
+-- the response is not a redirect, or no further redirect is followed
 abbrev pub Stands : ℕ → Request → Answer → Type 0
 Stands zero request answer = Unit {0}
 Stands (suc n) request answer = redirected request (head_part answer) ≡ None
@@ -133,7 +133,7 @@ turn_stands {K} {A} request go next answer reading none = by_reading reading whe
   by_reading (Within limit) = by_length (nat_lt limit (length answer.body))
   by_reading (Piped limit) = by_length (nat_lt limit (length answer.body))
 
--- a request whose answer is no redirect that is followed
+-- a request whose response is not a redirect that is followed
 pub Comes-follow : {K A : Type 0} (table : Request → Answer) (Q : K → A → Type 0) (n : ℕ) (request : Request) (reading : AnswerHead → Reading) (next : Request → Reply → Proto K A) (answer : Answer) (k : K)
     → table request ≡ answer → Stands n request answer → IsHeld (reading (head_part answer)) → Comes table Q (next request (reply_of (reading (head_part answer)) answer)) k → Comes table Q (follow n request reading next) k
 unfolding Comes follow turned
@@ -144,7 +144,7 @@ Comes-follow {K} {A} table Q (suc n) request reading next answer k is none held 
     subst (λ (o : Option Request). IsHeld (unread_if o (reading (head_part answer))) × Comes table Q (turn request (λ r. follow n r reading next) (next request) (reply_of (unread_if o (reading (head_part answer))) answer)) k) (sym none) (held, asked) in
     subst (λ (x : Answer). IsHeld (turned request reading (head_part x)) × Comes table Q (turn request (λ r. follow n r reading next) (next request) (reply_of (turned request reading (head_part x)) x)) k) (sym is) read
 
--- whatever the answers are
+-- for any responses
 pub Stays-follow : {K A : Type 0} (I : K → Type 0) (table : Request → Answer) (n : ℕ) (request : Request) (reading : AnswerHead → Reading) (next : Request → Reply → Proto K A)
     → ((head : AnswerHead) → IsHeld (reading head)) → ((last : Request) (reply : Reply) → Stays I table (next last reply)) → Stays I table (follow n request reading next)
 unfolding Comes follow turned
@@ -167,12 +167,12 @@ Stays-follow {K} {A} I table (suc n) request reading next held h = record { stay
 
 -- ---- runs
 
--- each exchange was answered by the table
+-- each exchange has the table's response
 abbrev AllBy : (Request → Answer) → List Exchange → Type 0
 AllBy table [] = Unit {0}
 AllBy table (e ∷ c) = (e.answer ≡ Some (table e.request)) × AllBy table c
 
--- each request is answered by the table, and nothing fails
+-- each response is the table's, and nothing fails
 pub record TableOf (table : Request → Answer) (t : Answering) : Type 0 where
   pub answer : (place : ℕ) (request : Request) → t.answer place request ≡ Some (table request)
   pub never : NeverFails t
@@ -191,7 +191,7 @@ read_long Unread limit answer is lt = absurd (cc is)
 read_long (Within n) limit answer is lt = let eq : n ≡ limit = cc is in rw (eq, lt-ltb limit (length answer.body) lt) refl
 read_long (Piped n) limit answer is lt = let eq : n ≡ limit = cc is in rw (eq, lt-ltb limit (length answer.body) lt) refl
 
--- without a fault the reply is that of the table's answer
+-- without a fault the reply is that of the table's response
 one_reply : (reading : AnswerHead → Reading) (e : Exchange) (answer : Answer) (after : ℕ) (reply : Reply) → e.answer ≡ Some answer → after ≤ e.faults → e.faults < 2 ^ 64 - 1 → IsHeld (reading (head_part answer)) → IsReply reading e after reply → reply ≡ reply_of (reading (head_part answer)) answer
 one_reply reading e answer after (Headed head) by le lt held h = let same : answer ≡ record { status = head.status; headers = head.headers; body = h.0 } = cc (sym by ∙ h.1) in rw same (rw h.2 refl)
 one_reply reading e answer after (Answered own) by le lt held h = let same : answer ≡ own = cc (sym by ∙ h.1) in rw same (sym (read_short (reading (head_part own)) h.0 own h.2 h.3))
@@ -216,11 +216,11 @@ Runs-comes table Q (Recall next) k l m n c a h by le lt r = Runs-comes table Q (
 Runs-comes table Q (Keep kept rest) k l m n c a h by le lt r = Runs-comes table Q rest kept l m n c a h by le lt r
 Runs-comes table Q (Consult next) k l m n c a h by le lt r = absurd h
 
--- a whole run over a transport that answers by the table, and had no fault
+-- a complete run over a transport that responds by the table, without faults
 pub Runs-over : {K A : Type 0} (table : Request → Answer) (Q : K → A → Type 0) (t : Answering) (p : Proto K A) (place : ℕ) (k l : K) (m n : ℕ) (c : List Exchange) (a : A) → TableOf table t → Comes table Q p k → AnsweredBy t place c → n ≤ m → m < 2 ^ 64 - 1 → Runs p k m c n l a → Q l a
 Runs-over table Q t p place k l m n c a by comes answered le lt run = Runs-comes table Q p k l m n c a comes (all_by table t place c by answered) le lt run
 
--- the answer of a call over a transport that answers by the table, unless memory was wanting
+-- the result of a call over a transport that responds by the table, unless memory ran out
 pub Meets-comes : {K A E : Type 0} {of_memory : E → Bool} (table : Request → Answer) (Q : K → Result A E → Type 0) (t : Answering) (p : Proto K (Result A E)) (before : List Exchange) (old new : Link) (k l : K) (r : Result A E)
     → TableOf table t → old.answers ≡ Some t → old.told ≡ Some before → old.faults < 2 ^ 64 - 1 → Comes table Q p k → Meets of_memory p old new k l r → UnlessMemory of_memory (λ r. Q l r) r
 Meets-comes {K} {A} {E} {of_memory} table Q t p before old new k l r by answers told lt comes met = by_result r met.outcome where

@@ -1,4 +1,4 @@
--- The token of a request to a shelf: what is kept, or what the credentials are by themselves.
+-- The token of a request to a shelf: the stored one, or the one that the credentials are.
 use Rattle.std.specs.Prelude.{codes, nat_le, option_and_then}
 use Rattle.std.specs.Option.{option_map_or}
 use Rattle.std.specs.FinMap as map
@@ -46,7 +46,7 @@ use Rattle.shelf_laws.proofs.Places.{base_unasked, base_text_is, registry_text_i
 use Rattle.shelf_laws.proofs.PlainNames.{base_plain}
 use Rattle.shelf_laws.proofs.Requests.{yields_ok, CanStand, IsFor, request_made, bare_made, url_reads}
 
--- ---- what is kept
+-- ---- the client state
 
 pub settled_stored : (registry repository : List ℕ) (a : RegistryAuth) (k : Memory) → Settled registry repository a k → Settled registry repository a (stored k registry a)
 settled_stored registry repository a k h = by_kept (map.get k.credentials registry) refl h.credentials where
@@ -57,7 +57,7 @@ settled_stored registry repository a k h = by_kept (map.get k.credentials regist
   by_kept None is none = record { credentials = inr inserted_here; token = h.token }
   by_kept (Some b) is kept = h
 
--- a client that keeps nothing is settled
+-- a client that stores nothing is settled
 pub fresh_settled : (registry repository : List ℕ) (a : RegistryAuth) (default : ℕ) → Settled registry repository a (fresh default)
 fresh_settled registry repository a default = record { credentials = inl (get-empty by_bytes registry); token = tt }
 
@@ -69,7 +69,7 @@ is_token_kept registry repository a cache token (Some n) own before = subst (IsT
 settled_kept : (registry repository : List ℕ) (a : RegistryAuth) (k : Memory) (token : RegistryTokenType) (moment : ℕ) → Some token ≡ shown_unasked a → Settled registry repository a k → Settled registry repository a (with_kept k (under registry repository Pull) token moment)
 settled_kept registry repository a k token moment own h = record { credentials = h.credentials; token = is_token_kept registry repository a k.tokens token (kept_until token k.tokens.default_expiration_secs moment) own h.token }
 
--- the kept token, if it is one
+-- the stored token, if there is one
 token_kept : (a : RegistryAuth) (o : Option KeptToken) (moment : ℕ) → IsToken a o → NoneBut (option_and_then (given_at moment) o) (shown_unasked a)
 token_kept a None moment h = inl refl
 token_kept a (Some kept) moment h = by_test (nat_le moment kept.expiration) where
@@ -105,7 +105,7 @@ module _ {s : Settings} {registry : List ℕ} {shelf : Shelf} (home : Home s reg
   abbrev Unasked : AnswerHead → Type 0
   Unasked head = first_of (codes "www-authenticate") head.headers ≡ None
 
-  -- the shelf asks for nothing
+  -- the shelf requires nothing
   base_head : (request : Request) → IsFor Get (front_of s registry ++ codes "/v2/") request → Gives I (answer shelf) Unasked (head_after 0 request)
   unfolding head_after read_none Comes
   base_head request is = record {
@@ -126,7 +126,7 @@ module _ {s : Settings} {registry : List ℕ} {shelf : Shelf} (home : Home s reg
   abbrev Shown : Option RegistryTokenType → Type 0
   Shown o = NoneBut o (shown_unasked a)
 
-  -- the same where what is kept is spelled by the image
+  -- the same if the client state is stated with the image's own names
   spelled : {A : Type 0} {P : A → Type 0} {p : Row A} → Gives (λ k. Settled (resolved_registry image) (repository_of image) a k) (answer shelf) P p → Gives I (answer shelf) P p
   spelled {A} {P} {p} h = subst (λ (r : List ℕ). Gives (λ k. Settled r shelf.repository a k) (answer shelf) P p) at.registry_is (subst (λ (r : List ℕ). Gives (λ k. Settled (resolved_registry image) r a k) (answer shelf) P p) at.repository_is h)
 
@@ -176,7 +176,7 @@ module _ {s : Settings} {registry : List ℕ} {shelf : Shelf} (home : Home s reg
   prepared_gives method url types listed =
       Gives-next _ (authorized_gives url) (λ token shown. Gives-done (request_of s method url (Some types) token) (request_made s method url types token home.agent listed (can_show a token can shown)))
 
-  -- ---- credentials that are handed in for a token
+  -- ---- credentials that are passed in for a token
 
   step_gives : Gives I (answer shelf) Shown (token_step s image a Pull)
   step_gives = by_kind a refl where

@@ -1,4 +1,4 @@
--- What a protocol comes to, over more that is kept and beside itself.
+-- The result of a protocol over a larger client state, and facts that hold besides it.
 use Rattle.std.proofs.Common.{◌≡◌, Result, refl, sym, subst}
 use Rattle.oci_transport.specs.declared.message.Request.{Request}
 use Rattle.oci_transport.specs.declared.message.Answer.{Answer}
@@ -9,7 +9,7 @@ use Rattle.oci_protocol.specs.Lift.{lifted}
 use Rattle.shelf_laws.specs.Comes.{Comes, ComesTo, Yields, Gives, Stays}
 use Rattle.shelf_laws.proofs.TableSteps.{Comes-more}
 
--- over more that is kept, which stays as it is
+-- over a larger client state, whose other part is unchanged
 pub Comes-lifted : {K C A : Type 0} (table : Request → Answer) (Q : K → A → Type 0) (p : Proto K A) (k : K) (x : C) → Comes table Q p k → Comes table (λ (l : K × C) a. Q l.0 a × (l.1 ≡ x)) (lifted p) (k, x)
 unfolding Comes lifted
 Comes-lifted table Q (Done a) k x h = (h, refl)
@@ -18,7 +18,7 @@ Comes-lifted table Q (Recall next) k x h = Comes-lifted table Q (next k) k x h
 Comes-lifted table Q (Keep kept rest) k x h = Comes-lifted table Q rest kept x h
 Comes-lifted table Q (Consult next) k x h = absurd h
 
--- it comes to one answer, of which both are so
+-- P and Q hold for the same result
 pub Comes-both : {K A : Type 0} (table : Request → Answer) (P Q : K → A → Type 0) (p : Proto K A) (k : K) → Comes table P p k → Comes table Q p k → Comes table (λ l a. P l a × Q l a) p k
 unfolding Comes
 Comes-both table P Q (Done a) k g h = (g, h)
@@ -27,7 +27,7 @@ Comes-both table P Q (Recall next) k g h = Comes-both table P Q (next k) k g h
 Comes-both table P Q (Keep kept rest) k g h = Comes-both table P Q rest kept g h
 Comes-both table P Q (Consult next) k g h = absurd g
 
--- what hangs on no answer is so where it comes to one
+-- P, which mentions neither the result nor the client state, holds
 pub Comes-always : {K A : Type 0} (table : Request → Answer) (P : Type 0) (p : Proto K A) (k : K) → Comes table (λ l a. P) p k → P
 unfolding Comes
 Comes-always table P (Done a) k h = h
@@ -36,7 +36,7 @@ Comes-always table P (Recall next) k h = Comes-always table P (next k) k h
 Comes-always table P (Keep kept rest) k h = Comes-always table P rest kept h
 Comes-always table P (Consult next) k h = absurd h
 
--- of what it comes to, that it comes to it
+-- the result for which P holds is the one that the protocol has by `ComesTo`
 pub Comes-itself : {K A : Type 0} (table : Request → Answer) (P : K → A → Type 0) (p : Proto K A) (k : K) → Comes table P p k → Comes table (λ l a. P l a × ComesTo table p k a) p k
 unfolding Comes
 Comes-itself table P (Done a) k h = (h, refl)
@@ -47,12 +47,12 @@ Comes-itself table P (Recall next) k h = Comes-more table (λ l a. P l a × Come
 Comes-itself table P (Keep kept rest) k h = Comes-more table (λ l a. P l a × ComesTo table rest kept a) (λ l a. P l a × ComesTo table (Keep kept rest) k a) rest kept (Comes-itself table P rest kept h) (λ l a is. is)
 Comes-itself table P (Consult next) k h = absurd h
 
--- two things that are so of the answer that it comes to, from one place
+-- what follows from P of the result holds for the result that is known by `ComesTo`
 pub ComesTo-is : {K A : Type 0} (table : Request → Answer) (P : K → A → Type 0) (p : Proto K A) (k : K) (answer : A) (Q : A → Type 0) → ((l : K) (a : A) → P l a → Q a) → Comes table P p k → ComesTo table p k answer → Q answer
 ComesTo-is {K} {A} table P p k answer Q known h is =
     Comes-always table (Q answer) p k (Comes-more table (λ l a. P l a × (a ≡ answer)) (λ l a. Q answer) p k (Comes-both table P (λ l a. a ≡ answer) p k h is) (λ l a both. subst Q both.1 (known l a both.0)))
 
--- ---- calls over more that is kept
+-- ---- calls over a larger client state
 
 module _ {K C : Type 0} {J : K → Type 0} (R : C → Type 0) {table : Request → Answer} where
   pub Gives-lifted : {A E : Type 0} {P : A → Type 0} {p : Proto K (Result A E)} → Gives J table P p → Gives (λ (k : K × C). J k.0 × R k.1) table P (lifted p)

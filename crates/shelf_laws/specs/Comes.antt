@@ -1,4 +1,4 @@
--- What a protocol comes to where each request is answered by a table and nothing fails.
+-- The result of a protocol if each request gets its response from a table and nothing fails.
 use Rattle.std.specs.Prelude.{◌≡◌, Bool, true, Result, Ok, Err}
 use Rattle.oci_transport.specs.declared.message.Request.{Request}
 use Rattle.oci_transport.specs.declared.message.Answer.{Answer}
@@ -6,14 +6,14 @@ use Rattle.oci_protocol.specs.Proto.{Reading, Unread, Within, Piped, Proto, Done
 use Rattle.oci_protocol.specs.Runs.{head_part}
 use Rattle.oci_protocol.specs.Drive.{reply_of}
 
--- a body that is read so goes into no sink
+-- a body with this reading is not written to a sink
 abbrev pub IsHeld : Reading → Type 0
 IsHeld Unread = Unit {0}
 IsHeld (Within limit) = Unit {0}
 IsHeld (Piped limit) = ⊥
 
--- By this table the protocol, with k kept, comes to an answer, and to what is then kept, of which this is so. No
--- body goes into a sink, and nothing is asked outside.
+-- With the responses of the table, the protocol has from client state k a result, and a client state after it, for
+-- which Q holds. No body is written to a sink, and there is no external input.
 unfoldable pub Comes : {K A : Type 0} → (Request → Answer) → (K → A → Type 0) → Proto K A → K → Type 0
 Comes table Q (Done a) k = Q k a
 Comes table Q (Ask request reading next) k =
@@ -23,31 +23,30 @@ Comes table Q (Recall next) k = Comes table Q (next k) k
 Comes table Q (Keep kept rest) k = Comes table Q rest kept
 Comes table Q (Consult next) k = ⊥
 
--- it comes to this answer
+-- it has this result
 abbrev pub ComesTo : {K A : Type 0} → (Request → Answer) → Proto K A → K → A → Type 0
 ComesTo table p k answer = Comes table (λ l a. a ≡ answer) p k
 
--- it is no refusal, and this is so of it
+-- it is `Ok`, and P holds for the value
 abbrev pub Yields : {A E : Type 0} → (A → Type 0) → Result A E → Type 0
 Yields P (Ok a) = P a
 Yields P (Err e) = ⊥
 
--- Where this is so of what is kept, the protocol is not refused, this is so of its answer, and that stays so of
--- what is kept.
+-- From any client state with I, the protocol returns `Ok`, P holds for the value, and I still holds.
 pub record Gives {K A E : Type 0} (I : K → Type 0) (table : Request → Answer) (P : A → Type 0)
     (p : Proto K (Result A E)) : Type 0 where
   pub gives : (k : K) → I k → Comes table (λ l r. I l × Yields P r) p k
 
--- it stays so of what is kept, whatever the answer
+-- I still holds for the client state, whatever the result
 pub record Stays {K A : Type 0} (I : K → Type 0) (table : Request → Answer) (p : Proto K A) : Type 0 where
   pub stays : (k : K) → I k → Comes table (λ l r. I l) p k
 
--- an answer of which this is so, or an error of memory
+-- an `Ok` for whose value P holds, or an out-of-memory error
 abbrev pub OrMemory : {A E : Type 0} → (E → Bool) → (A → Type 0) → Result A E → Type 0
 OrMemory of_memory P (Ok a) = P a
 OrMemory of_memory P (Err e) = of_memory e ≡ true
 
--- where this is so of what is kept, that is so of the answer, and it stays so of what is kept
+-- from any client state with I, Q holds for the result, and I still holds
 pub record Reaches {K A : Type 0} (I : K → Type 0) (table : Request → Answer) (Q : A → Type 0) (p : Proto K A)
     : Type 0 where
   pub reaches : (k : K) → I k → Comes table (λ l a. I l × Q a) p k

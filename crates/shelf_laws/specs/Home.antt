@@ -1,4 +1,4 @@
--- Where a client's requests have to go so that a shelf answers them, and what a client may keep before.
+-- Where a client's requests must go so that a shelf responds to them, and which client state may precede them.
 use Rattle.std.specs.Prelude.{◌≡◌, ◌⊎◌, ℕ, List, ◌++◌, Option, Some, None, IsTrue, codes}
 use Rattle.std.specs.FinMap as map
 use Rattle.url.specs.Parts.{Parts, serialize}
@@ -25,13 +25,13 @@ use Rattle.engine_terms.specs.declared.settings.Settings.{Settings}
 abbrev pub front_of : Settings → List ℕ → List ℕ
 front_of s registry = scheme_for s.protocol registry ++ codes "://" ++ registry
 
--- the registry's URL reads, and is written as it is printed: its text is the scheme, `://`, the registry and a slash
+-- the registry's URL parses and prints unchanged: its text is the scheme, `://`, the registry and a slash
 pub record IsWrittenPlainly (s : Settings) (registry : List ℕ) : Type 0 where
   pub url : Parts
   pub reads : request_url (front_of s registry) ≡ Some url
   pub text : serialize url ≡ front_of s registry ++ codes "/"
 
--- the requests for the shelf's repository at this registry can be made, and the shelf answers them, redirects or not
+-- the requests for the shelf's repository at this registry can be built, and the shelf serves them, redirects or not
 pub record Home (s : Settings) (registry : List ℕ) (shelf : Shelf) : Type 0 where
   pub written : IsWrittenPlainly s registry
   pub domain : Domain registry
@@ -39,34 +39,34 @@ pub record Home (s : Settings) (registry : List ℕ) (shelf : Shelf) : Type 0 wh
   pub agent : IsTrue (is_header_value s.user_agent)
   pub lead : IsTrue (redirects_lead shelf)
 
--- the image is one of the shelf's repository at this registry, which is its own and no mirror
+-- the image is in the shelf's repository at this registry, which is its own and not a mirror
 pub record IsAt (registry : List ℕ) (shelf : Shelf) (image : Reference) : Type 0 where
   pub registry_is : resolved_registry image ≡ registry
   pub repository_is : repository_of image ≡ shelf.repository
   pub no_mirror : namespace_of image ≡ None
 
--- credentials that can stand in a header as they are
+-- credentials that are a valid header value
 abbrev pub CanBeShown : RegistryAuth → Type 0
 CanBeShown (Bearer token) = IsTrue (is_header_value token)
 CanBeShown (Basic user password) = Unit {0}
 CanBeShown Anonymous = Unit {0}
 
--- the token that is shown to a registry that asks for none
+-- the token that is sent to a registry that requires none
 abbrev pub shown_unasked : RegistryAuth → Option RegistryTokenType
 shown_unasked (Bearer token) = Some (shown.Bearer (Token token))
 shown_unasked (Basic user password) = None
 shown_unasked Anonymous = None
 
--- nothing is kept, or this
+-- nothing is stored, or this
 abbrev pub NoneBut : {A : Type 0} → Option A → Option A → Type 0
 NoneBut kept a = (kept ≡ None) ⊎ (kept ≡ a)
 
--- no token is kept, or the one that these credentials are
+-- no token is stored, or the one that these credentials are
 abbrev pub IsToken : RegistryAuth → Option KeptToken → Type 0
 IsToken a None = Unit {0}
 IsToken a (Some kept) = Some kept.token ≡ shown_unasked a
 
--- no other credentials are kept for the registry than these, and no other token for its repository than theirs
+-- no other credentials are stored for the registry, and no other token for its repository
 pub record Settled (registry repository : List ℕ) (a : RegistryAuth) (k : Memory) : Type 0 where
   pub credentials : NoneBut (map.get k.credentials registry) (Some a)
   pub token : IsToken a (kept_under (under registry repository Pull) k.tokens.tokens)

@@ -18,7 +18,7 @@ use Rattle.engine_answers.specs.Index.{entry_found}
 use Rattle.engine_answers.specs.Referrers.{index_read, referrers_tag}
 use Rattle.engine_rows.specs.Image.{layer_of}
 
--- no document, blob or list of referrers is longer than a body may be
+-- each document, blob or list of referrers fits the limit of a body
 pub record IsShort (s : Settings) (shelf : Shelf) : Type 0 where
   pub documents : (digest : List ℕ) (document : ShelfDocument) → map.get shelf.documents digest ≡ Some document
       → length document.content ≤ s.max_body_bytes
@@ -43,7 +43,7 @@ pub record HasBlob (shelf : Shelf) (digest : List ℕ) : Type 0 where
 abbrev pub HasLayer : Shelf → List (List ℕ) → OciDescriptor → Type 0
 HasLayer shelf accepted x = HasBlob shelf x.digest × Contains accepted x.media_type
 
--- the shelf has the configuration of a manifest and its layers, of which there is one
+-- the shelf has the configuration of a manifest and its layers, of which there is at least one
 pub record HasBlobs (shelf : Shelf) (accepted : List (List ℕ)) (manifest : OciImageManifest) : Type 0 where
   pub config : HasBlob shelf manifest.config.digest
   pub some : 0 < length manifest.layers
@@ -54,7 +54,7 @@ abbrev pub HasManifest : Shelf → List ℕ → OciImageManifest → Type 0
 HasManifest shelf digest manifest =
     (bytes : List ℕ) × HasDocument shelf digest bytes × (document_read bytes ≡ Ok (Image manifest))
 
--- the document is this manifest, or an index of which an entry is meant, whose document is this manifest
+-- the document is this manifest, or an index whose selected entry's document is this manifest
 abbrev pub LeadsTo : Settings → Shelf → OciManifest → OciImageManifest → Type 0
 LeadsTo s shelf (Image own) manifest = own ≡ manifest
 LeadsTo s shelf (ImageIndex index) manifest =
@@ -74,11 +74,11 @@ pub record ImageOn (s : Settings) (shelf : Shelf) (digest : List ℕ) (accepted 
 abbrev pub layer_on : Shelf → OciDescriptor → ImageLayer
 layer_on shelf x = layer_of x (unwrap_or (map.get shelf.blobs x.digest) [])
 
--- the layers that a pull of these descriptors gives
+-- the layers that a pull of these descriptors returns
 abbrev pub layers_on : Shelf → List OciDescriptor → List ImageLayer
 layers_on shelf xs = each (layer_on shelf) xs
 
--- the document under the tag that stands for a list of referrers is this index
+-- the document under the tag that replaces a list of referrers is this index
 pub record TagLists (shelf : Shelf) (digest : List ℕ) (index : OciImageIndex) : Type 0 where
   pub list : List ℕ
   pub tagged : map.get shelf.tags (referrers_tag digest) ≡ Some list
@@ -86,7 +86,7 @@ pub record TagLists (shelf : Shelf) (digest : List ℕ) (index : OciImageIndex) 
   pub there : HasDocument shelf list bytes
   pub reads : document_read bytes ≡ Ok (ImageIndex index)
 
--- the list is this index, or where there is none, that under its tag
+-- the list is this index; if there is no list, the index is under its tag
 abbrev pub ListsBy : Shelf → List ℕ → OciImageIndex → Option (List ℕ) → Type 0
 ListsBy shelf digest index (Some body) = index_read body ≡ Ok index
 ListsBy shelf digest index None = TagLists shelf digest index

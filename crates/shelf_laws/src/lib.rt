@@ -1,3 +1,3 @@
-//! What the rows of the client's calls come to over a registry in memory: which shelves have an image, and that a
-//! client that asks such a shelf gets it. It has definitions and laws alone.
+//! The results of the rows of the client's calls over a registry in memory: which shelves have an image, and that a
+//! client that requests it from such a shelf gets it. Contains only definitions and laws.
 #![tactic(auto)]

@@ -1,4 +1,4 @@
--- Without bounds nothing goes.
+-- Without bounds nothing is evicted.
 use Rattle.std.proofs.Common.{◌≡◌, List, Option, Some, None, sym, ap, ◌∙◌}
 use Rattle.sig_answers.specs.declared.answers.Answers.{Answers}
 use Rattle.sig_answers.specs.declared.answers.Bounds.{Bounds}

@@ -1,10 +1,10 @@
--- What stays within bounds.
+-- Which entries remain within bounds.
 use Rattle.std.specs.Prelude.{◌≡◌, List, [], ◌∷◌, ◌++◌, Option, None, true, false}
 use Rattle.sig_answers.specs.declared.answers.Bounds.{Bounds}
 use Rattle.sig_answers.specs.declared.answers.Entry.{Entry}
 use Rattle.sig_answers.specs.Answers.{fits, within}
 
--- what is kept fits, and is the back of the list; with one entry more it would not fit
+-- what remains is a suffix of the list and fits; with one more entry it would not fit
 pub record IsLongestBack (bounds : Option Bounds) (es kept : List Entry) : Type 0 where
   pub gone : List Entry
   pub whole : es ≡ gone ++ kept
@@ -14,6 +14,6 @@ pub record IsLongestBack (bounds : Option Bounds) (es kept : List Entry) : Type 
 abbrev pub KeepsLongest : Type 0
 KeepsLongest = (bounds : Option Bounds) (es : List Entry) → IsLongestBack bounds es (within bounds es)
 
--- without bounds nothing goes
+-- without bounds nothing is evicted
 abbrev pub KeepsAll : Type 0
 KeepsAll = (es : List Entry) → within None es ≡ es

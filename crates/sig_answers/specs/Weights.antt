@@ -1,5 +1,5 @@
--- How many bytes kept answers hold: those of their texts, with what they are kept under, and of the contents of
--- configurations and layers, and for each of these 32 more for what holds it. Numbers are not counted.
+-- The weight of cached responses in bytes: the lengths of their texts, of their keys, and of the contents of
+-- configurations and layers, plus 32 for each of these for its container. Numbers are not counted.
 use Rattle.std.specs.Prelude.{ℕ, ◌+◌, ◌-◌, ◌^◌, min, List, [], ◌∷◌, length, Option}
 use Rattle.std.specs.FinMap.{FinMap, entries}
 use Rattle.std.specs.List.{sum_by}
@@ -23,7 +23,7 @@ abbrev pub sum_of : List ℕ → ℕ
 sum_of [] = 0
 sum_of (w ∷ ws) = w + sum_of ws
 
--- a text, or other bytes
+-- a text or other bytes
 abbrev pub text_weight : List ℕ → ℕ
 text_weight text = length text + 32
 
@@ -87,7 +87,7 @@ image_weight i = sum_of (
     list_weight layer_weight i.layers ∷ optional_weight text_weight i.digest ∷ config_weight i.config
     ∷ optional_weight manifest_weight i.manifest ∷ [])
 
--- ---- kept answers
+-- ---- cached responses
 
 abbrev pub answer_weight : Answer → ℕ
 answer_weight (Digest digest) = text_weight digest
@@ -101,6 +101,6 @@ entry_weight e = sum_of (text_weight e.key ∷ answer_weight e.answer ∷ [])
 abbrev pub weight : List Entry → ℕ
 weight es = list_weight entry_weight es
 
--- a weight as it is counted: no further than 128 bits go
+-- a weight as the code counts it: saturating at 128 bits
 abbrev pub counted : ℕ → ℕ
 counted w = min w (2 ^ 128 - 1)

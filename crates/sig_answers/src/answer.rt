@@ -1,4 +1,4 @@
-// Answers, by the call that gave them.
+// Cached responses by the call that returned them.
 ghost use Rattle.std.specs.Prelude.{◌≡◌};
 ghost use Rattle.sig_answers.specs.Answers.{kind_of, same_kind};
 
@@ -7,7 +7,7 @@ use json_values::{Copied, Text};
 use oci_manifests::{OciImageIndex, OciManifest};
 use std::alloc::{AllocError, Global};
 
-/// What a call answered.
+/// The result of a call that is cached.
 #[derive(Drop)]
 pub enum Answer {
     Digest(Text),
@@ -17,7 +17,7 @@ pub enum Answer {
     Referrers(OciImageIndex),
 }
 
-/// The calls whose answers are kept.
+/// The calls whose results are cached.
 #[derive(Clone, Copy)]
 pub enum Kind {
     Digests,
@@ -27,7 +27,7 @@ pub enum Kind {
 }
 
 impl Answer {
-    /// Which call gives such an answer.
+    /// Returns which call returns such a result.
     pub fn kind(&self) -> Kind
         ensures { result ≡ kind_of self.now }
     {

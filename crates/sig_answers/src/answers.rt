@@ -1,4 +1,4 @@
-// Answers that are kept, each under the key of its call.
+// Cached responses, each under the key of its call.
 ghost use Rattle.std.specs.Prelude.{◌≡◌, [], OnOk, OnErr, IfOk};
 ghost use Rattle.sig_answers.specs.Answers.{is_of, is_fresh, fresh, keep};
 ghost use Rattle.sig_answers.specs.Weights.{entry_weight};
@@ -9,7 +9,7 @@ use crate::weights::Weighs;
 use json_values::{Blob, Copied, row};
 use std::alloc::{AllocError, Global};
 
-/// An answer, the key text of the call that it was given to, and when that was, in seconds since 1970.
+/// A response, the key text of its call, and when the call was made, in seconds since 1970.
 #[derive(Drop)]
 pub struct Entry {
     pub key: Blob,
@@ -17,16 +17,16 @@ pub struct Entry {
     pub answer: Answer,
 }
 
-/// How much is kept.
+/// The maximum size of a cache.
 #[derive(Drop)]
 pub struct Bounds {
-    /// How many answers.
+    /// The maximum number of responses.
     pub answers: u64,
-    /// How many bytes they hold.
+    /// The maximum number of bytes that they hold.
     pub bytes: u64,
 }
 
-/// Answers that are kept, at most for 60 seconds, the latest last.
+/// Cached responses, each returned for less than 60 seconds, the latest last.
 #[derive(Drop)]
 pub struct Answers {
     bounds: Option<Bounds>,
@@ -49,7 +49,7 @@ impl Weighs for Entry {
     }
 }
 
-// Whether what was kept at `since` is still given.
+// Whether a response that was cached at `since` is still returned at `now`.
 fn is_fresh(now: u64, since: u64) -> bool
     ensures { result ≡ is_fresh now since }
 {
@@ -57,7 +57,7 @@ fn is_fresh(now: u64, since: u64) -> bool
 }
 
 impl Answers {
-    /// Nothing is kept yet. Without bounds nothing goes but what another answer takes the place of.
+    /// Returns an empty cache. Without bounds an entry is only removed when one with the same key replaces it.
     pub fn new(alloc: Global, bounds: Option<Bounds>) -> Answers
         ensures { result ≡ record { bounds = bounds; entries = [] } }
     {
@@ -67,8 +67,8 @@ impl Answers {
         }
     }
 
-    /// A copy of the answer that is kept under this key, where it was kept no later than this moment and less than 60
-    /// seconds before.
+    /// Returns a copy of the response that is cached under this key, if it was cached not after this moment and less
+    /// than 60 seconds before it.
     pub fn fresh(
         &self,
         alloc: Global,
@@ -87,8 +87,8 @@ impl Answers {
         }
     }
 
-    /// Keeps an answer in the place of the one under its key. Those that were kept longest ago go, until the others are
-    /// within the bounds.
+    /// Caches a response; it replaces the one under its key. Evicts the oldest entries until the others are within the
+    /// bounds.
     pub fn keep(&mut self, _alloc: Global, entry: Entry) -> Result<(), AllocError>
         ensures ok { OnOk result (self.new ≡ keep entry self.old) }
         ensures err { OnErr result (self.new ≡ self.old) }

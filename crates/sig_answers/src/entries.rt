@@ -1,4 +1,4 @@
-// What is kept, the latest last.
+// The entries of a cache, the latest last.
 ghost use Rattle.std.specs.Prelude.{◌≡◌, ◌≤◌, ◌<◌, [], ◌∷◌, ◌++◌, not, filter, length, option_copied};
 ghost use Rattle.std.specs.Prelude.{drop as rest_from};
 ghost use Rattle.std.specs.Prelude.{Some, OnOk, OnErr, vec_len, vec_capacity};
@@ -11,7 +11,7 @@ use crate::weights::Weighs;
 use std::alloc::{AllocError, Global};
 use std::marker::Model;
 
-/// Items, of which those that were kept longest ago stand first. A contract sees the list of them.
+/// Entries, the oldest first. A contract sees them as a list.
 #[derive(Drop)]
 pub struct Row<T> {
     inner: Vec<T>,
@@ -35,7 +35,7 @@ fn without(entries: &mut Vec<Entry>, kind: Kind, key: &[u8])
     entries.retain(|entry| !entry.is_of(kind, key));
 }
 
-// From where on the entries are within the bounds.
+// The first index from which the entries are within the bounds.
 fn fits_from(entries: &[Entry], bounds: &Bounds) -> usize
     ensures bound { result ≤ length entries.now }
     ensures rest { within (Some bounds.now) entries.now ≡ rest_from result entries.now }
@@ -62,15 +62,14 @@ impl Row<Entry> {
         }
     }
 
-    /// What is kept under this key.
+    /// Returns the entry under this key, or `None` if there is none.
     pub fn find(&self, kind: Kind, key: &[u8]) -> Option<&Entry>
         ensures { option_copied result ≡ find (is_of kind key.now) self.now }
     {
         self.inner.iter().find(|entry| entry.is_of(kind, key))
     }
 
-    /// Puts an entry at the end, in the place of what is kept under its key. What else is kept moves, and is not
-    /// copied.
+    /// Appends an entry; it replaces the one under its key. The other entries are moved, not copied.
     pub fn put(&mut self, entry: Entry) -> Result<(), AllocError>
         ensures ok { OnOk result (self.new ≡ replaced entry self.old) }
         ensures err { OnErr result (self.new ≡ self.old) }
@@ -81,7 +80,7 @@ impl Row<Entry> {
         Ok(())
     }
 
-    /// Those that were kept longest ago go, until the others are within the bounds.
+    /// Evicts the oldest entries until the others are within the bounds.
     pub fn cut(&mut self, bounds: &Bounds)
         ensures { self.new ≡ within (Some bounds.now) self.old }
     {

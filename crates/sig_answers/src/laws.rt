@@ -1,7 +1,7 @@
 // Laws of bounds, as contracts of a function that does nothing.
 ghost use Rattle.sig_answers.specs.Bounded.{KeepsAll, KeepsLongest};
 
-/// Without bounds nothing goes. Within bounds there stays the longest back of what is kept that fits.
+/// Proves that without bounds nothing is evicted, and within bounds the longest suffix that fits remains.
 pub fn kept_within_bounds()
     ensures unbounded { KeepsAll }
     ensures longest { KeepsLongest }

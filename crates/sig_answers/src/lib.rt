@@ -1,4 +1,4 @@
-//! The answers that a caching client keeps.
+//! The cached responses of a caching client.
 #![tactic(auto)]
 
 mod answer;

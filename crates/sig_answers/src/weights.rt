@@ -1,4 +1,4 @@
-// How many bytes answers hold.
+// The weights of responses in bytes.
 ghost use Rattle.std.specs.Prelude.{◌≡◌, ℕ, ◌+◌};
 ghost use Rattle.sig_answers.specs.Weights as weights;
 ghost use Rattle.sig_answers.specs.Weights.{counted, text_weight, optional_weight, list_weight, pair_weight};
@@ -10,10 +10,10 @@ use oci_descriptors::{ImageIndexEntry, OciDescriptor, Platform};
 use oci_manifests::blob::Config;
 use oci_manifests::{ImageLayer, OciImageIndex, OciImageManifest, OciManifest};
 
-// What a text or other bytes count for besides their length.
+// The weight of a text's or other bytes' container, besides their length.
 const HELD: u128 = 32;
 
-/// What has a weight in bytes.
+/// A value with a weight in bytes.
 pub(crate) trait Weighs {
     ghost weight: { Self → ℕ };
 
@@ -88,7 +88,7 @@ impl Weighs for Annotations {
     }
 }
 
-// References in a row: what they refer to, together.
+// Tuples of references: the sum of the weights.
 impl Weighs for () {
     ghost weight = { λ _. 0 };
 

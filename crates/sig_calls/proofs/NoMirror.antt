@@ -1,4 +1,4 @@
--- What a text is read as has no mirror.
+-- A reference that is parsed from a text has no mirror.
 use Rattle.std.proofs.Common.{◌≡◌, Bool, true, false, ℕ, List, Option, Some, None, Result, Ok, Err, sym, ap}
 use Rattle.std.specs.Prelude.{if◌then◌else◌, length, ◌==◌}
 use Rattle.std.specs.Option.{option_map_or}

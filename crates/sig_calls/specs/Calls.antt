@@ -1,4 +1,4 @@
--- The calls of a client, each as the engine's, with its refusals in the words of the call.
+-- The calls of a client: each is the engine's call, with its refusals in the call's own error type.
 use Rattle.std.specs.Prelude.{ℕ, List, Option}
 use Rattle.oci_names.specs.declared.reference.Reference.{Reference}
 use Rattle.oci_names.specs.Reference.{whole_text, reads_back}
@@ -25,9 +25,9 @@ use Rattle.sig_calls.specs.Wording.{worded}
 use Rattle.sig_calls.specs.Caching.{Cache, cached}
 use Rattle.sig_calls.specs.Clients.{Plain, Row}
 
--- ---- as they are made
+-- ---- uncached
 
--- a call of the engine, in other words
+-- a call of the engine with its errors converted
 unfoldable pub in_words : Called → Reference → {A : Type 0} → Engine A → Plain A
 in_words called image p = bind p (λ r. Done (worded called (whole_text image) r))
 
@@ -46,13 +46,13 @@ document_made s image a types = in_words Pull image (pull_manifest_raw s image a
 unfoldable pub blob_made : Context → Reference → Layer → Plain (List ℕ)
 blob_made s image layer = in_words Pull image (held_blob s image layer)
 
--- a token is got first
+-- a token is obtained first
 unfoldable pub referrers_made : Context → Reference → RegistryAuth → Option (List ℕ) → Plain OciImageIndex
 referrers_made s image a kind = do
   in_words FetchManifest image (token_given s image a operation.Pull)
   in_words PullManifest image (pull_referrers s image kind)
 
--- ---- as clients answer them, of which some keep answers
+-- ---- as clients return them; some clients cache
 
 abbrev pub digests : Cache (List ℕ)
 digests = record { kind = kinds.Digests; kept_as = Digest; read = as_digest }
@@ -82,7 +82,7 @@ unfoldable pub referrers_call : Context → Reference → RegistryAuth → Optio
 referrers_call s image a kind =
     cached (reads_back image) referrers (referrers_key image a kind) s.moment (referrers_made s image a kind)
 
--- documents as bytes and blobs are never kept
+-- documents as bytes and blobs are never cached
 unfoldable pub document_call : Context → Reference → RegistryAuth → List ℕ → Row (List ℕ × List ℕ)
 document_call s image a types = lifted (document_made s image a types)
 

@@ -1,4 +1,4 @@
--- Where a client's credentials and tokens go in a call.
+-- Where a client's credentials and tokens are sent in a call.
 use Rattle.std.specs.Prelude.{ℕ, Option}
 use Rattle.oci_transport.specs.Link.{Link}
 use Rattle.oci_names.specs.declared.reference.Reference.{Reference}
@@ -10,8 +10,8 @@ use Rattle.engine_laws.specs.Held.{pulling}
 use Rattle.engine_laws.specs.Referrers.{WithinReferrers}
 use Rattle.sig_calls.specs.Clients.{Client}
 
--- To the image's registry and to the realm that it names, and nowhere else: so it is of each request that was told.
--- Each token that is kept afterwards was kept before, or the call may show it and it stands under the image's
+-- If the requests are exposed, credentials and tokens were sent only to the image's registry and to the realm that it
+-- names. Each token that is kept afterwards was kept before, or the call may send it and it is kept under the image's
 -- repository.
 abbrev pub Stays : Client → Client → ℕ → Reference → Option RegistryAuth → Link → Link → Type 0
 Stays before after moment image handed old new =
@@ -19,7 +19,7 @@ Stays before after moment image handed old new =
     (Within (pulling before.kept.0 (within before.settings moment) image handed) before.settings after.kept.0)
     old new
 
--- The same of a call that may ask a tag in place of a list of referrers: from then on to the tag's registry.
+-- The same for a call that may request a tag instead of a list of referrers: from then on also to the tag's registry.
 abbrev pub StaysWithTag : Client → Client → ℕ → Reference → Option RegistryAuth → Link → Link → Type 0
 StaysWithTag before after moment image handed old new =
     Told

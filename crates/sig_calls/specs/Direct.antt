@@ -18,7 +18,7 @@ is_same_reference a b = is_same (reference_in a) (reference_in b)
 pub references : IsEquivalence is_same_reference
 references = on_equiv reference_in equal_references
 
--- the text is no reference, and the refusal says which text; or memory was wanting
+-- the text is not a reference, and the refusal holds the text; or memory ran out
 abbrev pub NotRead : List ℕ → SigstoreError → Type 0
 NotRead text sigstore.WantOfMemory = ⊤
 NotRead text e = (e ≡ sigstore.OciReferenceNotValidError text) × (cause : ParseError) × (reference_of text ≡ Err cause)

@@ -1,4 +1,4 @@
--- Refusals, with the image that a call was made for.
+-- Refusals, each with the image of its call.
 use Rattle.std.specs.Prelude.{◌≡◌, Bool, true, false, Option, Some, None, Result, Ok, Err}
 use Rattle.json_values.specs.Counts.{Rose}
 use Rattle.json_values.specs.Refusals as Refusals
@@ -13,11 +13,11 @@ abbrev pub is_memory : SigstoreError → Bool
 is_memory sigstore.WantOfMemory = true
 is_memory _ = false
 
--- what a step with no request answers, unless memory was wanting
+-- the result of a step without requests, unless memory runs out
 abbrev pub Says : {A : Type 0} → Result A SigstoreError → Result A SigstoreError → Type 0
 Says answer said = Refusals.Says is_memory answer said
 
--- what the registry's client answered, where the refusal holds that
+-- the registry client's error that a refusal holds
 abbrev pub registry_refusal : SigstoreError → Option OciDistributionError
 registry_refusal (sigstore.OciReferenceNotValidError text) = None
 registry_refusal (sigstore.RegistryFetchManifestError image e) = Some e
@@ -25,15 +25,15 @@ registry_refusal (sigstore.RegistryPullError image e) = Some e
 registry_refusal (sigstore.RegistryPullManifestError image e) = Some e
 registry_refusal sigstore.WantOfMemory = None
 
--- the call was refused, and that is what the client answered
+-- the call was refused because of this error of the registry's client
 abbrev pub IsRefusedBy : OciDistributionError → {A : Type 0} → Result A SigstoreError → Type 0
 IsRefusedBy e (Ok a) = ⊥
 IsRefusedBy e (Err refused) = registry_refusal refused ≡ Some e
 
--- a fault of the transport is answered only where its count of faults rose
+-- a fault of the transport is returned only if its fault count increased
 abbrev pub FaultCounted : {A : Type 0} → Link → Link → Result A SigstoreError → Type 0
 FaultCounted old new r = IsRefusedBy TransportFault r → Rose old.faults new.faults
 
--- no sink takes part, so none can fail
+-- no sink takes part, so no sink can fail
 abbrev pub NoSinkFault : {A : Type 0} → Result A SigstoreError → Type 0
 NoSinkFault r = IsRefusedBy SinkFault r → ⊥

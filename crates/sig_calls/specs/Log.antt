@@ -1,4 +1,4 @@
--- The calls of one client over time, and where their answers come from.
+-- The calls of one client over time, and where their responses come from.
 use Rattle.std.specs.Prelude.{◌≡◌, ◌⊎◌, ◌≤◌, ◌<◌, ◌-◌, ℕ, List, [], ◌∷◌, Option, Some, None, Result, Ok, Err, true}
 use Rattle.oci_transport.specs.declared.message.Exchange.{Exchange}
 use Rattle.oci_transport.specs.Link.{Link, Extends}
@@ -24,7 +24,7 @@ use Rattle.sig_calls.specs.Clients.{Client, Plain}
 use Rattle.sig_calls.specs.Error.{Says}
 use Rattle.sig_calls.specs.declared.error.SigstoreError.{SigstoreError}
 
--- a call whose answer may be kept, with what it is asked with
+-- a call whose response may be cached, with its arguments
 pub data Call : Type 0 where
   DigestCall : (image : Reference) → (auth : RegistryAuth) → Call
   ManifestCall : (image : Reference) → (auth : RegistryAuth) → Call
@@ -49,15 +49,15 @@ image_called (ManifestCall image a) = image
 image_called (ImageCall image a accepted) = image
 image_called (ReferrersCall image a artifact_type) = image
 
--- Where the reference reads back and an answer is known, that is the answer, unless memory was wanting: nothing is
--- sent, and the client stays as it was.
+-- If the reference round-trips and a response is known, the call returns it or runs out of memory: no request is sent,
+-- and the client is unchanged.
 pub record Recalled {A : Type 0} (cache : Cache A) (call : Call) (now : ℕ) (before after : Client) (old new : Link)
     (r : Result A SigstoreError) : Type 0 where
   pub recalled : (answer : A) → reads_back (image_called call) ≡ true
       → known cache (key_called call) now before.kept.1 ≡ Some answer
       → Says r (Ok answer) × (new ≡ old) × (after ≡ before)
 
--- an answer as it is kept
+-- a result as it is cached
 abbrev pub answered : {A : Type 0} → Cache A → Result A SigstoreError → Result Answer SigstoreError
 answered cache (Ok answer) = Ok (cache.kept_as answer)
 answered cache (Err e) = Err e
@@ -65,15 +65,15 @@ answered cache (Err e) = Err e
 abbrev pub answering : {A : Type 0} → Cache A → Plain A → Plain Answer
 answering cache p = bind p (λ r. Done (answered cache r))
 
--- the call as it is made where no answer is known
+-- the call as it is made if no response is known
 abbrev pub call_made : Context → Call → Plain Answer
 call_made s (DigestCall image a) = answering digests (digest_made s image a)
 call_made s (ManifestCall image a) = answering manifests (manifest_made s image a)
 call_made s (ImageCall image a accepted) = answering images (image_made s image a accepted)
 call_made s (ReferrersCall image a artifact_type) = answering referrers (referrers_made s image a artifact_type)
 
--- One call of a client: what it was and when, the credentials and tokens that were kept before and after it, its
--- exchanges with the transport's count of faults before and after them, and the answer.
+-- One call of a client: its arguments and moment, the credentials and tokens before and after it, its exchanges, the
+-- transport's fault count before and after them, and the result.
 pub record Place : Type 0 where
   pub call : Call
   pub moment : ℕ
@@ -84,17 +84,17 @@ pub record Place : Type 0 where
   pub after : ℕ
   pub answer : Result Answer SigstoreError
 
--- the call was made in full, by what was kept and at its moment, and that is its answer
+-- the call was made in full with these credentials and tokens at its moment, and returned this result
 unfoldable pub IsStep : Settings → Place → Type 0
 IsStep s p =
     Runs (call_made (within s p.moment) p.call) p.entry p.before p.conversation p.after p.exit p.answer
 
--- some of these
+-- at least one entry has the property
 abbrev pub AnyOf : (Place → Type 0) → List Place → Type 0
 AnyOf P [] = ⊥
 AnyOf P (p ∷ log) = P p ⊎ AnyOf P log
 
--- the same call was made in full, no later than now and less than 60 seconds before, and this was its answer
+-- the same call was made in full, not after `now` and less than 60 seconds before it, and returned this response
 pub record IsSource (s : Settings) (call : Call) (now : ℕ) (answer : Answer) (p : Place) : Type 0 where
   pub call_is : p.call ≡ call
   pub answer_is : p.answer ≡ Ok answer
@@ -102,16 +102,16 @@ pub record IsSource (s : Settings) (call : Call) (now : ℕ) (answer : Answer) (
   pub early : p.moment ≤ now
   pub recent : now - p.moment < 60
 
--- the answer of this call came of one that was made in full: this one, or one before it
+-- the response of this call comes from a call made in full: this one, or an earlier one
 abbrev pub HasSource : Settings → Place → List Place → Type 0
 HasSource s p log = (answer : Answer) → p.answer ≡ Ok answer → AnyOf (IsSource s p.call p.moment answer) (p ∷ log)
 
--- So did each answer of the log, whose latest call stands first.
+-- This holds for each response of the log, the latest call first.
 abbrev pub IsRun : Settings → List Place → Type 0
 IsRun s [] = Unit {0}
 IsRun s (p ∷ log) = HasSource s p log × IsRun s log
 
--- what is kept is the answer of this call, which was made in full at the moment that it is kept with
+-- the cache entry is the response of this call, which was made in full at the entry's moment
 pub record IsOrigin (s : Settings) (e : Entry) (p : Place) : Type 0 where
   pub kind_is : kind_called p.call ≡ kind_of e.answer
   pub key_is : key_called p.call ≡ e.key
@@ -120,7 +120,7 @@ pub record IsOrigin (s : Settings) (e : Entry) (p : Place) : Type 0 where
   pub answer_is : p.answer ≡ Ok e.answer
   pub step : IsStep s p
 
--- each of these is the answer of such a call
+-- each of these entries is the response of such a call
 abbrev pub EachBacked : Settings → List Entry → List Place → Type 0
 EachBacked s [] log = Unit {0}
 EachBacked s (e ∷ es) log = AnyOf (IsOrigin s e) log × EachBacked s es log
@@ -129,7 +129,7 @@ abbrev pub IsBacked : Settings → Option Answers → List Place → Type 0
 IsBacked s None log = Unit {0}
 IsBacked s (Some answers) log = EachBacked s answers.entries log
 
--- this call of a client, as a place of a log
+-- this call of a client, as an entry of the log
 abbrev pub place_of : Call → ℕ → Client → Client → Link → List Exchange → Link → Result Answer SigstoreError → Place
 place_of call now before after old c new answer = record {
   call = call;
@@ -142,13 +142,13 @@ place_of call now before after old c new answer = record {
   answer = answer;
 }
 
--- the log with this call is a run, and what is kept now is backed by it
+-- the log with this call is a run, and it backs what is cached now
 pub record IsLawful (s : Settings) (kept : Option Answers) (p : Place) (log : List Place) : Type 0 where
   pub run : IsRun s (p ∷ log)
   pub backed : IsBacked s kept (p ∷ log)
 
--- Of any log of a client with these settings that is a run and backs what the client keeps, this is so again with
--- this call and its exchanges.
+-- If a log of a client with these settings is a run and backs what the client has cached, the same holds for the log
+-- with this call and its exchanges.
 pub record Logged {A : Type 0} (s : Settings) (cache : Cache A) (call : Call) (now : ℕ) (before after : Client)
     (old new : Link) (r : Result A SigstoreError) : Type 0 where
   pub logged : before.settings ≡ s → (log : List Place) → IsRun s log → IsBacked s before.kept.1 log

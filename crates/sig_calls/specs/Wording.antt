@@ -1,4 +1,4 @@
--- Refusals in the words of the call that met them.
+-- Errors with the context of their call.
 use Rattle.std.specs.Prelude.{ℕ, List, Result, Ok, Err, if◌then◌else◌}
 use Rattle.engine_terms.specs.declared.error.OciDistributionError.{OciDistributionError}
 use Rattle.engine_terms.specs.Error.{is_memory as engine_is_memory}
@@ -7,13 +7,13 @@ use Rattle.sig_calls.specs.declared.wording.Called.TheVariants.{FetchManifest, P
 use Rattle.sig_calls.specs.declared.error.SigstoreError.{SigstoreError}
 use Rattle.sig_calls.specs.declared.error.SigstoreError.TheVariants as sigstore
 
--- the call's refusal around the registry's
+-- the call's error with the registry client's error as its source
 abbrev pub refusal : Called → List ℕ → OciDistributionError → SigstoreError
 refusal FetchManifest image e = sigstore.RegistryFetchManifestError image e
 refusal Pull image e = sigstore.RegistryPullError image e
 refusal PullManifest image e = sigstore.RegistryPullManifestError image e
 
--- want of memory stays what it is
+-- out of memory stays out of memory
 abbrev pub worded : Called → List ℕ → {A : Type 0} → Result A OciDistributionError → Result A SigstoreError
 worded called image (Ok a) = Ok a
 worded called image (Err e) = if engine_is_memory e then Err sigstore.WantOfMemory else Err (refusal called image e)

@@ -1,4 +1,4 @@
-// What the search asks of a client.
+// The calls that the search needs of a client.
 ghost use Rattle.std.specs.Prelude.{◌≡◌, Some, None, IfOk, IsTrue, option_copied};
 ghost use Rattle.engine_terms.specs.declared.settings.Settings.{Settings};
 ghost use Rattle.engine_terms.specs.Contexts.{within};
@@ -24,13 +24,13 @@ use oci_platforms::PlatformResolver;
 use oci_transport::Transport;
 use std::alloc::Global;
 
-/// The calls of a registry's client. Each is one row of requests with a result, whatever is kept: a client that keeps
-/// answers gives those again that it kept less than 60 seconds before for the same.
+/// The calls of a registry's client. Each performs one row of requests with a result, whatever it caches: a caching
+/// client returns a response again that it cached less than 60 seconds before for the same arguments.
 pub trait ClientCapabilities {
-    /// The settings and what is kept: credentials and tokens, and answers.
+    /// The settings and what is kept: credentials and tokens, and cached responses.
     ghost state: { Self → Client };
 
-    /// The digest of the image's manifest or index; a refusal is `RegistryFetchManifestError`.
+    /// Returns the digest of the image's manifest or index; an error is `RegistryFetchManifestError`.
     fn fetch_manifest_digest<T: Transport>(
         &mut self,
         alloc: Global,
@@ -51,7 +51,7 @@ pub trait ClientCapabilities {
         ensures logged { (s : Settings) → Logged s digests (DigestCall image.now auth.now) moment
             (state self.old) (state self.new) (T.state transport.old) (T.state transport.new) result };
 
-    /// The image with its blobs; a refusal is `RegistryPullError`.
+    /// Returns the image with its blobs; an error is `RegistryPullError`.
     fn pull<T: Transport>(
         &mut self,
         alloc: Global,
@@ -75,7 +75,7 @@ pub trait ClientCapabilities {
             (state self.old) (state self.new) (T.state transport.old) (T.state transport.new) result }
         ensures named { IfOk result (λ image. IsTrue (is_named image)) };
 
-    /// The image's manifest or index with its digest; a refusal is `RegistryPullManifestError`.
+    /// Returns the image's manifest or index with its digest; an error is `RegistryPullManifestError`.
     fn pull_manifest<T: Transport>(
         &mut self,
         alloc: Global,
@@ -96,8 +96,8 @@ pub trait ClientCapabilities {
         ensures logged { (s : Settings) → Logged s manifests (ManifestCall image.now auth.now) moment
             (state self.old) (state self.new) (T.state transport.old) (T.state transport.new) result };
 
-    /// The index of what refers to the image's digest, of this type of artifacts where one is given. A token is got
-    /// first, whose refusal is `RegistryFetchManifestError`; another one is `RegistryPullManifestError`.
+    /// Returns the index of the image digest's referrers, only of this artifact type if one is given. A token is
+    /// obtained first; its error is `RegistryFetchManifestError`, any other error is `RegistryPullManifestError`.
     fn pull_referrers<T: Transport>(
         &mut self,
         alloc: Global,
@@ -123,7 +123,7 @@ pub trait ClientCapabilities {
             (ReferrersCall image.now auth.now (option_copied artifact_type.entry)) moment
             (state self.old) (state self.new) (T.state transport.old) (T.state transport.new) result };
 
-    /// The bytes of the image's manifest or index with their digest; a refusal is `RegistryPullError`.
+    /// Returns the bytes of the image's manifest or index with their digest; an error is `RegistryPullError`.
     fn pull_manifest_raw<T: Transport>(
         &mut self,
         alloc: Global,
@@ -142,7 +142,7 @@ pub trait ClientCapabilities {
             (T.state transport.old) (T.state transport.new) }
         ensures answers { KeepsAnswers (state self.old) (state self.new) };
 
-    /// The bytes of the blob of a descriptor, which may list URLs; a refusal is `RegistryPullError`.
+    /// Returns the bytes of the descriptor's blob; the descriptor may list URLs. An error is `RegistryPullError`.
     fn pull_blob<T: Transport>(
         &mut self,
         alloc: Global,
@@ -159,7 +159,7 @@ pub trait ClientCapabilities {
             (T.state transport.old) (T.state transport.new) }
         ensures answers { KeepsAnswers (state self.old) (state self.new) };
 
-    /// Which image of an index is meant, where the client's configuration says so.
+    /// Returns the platform resolver of the client's configuration, if it has one.
     fn platform_resolver(&self) -> Option<&PlatformResolver>
         ensures resolver { option_copied result ≡ (state self.now).settings.platform_resolver };
 }

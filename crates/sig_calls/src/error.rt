@@ -1,4 +1,4 @@
-// Why a call was refused, with the image that it was made for.
+// Errors of a client's calls, with the image of the call.
 ghost use Rattle.std.specs.Prelude.{◌≡◌};
 ghost use Rattle.sig_calls.specs.Error.{is_memory};
 
@@ -7,15 +7,15 @@ use json_values::{Copied, Text, copy_all, row};
 use std::alloc::{AllocError, AllocFailed, Global};
 use thiserror::Error;
 
-/// Why a call was refused. `image` is the whole text of the reference that was asked for.
+/// Why a call was refused. `image` is the whole text of the requested reference.
 #[derive(Debug, Drop, Error)]
 pub enum SigstoreError {
-    /// A reference that is none, or that does not read back.
+    /// The text is not a reference, or does not round-trip.
     #[error("the reference does not read: write it as [domain/]path[:tag][@digest]")]
     OciReferenceNotValidError {
         reference: Text,
     },
-    /// The digest of an image was not answered.
+    /// The image's digest was not returned.
     #[error("the image's digest was not answered: look at what the registry's client says")]
     RegistryFetchManifestError {
         image: Text,
@@ -39,7 +39,7 @@ pub enum SigstoreError {
 }
 
 impl SigstoreError {
-    /// Whether memory was wanting.
+    /// Returns whether memory ran out.
     pub fn is_memory(&self) -> bool
         ensures { result ≡ is_memory self.now }
     {

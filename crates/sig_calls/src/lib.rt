@@ -1,4 +1,4 @@
-//! What the search for signatures and the pull ask of a client of registries, whatever client it is.
+//! The calls that the search for signatures and the pull need of a registry's client, whichever client it is.
 #![tactic(auto)]
 
 mod capabilities;

@@ -20,7 +20,7 @@ pub struct OciReference {
 impl OciReference {
     ghost use Rattle.sig_calls.specs.Direct.{reference_in, NotRead};
 
-    /// Reads a reference as `Reference::parse` does. A text that is none is `OciReferenceNotValidError` with that text.
+    /// Parses a reference as `Reference::parse` does. `OciReferenceNotValidError` holds the text if it is invalid.
     pub fn parse(alloc: Global, text: &str) -> Result<OciReference, SigstoreError>
         ensures ok { IfOk result (λ r. reference_of text.now ≡ Ok (reference_in r)) }
         ensures err { IfErr result (λ e. NotRead text.now e) }
@@ -63,7 +63,7 @@ impl OciReference {
         self.inner.registry()
     }
 
-    /// The host that is asked: `index.docker.io` for `docker.io`, else the registry.
+    /// Returns the host that requests are sent to: `index.docker.io` for `docker.io`, otherwise the registry.
     pub fn resolve_registry(&self) -> &str
         ensures { result.now ≡ resolved_registry (reference_in self.now) }
     {
@@ -88,7 +88,7 @@ impl OciReference {
         self.inner.digest()
     }
 
-    /// `registry/repository`, then `:tag` and `@digest` where they are there.
+    /// Returns `registry/repository`, followed by `:tag` and `@digest` if present.
     pub fn whole(&self, alloc: Global) -> Result<Text, AllocError>
         ensures { IfOk result (λ t. t ≡ whole_text (reference_in self.now)) }
     {
@@ -110,7 +110,7 @@ impl Copied for OciReference {
     }
 }
 
-/// Equality is that of the references.
+/// Equal if the references are equal.
 impl PartialEq for OciReference {
     ghost use Rattle.std.specs.Cmp.{partial_equiv_from_equiv};
     ghost use Rattle.sig_calls.specs.Direct.{reference_in, is_same_reference, references};
@@ -133,7 +133,7 @@ impl Eq for OciReference {
     ghost laws = { references };
 }
 
-// A part of a reference behind its mark, where there is one.
+// A part of a reference after its separator, if present.
 #[derive(Drop)]
 struct Marked<'a> {
     mark: &'a str,
@@ -154,7 +154,7 @@ impl fmt::Display for Marked<'_> {
     }
 }
 
-/// `registry/repository`, then `:tag` and `@digest` where they are there.
+/// Writes `registry/repository`, followed by `:tag` and `@digest` if present.
 impl fmt::Display for OciReference {
     ghost use Rattle.std.specs.Prelude.{Some};
     ghost use Rattle.sig_calls.specs.Direct.{reference_in};

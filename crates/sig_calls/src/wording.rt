@@ -1,4 +1,4 @@
-// Refusals of the registry's client, in the words of the call.
+// Errors of the registry's client, with the context of the call.
 ghost use Rattle.std.specs.Prelude.{◌≡◌, IfOk};
 ghost use Rattle.oci_names.specs.Reference.{whole_text};
 ghost use Rattle.sig_calls.specs.Error.{Says};
@@ -9,7 +9,7 @@ use engine_terms::OciDistributionError;
 use oci_names::Reference;
 use std::alloc::{AllocError, Global};
 
-/// What was called, by the refusal that it has.
+/// The calls, by the error variant that each returns.
 #[derive(Clone, Copy, Debug, PartialEq, Eq)]
 pub enum Called {
     FetchManifest,
@@ -33,7 +33,7 @@ fn refusal(
     })
 }
 
-/// The same answer, or its refusal in the words of the call.
+/// Returns the same result, with an error converted to the call's error variant.
 pub fn worded<A: Drop>(
     alloc: Global,
     called: Called,

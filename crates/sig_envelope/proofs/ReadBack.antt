@@ -1,4 +1,4 @@
--- An envelope's text reads as the envelope of its parts.
+-- An envelope's text parses to the envelope of its parts.
 use Rattle.std.proofs.Common.{◌≡◌, ℕ, List, [], ◌∷◌, ◌++◌, Option, Some, refl, ap, sym, ◌∙◌, codes, append_assoc}
 use Rattle.std.specs.Prelude.{option_and_then}
 use Rattle.std.specs.Str.{IsUtf8}
@@ -19,7 +19,7 @@ use Rattle.json_values.specs.JsonText.{json_of}
 use Rattle.json_values.proofs.JsonTexts.{json_of-read}
 use Rattle.sig_envelope.specs.Envelope.{envelope_of, envelope_text, envelope_with}
 
--- what stands before each of the three texts
+-- the text before each of the three values
 abbrev to_salt : List ℕ
 to_salt = codes "{\"kdf\":{\"name\":\"scrypt\",\"params\":{\"N\":32768,\"r\":8,\"p\":1},\"salt\":"
 
@@ -46,7 +46,7 @@ tokens_of s n c =
     ∷ key (codes "nonce") ∷ string n ∷ end_object
     ∷ key (codes "ciphertext") ∷ string c ∷ end_object ∷ []
 
--- the data that they say: the members in the order of their names
+-- the data of the text: the members in the order of their names
 abbrev data_of : List ℕ → List ℕ → List ℕ → Data
 data_of s n c = json_data.object
     (json_data.member (codes "cipher") (json_data.object
@@ -66,7 +66,7 @@ printed : (s n c : List ℕ) → print (tokens_of s n c) ≡ to_salt ++ (quoted 
 unfolding print_from escape_byte
 printed s n c = refl
 
--- a text that has no escapes stands between quotes as it is
+-- the JSON string of a text without escapes is the text in quotes
 quoted_as_is : (s rest : List ℕ) → escape s ≡ s → quoted s ++ rest ≡ 34 ∷ (s ++ 34 ∷ rest)
 quoted_as_is s rest plain = ap (λ e. 34 ∷ ((e ++ 34 ∷ []) ++ rest)) plain ∙ ap (λ l. 34 ∷ l) (append_assoc s (34 ∷ []) rest)
 
@@ -93,7 +93,7 @@ printable s n c =
 lexed : (s n c : List ℕ) → escape s ≡ s → escape n ≡ n → escape c ≡ c → tokens (text_of s n c) ≡ tokens_of s n c
 lexed s n c hs hn hc = ap tokens (sym (printed_as_is s n c hs hn hc)) ∙ tokens-print (tokens_of s n c) (printable s n c)
 
--- what the tokens say
+-- the data of the tokens
 abbrev said : List Token → Option Data
 said ts = option_and_then of_json (option_and_then (λ p. json.if_last p.0 p.1) (json.value max_depth ts))
 
@@ -109,7 +109,7 @@ tabled : (salt nonce ciphertext s n c : List ℕ)
     → envelope_of (data_of s n c) ≡ Some (envelope_with salt nonce ciphertext)
 tabled salt nonce ciphertext s n c hs hn hc = rw (hs, hn, hc) refl
 
--- what a text in base64 is known of
+-- the base64 of these bytes needs no escapes, and decodes to them
 pub record IsCoded (bytes : List ℕ) : Type 0 where
   pub plain : escape (encode_of standard bytes) ≡ encode_of standard bytes
   pub back : decoded_of standard (encode_of standard bytes) ≡ Some bytes

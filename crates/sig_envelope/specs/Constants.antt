@@ -1,4 +1,4 @@
--- Each public constant is its text or its number.
+-- The value of each public constant.
 use Rattle.std.specs.Prelude.{◌≡◌, codes, refl}
 use Rattle.sig_envelope.specs.declared.key_box.TheConstants as box
 use Rattle.sig_envelope.specs.declared.scrypt.TheConstants as scrypt

@@ -1,9 +1,9 @@
--- What is encrypted.
+-- Encryption.
 use Rattle.std.specs.Prelude.{◌≡◌, ℕ, List, Some}
 use Rattle.sig_envelope.specs.Decrypt.{Derives, Opens}
 use Rattle.sig_envelope.specs.Envelope.{envelope_text}
 
--- what is sealed under a key and a nonce
+-- the sealed bytes under a key and a nonce
 abbrev pub Seals : Type 0
 Seals = List ℕ → List ℕ → List ℕ → List ℕ
 
@@ -12,7 +12,7 @@ abbrev pub encrypted : Derives → Seals → List ℕ → List ℕ → List ℕ 
 encrypted derives seals plain password salt nonce =
     envelope_text salt nonce (seals (derives password salt 15 8 1) nonce plain)
 
--- the box opens these bytes after it sealed them
+-- the box opens what it sealed
 abbrev pub OpensWhatItSeals : Derives → Seals → Opens → List ℕ → List ℕ → List ℕ → List ℕ → Type 0
 OpensWhatItSeals derives seals opens plain password salt nonce =
     opens (derives password salt 15 8 1) nonce (seals (derives password salt 15 8 1) nonce plain) ≡ Some plain

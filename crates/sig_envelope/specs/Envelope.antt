@@ -31,7 +31,7 @@ envelope_of d = do
   ciphertext ← required base64_of (codes "ciphertext") d
   Some (record { derivation = derivation; cipher = cipher; ciphertext = ciphertext })
 
--- what such a text reads as: scrypt with N 32768, r 8 and p 1, and a secret box
+-- the envelope of such a text: scrypt with N 32768, r 8 and p 1, and a secret box
 abbrev pub envelope_with : List ℕ → List ℕ → List ℕ → Envelope
 envelope_with salt nonce ciphertext = record {
   derivation = record {

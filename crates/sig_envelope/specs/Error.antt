@@ -1,4 +1,4 @@
--- Which refusals say only that memory was wanting.
+-- Whether an error is out of memory.
 use Rattle.std.specs.Prelude.{Bool, true, false}
 use Rattle.sig_envelope.specs.declared.error.KdfError.{KdfError}
 use Rattle.sig_envelope.specs.declared.error.KdfError.TheVariants.{EnvelopeUnreadable, PrivateKeyDecryptError}

@@ -8,7 +8,7 @@ use base64::engine::general_purpose::STANDARD;
 use json_values::Text;
 use std::alloc::{AllocError, Global};
 
-/// Adds the base64 of these bytes, which decodes to them and has no escapes in a JSON string.
+/// Appends the base64 of these bytes, which decodes to them and needs no escapes in a JSON string.
 pub fn push_base64(alloc: Global, text: &mut Text, bytes: &[u8]) -> Result<(), AllocError>
     ensures text { OnOk result (text.new ≡ text.old ++ encode_of standard bytes.now) }
     ensures back { OnOk result (decoded_of standard (encode_of standard bytes.now) ≡ Some bytes.now) }

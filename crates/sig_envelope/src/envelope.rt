@@ -1,4 +1,4 @@
-//! The envelope, as it is read.
+//! The envelope as it is parsed.
 ghost use Rattle.sig_envelope.specs.Envelope.{kdf_of, cipher_of, envelope_of};
 
 use crate::scrypt::ScryptParams;
@@ -15,7 +15,7 @@ pub struct Derivation {
     pub salt: Blob,
 }
 
-/// What the private key is sealed by.
+/// The cipher that seals the private key.
 #[derive(Drop)]
 pub struct Cipher {
     pub name: Text,

@@ -1,4 +1,4 @@
-//! Why an envelope is not opened.
+//! Why an envelope cannot be opened.
 ghost use Rattle.std.specs.Prelude.{◌≡◌};
 ghost use Rattle.sig_envelope.specs.Error.{is_memory};
 
@@ -6,19 +6,19 @@ use json_values::{Copied, Text};
 use std::alloc::{AllocError, Global};
 use thiserror::Error;
 
-/// Why a private key is not decrypted.
+/// Why a private key cannot be decrypted.
 #[derive(Debug, Drop, Error)]
 pub enum DecryptCause {
-    /// The cipher of this name is not `nacl/secretbox`.
+    /// The cipher with this name is not `nacl/secretbox`.
     #[error("the cipher is not nacl/secretbox: encrypt the key with cosign")]
     UnknownCipher(Text),
-    /// The key derivation of this name is not `scrypt`.
+    /// The key derivation with this name is not `scrypt`.
     #[error("the key derivation is not scrypt: encrypt the key with cosign")]
     UnknownKdf(Text),
     /// N is neither 32768 nor 65536, r is not 8, or p is not 1.
     #[error("the parameters of scrypt are none that cosign writes: encrypt the key with cosign")]
     UnexpectedParameters,
-    /// The nonce has not 24 bytes.
+    /// The nonce does not have 24 bytes.
     #[error("the nonce has not 24 bytes: the envelope was changed")]
     NonceLength,
     /// The box does not open the ciphertext.
@@ -26,13 +26,13 @@ pub enum DecryptCause {
     UnsealRefused,
 }
 
-/// Why an envelope gives no private key.
+/// Why an envelope yields no private key.
 #[derive(Debug, Drop, Error)]
 pub enum KdfError {
-    /// The bytes are no JSON without floats that the envelope's table reads.
+    /// The bytes are not JSON without floats that matches the envelope's table.
     #[error("the bytes are no envelope: give the JSON that an encrypted key holds")]
     EnvelopeUnreadable,
-    /// The envelope reads, and is not opened.
+    /// The envelope is well-formed, but cannot be opened.
     #[error("the private key is not decrypted: {0}")]
     PrivateKeyDecryptError(DecryptCause),
     #[error("out of memory: free some and try again")]
@@ -40,7 +40,7 @@ pub enum KdfError {
 }
 
 impl KdfError {
-    /// Whether memory was wanting.
+    /// Returns whether the error is `WantOfMemory`.
     pub fn is_memory(&self) -> bool
         ensures { result ≡ is_memory self.now }
     {

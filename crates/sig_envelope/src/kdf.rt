@@ -17,7 +17,7 @@ use json_tables::read_plain;
 use json_values::{Blob, Text};
 use std::alloc::{AllocError, Global};
 
-// What stands before the salt, the nonce and the ciphertext.
+// The text before the salt, the nonce and the ciphertext.
 const TO_SALT: &'static str =
     "{\"kdf\":{\"name\":\"scrypt\",\"params\":{\"N\":32768,\"r\":8,\"p\":1},\"salt\":\"";
 
@@ -25,8 +25,8 @@ const TO_NONCE: &'static str = "\"},\"cipher\":{\"name\":\"nacl/secretbox\",\"no
 
 const TO_CIPHERTEXT: &'static str = "\"},\"ciphertext\":\"";
 
-/// Encrypts a private key under a password, with log N 15, r 8 and p 1 for scrypt. The answer is JSON whose members
-/// stand in the order in which cosign writes them. Salt and nonce are to be drawn anew for each envelope.
+/// Encrypts a private key under a password, with log N 15, r 8 and p 1 for scrypt. Returns JSON with its members
+/// in cosign's order. The caller must pass a fresh salt and nonce for each envelope.
 pub fn encrypt<B: KeyBox>(
     alloc: Global,
     plaintext: &[u8],
@@ -48,11 +48,11 @@ pub fn encrypt<B: KeyBox>(
     Ok(text)
 }
 
-/// Opens an envelope under a password.
+/// Decrypts an envelope under a password.
 ///
-/// The first of these causes that stands is answered: `EnvelopeUnreadable` where the bytes are no JSON without floats
-/// that the envelope's table reads; then, inside `PrivateKeyDecryptError`, `UnknownCipher`, `UnknownKdf`,
-/// `UnexpectedParameters`, `NonceLength`, and `UnsealRefused` where the box opens nothing.
+/// Returns the first of these errors that applies: `EnvelopeUnreadable` if the bytes are not JSON without floats
+/// that matches the envelope's table; then, inside `PrivateKeyDecryptError`, `UnknownCipher`, `UnknownKdf`,
+/// `UnexpectedParameters`, `NonceLength`, and `UnsealRefused` if the box does not open the ciphertext.
 pub fn decrypt<B: KeyBox>(
     alloc: Global,
     ciphertext: &[u8],
@@ -78,7 +78,7 @@ fn refused(cause: DecryptCause) -> KdfError
     KdfError::PrivateKeyDecryptError(cause)
 }
 
-// Whether the envelope is one that cosign writes.
+// Checks that the envelope has a form that cosign writes.
 fn check(alloc: Global, envelope: &Envelope) -> Result<(), KdfError>
     ensures { Says is_memory result (checked envelope.now) }
 {
@@ -99,7 +99,7 @@ fn check(alloc: Global, envelope: &Envelope) -> Result<(), KdfError>
     Ok(())
 }
 
-// What the box opens of the envelope.
+// Opens the envelope.
 fn unseal<B: KeyBox>(
     alloc: Global,
     envelope: &Envelope,
@@ -116,7 +116,7 @@ fn unseal<B: KeyBox>(
     keybox.unseal(alloc, &key, nonce, envelope.ciphertext.as_slice())
 }
 
-// The text of an envelope, which reads as the envelope of these parts.
+// Returns the text of an envelope, which parses to the envelope of these parts.
 fn write_envelope(
     alloc: Global,
     salt: &[u8],

@@ -1,4 +1,4 @@
-//! Who derives keys from passwords, and seals and opens under them.
+//! The trait that derives keys from passwords, and seals and opens under them.
 ghost use Rattle.std.specs.Prelude.{◌≡◌, ℕ, List, Option, IfOk};
 
 use json_values::Blob;
@@ -7,10 +7,10 @@ use std::alloc::{AllocError, Global};
 /// The name of NaCl's secret box (XSalsa20 and Poly1305) in an envelope.
 pub const NAME_SECRET_BOX: &'static str = "nacl/secretbox";
 
-/// The bytes of a key of the secret box.
+/// The length of a key of the secret box in bytes.
 pub const BOX_KEY_SIZE: usize = 32;
 
-/// The bytes of a nonce of the secret box.
+/// The length of a nonce of the secret box in bytes.
 pub const BOX_NONCE_SIZE: usize = 24;
 
 /// Derives keys by scrypt (RFC 7914), and seals and opens under them by NaCl's secret box.
@@ -18,13 +18,13 @@ pub trait KeyBox {
     /// The key of a password and a salt, under log N, r and p.
     ghost derived: { Self → List ℕ → List ℕ → ℕ → ℕ → ℕ → List ℕ };
 
-    /// What is sealed under a key and a nonce.
+    /// The sealed bytes under a key and a nonce.
     ghost sealed: { Self → List ℕ → List ℕ → List ℕ → List ℕ };
 
-    /// What is opened of sealed bytes under a key and a nonce, if anything.
+    /// The plain bytes of sealed bytes under a key and a nonce, if they can be opened.
     ghost opened: { Self → List ℕ → List ℕ → List ℕ → Option (List ℕ) };
 
-    /// A key of 32 bytes.
+    /// Derives a key of 32 bytes.
     fn derive(
         &self,
         alloc: Global,
@@ -36,7 +36,7 @@ pub trait KeyBox {
     ) -> Result<Blob, AllocError>
         ensures { IfOk result (λ key. key ≡ derived self.now password.now salt.now log_n r p) };
 
-    /// Sealed bytes. A nonce is never to be used twice with one key.
+    /// Returns the sealed bytes. A nonce must not be used twice with one key.
     fn seal(
         &self,
         alloc: Global,
@@ -46,7 +46,7 @@ pub trait KeyBox {
     ) -> Result<Blob, AllocError>
         ensures { IfOk result (λ bytes. bytes ≡ sealed self.now key.now nonce.now plain.now) };
 
-    /// The plain bytes, or none where these were not sealed so.
+    /// Returns the plain bytes, or `None` if these bytes were not sealed with this key and nonce.
     fn unseal(
         &self,
         alloc: Global,

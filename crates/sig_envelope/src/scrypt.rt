@@ -10,13 +10,13 @@ use std::alloc::{AllocError, Global};
 /// The name of scrypt in an envelope.
 pub const NAME_SCRYPT: &'static str = "scrypt";
 
-/// The bytes of a salt.
+/// The length of a salt in bytes.
 pub const SALT_SIZE: usize = 32;
 
 /// The cost of new envelopes.
 pub const SCRYPT_N_LOW: u32 = 32768;
 
-/// The other cost that is opened.
+/// The other cost that is accepted.
 pub const SCRYPT_N_HIGH: u32 = 65536;
 
 /// The block size.
@@ -34,7 +34,7 @@ pub struct ScryptParams {
 }
 
 impl ScryptParams {
-    /// Whether the cost is 32768 or 65536, the block size 8 and the parallelization 1.
+    /// Returns whether the cost is 32768 or 65536, the block size 8 and the parallelization 1.
     pub fn check_params(&self) -> bool
         ensures { result ≡ are_known self.now }
     {
@@ -43,7 +43,7 @@ impl ScryptParams {
             && self.p == SCRYPT_P
     }
 
-    // The binary logarithm of the cost, of known parameters.
+    // Returns the binary logarithm of the cost, for known parameters.
     pub(crate) fn log_n(&self) -> u8
         ensures { result ≡ log_of self.now.n }
     {

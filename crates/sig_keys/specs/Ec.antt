@@ -9,7 +9,7 @@ use Rattle.sig_schemes.specs.declared.scheme.EllipticCurve.{EllipticCurve}
 use Rattle.sig_schemes.specs.declared.scheme.EllipticCurve.TheVariants as curves
 use Rattle.sig_schemes.specs.declared.scheme.KeyKind.{KeyKind}
 
--- the keys, where the bytes are a private key on this curve
+-- the keys, if the bytes are a private key on this curve
 abbrev pub keys_on : Public → List ℕ → EllipticCurve → Option EcdsaKeys
 keys_on public pkcs8 curve =
     option_map (λ spki. record { curve = curve; pkcs8_der = pkcs8; spki_der = spki }) (public (kind_of curve) pkcs8)
@@ -22,6 +22,6 @@ ecdsa_keys_of public pkcs8 = option_or (keys_on public pkcs8 curves.P256)
 abbrev pub ecdsa_signer : EcdsaKeys → EcdsaSigner
 ecdsa_signer keys = record { keys = keys }
 
--- the keys are of this curve, and were made for it
+-- the keys are on this curve, and were made for it
 abbrev pub MadeKeys : (KeyKind → ℕ → List ℕ → List ℕ → Type 0) → EllipticCurve → EcdsaKeys → Type 0
 MadeKeys Made curve keys = (keys.curve ≡ curve) × Made (kind_of curve) 0 keys.pkcs8_der keys.spki_der

@@ -15,11 +15,11 @@ wrapped_on curves.P256 keys = on.P256 keys
 wrapped_on curves.P384 keys = on.P384 keys
 wrapped_on curves.P521 keys = on.P521 keys
 
--- under the variant of their curve
+-- the keys under the variant of their curve
 abbrev pub wrapped : EcdsaKeys → AnyCurveKeys
 wrapped keys = wrapped_on keys.curve keys
 
--- the keys, whatever the variant
+-- the keys of any variant
 abbrev pub inner_of : AnyCurveKeys → EcdsaKeys
 inner_of (on.P256 keys) = keys
 inner_of (on.P384 keys) = keys
@@ -29,6 +29,6 @@ inner_of (on.P521 keys) = keys
 abbrev pub curve_keys_of : Public → List ℕ → Option AnyCurveKeys
 curve_keys_of public pkcs8 = option_map wrapped (ecdsa_keys_of public pkcs8)
 
--- the keys are of this curve, under its variant, and were made for it
+-- the keys are on this curve, under its variant, and were made for it
 abbrev pub MadeOnCurve : (KeyKind → ℕ → List ℕ → List ℕ → Type 0) → EllipticCurve → AnyCurveKeys → Type 0
 MadeOnCurve Made curve keys = (keys ≡ wrapped_on curve (inner_of keys)) × MadeKeys Made curve (inner_of keys)

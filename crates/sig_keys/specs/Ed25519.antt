@@ -6,7 +6,7 @@ use Rattle.sig_keys.specs.declared.ed25519.Ed25519Signer.{Ed25519Signer}
 use Rattle.sig_schemes.specs.declared.scheme.KeyKind.{KeyKind}
 use Rattle.sig_schemes.specs.declared.scheme.KeyKind.TheVariants as kind
 
--- the keys, where the bytes are a private key of Ed25519
+-- the keys, if the bytes are an Ed25519 private key
 abbrev pub ed25519_keys_of : Public → List ℕ → Option Ed25519Keys
 ed25519_keys_of public pkcs8 =
     option_map (λ spki. record { pkcs8_der = pkcs8; spki_der = spki }) (public kind.Ed25519 pkcs8)

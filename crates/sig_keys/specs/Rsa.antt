@@ -8,7 +8,7 @@ use Rattle.sig_schemes.specs.declared.scheme.KeyKind.{KeyKind}
 use Rattle.sig_schemes.specs.declared.scheme.KeyKind.TheVariants as kind
 use Rattle.sig_schemes.specs.declared.scheme.PaddingScheme.{PaddingScheme}
 
--- the keys, where the bytes are a private key of RSA
+-- the keys, if the bytes are an RSA private key
 abbrev pub rsa_keys_of : Public → List ℕ → Option RSAKeys
 rsa_keys_of public pkcs8 =
     option_map (λ spki. record { pkcs8_der = pkcs8; spki_der = spki }) (public kind.Rsa pkcs8)
@@ -16,6 +16,6 @@ rsa_keys_of public pkcs8 =
 abbrev pub rsa_signer : RSAKeys → DigestAlgorithm → PaddingScheme → RSASigner
 rsa_signer keys digest padding = record { keys = keys; digest = digest; padding = padding }
 
--- the keys were made, of so many bits
+-- the keys were made, with this many bits
 abbrev pub MadeRsa : (KeyKind → ℕ → List ℕ → List ℕ → Type 0) → ℕ → RSAKeys → Type 0
 MadeRsa Made bits keys = Made kind.Rsa bits keys.pkcs8_der keys.spki_der

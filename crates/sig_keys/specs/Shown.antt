@@ -1,4 +1,4 @@
--- How keys and signers are printed, and how they are shown to programmers: no key stands in the text.
+-- The `Display` and `Debug` output of keys and signers: the text contains no key.
 use Rattle.std.specs.Prelude.{ℕ, List, ◌++◌, codes}
 use Rattle.sig_keys.specs.Ecdsa.{inner_of}
 use Rattle.sig_keys.specs.declared.ecdsa.ec.EcdsaKeys.{EcdsaKeys}

@@ -1,4 +1,4 @@
--- The public constant is its number.
+-- The value of the public constant.
 use Rattle.std.specs.Prelude.{◌≡◌, refl}
 use Rattle.sig_keys.specs.declared.rsa.TheConstants.{DEFAULT_KEY_SIZE}
 

@@ -9,7 +9,7 @@ use Rattle.sig_schemes.specs.declared.scheme.SigningScheme.TheVariants as scheme
 use Rattle.sig_keys.specs.declared.store_signer.SigStoreSigner.{SigStoreSigner}
 use Rattle.sig_keys.specs.declared.store_signer.SigStoreSigner.TheVariants.{ECDSA, ED25519, RSA}
 
--- the scheme that it signs under
+-- the scheme under which it signs
 abbrev pub signer_scheme : SigStoreSigner → SigningScheme
 signer_scheme (ECDSA signer) = curve_scheme signer.keys.curve
 signer_scheme (ED25519 signer) = scheme.ED25519

@@ -17,7 +17,7 @@ use sig_schemes::{
 use std::alloc::{AllocError, Global};
 use std::fmt;
 
-/// ECDSA keys, by the curve that they are on. Where a caller puts keys under another variant, their field `curve`
+/// ECDSA keys, by their curve. If a caller puts keys under another variant, their field `curve`
 /// decides.
 #[derive(Drop)]
 pub enum ECDSAKeys {
@@ -27,7 +27,7 @@ pub enum ECDSAKeys {
 }
 
 impl ECDSAKeys {
-    /// New keys on this curve. `KeyGenerationError` exactly where the maker makes none.
+    /// Makes new keys on this curve. Returns `KeyGenerationError` if and only if the maker makes none.
     pub fn new<M: KeyMaker>(
         alloc: Global,
         maker: &M,
@@ -39,7 +39,7 @@ impl ECDSAKeys {
         Ok(keys.into_wrapped())
     }
 
-    /// Reads a private key. `KeyParseError` exactly where the maker reads it on none of the curves.
+    /// Parses a private key. Returns `KeyParseError` if and only if the maker does not parse it on any of the curves.
     pub fn from_der<M: KeyMaker>(alloc: Global, maker: &M, pkcs8: &[u8]) -> Result<Self, KeyError>
         ensures { Parses result (curve_keys_of (M.public_of maker.now) pkcs8.now) }
     {
@@ -47,7 +47,7 @@ impl ECDSAKeys {
         Ok(keys.into_wrapped())
     }
 
-    /// The same as `from_der`.
+    /// Does the same as `from_der`.
     pub fn from_pkcs8_der<M: KeyMaker>(
         alloc: Global,
         maker: &M,
@@ -58,7 +58,7 @@ impl ECDSAKeys {
         Self::from_der(alloc, maker, pkcs8)
     }
 
-    /// The keys, whatever the variant.
+    /// Returns the keys of any variant.
     pub fn as_inner(&self) -> &CurveKeys
         ensures { result.now ≡ inner_of self.now }
     {
@@ -69,7 +69,7 @@ impl ECDSAKeys {
         }
     }
 
-    /// A signer with a copy of the keys.
+    /// Returns a signer with a copy of the keys.
     pub fn to_sigstore_signer(&self, alloc: Global) -> Result<SigStoreSigner, AllocError>
         ensures { IfOk result (λ signer. signer ≡ ecdsa_store_signer (ecdsa_signer (inner_of self.now))) }
     {
@@ -112,7 +112,7 @@ impl Copied for ECDSAKeys {
     }
 }
 
-/// `ECDSA ` and the curve.
+/// Printed as `ECDSA ` and the curve.
 impl fmt::Display for ECDSAKeys {
     ghost use Rattle.std.specs.Prelude.{Some};
     ghost use Rattle.std.specs.Fmt.{DisplaysOnOk, WritesStyledOnOk};
@@ -132,7 +132,7 @@ impl fmt::Display for ECDSAKeys {
     }
 }
 
-/// No key is shown, whatever the formatter.
+/// No key is printed, whatever the formatter.
 impl fmt::Debug for ECDSAKeys {
     ghost use Rattle.std.specs.Prelude.{Some};
     ghost use Rattle.std.specs.Fmt.{DisplaysOnOk, WritesStyledOnOk};

@@ -29,7 +29,7 @@ pub struct Ed25519Signer {
 }
 
 impl Ed25519Keys {
-    /// New keys. `KeyGenerationError` exactly where the maker makes none.
+    /// Makes new keys. Returns `KeyGenerationError` if and only if the maker makes none.
     pub fn new<M: KeyMaker>(alloc: Global, maker: &M) -> Result<Self, KeyError>
         ensures { Makes result (M.can_make maker.now kind.Ed25519 0) (MadeEd25519 (M.Made maker.now)) }
     {
@@ -42,7 +42,7 @@ impl Ed25519Keys {
         }
     }
 
-    /// Reads a private key. `KeyParseError` exactly where the maker reads it as none of Ed25519.
+    /// Parses a private key. Returns `KeyParseError` if and only if the maker does not parse it as Ed25519.
     pub fn from_der<M: KeyMaker>(alloc: Global, maker: &M, pkcs8: &[u8]) -> Result<Self, KeyError>
         ensures { Parses result (ed25519_keys_of (M.public_of maker.now) pkcs8.now) }
     {
@@ -52,7 +52,7 @@ impl Ed25519Keys {
         }
     }
 
-    /// The same as `from_der`.
+    /// Does the same as `from_der`.
     pub fn from_pkcs8_der<M: KeyMaker>(
         alloc: Global,
         maker: &M,
@@ -63,7 +63,7 @@ impl Ed25519Keys {
         Self::from_der(alloc, maker, pkcs8)
     }
 
-    // The keys, where the maker reads them.
+    // Returns the keys, if the maker parses them.
     pub(crate) fn read<M: KeyMaker>(
         alloc: Global,
         maker: &M,
@@ -81,14 +81,14 @@ impl Ed25519Keys {
         }))
     }
 
-    /// A copy of these keys.
+    /// Copies these keys.
     pub fn from_ed25519key(alloc: Global, key: &Ed25519Keys) -> Result<Ed25519Keys, AllocError>
         ensures { IfOk result (λ keys. keys ≡ key.now) }
     {
         key.copy(alloc)
     }
 
-    /// A signer with a copy of the keys.
+    /// Returns a signer with a copy of the keys.
     pub fn to_sigstore_signer(&self, alloc: Global) -> Result<SigStoreSigner, AllocError>
         ensures { IfOk result (λ signer. signer ≡ ed25519_store_signer (ed25519_signer self.now)) }
     {
@@ -126,7 +126,7 @@ impl KeyPair for Ed25519Keys {
 }
 
 impl Ed25519Signer {
-    /// A signer with a copy of these keys.
+    /// Returns a signer with a copy of these keys.
     pub fn from_ed25519_keys(alloc: Global, keys: &Ed25519Keys) -> Result<Ed25519Signer, AllocError>
         ensures { IfOk result (λ signer. signer ≡ ed25519_signer keys.now) }
     {
@@ -134,7 +134,7 @@ impl Ed25519Signer {
         Ok(Ed25519Signer { keys })
     }
 
-    /// The signer's keys.
+    /// Returns the signer's keys.
     pub fn ed25519_keys(&self) -> &Ed25519Keys
         ensures { result.now ≡ self.now.keys }
     {
@@ -187,7 +187,7 @@ impl Copied for Ed25519Signer {
     }
 }
 
-/// No key is shown, whatever the formatter.
+/// No key is printed, whatever the formatter.
 impl fmt::Debug for Ed25519Keys {
     ghost use Rattle.std.specs.Prelude.{Some, codes};
     ghost use Rattle.std.specs.Fmt.{DisplaysOnOk, WritesStyledOnOk};
@@ -202,7 +202,7 @@ impl fmt::Debug for Ed25519Keys {
     }
 }
 
-/// No key is shown, whatever the formatter.
+/// No key is printed, whatever the formatter.
 impl fmt::Debug for Ed25519Signer {
     ghost use Rattle.std.specs.Prelude.{Some, codes};
     ghost use Rattle.std.specs.Fmt.{DisplaysOnOk, WritesStyledOnOk};

@@ -1,4 +1,4 @@
-//! Keys for signatures: pairs of each kind, and the signers that they make.
+//! Key pairs of each kind, and their signers.
 #![tactic(auto)]
 
 pub mod ecdsa;

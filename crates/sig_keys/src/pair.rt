@@ -26,8 +26,8 @@ pub enum SigStoreKeyPair {
 }
 
 impl SigStoreKeyPair {
-    /// Reads a private key: the first of ECDSA, Ed25519 and RSA of which the maker reads it. `KeyParseError` exactly
-    /// where it reads it as none of them.
+    /// Parses a private key as the first of ECDSA, Ed25519 and RSA as which the maker parses it. Returns
+    /// `KeyParseError` if and only if there is none.
     pub fn from_der<M: KeyMaker>(alloc: Global, maker: &M, pkcs8: &[u8]) -> Result<Self, KeyError>
         ensures { Parses result (pair_read (M.public_of maker.now) pkcs8.now) }
     {
@@ -43,7 +43,7 @@ impl SigStoreKeyPair {
         }
     }
 
-    /// The same as `from_der`.
+    /// Does the same as `from_der`.
     pub fn from_pkcs8_der<M: KeyMaker>(
         alloc: Global,
         maker: &M,
@@ -54,8 +54,8 @@ impl SigStoreKeyPair {
         Self::from_der(alloc, maker, pkcs8)
     }
 
-    /// A signer with a copy of the keys. `UnmatchedKeyAndSigningScheme` exactly where the keys do not sign under the
-    /// scheme: ECDSA keys under that of their curve alone, Ed25519 keys under `ED25519`, RSA keys under both of RSA.
+    /// Returns a signer with a copy of the keys, `UnmatchedKeyAndSigningScheme` if and only if they do not sign under
+    /// the scheme: ECDSA keys sign only under their curve's, Ed25519 keys under `ED25519`, RSA keys under both of RSA.
     pub fn to_sigstore_signer(
         &self,
         alloc: Global,
@@ -88,7 +88,7 @@ impl SigStoreKeyPair {
     }
 }
 
-/// A verification key of Ed25519 keys is under `ED25519` whatever the scheme.
+/// A verification key of Ed25519 keys always has the scheme `ED25519`.
 impl KeyPair for SigStoreKeyPair {
     ghost public_der = { pair_public };
 
@@ -154,7 +154,7 @@ impl fmt::Display for SigStoreKeyPair {
     }
 }
 
-/// No key is shown, whatever the formatter.
+/// No key is printed, whatever the formatter.
 impl fmt::Debug for SigStoreKeyPair {
     ghost use Rattle.std.specs.Prelude.{Some};
     ghost use Rattle.std.specs.Fmt.{DisplaysOnOk, WritesStyledOnOk};

@@ -17,7 +17,7 @@ use sig_schemes::{
 use std::alloc::{AllocError, Global};
 use std::fmt;
 
-/// The size of new keys, in bits, where nothing asks for another one.
+/// The default size of new keys, in bits.
 pub const DEFAULT_KEY_SIZE: usize = 2048;
 
 /// RSA keys.
@@ -38,7 +38,7 @@ pub struct RSASigner {
 }
 
 impl RSAKeys {
-    /// New keys of so many bits. `KeyGenerationError` exactly where the maker makes none.
+    /// Makes new keys of `bits` bits. Returns `KeyGenerationError` if and only if the maker makes none.
     pub fn new<M: KeyMaker>(alloc: Global, maker: &M, bits: usize) -> Result<Self, KeyError>
         ensures { Makes result (M.can_make maker.now kind.Rsa bits) (MadeRsa (M.Made maker.now) bits) }
     {
@@ -51,7 +51,7 @@ impl RSAKeys {
         }
     }
 
-    /// Reads a private key. `KeyParseError` exactly where the maker reads it as none of RSA.
+    /// Parses a private key. Returns `KeyParseError` if and only if the maker does not parse it as RSA.
     pub fn from_der<M: KeyMaker>(alloc: Global, maker: &M, pkcs8: &[u8]) -> Result<Self, KeyError>
         ensures { Parses result (rsa_keys_of (M.public_of maker.now) pkcs8.now) }
     {
@@ -61,7 +61,7 @@ impl RSAKeys {
         }
     }
 
-    /// The same as `from_der`.
+    /// Does the same as `from_der`.
     pub fn from_pkcs8_der<M: KeyMaker>(
         alloc: Global,
         maker: &M,
@@ -72,7 +72,7 @@ impl RSAKeys {
         Self::from_der(alloc, maker, pkcs8)
     }
 
-    // The keys, where the maker reads them.
+    // Returns the keys, if the maker parses them.
     pub(crate) fn read<M: KeyMaker>(
         alloc: Global,
         maker: &M,
@@ -90,7 +90,7 @@ impl RSAKeys {
         }))
     }
 
-    /// A signer with a copy of the keys.
+    /// Returns a signer with a copy of the keys.
     pub fn to_sigstore_signer(
         &self,
         alloc: Global,
@@ -130,7 +130,7 @@ impl KeyPair for RSAKeys {
 }
 
 impl RSASigner {
-    /// A signer with these keys.
+    /// Creates a signer with these keys.
     pub fn new(keys: RSAKeys, digest: DigestAlgorithm, padding: PaddingScheme) -> Self
         ensures { result ≡ rsa_signer keys digest padding }
     {
@@ -141,7 +141,7 @@ impl RSASigner {
         }
     }
 
-    /// A signer with a copy of these keys.
+    /// Returns a signer with a copy of these keys.
     pub fn from_rsa_keys(
         alloc: Global,
         keys: &RSAKeys,
@@ -154,14 +154,14 @@ impl RSASigner {
         Ok(RSASigner::new(keys, digest, padding))
     }
 
-    /// The signer's keys.
+    /// Returns the signer's keys.
     pub fn rsa_keys(&self) -> &RSAKeys
         ensures { result.now ≡ self.now.keys }
     {
         &self.keys
     }
 
-    /// The public key under the signer's scheme.
+    /// Returns the public key with the signer's scheme.
     pub fn to_verification_key(&self, alloc: Global) -> Result<CosignVerificationKey, AllocError>
         ensures { IfOk result (λ key. key
             ≡ verification_key (padding_scheme self.now.padding) self.now.keys.spki_der) }
@@ -214,7 +214,7 @@ impl Copied for RSASigner {
     }
 }
 
-/// No key is shown, whatever the formatter.
+/// No key is printed, whatever the formatter.
 impl fmt::Debug for RSAKeys {
     ghost use Rattle.std.specs.Prelude.{Some, codes};
     ghost use Rattle.std.specs.Fmt.{DisplaysOnOk, WritesStyledOnOk};
@@ -229,7 +229,7 @@ impl fmt::Debug for RSAKeys {
     }
 }
 
-/// No key is shown, whatever the formatter.
+/// No key is printed, whatever the formatter.
 impl fmt::Debug for RSASigner {
     ghost use Rattle.std.specs.Prelude.{Some, codes};
     ghost use Rattle.std.specs.Fmt.{DisplaysOnOk, WritesStyledOnOk};

@@ -1,4 +1,4 @@
-//! What all signers do.
+//! Common calls of all signers.
 ghost use Rattle.std.specs.Prelude.{◌≡◌};
 ghost use Rattle.sig_schemes.specs.Outcomes.{SignsBy};
 ghost use Rattle.sig_schemes.specs.declared.scheme.SigningScheme.{SigningScheme};
@@ -15,11 +15,11 @@ pub trait Signer {
 
     ghost scheme_of: { Self → SigningScheme };
 
-    /// The signer's keys.
+    /// Returns the signer's keys.
     fn key_pair(&self) -> &Self::Keys
         ensures { result.now ≡ keys_of self.now };
 
-    /// A signature of the message, as the maker gives it. `SigningError` exactly where the maker does not sign.
+    /// Returns the maker's signature of the message. Returns `SigningError` if and only if the maker does not sign.
     fn sign<M: KeyMaker>(&self, alloc: Global, maker: &M, message: &[u8]) -> Result<Blob, KeyError>
         ensures { SignsBy (M.can_sign maker.now) (M.Signs maker.now) (scheme_of self.now)
             (Self.Keys.private_der (keys_of self.now)) message.now result };

@@ -23,7 +23,7 @@ pub enum SigStoreSigner {
 }
 
 impl SigStoreSigner {
-    /// A signature of the message, as the maker gives it. `SigningError` exactly where the maker does not sign.
+    /// Returns the maker's signature of the message. Returns `SigningError` if and only if the maker does not sign.
     pub fn sign<M: KeyMaker>(
         &self,
         alloc: Global,
@@ -40,7 +40,7 @@ impl SigStoreSigner {
         }
     }
 
-    /// A copy of the signer's keys.
+    /// Copies the signer's keys.
     pub fn to_sigstore_keypair(&self, alloc: Global) -> Result<SigStoreKeyPair, AllocError>
         ensures { IfOk result (λ pair. pair ≡ pair_of self.now) }
     {
@@ -60,7 +60,7 @@ impl SigStoreSigner {
         }
     }
 
-    /// The public key under the signer's scheme.
+    /// Returns the public key with the signer's scheme.
     pub fn to_verification_key(&self, alloc: Global) -> Result<CosignVerificationKey, AllocError>
         ensures { IfOk result (λ key. key ≡ verification_key (signer_scheme self.now) (signer_public self.now)) }
     {
@@ -89,7 +89,7 @@ impl Copied for SigStoreSigner {
     }
 }
 
-/// No key is shown, whatever the formatter.
+/// No key is printed, whatever the formatter.
 impl fmt::Debug for SigStoreSigner {
     ghost use Rattle.std.specs.Prelude.{Some};
     ghost use Rattle.std.specs.Fmt.{DisplaysOnOk, WritesStyledOnOk};

@@ -1,4 +1,4 @@
-// The texts that answers are kept under.
+// The keys of cached responses.
 ghost use Rattle.std.specs.Prelude.{◌≡◌, IfOk, option_copied};
 ghost use Rattle.oci_names.specs.Reference.{reads_back};
 ghost use Rattle.sig_settings.specs.Keys.{manifest_key, pull_key, referrers_key};
@@ -10,7 +10,7 @@ use oci_names::Reference;
 use sig_settings::{PullManifestSettings, PullReferrersSettings, PullSettings};
 use std::alloc::{AllocError, Global};
 
-// The key, where the reference reads back.
+// The key, if the reference round-trips.
 fn if_it_reads_back(alloc: Global, image: &Reference, key: Blob) -> Result<Option<Blob>, AllocError>
     ensures { IfOk result (λ found. found ≡ key_if (reads_back image.now) key) }
 {
@@ -21,7 +21,7 @@ fn if_it_reads_back(alloc: Global, image: &Reference, key: Blob) -> Result<Optio
     Ok(Some(key))
 }
 
-/// The key of a call for a digest or a manifest; none where the reference does not read back.
+/// Returns the key of a call for a digest or a manifest; `None` if the reference does not round-trip.
 pub fn manifest_key(
     alloc: Global,
     image: &Reference,
@@ -34,7 +34,7 @@ pub fn manifest_key(
     if_it_reads_back(alloc, image, key)
 }
 
-/// The key of a call for an image; none where the reference does not read back.
+/// Returns the key of a call for an image; `None` if the reference does not round-trip.
 pub fn image_key(
     alloc: Global,
     image: &Reference,
@@ -49,7 +49,7 @@ pub fn image_key(
     if_it_reads_back(alloc, image, key)
 }
 
-/// The key of a call for referrers; none where the reference does not read back.
+/// Returns the key of a call for referrers; `None` if the reference does not round-trip.
 pub fn list_key(
     alloc: Global,
     image: &Reference,

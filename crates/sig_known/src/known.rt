@@ -1,4 +1,4 @@
-// Kept answers, each read as that of its call.
+// Cached responses, each read as the result of its call.
 ghost use Rattle.std.specs.Prelude.{◌≡◌, IfOk, OnOk, OnErr, Some};
 ghost use Rattle.sig_answers.specs.Answers.{keep, entry};
 ghost use Rattle.sig_calls.specs.Caching.{known};
@@ -10,7 +10,7 @@ use oci_manifests::{OciImageIndex, OciManifest};
 use sig_answers::{Answer, Answers, Entry, Kind};
 use std::alloc::{AllocError, Global};
 
-/// The digest that is kept under this key and fresh at this moment.
+/// Returns the digest that is cached under this key and fresh at this moment.
 pub fn known_digest(
     alloc: Global,
     answers: &Answers,
@@ -25,7 +25,7 @@ pub fn known_digest(
     }
 }
 
-/// The document, with its digest, that is kept under this key and fresh at this moment.
+/// Returns the document, with its digest, that is cached under this key and fresh at this moment.
 pub fn known_manifest(
     alloc: Global,
     answers: &Answers,
@@ -40,7 +40,7 @@ pub fn known_manifest(
     }
 }
 
-/// The image that is kept under this key and fresh at this moment.
+/// Returns the image that is cached under this key and fresh at this moment.
 pub fn known_image(
     alloc: Global,
     answers: &Answers,
@@ -55,7 +55,7 @@ pub fn known_image(
     }
 }
 
-/// The list of referrers that is kept under this key and fresh at this moment.
+/// Returns the list of referrers that is cached under this key and fresh at this moment.
 pub fn known_referrers(
     alloc: Global,
     answers: &Answers,
@@ -70,7 +70,7 @@ pub fn known_referrers(
     }
 }
 
-/// Keeps a digest under this key, from this moment on.
+/// Caches a digest under this key, from this moment on.
 pub fn keep_digest(
     alloc: Global,
     answers: &mut Answers,
@@ -94,7 +94,7 @@ pub fn keep_digest(
     )
 }
 
-/// Keeps a document with its digest under this key, from this moment on.
+/// Caches a document with its digest under this key, from this moment on.
 pub fn keep_manifest(
     alloc: Global,
     answers: &mut Answers,
@@ -118,7 +118,7 @@ pub fn keep_manifest(
     )
 }
 
-/// Keeps an image under this key, from this moment on.
+/// Caches an image under this key, from this moment on.
 pub fn keep_image(
     alloc: Global,
     answers: &mut Answers,
@@ -142,7 +142,7 @@ pub fn keep_image(
     )
 }
 
-/// Keeps a list of referrers under this key, from this moment on.
+/// Caches a list of referrers under this key, from this moment on.
 pub fn keep_referrers(
     alloc: Global,
     answers: &mut Answers,

@@ -1,4 +1,4 @@
-//! The answers that a client keeps: the texts that they are kept under, how each is kept, and how it is found again.
+//! The responses that a client caches: their keys, how each is stored, and how it is found again.
 #![tactic(auto)]
 
 mod keys;

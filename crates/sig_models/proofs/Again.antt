@@ -1,4 +1,4 @@
--- What is written is read back.
+-- Written models round-trip.
 use Rattle.std.proofs.Common.{◌≡◌, ℕ, List, [], ◌∷◌, map, Bool, false, Option, Some, None, option_map, unwrap_or, refl, ap, ◌∙◌}
 use Rattle.std.specs.List.{list_any}
 use Rattle.serde_json.specs.Data.{Data, string}
@@ -29,14 +29,14 @@ use Rattle.sig_models.specs.PublicKey.{public_key_of, public_key_fields, public_
 use Rattle.sig_models.specs.SearchIndex.{search_index_of, search_index_fields, search_index_written}
 use Rattle.sig_models.specs.SearchLogQuery.{query_of, query_fields, query_written, entries_have_float}
 
--- an option that reads back, and its data
+-- an option that round-trips, and its data
 abbrev pub Optional : {X : Type 0} → (Data → Option X) → (X → Data) → Option X → Type 0
 Optional f w x = MemberReadsAgain (unless_null f) (option_map w x) x false
 
 abbrev pub Present : {X : Type 0} → (Data → Option X) → (X → Data) → X → Type 0
 Present f w x = MemberReadsAgain (present f) (Some (w x)) x false
 
--- ---- refusals
+-- ---- error bodies
 
 error_reads : (x : Error) (d : Data) → ((q : List ℕ) → get q d ≡ among q (error_fields x) None)
     → unless_null i32_of (option_map whole x.code) ≡ Some x.code
@@ -148,7 +148,7 @@ map_same : {X : Type 0} (xs : List X) → map (λ x. x) xs ≡ xs
 map_same [] = refl
 map_same (x ∷ xs) = ap (λ ys. x ∷ ys) (map_same xs)
 
--- a list that may be none, in which a float may stand
+-- a list that may be missing, and may contain a float
 pub list_option_of : {X : Type 0} (f : Data → Option X) (p : X → Bool) {o : Option Data} (xs : Option (List X)) → MemberReadsAgain (unless_null (list_of f)) o (option_map (map (λ x. x)) xs) (unwrap_or (option_map (list_any p) xs) false) → MemberReadsAgain (unless_null (list_of f)) o xs (unwrap_or (option_map (list_any p) xs) false)
 list_option_of f p None m = m
 list_option_of f p (Some xs) m = record { reads = m.reads ∙ ap (λ ys. Some (Some ys)) (map_same xs); plain = m.plain }

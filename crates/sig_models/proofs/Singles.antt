@@ -1,4 +1,4 @@
--- Lists of one member, as objects.
+-- Objects with one member.
 use Rattle.std.proofs.Common.{◌≡◌, ◌≢◌, List, [], ◌∷◌, length, slice_get, Some, None, refl, arith, string_bytes, String, Global}
 use Rattle.serde_json.specs.declared.value.Value.{Value}
 use Rattle.serde_json.specs.View.{view, members_view}

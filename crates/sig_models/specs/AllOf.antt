@@ -1,4 +1,4 @@
--- What an entry of a known kind has beside its kind (Rekor's API, `allOf`).
+-- The members of an entry besides its kind (Rekor's API, `allOf`).
 use Rattle.std.specs.Prelude.{List, [], ◌∷◌, Bool, Option, Some, codes}
 use Rattle.serde_json.specs.Data.{Data, string}
 use Rattle.serde_json.specs.Written.{has_float}
@@ -21,6 +21,6 @@ all_of_fields x = (codes "apiVersion", Some (string x.api_version)) ∷ (codes "
 unfoldable pub all_of_written : EntryAllOf → Data
 all_of_written x = fields (all_of_fields x)
 
--- whether a float stands in the spec
+-- whether the spec contains a float
 abbrev pub spec_has_float : EntryAllOf → Bool
 spec_has_float x = has_float x.spec

@@ -1,4 +1,4 @@
--- What the certificate authority answers (Fulcio's API, `SigningCertificate`).
+-- The response of Fulcio (its API, `SigningCertificate`).
 use Rattle.std.specs.Prelude.{ℕ, List, if◌then◌else◌, Option, Some, None, option_map, codes}
 use Rattle.std.specs.Str.{bytes_eq}
 use Rattle.serde_json.specs.Data.{Data}
@@ -33,7 +33,7 @@ embedded_of d = do
   chain ← required chain_of (codes "chain") d
   Some (record { chain = chain })
 
--- the one member says which it is
+-- the name of the only member decides between the two forms
 abbrev pub certificate_named : List ℕ × Data → Option SigningCertificate
 certificate_named (name, d) =
     if bytes_eq name (codes "signedCertificateDetachedSct")

@@ -1,4 +1,4 @@
--- What a certificate is asked for with (Fulcio's API, versions 1 and 2).
+-- A request for a certificate (Fulcio's API, versions 1 and 2).
 use Rattle.std.specs.Prelude.{ℕ, List, [], ◌∷◌, Some, codes}
 use Rattle.base64.specs.Engines.{standard}
 use Rattle.base64.specs.GeneralPurpose.{encode_of}
@@ -29,6 +29,6 @@ request_written algorithm public_key signature = fields (
     ∷ (codes "signedEmailAddress", Some (coded signature))
     ∷ [])
 
--- version 2: a signing request
+-- version 2: a certificate signing request
 abbrev pub signing_request_written : List ℕ → Data
 signing_request_written request = fields ((codes "certificateSigningRequest", Some (coded request)) ∷ [])

@@ -1,4 +1,4 @@
--- What the log says of a refusal (Rekor's API, `Error`).
+-- The error body of Rekor (its API, `Error`).
 use Rattle.std.specs.Prelude.{List, [], ◌∷◌, Option, Some, option_map, codes}
 use Rattle.serde_json.specs.Data.{Data, string}
 use Rattle.json_tables.specs.Reading.{◌>>=◌, text_of, i32_of}

@@ -1,4 +1,4 @@
--- The form of a public key that the log is searched by (Rekor's API, `SearchIndex`).
+-- The format of a public key for a search in Rekor (its API, `SearchIndex`).
 use Rattle.std.specs.Prelude.{ℕ, List, if◌then◌else◌, Option, Some, None, codes}
 use Rattle.std.specs.Str.{bytes_eq}
 use Rattle.serde_json.specs.Data.{Data, string}
@@ -6,7 +6,7 @@ use Rattle.json_tables.specs.Reading.{◌>>=◌, text_of}
 use Rattle.sig_models.specs.declared.format.Format.{Format}
 use Rattle.sig_models.specs.declared.format.Format.TheVariants.{Pgp, X509, Minisign, Ssh, Tuf}
 
--- the form of this text, if it is one of the table
+-- the format with this text, if it is in the table
 unfoldable pub known_format : List ℕ → Option Format
 known_format text =
     if bytes_eq text (codes "pgp") then Some Pgp
@@ -18,7 +18,7 @@ known_format text =
 unfoldable pub format_of : Data → Option Format
 format_of d = text_of d >>= known_format
 
--- the text of a form
+-- the text of a format
 unfoldable pub format_text : Format → List ℕ
 format_text Pgp = codes "pgp"
 format_text X509 = codes "x509"

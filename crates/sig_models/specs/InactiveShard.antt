@@ -1,4 +1,4 @@
--- A part of the log that takes no more entries (Rekor's API, `InactiveShardLogInfo`).
+-- A part of the log that accepts no more entries (Rekor's API, `InactiveShardLogInfo`).
 use Rattle.std.specs.Prelude.{List, [], ◌∷◌, Option, Some, codes}
 use Rattle.serde_json.specs.Data.{Data, string}
 use Rattle.json_tables.specs.Reading.{◌>>=◌, text_of, u64_of}

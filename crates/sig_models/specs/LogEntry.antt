@@ -6,7 +6,7 @@ use Rattle.json_tables.specs.Objects.{an_object}
 use Rattle.sig_models.specs.Single.{single_of}
 use Rattle.sig_models.specs.declared.log_entry.LogEntry.{LogEntry}
 
--- an object of one member, whose name is the entry's and whose value is an object
+-- an object with one member, whose name is the entry's and whose value is an object
 unfoldable pub log_entry_of : Data → Option LogEntry
 log_entry_of d = do
   found ← single_of d

@@ -1,4 +1,4 @@
--- An entry that the log is to take (Rekor's API, `ProposedEntry`).
+-- A proposed entry of the log (Rekor's API, `ProposedEntry`).
 use Rattle.std.specs.Prelude.{List, [], ◌∷◌, Bool, Option, Some, codes}
 use Rattle.serde_json.specs.Data.{Data, string}
 use Rattle.serde_json.specs.Written.{has_float}
@@ -26,6 +26,6 @@ proposed_entry_fields x =
 unfoldable pub proposed_entry_written : ProposedEntry → Data
 proposed_entry_written x = fields (proposed_entry_fields x)
 
--- whether a float stands in the spec
+-- whether the spec contains a float
 abbrev pub spec_has_float : ProposedEntry → Bool
 spec_has_float x = has_float x.spec

@@ -1,4 +1,4 @@
--- A public key that the log is searched by (Rekor's API, `SearchIndex`).
+-- A public key for a search in Rekor (its API, `SearchIndex`).
 use Rattle.std.specs.Prelude.{List, [], ◌∷◌, Option, Some, option_map, codes}
 use Rattle.serde_json.specs.Data.{Data, string}
 use Rattle.json_tables.specs.Reading.{◌>>=◌, text_of}

@@ -1,4 +1,4 @@
--- Timestamps that certificate logs signed (RFC 6962, 3.2).
+-- Signed certificate timestamps (RFC 6962, 3.2).
 use Rattle.std.specs.Prelude.{ℕ, ◌+◌, ◌*◌, List, ◌∷◌, length, nat_eq, if◌then◌else◌, Option, Some, None, Result, Ok}
 use Rattle.std.specs.Prelude.{Err, codes}
 use Rattle.serde_json.specs.Data.{Data}
@@ -24,7 +24,7 @@ signature_in (Err e) = None
 abbrev pub signature_of : List ℕ → Option (List ℕ)
 signature_of bytes = signature_in (sct_signature bytes)
 
--- the name of a log has 32 bytes
+-- the ID of a log has 32 bytes
 abbrev pub log_id_of : List ℕ → Option (List ℕ)
 log_id_of bytes = if nat_eq (length bytes) 32 then Some bytes else None
 

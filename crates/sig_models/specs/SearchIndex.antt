@@ -1,4 +1,4 @@
--- What the log's index is searched by (Rekor's API, `SearchIndex`).
+-- A search in the log's index (Rekor's API, `SearchIndex`).
 use Rattle.std.specs.Prelude.{List, [], ◌∷◌, Option, Some, option_map, codes}
 use Rattle.serde_json.specs.Data.{Data, string}
 use Rattle.json_tables.specs.Reading.{◌>>=◌, text_of}

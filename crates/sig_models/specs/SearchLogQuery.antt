@@ -1,4 +1,4 @@
--- Which entries are asked for (Rekor's API, `SearchLogQuery`).
+-- A query for entries (Rekor's API, `SearchLogQuery`).
 use Rattle.std.specs.Prelude.{List, [], ◌∷◌, Bool, false, Option, Some, option_map, unwrap_or, codes}
 use Rattle.std.specs.List.{list_any}
 use Rattle.serde_json.specs.Data.{Data, string}
@@ -28,6 +28,6 @@ query_fields x =
 unfoldable pub query_written : SearchLogQuery → Data
 query_written x = fields (query_fields x)
 
--- whether a float stands in one of the entries
+-- whether one of the entries contains a float
 abbrev pub entries_have_float : SearchLogQuery → Bool
 entries_have_float x = unwrap_or (option_map (list_any spec_has_float) x.entries) false

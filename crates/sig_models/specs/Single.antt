@@ -1,4 +1,4 @@
--- Objects of one member.
+-- Objects with one member.
 use Rattle.std.specs.Prelude.{ℕ, List, Option, Some, None}
 use Rattle.serde_json.specs.Data.{Data, Members, no_members, member}
 use Rattle.serde_json.specs.Find.{as_object}
@@ -8,6 +8,6 @@ abbrev pub single : Members → Option (List ℕ × Data)
 single (member name d no_members) = Some (name, d)
 single ms = None
 
--- the one member of an object, with its name
+-- the only member of an object, with its name
 abbrev pub single_of : Data → Option (List ℕ × Data)
 single_of d = as_object d >>= single

@@ -9,12 +9,12 @@ use json_writing::{Writes, object};
 use serde_json::Value;
 use std::alloc::{AllocError, Global};
 
-/// What an entry of a known kind has beside its kind (Rekor's API, `allOf`).
+/// The members of an entry besides its kind (Rekor's API, `allOf`).
 #[derive(Debug, Drop)]
 pub struct EntryAllOf {
-    /// The version of the kind's form, as `0.0.1`.
+    /// The version of the kind's form, for example `0.0.1`.
     pub api_version: Text,
-    /// What the kind and version say; any JSON value.
+    /// The content, by kind and version; any JSON value.
     pub spec: Json,
 }
 
@@ -54,7 +54,7 @@ impl EntryAllOf {
         EntryAllOf { api_version, spec }
     }
 
-    /// `Float` exactly where a float stands anywhere, else `Shape` exactly where the table does not read it.
+    /// Reads the members. Returns `Float` if and only if the value contains a float, else `Shape` if it does not match.
     pub fn read(alloc: Global, value: &Value) -> Result<EntryAllOf, ModelError>
         ensures { ReadsModel result all_of (view value.now) }
     {
@@ -97,7 +97,7 @@ impl ToValue for EntryAllOf {
 
     ghost written = { all_of_written };
 
-    /// Where no float stands in the spec, what it gives reads back.
+    /// Writes the members. If the spec contains no float, the result round-trips.
     #[tactic(auto, using(json_writing::proofs::Whole::document_again))]
     fn to_value(&self, alloc: Global) -> Result<Value, AllocError>
         ensures exact { IfOk result (λ v. view v ≡ all_of_written self.now) }

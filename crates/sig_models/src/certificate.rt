@@ -9,13 +9,13 @@ use json_values::{Blob, Copied, List, Text, copied};
 use serde_json::Value;
 use std::alloc::{AllocError, Global};
 
-/// Certificates as PEM texts, each signed by the next one.
+/// Certificates in PEM, each signed by the next one.
 #[derive(Debug, Drop)]
 pub struct CertificateChain {
     pub certificates: List<Text>,
 }
 
-/// A certificate with a timestamp beside it (Fulcio's API, `SigningCertificateDetachedSCT`).
+/// A certificate with a separate timestamp (Fulcio's API, `SigningCertificateDetachedSCT`).
 #[derive(Debug, Drop)]
 pub struct SigningCertificateDetachedSCT {
     pub chain: CertificateChain,
@@ -28,7 +28,7 @@ pub struct SigningCertificateEmbeddedSCT {
     pub chain: CertificateChain,
 }
 
-/// What the certificate authority answers (Fulcio's API, `SigningCertificate`).
+/// The response of Fulcio (its API, `SigningCertificate`).
 #[derive(Debug, Drop)]
 pub enum SigningCertificate {
     SignedCertificateDetachedSct(SigningCertificateDetachedSCT),

@@ -9,7 +9,7 @@ use json_writing::object;
 use serde_json::Value;
 use std::alloc::{AllocError, Global};
 
-/// What a public key is for.
+/// The algorithm of a public key.
 #[derive(Clone, Copy, Debug, PartialEq, Eq)]
 pub enum KeyAlgorithm {
     Ecdsa,
@@ -17,7 +17,7 @@ pub enum KeyAlgorithm {
     Rsa,
 }
 
-/// What a certificate is asked for with (Fulcio's API, version 1).
+/// A request for a certificate (Fulcio's API, version 1).
 #[derive(Debug, Drop)]
 pub struct CertificateRequest<'a> {
     pub algorithm: KeyAlgorithm,
@@ -27,10 +27,10 @@ pub struct CertificateRequest<'a> {
     pub signature: &'a [u8],
 }
 
-/// What a certificate is asked for with (Fulcio's API, version 2).
+/// A request for a certificate (Fulcio's API, version 2).
 #[derive(Debug, Drop)]
 pub struct CreateSigningCertificateRequest<'a> {
-    /// The PEM text of a certificate signing request (RFC 2986).
+    /// A certificate signing request in PEM (RFC 2986).
     pub certificate_signing_request: &'a [u8],
 }
 
@@ -45,7 +45,7 @@ fn algorithm_text(algorithm: KeyAlgorithm) -> &'static str
     }
 }
 
-// Padded standard base64 (RFC 4648, 4).
+// Encodes padded standard base64 (RFC 4648, 4).
 fn encoded(alloc: Global, bytes: &[u8]) -> Result<Text, AllocError>
     ensures { IfOk result (λ text. text ≡ encode_of standard bytes.now) }
 {

@@ -10,7 +10,7 @@ use json_writing::{Writes, object};
 use serde_json::Value;
 use std::alloc::{AllocError, Global};
 
-/// What the log says of a refusal (Rekor's API, `Error`).
+/// The error body of Rekor (its API, `Error`).
 #[derive(Debug, Drop)]
 pub struct Error {
     pub code: Option<i32>,
@@ -20,7 +20,7 @@ pub struct Error {
 impl Error {
     ghost use Rattle.sig_models.specs.Error.{error_of};
 
-    /// No code and no message.
+    /// Returns an error without code and message.
     pub fn new() -> Error
         ensures { result ≡ record { code = None; message = None } }
     {
@@ -30,7 +30,7 @@ impl Error {
         }
     }
 
-    /// `Float` exactly where a float stands anywhere, else `Shape` exactly where the table does not read it.
+    /// Reads an error. Returns `Float` if and only if it contains a float, otherwise `Shape` if it does not match.
     pub fn read(alloc: Global, value: &Value) -> Result<Error, ModelError>
         ensures { ReadsModel result error_of (view value.now) }
     {
@@ -70,7 +70,7 @@ impl ToValue for Error {
 
     ghost written = { error_written };
 
-    /// What it gives reads back. None is not written.
+    /// Writes the error without its members that are `None`. The result round-trips.
     #[tactic(auto, using(json_writing::proofs::Whole::document_again))]
     fn to_value(&self, alloc: Global) -> Result<Value, AllocError>
         ensures exact { IfOk result (λ v. view v ≡ error_written self.now) }

@@ -10,7 +10,7 @@ use json_writing::Writes;
 use serde_json::Value;
 use std::alloc::{AllocError, Global};
 
-/// The form of a public key that the log is searched by (Rekor's API, `SearchIndex`).
+/// The format of a public key for a search in Rekor (its API, `SearchIndex`).
 #[derive(Clone, Copy, Debug, PartialEq, Eq)]
 pub enum Format {
     Pgp,
@@ -20,7 +20,7 @@ pub enum Format {
     Tuf,
 }
 
-// The form of a text of the table.
+// Returns the format with a text of the table.
 #[tactic(auto, unfolding(crate::specs::Format::known_format))]
 fn known_format(text: &str) -> Option<Format>
     ensures { result ≡ known_format text.now }
@@ -36,7 +36,7 @@ fn known_format(text: &str) -> Option<Format>
     Some(format)
 }
 
-// The text of a form.
+// Returns the text of a format.
 #[tactic(auto, unfolding(crate::specs::Format::format_text))]
 fn format_text(format: &Format) -> &str
     ensures { result.now ≡ format_text format.now }
@@ -53,7 +53,7 @@ fn format_text(format: &Format) -> &str
 impl Format {
     ghost use Rattle.sig_models.specs.Format.{format_of};
 
-    /// `Float` exactly where the value is a float, else `Shape` exactly where it is no text of the table.
+    /// Reads a format. Returns `Float` if and only if the value is a float, else `Shape` if it is not in the table.
     pub fn read(alloc: Global, value: &Value) -> Result<Format, ModelError>
         ensures { ReadsModel result format_of (view value.now) }
     {
@@ -106,7 +106,7 @@ impl ToValue for Format {
 
     ghost written = { format_written };
 
-    /// What it gives reads back.
+    /// Writes the format. The result round-trips.
     #[tactic(auto, using(json_writing::proofs::Whole::document_again))]
     fn to_value(&self, alloc: Global) -> Result<Value, AllocError>
         ensures exact { IfOk result (λ v. view v ≡ format_written self.now) }

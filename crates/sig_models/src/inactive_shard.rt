@@ -10,14 +10,14 @@ use json_writing::{Writes, object};
 use serde_json::Value;
 use std::alloc::{AllocError, Global};
 
-/// A part of the log that takes no more entries (Rekor's API, `InactiveShardLogInfo`).
+/// A part of the log that accepts no more entries (Rekor's API, `InactiveShardLogInfo`).
 #[derive(Debug, Drop)]
 pub struct InactiveShardLogInfo {
     /// The hash at the root of its tree.
     pub root_hash: Text,
-    /// How many entries it has.
+    /// The number of entries.
     pub tree_size: u64,
-    /// What the log signed of it.
+    /// The signed tree head, as the log signed it.
     pub signed_tree_head: Text,
     pub tree_id: Text,
 }
@@ -46,7 +46,7 @@ impl InactiveShardLogInfo {
         }
     }
 
-    /// `Float` exactly where a float stands anywhere, else `Shape` exactly where the table does not read it.
+    /// Reads a shard. Returns `Float` if and only if it contains a float, otherwise `Shape` if it does not match.
     pub fn read(alloc: Global, value: &Value) -> Result<InactiveShardLogInfo, ModelError>
         ensures { ReadsModel result shard_of (view value.now) }
     {
@@ -100,7 +100,7 @@ impl ToValue for InactiveShardLogInfo {
 
     ghost written = { shard_written };
 
-    /// What it gives reads back.
+    /// Writes the shard. The result round-trips.
     #[tactic(auto, using(json_writing::proofs::Whole::document_again))]
     fn to_value(&self, alloc: Global) -> Result<Value, AllocError>
         ensures exact { IfOk result (λ v. view v ≡ shard_written self.now) }

@@ -1,5 +1,5 @@
-//! What a transparency log (Rekor) and a certificate authority (Fulcio) are asked with and answer: each is read
-//! exactly as its table says, and what is written of it reads back.
+//! The requests and responses of a transparency log (Rekor) and a certificate authority (Fulcio), read exactly by
+//! their tables; written models round-trip.
 #![tactic(auto)]
 
 mod all_of;

@@ -10,13 +10,13 @@ use thiserror::Error;
 /// Why a value is not the model.
 #[derive(Clone, Copy, Debug, PartialEq, Eq, Error)]
 pub enum ModelError {
-    /// A float stands in it.
+    /// The value contains a float.
     #[error("a float stands in the value: write its numbers as whole ones")]
     Float,
-    /// Its table does not read it.
+    /// The value does not match its table.
     #[error("the value has another shape: compare its members with those of the model")]
     Shape,
-    /// The allocator had no memory.
+    /// The allocator is out of memory.
     #[error("out of memory: free some and try again")]
     WantOfMemory,
 }
@@ -38,7 +38,7 @@ impl From<AllocError> for ModelError {
     }
 }
 
-// What a model's table reads.
+// Reads a model by its table.
 pub(crate) fn read_model<T: Reads + Drop>(alloc: Global, value: &Value) -> Result<T, ModelError>
     ensures { ReadsModel result T.reading (view value.now) }
 {

@@ -9,14 +9,14 @@ use json_writing::{Writes, object};
 use serde_json::Value;
 use std::alloc::{AllocError, Global};
 
-/// An entry that the log is to take, of any kind (Rekor's API, `ProposedEntry`).
+/// A proposed entry of the log, of any kind (Rekor's API, `ProposedEntry`).
 #[derive(Debug, Drop)]
 pub struct ProposedEntry {
-    /// The kind of the entry, as `hashedrekord`.
+    /// The kind of the entry, for example `hashedrekord`.
     pub kind: Text,
-    /// The version of that kind's form, as `0.0.1`.
+    /// The version of that kind's form, for example `0.0.1`.
     pub api_version: Text,
-    /// What the kind and version say; any JSON value.
+    /// The content, by kind and version; any JSON value.
     pub spec: Json,
 }
 
@@ -60,7 +60,7 @@ impl ProposedEntry {
         }
     }
 
-    /// `Float` exactly where a float stands anywhere, else `Shape` exactly where the table does not read it.
+    /// Reads an entry. Returns `Float` if and only if it contains a float, otherwise `Shape` if it does not match.
     pub fn read(alloc: Global, value: &Value) -> Result<ProposedEntry, ModelError>
         ensures { ReadsModel result proposed_entry_of (view value.now) }
     {
@@ -109,7 +109,7 @@ impl ToValue for ProposedEntry {
 
     ghost written = { proposed_entry_written };
 
-    /// Where no float stands in the spec, what it gives reads back.
+    /// Writes the entry. If its spec contains no float, the result round-trips.
     #[tactic(auto, using(json_writing::proofs::Whole::document_again))]
     fn to_value(&self, alloc: Global) -> Result<Value, AllocError>
         ensures exact { IfOk result (λ v. view v ≡ proposed_entry_written self.now) }

@@ -10,20 +10,20 @@ use json_writing::{Required, Writes, object};
 use serde_json::Value;
 use std::alloc::{AllocError, Global};
 
-/// A public key that the log is searched by (Rekor's API, `SearchIndex`).
+/// A public key for a search in Rekor (its API, `SearchIndex`).
 #[derive(Debug, Drop)]
 pub struct SearchIndexPublicKey {
     pub format: Format,
     /// The key itself.
     pub content: Option<Text>,
-    /// Where the key may be got.
+    /// The URL of the key.
     pub url: Option<Text>,
 }
 
 impl SearchIndexPublicKey {
     ghost use Rattle.sig_models.specs.PublicKey.{public_key_of};
 
-    /// A key of this form, with no content and no address.
+    /// Creates a key with this format, without content and URL.
     pub fn new(format: Format) -> SearchIndexPublicKey
         ensures { result ≡ record { format = format; content = None; url = None } }
     {
@@ -34,7 +34,7 @@ impl SearchIndexPublicKey {
         }
     }
 
-    /// `Float` exactly where a float stands anywhere, else `Shape` exactly where the table does not read it.
+    /// Reads a key. Returns `Float` if and only if it contains a float, otherwise `Shape` if it does not match.
     pub fn read(alloc: Global, value: &Value) -> Result<SearchIndexPublicKey, ModelError>
         ensures { ReadsModel result public_key_of (view value.now) }
     {
@@ -83,7 +83,7 @@ impl ToValue for SearchIndexPublicKey {
 
     ghost written = { public_key_written };
 
-    /// What it gives reads back. None is not written.
+    /// Writes the key without its members that are `None`. The result round-trips.
     #[tactic(auto, using(json_writing::proofs::Whole::document_again))]
     fn to_value(&self, alloc: Global) -> Result<Value, AllocError>
         ensures exact { IfOk result (λ v. view v ≡ public_key_written self.now) }

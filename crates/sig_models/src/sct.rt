@@ -15,26 +15,26 @@ pub enum SCTVersion {
     V1,
 }
 
-/// A timestamp that a certificate log signed, apart from the certificate (RFC 6962, 3.2).
+/// A signed certificate timestamp, separate from the certificate (RFC 6962, 3.2).
 #[derive(Debug, Drop)]
 pub struct InnerDetachedSCT {
     pub sct_version: SCTVersion,
-    /// The name of the log, 32 bytes.
+    /// The ID of the log, 32 bytes.
     pub id: Blob,
     /// In milliseconds since 1970.
     pub timestamp: u64,
-    /// The signature alone, without its algorithms and its length.
+    /// The signature only, without its algorithms and its length.
     pub signature: Blob,
     pub extensions: Blob,
 }
 
-/// Why bytes are no signature of a timestamp.
+/// Why bytes are not the signature of a timestamp.
 #[derive(Clone, Copy, Debug, PartialEq, Eq, Error)]
 pub enum SctError {
     /// There are fewer than four bytes.
     #[error("a signature of a timestamp has four bytes before it: give them too")]
     TooShort,
-    /// The length in the third and fourth byte is not that of the rest.
+    /// The length in the third and fourth byte differs from that of the rest.
     #[error("the length before the signature is another one: give all bytes and no more")]
     LengthMismatch,
 }
@@ -45,8 +45,8 @@ impl Copied for SctError {
     }
 }
 
-/// The signature in the bytes of a digitally signed element (RFC 5246, 4.7): two bytes for the algorithms, two for the
-/// length of the signature, and the signature.
+/// Returns the signature in the bytes of a digitally-signed element (RFC 5246, 4.7): two bytes for the algorithms, two
+/// for the length of the signature, and the signature.
 pub fn read_sct_signature(bytes: &[u8]) -> Result<&[u8], SctError>
     ensures ok { IfOk result (λ signature. sct_signature bytes.now ≡ Ok signature.now) }
     ensures short { IsErrOf result SctError.TooShort → sct_signature bytes.now ≡ Err why.TooShort }

@@ -10,19 +10,19 @@ use json_writing::{Writes, object};
 use serde_json::Value;
 use std::alloc::{AllocError, Global};
 
-/// What the log's index is searched by (Rekor's API, `SearchIndex`).
+/// A search in the log's index (Rekor's API, `SearchIndex`).
 #[derive(Debug, Drop)]
 pub struct SearchIndex {
     pub email: Option<Text>,
     pub public_key: Option<SearchIndexPublicKey>,
-    /// The algorithm, a colon and the digits, as `sha256:..`.
+    /// The algorithm, a colon and the digits, for example `sha256:..`.
     pub hash: Option<Text>,
 }
 
 impl SearchIndex {
     ghost use Rattle.sig_models.specs.SearchIndex.{search_index_of};
 
-    /// Searches by nothing yet.
+    /// Creates an empty search.
     pub fn new() -> SearchIndex
         ensures { result ≡ record { email = None; public_key = None; hash = None } }
     {
@@ -33,7 +33,7 @@ impl SearchIndex {
         }
     }
 
-    /// `Float` exactly where a float stands anywhere, else `Shape` exactly where the table does not read it.
+    /// Reads a search. Returns `Float` if and only if it contains a float, otherwise `Shape` if it does not match.
     pub fn read(alloc: Global, value: &Value) -> Result<SearchIndex, ModelError>
         ensures { ReadsModel result search_index_of (view value.now) }
     {
@@ -82,7 +82,7 @@ impl ToValue for SearchIndex {
 
     ghost written = { search_index_written };
 
-    /// What it gives reads back. None is not written.
+    /// Writes the search without its members that are `None`. The result round-trips.
     #[tactic(auto, using(json_writing::proofs::Whole::document_again))]
     fn to_value(&self, alloc: Global) -> Result<Value, AllocError>
         ensures exact { IfOk result (λ v. view v ≡ search_index_written self.now) }

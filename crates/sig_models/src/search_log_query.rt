@@ -11,7 +11,7 @@ use json_writing::{Writes, object};
 use serde_json::Value;
 use std::alloc::{AllocError, Global};
 
-/// Which entries are asked for (Rekor's API, `SearchLogQuery`).
+/// A query for entries (Rekor's API, `SearchLogQuery`).
 #[derive(Debug, Drop)]
 pub struct SearchLogQuery {
     pub entry_uuids: Option<List<Text>>,
@@ -22,7 +22,7 @@ pub struct SearchLogQuery {
 impl SearchLogQuery {
     ghost use Rattle.sig_models.specs.SearchLogQuery.{query_of};
 
-    /// Asks for nothing yet.
+    /// Creates an empty query.
     pub fn new() -> SearchLogQuery
         ensures { result ≡ record { entry_uuids = None; log_indexes = None; entries = None } }
     {
@@ -33,7 +33,7 @@ impl SearchLogQuery {
         }
     }
 
-    /// `Float` exactly where a float stands anywhere, else `Shape` exactly where the table does not read it.
+    /// Reads a query. Returns `Float` if and only if it contains a float, otherwise `Shape` if it does not match.
     pub fn read(alloc: Global, value: &Value) -> Result<SearchLogQuery, ModelError>
         ensures { ReadsModel result query_of (view value.now) }
     {
@@ -85,7 +85,7 @@ impl ToValue for SearchLogQuery {
 
     ghost written = { query_written };
 
-    /// Where no float stands in an entry, what it gives reads back. None is not written.
+    /// Writes the query without its members that are `None`. If its entries contain no float, the result round-trips.
     #[tactic(auto, using(json_writing::proofs::Whole::document_again))]
     fn to_value(&self, alloc: Global) -> Result<Value, AllocError>
         ensures exact { IfOk result (λ v. view v ≡ query_written self.now) }

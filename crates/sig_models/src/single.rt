@@ -16,7 +16,7 @@ fn single_member(members: &Map<String, Value>) -> Option<(&str, &Value)>
     Some((name.as_str(), member))
 }
 
-/// The one member of an object, with its name; none where the value is no object, or has no member or more.
+/// Returns the only member of an object, with its name, or `None` if the value is not an object with one member.
 pub(crate) fn single(value: &Value) -> Option<(&str, &Value)>
     ensures { option_map (λ m. (m.0.now, view m.1.now)) result ≡ single_of (view value.now) }
 {

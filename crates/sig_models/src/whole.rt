@@ -13,7 +13,7 @@ use serde_json::{Map, Value, put};
 use std::alloc::{AllocError, Global};
 use std::marker::Model;
 
-/// A whole number of 32 bits. A contract sees the number.
+/// A 32-bit integer. A contract sees the number.
 #[derive(Drop)]
 pub(crate) struct WholeNumber {
     inner: i32,
@@ -78,7 +78,7 @@ pub(crate) fn wholes(
     }
 }
 
-/// A whole number of 64 bits that is not negative.
+/// A non-negative integer of 64 bits.
 #[derive(Drop)]
 pub(crate) struct Size {
     pub size: u64,

@@ -1,4 +1,4 @@
--- What a call comes to whose answer may be kept.
+-- The result of a call whose response may be cached.
 use Rattle.std.proofs.Common.{◌≡◌, ℕ, Bool, true, false, List, Option, Some, None, Result, Ok, Err, refl, sym, ap, subst}
 use Rattle.std.specs.Prelude.{option_map}
 use Rattle.std.specs.Result.{IsErrAnd}
@@ -18,16 +18,16 @@ use Rattle.sig_calls.specs.Error.{is_memory}
 use Rattle.sig_calls.specs.Clients.{Kept, Plain, Row}
 use Rattle.sig_calls.specs.Caching.{Cache, known, keeping, known_or, recalled, cached}
 
--- memory was wanting before anything was done
+-- memory ran out before anything was done
 pub absent : {A : Type 0} {p : Row A} {link : Link} {k : Kept} {r : Result A SigstoreError} → IsErrAnd r (λ e. e ≡ refusal.WantOfMemory) → Meets is_memory p link link k k r
 absent {p = p} {link = link} {k = k} {r = r} is = let at = err_from_is_err_and r is in rw (at.1, at.2) (Meets-memory is_memory p link k refusal.WantOfMemory refl)
 
 module _ {A : Type 0} (cache : Cache A) (key : List ℕ) (now : ℕ) (p : Plain A) where
-  -- what is kept of this answer, where x is
+  -- what is cached with this response, if the client caches
   abbrev pub with_answer : A → Option Answers → Option Answers
   with_answer a x = option_map (keep (entry key now (cache.kept_as a))) x
 
-  -- it is kept
+  -- the response is cached
   keeps : {link : Link} {k : Memory} {x : Option Answers} (a : A) → Meets is_memory (keeping cache key now a) link link (k, x) (k, with_answer a x) (Ok tt)
   unfolding keeping
   keeps {link} {k} {x} a = Meets-recall _ (Meets-keep (k, with_answer a x) (Done (Ok tt)) (Meets-ok is_memory link (k, with_answer a x) tt))
@@ -40,28 +40,28 @@ module _ {A : Type 0} (cache : Cache A) (key : List ℕ) (now : ℕ) (p : Plain 
   unfolding recalled
   by_known a is met = Meets-recall _ (rw is met)
 
-  -- a fresh answer was kept
+  -- a fresh response was cached
   pub recall : {link : Link} {k : Memory} {x : Option Answers} (a : A) → known cache key now x ≡ Some a → Meets is_memory (recalled cache key now p) link link (k, x) (k, x) (Ok a)
   recall {link} {k} {x} a is = by_known (Some a) is (Meets-ok is_memory link (k, x) a)
 
-  -- the plain call was refused, or cut off
+  -- the uncached call was refused, or was cut short
   pub not_given : {old new : Link} {k l : Memory} {x : Option Answers} {e : SigstoreError} → known cache key now x ≡ None → Meets is_memory p old new k l (Err e) → Meets is_memory (recalled cache key now p) old new (k, x) (l, x) (Err e)
   unfolding then_kept
   not_given {x = x} is met = by_known None is (Meets-refused then_kept (Meets-lifted x met))
 
-  -- memory was wanting to keep the plain call's answer
+  -- memory ran out while caching the uncached call's response
   pub cut_after : {old new : Link} {k l : Memory} {x : Option Answers} (a : A) {r : Result A SigstoreError} → known cache key now x ≡ None
       → Meets is_memory p old new k l (Ok a) → IsErrAnd r (λ e. e ≡ refusal.WantOfMemory) → Meets is_memory (recalled cache key now p) old new (k, x) (l, x) r
   unfolding then_kept
   cut_after {x = x} a is met err = by_known None is (Meets-next then_kept (Meets-lifted x met) (absent err))
 
-  -- the plain call answered, and its answer is kept
+  -- the uncached call returned a response, which is cached
   pub given : {old new : Link} {k l : Memory} {x : Option Answers} (a : A) → known cache key now x ≡ None
       → Meets is_memory p old new k l (Ok a) → Meets is_memory (recalled cache key now p) old new (k, x) (l, with_answer a x) (Ok a)
   unfolding then_kept
   given {new = new} {l = l} {x = x} a is met = by_known None is (Meets-next then_kept (Meets-lifted x met) (Meets-next (λ _. Done (Ok a)) (keeps a) (Meets-ok is_memory new (l, with_answer a x) a)))
 
-  -- the reference reads back
+  -- the reference round-trips
   pub reads : {old new : Link} {k l : Kept} {r : Result A SigstoreError} (b : Bool) → b ≡ true → Meets is_memory (recalled cache key now p) old new k l r → Meets is_memory (cached b cache key now p) old new k l r
   reads b is met = rw is met
 
@@ -69,7 +69,7 @@ module _ {A : Type 0} (cache : Cache A) (key : List ℕ) (now : ℕ) (p : Plain 
   pub unread : {old new : Link} {k l : Memory} {x : Option Answers} {r : Result A SigstoreError} (b : Bool) → b ≡ false → Meets is_memory p old new k l r → Meets is_memory (cached b cache key now p) old new (k, x) (l, x) r
   unread {x = x} b is met = rw is (Meets-lifted x met)
 
-  -- where no answers are kept, it is the plain call
+  -- without a cache, it is the uncached call
   plainly_recalled : {old new : Link} {k l : Memory} (r : Result A SigstoreError) → Meets is_memory p old new k l r → Meets is_memory (recalled cache key now p) old new (k, None) (l, None) r
   plainly_recalled (Ok a) met = given a refl met
   plainly_recalled (Err e) met = not_given refl met

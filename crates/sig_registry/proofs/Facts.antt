@@ -1,4 +1,4 @@
--- The facts of a call whose answer may be kept, exit by exit.
+-- The facts of a call whose response may be cached, exit by exit.
 use Rattle.std.proofs.Common.{◌≡◌, inl, ℕ, Bool, true, false, List, [], Option, Some, None, Result, Ok, Err, refl, sym, ap, subst, ◌∙◌}
 use Rattle.std.specs.Prelude.{IsErr, option_map}
 use Rattle.std.specs.Result.{IsErrAnd}
@@ -37,7 +37,7 @@ use Rattle.sig_calls.specs.Log.{Call, image_called, kind_called, key_called, ans
 use Rattle.sig_registry.proofs.CachedAnswers as kept
 use Rattle.sig_registry.proofs.Logs.{IsCache, logged as logged_call}
 
--- ---- how the four kinds are kept
+-- ---- how the four kinds are cached
 
 pub digests_kept : IsCache digests
 digests_kept = record { kind_is = λ a. refl; reads = reads } where
@@ -63,7 +63,7 @@ referrers_kept = record { kind_is = λ a. refl; reads = reads } where
   reads (Referrers index) a is = let same : index ≡ a = cc is in ap Referrers same
   reads _ a is = absurd (cc is)
 
--- ---- whether the reference reads back
+-- ---- whether the reference round-trips
 
 key_there : (b : Bool) (key kept : List ℕ) → key_if b key ≡ Some kept → (b ≡ true) × (kept ≡ key)
 key_there true key kept is = (refl, cc is)
@@ -81,7 +81,7 @@ Memory r = IsErrAnd r (λ e. e ≡ refusal.WantOfMemory)
 memory_says : {A : Type 0} (r said : Result A SigstoreError) → Memory r → Says r said
 memory_says {A} r said is = let at = err_from_is_err_and r is in let whole : r ≡ Err refusal.WantOfMemory = at.1 ∙ ap Err at.2 in subst (λ (x : Result A SigstoreError). Says x said) (sym whole) tt
 
--- what a call shows, but for where its faults come from and where credentials go
+-- the clauses of a call, except for the causes of its faults and its confinement
 pub record Facts {A : Type 0} (cache : Cache A) (call : Call) (now : ℕ) (row : Settings → Plain A) (c d : Client) (old new : Link) (r : Result A SigstoreError) : Type 0 where
   pub run : (s : Settings) → Fulfils is_memory s (cached (reads_back (image_called call)) cache (key_called call) now (row s)) c d old new r
   pub refused : RefusalKeeps c d r
@@ -95,11 +95,11 @@ module _ {A : Type 0} (cache : Cache A) (law : IsCache cache) (call : Call) (now
   facts : {c d : Client} {old new : Link} {r : Result A SigstoreError} → ((s : Settings) → Fulfils is_memory s (cached (reads_back (image_called call)) cache (key_called call) now (row s)) c d old new r) → RefusalKeeps c d r → Recalled cache call now c d old new r → Of c d old new r
   facts run refused recalled = record { run = run; refused = refused; recalled = recalled; logged = λ s. logged_call cache law call now row kind_is is_call s (run s) refused }
 
-  -- where no answer is known, none is given again
+  -- if no response is known, none is returned again
   unknown : {c d : Client} {old new : Link} {r : Result A SigstoreError} → known cache (key_called call) now c.kept.1 ≡ None → Recalled cache call now c d old new r
   unknown none = record { recalled = λ answer reads is. absurd (cc (none, is)) }
 
-  -- memory was wanting before anything was done
+  -- memory ran out before anything was done
   pub absent : {c : Client} {link : Link} {r : Result A SigstoreError} → Memory r → Of c c link link r
   absent {c} {link} {r} err = facts (λ s. record { made = λ at. (at, kept.absent err) }) (λ _. refl) (record { recalled = λ answer reads is. (memory_says r (Ok answer) err, refl, refl) })
 
@@ -110,7 +110,7 @@ module _ {A : Type 0} (cache : Cache A) (law : IsCache cache) (call : Call) (now
     read_back : reads_back (image_called call) ≡ true
     read_back = (key_there (reads_back (image_called call)) (key_called call) key reads).0
 
-    -- a fresh answer is given again
+    -- a fresh response is returned again
     pub recalls : {x : Option Answers} {e : Engine} {link : Link} (a : A) → known cache key now x ≡ Some a → Of (engine_state e x) (engine_state e x) link link (Ok a)
     recalls {x} {e} {link} a is = facts
         (λ s. record { made = λ at. (at, kept.reads cache (key_called call) now (row s) (reads_back (image_called call)) read_back (kept.recall cache (key_called call) now (row s) a (at_key x is))) })
@@ -119,7 +119,7 @@ module _ {A : Type 0} (cache : Cache A) (law : IsCache cache) (call : Call) (now
           at_answer : (answer : A) → known cache (key_called call) now x ≡ Some answer → Says (Ok a) (Ok answer)
           at_answer answer found = let same : Some a ≡ Some answer = sym (at_key x is) ∙ found in cc same
 
-    -- the plain call was refused, or cut off
+    -- the uncached call was refused, or was cut short
     pub refuses : {x : Option Answers} {e f : Engine} {old new : Link} {y : SigstoreError} {r : Result A SigstoreError} → known cache key now x ≡ None → ((s : Settings) → PlainlyMade s (row s) e f old new (Err y)) → IsErrAnd r (λ z. z ≡ y) → Of (engine_state e x) (engine_state f x) old new r
     refuses {x} {e} {f} {old} {new} {y} {r} is plain err = let at = err_from_is_err_and r err in let whole : r ≡ Err y = at.1 ∙ ap Err at.2 in
         subst (λ (z : Result A SigstoreError). Of (engine_state e x) (engine_state f x) old new z) (sym whole) (facts
@@ -127,51 +127,51 @@ module _ {A : Type 0} (cache : Cache A) (law : IsCache cache) (call : Call) (now
         (λ _. refl)
         (unknown (at_key x is)))
 
-    -- memory was wanting to keep the plain call's answer
+    -- memory ran out while caching the uncached call's response
     pub cuts : {x y : Answers} {e f : Engine} {old new : Link} {a : A} {r : Result A SigstoreError} → known cache key now (Some x) ≡ None → ((s : Settings) → PlainlyMade s (row s) e f old new (Ok a)) → Memory r → y ≡ x → Of (engine_state e (Some x)) (engine_state f (Some y)) old new r
     cuts {x} {y} {e} {f} {old} {new} {a} {r} is plain err same = subst (λ z. Of (engine_state e (Some x)) (engine_state f (Some z)) old new r) (sym same) (facts
         (λ s. record { made = λ at. let made = (plain s).made at in (made.0, kept.reads cache (key_called call) now (row s) (reads_back (image_called call)) read_back (kept.cut_after cache (key_called call) now (row s) a (at_key (Some x) is) made.1 err)) })
         (λ _. refl)
         (unknown (at_key (Some x) is)))
 
-    -- the plain call answered, and its answer is kept under the key
+    -- the uncached call returned a response, which is cached under the key
     pub keeps : {x y : Answers} {e f : Engine} {old new : Link} {a : A} → known cache key now (Some x) ≡ None → ((s : Settings) → PlainlyMade s (row s) e f old new (Ok a)) → y ≡ keep (entry key now (cache.kept_as a)) x → Of (engine_state e (Some x)) (engine_state f (Some y)) old new (Ok a)
     keeps {x} {y} {e} {f} {old} {new} {a} is plain same = subst (λ z. Of (engine_state e (Some x)) (engine_state f (Some z)) old new (Ok a)) (ap (λ k. keep (entry k now (cache.kept_as a)) x) (sym (key_there (reads_back (image_called call)) (key_called call) key reads).1) ∙ sym same) (facts
         (λ s. record { made = λ at. let made = (plain s).made at in (made.0, kept.reads cache (key_called call) now (row s) (reads_back (image_called call)) read_back (kept.given cache (key_called call) now (row s) a (at_key (Some x) is) made.1)) })
         (λ h. absurd (cc h))
         (unknown (at_key (Some x) is)))
 
-  -- the reference does not read back
+  -- the reference does not round-trip
   pub uncached : {x : Option Answers} {e f : Engine} {old new : Link} {r : Result A SigstoreError} → key_if (reads_back (image_called call)) (key_called call) ≡ None → ((s : Settings) → PlainlyMade s (row s) e f old new r) → Of (engine_state e x) (engine_state f x) old new r
   uncached missing plain = let unread = key_missing (reads_back (image_called call)) (key_called call) missing in facts
       (λ s. record { made = λ same. let made = (plain s).made same in (made.0, kept.unread cache (key_called call) now (row s) (reads_back (image_called call)) unread made.1) })
       (λ _. refl)
       (record { recalled = λ answer reads is. absurd (cc (unread, reads)) })
 
-  -- no answers are kept
+  -- the client does not cache
   pub plainly : {e f : Engine} {old new : Link} {r : Result A SigstoreError} → ((s : Settings) → PlainlyMade s (row s) e f old new r) → Of (engine_state e None) (engine_state f None) old new r
   plainly {r = r} plain = facts
       (λ s. record { made = λ same. let made = (plain s).made same in (made.0, kept.plainly cache (key_called call) now (row s) (reads_back (image_called call)) r made.1) })
       (λ _. refl)
       (unknown refl)
 
--- a call that is never kept
+-- a call that is never cached
 pub never_kept : {A : Type 0} {x : Option Answers} {s : Settings} {p : Plain A} {e f : Engine} {old new : Link} {r : Result A SigstoreError} → PlainlyMade s p e f old new r → Fulfils is_memory s (lifted p) (engine_state e x) (engine_state f x) old new r
 never_kept {x = x} plain = record { made = λ same. let made = plain.made same in (made.0, Meets-lifted x made.1) }
 
 -- ---- faults
 
--- want of memory holds no refusal of the registry's client
+-- an out-of-memory error holds no error of the registry's client
 pub memory_holds_none : {A : Type 0} (f : OciDistributionError) (P : Type 0) (r : Result A SigstoreError) → Memory r → IsRefusedBy f r → P
 memory_holds_none f P (Ok a) is held = absurd is
 memory_holds_none f P (Err e) is held = absurd (cc (ap registry_refusal is, held))
 
--- a refusal that is handed on holds what it held
+-- an error that is passed on holds the same error
 pub same_held : {B : Type 0} (f : OciDistributionError) (P : Type 0) (e : SigstoreError) (r : Result B SigstoreError) → IsErrAnd r (λ x. x ≡ e) → (registry_refusal e ≡ Some f → P) → IsRefusedBy f r → P
 same_held f P e (Ok b) is h held = absurd is
 same_held f P e (Err x) is h held = h (ap registry_refusal (sym is) ∙ held)
 
--- ---- where nothing was asked
+-- ---- no request was sent
 
 nothing_within : (k : Memories) (moment : ℕ) (image : Reference) (handed : Option RegistryAuth) (t : Settings) → Within (pulling k (within t moment) image handed) t k []
 nothing_within k moment image handed t = record { confined = tt; kept = λ key moment token h. inl h; stored = λ registry a h. inl h }

@@ -1,4 +1,4 @@
--- Two calls of the registry's client, one after the other.
+-- Two calls of the registry's client in sequence.
 use Rattle.std.proofs.Common.{◌≡◌, ◌≤◌, inl, ℕ, Bool, true, false, List, Option, Some, Result, Ok, Err, refl, sym, ap, subst, ◌∙◌, arith}
 use Rattle.std.specs.Prelude.{if◌then◌else◌}
 use Rattle.std.specs.Result.{IsErrAnd}
@@ -37,7 +37,7 @@ use Rattle.sig_calls.specs.Clients.{Plain}
 use Rattle.sig_registry.specs.States.{PlainlyMade}
 use Rattle.oci_engine.specs.Kept.{memory_of}
 
--- a refusal that is the result of both
+-- an error that is the result of both
 result_is : {B : Type 0} (e : SigstoreError) (r : Result B SigstoreError) → IsErrAnd r (λ x. x ≡ e) → r ≡ Err e
 result_is e r is = let at = err_from_is_err_and r is in at.1 ∙ ap Err at.2
 
@@ -49,7 +49,7 @@ made_refused {A} {B} s {p} f {c} {d} {old} {new} e r first is = record { made = 
       let h : (d.settings ≡ s) × Meets is_memory p old new (memory_of c) (memory_of d) (Err e) = first.made same in
       (h.0, subst (λ z. Meets is_memory (p >>= f) old new (memory_of c) (memory_of d) z) (sym (result_is e r is)) (Meets-refused f h.1))
 
--- both were made
+-- both succeeded
 pub made_next : {A B : Type 0} (s : Settings) {p : Plain A} (f : A → Plain B) {c m d : Client} {old mid new : Link} (a : A) (r : Result B SigstoreError) → PlainlyMade s p c m old mid (Ok a) → PlainlyMade s (f a) m d mid new r → PlainlyMade s (p >>= f) c d old new r
 made_next {A} {B} s {p} f {c} {m} {d} {old} {mid} {new} a r first second = record { made = by_settings } where
   by_settings : c.settings ≡ s → (d.settings ≡ s) × Meets is_memory (p >>= f) old new (memory_of c) (memory_of d) r
@@ -58,14 +58,14 @@ made_next {A} {B} s {p} f {c} {m} {d} {old} {mid} {new} a r first second = recor
       let g : (d.settings ≡ s) × Meets is_memory (f a) mid new (memory_of m) (memory_of d) r = second.made h.0 in
       (g.0, Meets-next f h.1 g.1)
 
--- the first one's refusal is the result
+-- the first one's error is the result
 pub refused_fault : {A B : Type 0} (called : Called) (text : List ℕ) (given : Result A OciDistributionError) (e : SigstoreError) (r : Result B SigstoreError) (P : Type 0) → (given ≡ Err engine.TransportFault → P) → Says (Err e) (worded called text given) → IsErrAnd r (λ x. x ≡ e) → IsRefusedBy engine.TransportFault r → P
 refused_fault {A} {B} called text given e r P fault says is held = worded_fault called text given (Err e) P fault says (let Q : Result B SigstoreError → Type 0 = IsRefusedBy engine.TransportFault in subst Q (result_is e r is) held)
 
 pub refused_no_sink : {A B : Type 0} (called : Called) (text : List ℕ) (Why : List Exchange → ℕ → OciDistributionError → Type 0) (old new : Link) (given : Result A OciDistributionError) (e : SigstoreError) (r : Result B SigstoreError) → ((c : List Exchange) (n : ℕ) → Why c n engine.SinkFault → ⊥) → RefusedFor Why old new given → Says (Err e) (worded called text given) → IsErrAnd r (λ x. x ≡ e) → NoSinkFault r
 refused_no_sink {A} {B} called text Why old new given e r never causes says is held = worded_no_sink called text Why old new given (Err e) never causes says (let Q : Result B SigstoreError → Type 0 = IsRefusedBy engine.SinkFault in subst Q (result_is e r is) held)
 
--- an answer in the words of the call is the engine's
+-- a response with the call's context is the engine's response
 pub worded_ok : {A : Type 0} (called : Called) (text : List ℕ) (r : Result A OciDistributionError) (a : A) → Says (Ok a) (worded called text r) → r ≡ Ok a
 worded_ok called text (Ok b) a is = let same : b ≡ a = cc is in ap Ok same
 worded_ok called text (Err e) a is = by_memory (engine_is_memory e) is where
@@ -73,13 +73,13 @@ worded_ok called text (Err e) a is = by_memory (engine_is_memory e) is where
   by_memory true is = absurd (cc is)
   by_memory false is = absurd (cc is)
 
--- the count of a call that was answered does not fall, so a fault in the second is one of both
+-- the fault count does not decrease in a successful call, so a fault in the second call is a fault of both
 pub rose_in_second : {A : Type 0} {p : Engine A} {old mid : Link} {k l : Memory} {r : Result A OciDistributionError} {a : A} {n : ℕ} → Meets engine_is_memory p old mid k l r → r ≡ Ok a → Rose mid.faults n → Rose old.faults n
 rose_in_second {p = p} {old = old} {mid = mid} {k = k} {l = l} {a = a} {n = n} met is rose = by_answer (rw is at met) where
   by_answer : Meets engine_is_memory p old mid k l (Ok a) → Rose old.faults n
   by_answer h = let le : old.faults ≤ mid.faults = Runs-count p k l old.faults mid.faults h.outcome.conversation (Ok a) h.outcome.runs in omega (arith, le, rose)
 
--- where credentials go in both
+-- where credentials are sent in both
 pub first_confined : (x : Entry) (s : Settings) (l : Memory) {old new : Link} → Told (Within x s l) old new → Told (WithinReferrers x s l) old new
 first_confined x s l told = record { conversation = told.conversation; told = told.told; holds = inl told.holds }
 

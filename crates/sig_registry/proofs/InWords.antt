@@ -1,4 +1,4 @@
--- Calls of the registry's client, in the words of the calls here.
+-- Calls of the registry's client, with the context of the calls here.
 use Rattle.std.proofs.Common.{◌≡◌, ℕ, Bool, true, false, List, Option, Some, None, Result, Ok, Err, refl, sym, ap, subst, ◌∙◌}
 use Rattle.std.specs.Prelude.{MatchBool, if◌then◌else◌}
 use Rattle.oci_transport.specs.declared.message.Exchange.{Exchange}
@@ -41,7 +41,7 @@ abbrev wants : {A : Type 0} → Result A SigstoreError → Bool
 wants (Ok a) = false
 wants (Err e) = is_memory e
 
--- memory cut the call off
+-- an out-of-memory error cut the call short
 cut : {A : Type 0} (p : Plain A) {old new : Link} {k l : Memory} (s : Result A SigstoreError) → Breaks p old new k l → Says s (Err sigstore.WantOfMemory) → Meets is_memory p old new k l s
 cut p (Ok a) h w = absurd (true_is_not_false (ap wants w))
 cut {A} p {old} {new} {k} {l} (Err e) h w = record { outcome = cut_off (is_memory e) refl w } where
@@ -58,13 +58,13 @@ in_the_words {A} called image {p} {old} {new} {k} {l} (Err e) s h w = by_memory 
   by_memory true is h = cut (bind p (λ x. Done (worded called (whole_text image) x))) s (Breaks-first (λ x. Done (worded called (whole_text image) x)) h) (rw is at w)
   by_memory false is h = Meets-caught (λ x. Done (worded called (whole_text image) x)) h (said s w)
 
--- a call of a client that keeps its settings
+-- a call of a client whose settings are unchanged
 pub made : {A : Type 0} (called : Called) (image : Reference) (row : Settings → Engine A) (s : Settings) {c d : Client} {old new : Link} {r : Result A OciDistributionError} {t : Result A SigstoreError}
     → d.settings ≡ c.settings → Meets engine_is_memory (row c.settings) old new (memory_of c) (memory_of d) r → Says t (worded called (whole_text image) r)
     → PlainlyMade s (in_words called image (row s)) c d old new t
 made called image row s {c} {d} {old} {new} {r} {t} kept met says = record { made = λ same. (kept ∙ same, rw (sym same) (in_the_words called image r t met says)) }
 
--- ---- what a refusal holds
+-- ---- the error that an error holds
 
 not_memory : (e : SigstoreError) (f : OciDistributionError) → is_memory e ≡ true → registry_refusal e ≡ Some f → ⊥
 not_memory sigstore.WantOfMemory f is held = absurd (cc held)
@@ -84,7 +84,7 @@ by_engine false called text e f x says held =
     let both : Some e ≡ Some f = sym (held_refusal called text e) ∙ ap registry_refusal same ∙ held in
     cc both
 
--- a refusal of the registry's client that the call's holds is what the client answered
+-- if the call's error holds an error of the registry's client, the client returned that error
 pub worded_refusal : {A : Type 0} (called : Called) (text : List ℕ) (f : OciDistributionError) (r : Result A OciDistributionError) (s : Result A SigstoreError) → Says s (worded called text r) → IsRefusedBy f s → r ≡ Err f
 worded_refusal called text f r (Ok a) says held = absurd held
 worded_refusal {A} called text f r (Err x) says held = by_memory (is_memory x) refl says where
@@ -99,7 +99,7 @@ worded_refusal {A} called text f r (Err x) says held = by_memory (is_memory x) r
 pub worded_fault : {A : Type 0} (called : Called) (text : List ℕ) (r : Result A OciDistributionError) (s : Result A SigstoreError) (P : Type 0) → (r ≡ Err engine_refusal.TransportFault → P) → Says s (worded called text r) → IsRefusedBy engine_refusal.TransportFault s → P
 worded_fault called text r s P fault says held = fault (worded_refusal called text engine_refusal.TransportFault r s says held)
 
--- where the client's causes leave no fault of a sink
+-- if the client's causes exclude a fault of a sink
 pub worded_no_sink : {A : Type 0} (called : Called) (text : List ℕ) (Why : List Exchange → ℕ → OciDistributionError → Type 0) (old new : Link) (r : Result A OciDistributionError) (s : Result A SigstoreError) → ((c : List Exchange) (n : ℕ) → Why c n engine_refusal.SinkFault → ⊥) → RefusedFor Why old new r → Says s (worded called text r) → NoSinkFault s
 worded_no_sink {A} called text Why old new r s never causes says held = by_result r causes (worded_refusal called text engine_refusal.SinkFault r s says held) where
   by_result : (r : Result A OciDistributionError) → RefusedFor Why old new r → r ≡ Err engine_refusal.SinkFault → ⊥

@@ -1,4 +1,4 @@
--- Answers over all calls of a client: each came of a call that was made in full.
+-- Responses over all calls of a client: each comes from a call that was made in full.
 use Rattle.std.proofs.Common.{◌≡◌, ◌<◌, ◌≤◌, ◌-◌, inl, inr, ◌⊎◌, ℕ, Bool, true, false, List, [], ◌∷◌, ◌++◌, Option, Some, None, Result, Ok, Err, refl, sym, ◌∙◌, ap, append-nil, subst, arith}
 use Rattle.std.specs.Prelude.{if◌then◌else◌, cond, not, ◌&&◌, nat_le, nat_lt, bytes_eq, find, filter, option_map, option_and_then, IsErr, MatchBool}
 use Rattle.std.specs.Bool.{Decides}
@@ -32,7 +32,7 @@ use Rattle.sig_calls.specs.Clients.{Kept, Plain, Row, Client, Fulfils, RefusalKe
 use Rattle.sig_calls.specs.Caching.{Cache, known, keeping, known_or, recalled, cached}
 use Rattle.sig_calls.specs.Log.{Call, DigestCall, ManifestCall, ImageCall, ReferrersCall, image_called, kind_called, key_called, answered, answering, call_made, Place, IsStep, AnyOf, IsOrigin, IsSource, HasSource, IsRun, EachBacked, IsBacked, place_of, IsLawful, Logged}
 
--- ---- kept answers
+-- ---- cached responses
 
 same_texts : (a b : List ℕ) → bytes_eq a b ≡ true → a ≡ b
 same_texts a b h = by_test (bytes_eq a b) h (bytes_eq-Decides a b) where
@@ -58,7 +58,7 @@ of_entry kind key e h = let both = both_true (same_kind (kind_of e.answer) kind)
 fresh_ages : (now since : ℕ) → is_fresh now since ≡ true → (since ≤ now) × (now - since < 60)
 fresh_ages now since h = let both = both_true (nat_le since now) (nat_lt (now - since) 60) h in (leb-true since now both.0, ltb-true (now - since) 60 both.1)
 
--- an entry of this kind and key, with what backs it
+-- an entry of this kind and key, with the call that backs it
 abbrev Backs : Settings → Kind → List ℕ → Entry → List Place → Type 0
 Backs s kind key e log = (kind_of e.answer ≡ kind) × (e.key ≡ key) × AnyOf (IsOrigin s e) log
 
@@ -69,12 +69,12 @@ found_backed s kind key (x ∷ es) e log is h = by_test (is_of kind key x) refl 
   by_test true of is later = let same : x ≡ e = cc is in let at = of_entry kind key x of in subst (λ y. Backs s kind key y log) same (at.0, at.1, h.0)
   by_test false of is later = later is
 
--- ---- calls that are told apart by their keys
+-- ---- calls with equal keys are equal
 
 same_image : (a b : Reference) → reads_back a ≡ true → reads_back b ≡ true → whole_text a ≡ whole_text b → a ≡ b
 same_image a b first second same = let both : Ok a ≡ Ok b = sym (reads_back-means a first) ∙ ap reference_of same ∙ reads_back-means b second in cc both
 
--- calls of one kind and key are one call, where their references read back
+-- calls of one kind and key are the same call, if their references round-trip
 pub same_call : (p q : Call) → kind_called p ≡ kind_called q → key_called p ≡ key_called q → reads_back (image_called p) ≡ true → reads_back (image_called q) ≡ true → p ≡ q
 same_call (DigestCall a x) (DigestCall b y) kind key first second = let told = (manifest_keys_tell a b x y).0 key in let image = same_image a b first second told.0 in let auth = told.1 in cc (image, auth)
 same_call (ManifestCall a x) (ManifestCall b y) kind key first second = let told = (manifest_keys_tell a b x y).0 key in let image = same_image a b first second told.0 in let auth = told.1 in cc (image, auth)
@@ -82,7 +82,7 @@ same_call (ImageCall a x t) (ImageCall b y u) kind key first second = let told =
 same_call (ReferrersCall a x t) (ReferrersCall b y u) kind key first second = let told = (referrers_keys_tell a b x y t u).0 key in let image = same_image a b first second told.0 in let auth = told.1 in let type = told.2 in cc (image, auth, type)
 same_call _ _ kind key first second = absurd (cc kind)
 
--- an origin that is fresh is a source of the same call
+-- a fresh origin is a source of the same call
 sources : (s : Settings) (call : Call) (now : ℕ) (e : Entry) (answer : Answer) (log : List Place) → reads_back (image_called call) ≡ true → kind_of e.answer ≡ kind_called call → e.key ≡ key_called call → e.answer ≡ answer → e.moment ≤ now → now - e.moment < 60 → AnyOf (IsOrigin s e) log → AnyOf (IsSource s call now answer) log
 sources s call now e answer [] reads kind key same early recent h = absurd h
 sources s call now e answer (p ∷ log) reads kind key same early recent (inl h) = inl (record {
@@ -94,12 +94,12 @@ sources s call now e answer (p ∷ log) reads kind key same early recent (inl h)
 })
 sources s call now e answer (p ∷ log) reads kind key same early recent (inr h) = inr (sources s call now e answer log reads kind key same early recent h)
 
--- how a call's answers are kept, and read again
+-- how the responses of a call are stored and read again
 pub record IsCache {A : Type 0} (cache : Cache A) : Type 0 where
   pub kind_is : (a : A) → kind_of (cache.kept_as a) ≡ cache.kind
   pub reads : (x : Answer) (a : A) → cache.read x ≡ Some a → x ≡ cache.kept_as a
 
--- a longer log has what a shorter one has
+-- a longer log has what a shorter log has
 each_more : (s : Settings) (es : List Entry) (p : Place) (log : List Place) → EachBacked s es log → EachBacked s es (p ∷ log)
 each_more s [] p log h = tt
 each_more s (e ∷ es) p log h = (inr h.0, each_more s es p log h.1)
@@ -127,7 +127,7 @@ each_within s bounds (e ∷ es) log h = by_test (fits bounds (e ∷ es)) (each_w
   by_test false rest = rest
 
 module _ {A : Type 0} (s : Settings) (cache : Cache A) (law : IsCache cache) (call : Call) (now : ℕ) (kind_is : kind_called call ≡ cache.kind) (reads : reads_back (image_called call) ≡ true) where
-  -- what is known has a source
+  -- a known response has a source
   known_source : (k : Option Answers) (log : List Place) (a : A) → known cache (key_called call) now k ≡ Some a → IsBacked s k log → AnyOf (IsSource s call now (cache.kept_as a)) log
   known_source None log a is h = absurd (cc is)
   known_source (Some answers) log a is h = by_find (find (is_of cache.kind (key_called call)) answers.entries) refl is where
@@ -139,7 +139,7 @@ module _ {A : Type 0} (s : Settings) (cache : Cache A) (law : IsCache cache) (ca
     by_find None at is = absurd (cc is)
     by_find (Some e) at is = by_age e (is_fresh now e.moment) refl (found_backed s cache.kind (key_called call) answers.entries e log at h) is
 
-  -- what is kept of an answer is backed by its call
+  -- the cached response is backed by its call
   kept_backed : (k : Option Answers) (log : List Place) (a : A) (p : Place) → IsOrigin s (entry (key_called call) now (cache.kept_as a)) p → IsBacked s k log → IsBacked s (option_map (keep (entry (key_called call) now (cache.kept_as a))) k) (p ∷ log)
   kept_backed None log a p origin h = tt
   kept_backed (Some answers) log a p origin h =
@@ -149,7 +149,7 @@ module _ {A : Type 0} (s : Settings) (cache : Cache A) (law : IsCache cache) (ca
 
 -- ---- runs
 
--- what the run of a call keeps, answers and asks, where no answer was known
+-- what the run of a call caches, returns and sends, if no response was known
 record Afresh {A : Type 0} (keeps : A → Option Answers → Option Answers) (p : Plain A) (k : Kept) (m : ℕ) (c : List Exchange) (n : ℕ) (l : Kept) (r : Result A SigstoreError) : Type 0 where
   runs : Runs p k.0 m c n l.0 r
   kept : (a : A) → r ≡ Ok a → l.1 ≡ keeps a k.1
@@ -204,7 +204,7 @@ module _ {A : Type 0} (cache : Cache A) (key : List ℕ) (now : ℕ) (p : Plain 
     by_answer (Ok a) first second = join k parts.between l m parts.count n parts.first parts.second c a r first parts.joined (kept_run a parts.between parts.count parts.second n l r second)
     by_answer (Err e) first second = join_err k parts.between l m parts.count n parts.first parts.second c e r first parts.joined (done_run (Err e) parts.between parts.count parts.second n l r second)
 
--- a plain run is one of the answers as they are kept
+-- an uncached run is a run with its result as it is cached
 run_answering : {A : Type 0} (cache : Cache A) (p : Plain A) (k l : Memory) (m n : ℕ) (c : List Exchange) (r : Result A SigstoreError) → Runs p k m c n l r → Runs (answering cache p) k m c n l (answered cache r)
 unfolding Runs
 run_answering cache p k l m n c r run = let both = Runs-bind p (λ x. Done (answered cache x)) k l l m n n c [] r (answered cache r) run (refl, refl, refl) in rw append-nil at both
@@ -226,21 +226,21 @@ module _ {A : Type 0} (cache : Cache A) (law : IsCache cache) (call : Call) (now
     backed = backed;
   }
 
-  -- a call that was refused, or cut off, changes nothing
+  -- a call that was refused or cut short changes nothing
   pub err_lawful : (k l : Kept) (m n : ℕ) (c : List Exchange) (e : SigstoreError) (r : Result A SigstoreError) (log : List Place) → r ≡ Err e → l.1 ≡ k.1 → IsRun s log → IsBacked s k.1 log → IsLawful s l.1 (place k l m c n r) log
   err_lawful k l m n c e r log is same lawful backed = record {
     run = (λ answer got. absurd (cc (ap (answered cache) is, got)), lawful);
     backed = subst (λ (x : Option Answers). IsBacked s x (place k l m c n r ∷ log)) (sym same) (backed_more s k.1 (place k l m c n r) log backed);
   }
 
-  -- a call that is not kept
+  -- a call that is not cached
   lifted_lawful : (k l : Kept) (m n : ℕ) (c : List Exchange) (r : Result A SigstoreError) (log : List Place) → Runs (lifted (row s)) k m c n l r → IsRun s log → IsBacked s k.1 log → IsLawful s l.1 (place k l m c n r) log
   lifted_lawful k l m n c r log run lawful backed = by_result r refl (Runs-unlifted (row s) k l m n c r run) where
     by_result : (x : Result A SigstoreError) → r ≡ x → Runs (row s) k.0 m c n l.0 r × (k.1 ≡ l.1) → IsLawful s l.1 (place k l m c n r) log
     by_result (Ok a) is h = ok_lawful k l m n c a r log is h.0 lawful (subst (λ (x : Option Answers). IsBacked s x (place k l m c n r ∷ log)) h.1 (backed_more s k.1 (place k l m c n r) log backed))
     by_result (Err e) is h = err_lawful k l m n c e r log is (sym h.1) lawful backed
 
-  -- one whose answer is kept
+  -- a call whose response is cached
   recalled_lawful : reads_back (image_called call) ≡ true → (k l : Kept) (m n : ℕ) (c : List Exchange) (r : Result A SigstoreError) (log : List Place) → Runs (recalled cache (key_called call) now (row s)) k m c n l r → IsRun s log → IsBacked s k.1 log → IsLawful s l.1 (place k l m c n r) log
   unfolding recalled Runs keeps
   recalled_lawful reads k l m n c r log run lawful backed = by_known (known cache (key_called call) now k.1) refl run where
@@ -268,7 +268,7 @@ module _ {A : Type 0} (cache : Cache A) (law : IsCache cache) (call : Call) (now
   cached_lawful true reads k l m n c r log run = recalled_lawful reads k l m n c r log run
   cached_lawful false reads k l m n c r log run = lifted_lawful k l m n c r log run
 
-  -- what a client did with a call, whatever came of it
+  -- the log with any call of a client, whatever its result
   pub logged : {c d : Client} {old new : Link} {r : Result A SigstoreError} → Fulfils is_memory s (cached (reads_back (image_called call)) cache (key_called call) now (row s)) c d old new r → RefusalKeeps c d r → Logged s cache call now c d old new r
   logged {c} {d} {old} {new} {r} made refused = record { logged = λ at log run backed. by_result r refl refused ((made.made at).1).outcome log run backed } where
     End : List Place → Type 0

@@ -1,4 +1,4 @@
--- The layers of each image that is pulled are those that its manifest names, and so are those of each that is kept.
+-- The layers of each pulled image are those that its manifest names, also of each cached image.
 use Rattle.std.proofs.Common.{◌≡◌, ℕ, Bool, true, false, List, [], ◌∷◌, ◌++◌, Option, Some, None, Result, Ok, Err, IfOk, IsTrue, refl, sym, ap, subst, ◌∙◌, append_assoc, append-nil}
 use Rattle.std.specs.Prelude.{if◌then◌else◌, cond, not, find, filter, option_and_then, OnOk, OnErr}
 use Rattle.std.specs.declared.alloc.AllocError.{AllocError}
@@ -43,7 +43,7 @@ use Rattle.sig_calls.specs.Named.{names_each, is_named, answer_named, all_named}
 
 -- ---- images that are pulled
 
--- behind those that were there, one for each descriptor, whose digest names it
+-- after the layers that were already present, one for each descriptor, whose digest names it
 record Behind (xs : List OciDescriptor) (got all : List ImageLayer) : Type 0 where
   more : List ImageLayer
   is : all ≡ got ++ more
@@ -82,7 +82,7 @@ image_named s image a accepted given k l m n c run =
     let behind = layers_named s image (found.answer).0.layers [] layers.answer allowed.between layers.between allowed.count layers.count layers.first layers.runs_first in
     made_named found.answer config.answer layers.answer given behind (cc ((Runs-done (Ok (image_of found.answer config.answer layers.answer)) layers.between layers.count layers.second n l (Ok given) layers.runs_second).2))
 
--- a call in words that was answered
+-- a call with context that succeeded
 worded_ok : {A : Type 0} (called : Called) (text : List ℕ) (r : Result A OciDistributionError) (a : A) → worded called text r ≡ Ok a → r ≡ Ok a
 worded_ok called text (Ok x) a is = let same : x ≡ a = cc is in ap Ok same
 worded_ok {A} called text (Err e) a is = by_memory (engine_is_memory e) is where
@@ -98,9 +98,9 @@ pulled_named called text s image a accepted {old} {new} {k} {l} {r} (Ok given) m
     let run = (subst (λ x. Meets engine_is_memory (pull s image a accepted) old new k l x) answered met).outcome in
     image_named s image a accepted given k l old.faults new.faults run.conversation run.runs
 
--- ---- images that are kept
+-- ---- cached images
 
--- memory was wanting, or a refusal is handed on
+-- memory ran out, or an error is passed on
 pub refused_named : (P : SigstoreError → Type 0) (r : Result ImageData SigstoreError) → IsErrAnd r P → IfOk r (λ given. IsTrue (is_named given))
 refused_named P (Ok given) is = absurd is
 refused_named P (Err e) is = tt
@@ -123,13 +123,13 @@ kept_within bounds (e ∷ es) h = by_test (fits bounds (e ∷ es)) (kept_within 
   by_test true rest = h
   by_test false rest = rest
 
--- with one more, where it is named
+-- with one more entry, if it is named
 with_one : (e : Entry) (before after : Answers) → after ≡ keep e before → IsTrue (answer_named e.answer) → IsTrue (all_named before.entries) → IsTrue (all_named after.entries)
 with_one e before after is one h =
     let others : List Entry = filter (λ other. not (is_of (kind_of e.answer) e.key other)) before.entries in
     rw is (kept_within before.bounds (others ++ e ∷ []) (joined others e (filtered (λ other. not (is_of (kind_of e.answer) e.key other)) before.entries h) one))
 
--- what is kept after one more was, or after memory was wanting for it
+-- what is cached after one more entry, or after memory ran out for it
 pub kept_named : {U : Type 0} (e : Entry) (r : Result U AllocError) (before after : Answers) → OnOk r (after ≡ keep e before) → OnErr r (after ≡ before) → IsTrue (answer_named e.answer) → IsTrue (all_named before.entries) → IsTrue (all_named after.entries)
 kept_named e (Ok u) before after ok err one h = with_one e before after ok one h
 kept_named e (Err x) before after ok err one h = rw err h
@@ -147,7 +147,7 @@ answer_is (Digest digest) image is h = absurd (cc is)
 answer_is (Manifest document digest) image is h = absurd (cc is)
 answer_is (Referrers index) image is h = absurd (cc is)
 
--- an image that is given again
+-- an image that is returned again
 pub known_named : (key : List ℕ) (now : ℕ) (answers : Answers) (image : ImageData) → known images key now (Some answers) ≡ Some image → IsTrue (all_named answers.entries) → IsTrue (is_named image)
 known_named key now answers image is h = by_find (find (is_of images.kind key) answers.entries) refl is where
   by_age : (e : Entry) (b : Bool) → IsTrue (answer_named e.answer) → option_and_then as_image (if b then Some e.answer else None) ≡ Some image → IsTrue (is_named image)

@@ -1,4 +1,4 @@
--- Certificates of registries: how they are written, and their order.
+-- Certificates of registries: their encodings and their order.
 use Rattle.std.specs.Prelude.{◌≡◌, ℕ, Bool, Some, ◌&&◌, nat_eq, bytes_eq}
 use Rattle.std.specs.Ordering.{nat_cmp, ordering_then, eq_by_cmp}
 use Rattle.std.specs.Cmp.{IsEquivalence, IsTotalOrder, on_equiv, on_total, nat_eq_equiv, nat_cmp_total}

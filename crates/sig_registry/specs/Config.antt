@@ -1,4 +1,4 @@
--- What a client is made of.
+-- The configuration of a client.
 use Rattle.std.specs.Prelude.{None}
 use Rattle.engine_terms.specs.declared.settings.ClientProtocol.{ClientProtocol as Protocol}
 use Rattle.engine_terms.specs.declared.settings.ClientProtocol.TheVariants as engine

@@ -1,4 +1,4 @@
--- What the clients of a registry show.
+-- The states of a registry's clients.
 use Rattle.std.specs.Prelude.{◌≡◌, Option, Some, None, Result}
 use Rattle.oci_transport.specs.Link.{Link}
 use Rattle.oci_protocol.specs.Runs.{Meets}
@@ -14,7 +14,7 @@ use Rattle.sig_registry.specs.declared.registry_client.RegistryClient.{RegistryC
 use Rattle.sig_registry.specs.declared.registry_client.RegistryClient.TheVariants as given
 use Rattle.oci_engine.specs.Kept.{memory_of}
 
--- a client of the registry's, with these answers kept
+-- the registry's client, with these responses cached
 abbrev pub engine_state : Engine → Option Answers → Client
 engine_state c answers = record { settings = c.settings; kept = (memory_of c, answers) }
 
@@ -28,7 +28,7 @@ abbrev pub state_of : RegistryClient → Client
 state_of (given.Plain c) = plain_state c
 state_of (given.Caching c) = caching_state c
 
--- the same of a call that knows of no kept answers
+-- the same for a call without a cache
 pub record PlainlyMade {A : Type 0} (s : Settings) (p : Plain A) (c d : Engine) (old new : Link)
     (r : Result A SigstoreError) : Type 0 where
   pub made : c.settings ≡ s → (d.settings ≡ s) × Meets is_memory p old new (memory_of c) (memory_of d) r

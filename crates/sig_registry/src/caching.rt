@@ -1,4 +1,4 @@
-// A client that keeps answers.
+// A client that caches responses.
 ghost use Rattle.std.specs.Prelude.{IsTrue};
 ghost use Rattle.sig_calls.specs.Named.{all_named};
 
@@ -20,9 +20,9 @@ use sig_known::{
 };
 use std::alloc::Global;
 
-/// A client that keeps answers between its calls. One that was kept at a moment is given again, with no request, to
-/// the same call for less than 60 seconds from that moment on. A call whose reference does not read back is always
-/// made, and its answer is not kept.
+/// A client that caches responses between its calls. A response is returned again to the same call, with no request,
+/// for less than 60 seconds from the moment at which it was cached. A call whose reference does not round-trip is
+/// always made, and its response is not cached.
 #[derive(Drop)]
 pub struct OciCachingClient {
     client: Client,
@@ -37,7 +37,7 @@ impl OciCachingClient {
     ghost use Rattle.sig_registry.specs.States.{engine_state, caching_state};
     ghost use Rattle.sig_calls.specs.Log.{IsBacked};
 
-    /// A client that keeps all answers.
+    /// Returns a client that caches all responses.
     pub fn new(alloc: Global, client: Client) -> OciCachingClient
         ensures state { caching_state result ≡ engine_state client (Some (none_kept None)) }
         ensures backed { (s : Settings) → IsBacked s (caching_state result).kept.1 [] }
@@ -48,8 +48,8 @@ impl OciCachingClient {
         }
     }
 
-    /// A client that keeps at most so many answers, and so many bytes of them: beyond that those go that were kept
-    /// longest ago, until the others fit.
+    /// Returns a client that caches at most `answers` responses and `bytes` bytes of them: beyond that it evicts the
+    /// oldest until the others fit.
     pub fn with_bounds(alloc: Global, client: Client, answers: u64, bytes: u64) -> OciCachingClient
         ensures state { caching_state result
             ≡ engine_state client (Some (none_kept (Some (record { answers = answers; bytes = bytes })))) }

@@ -1,4 +1,4 @@
-// The calls of the registry's client, with their refusals in the words of the calls here.
+// The calls of the registry's client, with their errors converted to the errors of the calls here.
 ghost use Rattle.std.specs.Prelude.{Some, None, IfOk, IsTrue, option_copied};
 ghost use Rattle.engine_terms.specs.declared.settings.Settings.{Settings};
 ghost use Rattle.engine_terms.specs.Contexts.{within};
@@ -21,7 +21,7 @@ use oci_transport::Transport;
 use sig_calls::{Called, SigstoreError, worded};
 use std::alloc::Global;
 
-/// The digest of the image's manifest or index.
+/// Returns the digest of the image's manifest or index.
 pub(crate) fn digest_made<T: Transport>(
     client: &mut Client,
     alloc: Global,
@@ -42,7 +42,7 @@ pub(crate) fn digest_made<T: Transport>(
     worded(alloc, Called::FetchManifest, image, outcome)
 }
 
-/// The image with its blobs.
+/// Returns the image with its blobs.
 pub(crate) fn image_made<T: Transport>(
     client: &mut Client,
     alloc: Global,
@@ -65,7 +65,7 @@ pub(crate) fn image_made<T: Transport>(
     worded(alloc, Called::Pull, image, outcome)
 }
 
-/// The image's manifest or index with its digest.
+/// Returns the image's manifest or index with its digest.
 pub(crate) fn manifest_made<T: Transport>(
     client: &mut Client,
     alloc: Global,
@@ -86,7 +86,7 @@ pub(crate) fn manifest_made<T: Transport>(
     worded(alloc, Called::PullManifest, image, outcome)
 }
 
-/// The index of what refers to the image's digest, for which a token is got first.
+/// Returns the index of the image digest's referrers; a token is obtained first.
 pub(crate) fn referrers_made<T: Transport>(
     client: &mut Client,
     alloc: Global,
@@ -117,7 +117,7 @@ pub(crate) fn referrers_made<T: Transport>(
     worded(alloc, Called::PullManifest, image, outcome)
 }
 
-/// The bytes of the image's manifest or index with their digest.
+/// Returns the bytes of the image's manifest or index with their digest.
 pub(crate) fn document_made<T: Transport>(
     client: &mut Client,
     alloc: Global,
@@ -146,7 +146,7 @@ pub(crate) fn document_made<T: Transport>(
     worded(alloc, Called::Pull, image, outcome)
 }
 
-/// The bytes of the blob of a descriptor.
+/// Returns the bytes of a descriptor's blob.
 pub(crate) fn blob_made<T: Transport>(
     client: &mut Client,
     alloc: Global,

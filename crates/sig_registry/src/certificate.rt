@@ -6,7 +6,7 @@ use json_values::{Blob, Copied};
 use std::alloc::{AllocError, Global};
 use std::cmp::Ordering;
 
-/// How a certificate is written.
+/// The encoding of a certificate.
 #[derive(Clone, Copy, Debug)]
 pub enum CertificateEncoding {
     Der,
@@ -59,7 +59,7 @@ impl From<CertificateEncoding> for oci_engine::CertificateEncoding {
     }
 }
 
-/// A certificate, whose bytes are written so.
+/// A certificate: an encoding and the bytes in it.
 #[derive(Debug, Drop)]
 pub struct Certificate {
     pub encoding: CertificateEncoding,
@@ -96,7 +96,7 @@ impl Copied for Certificate {
     }
 }
 
-/// Equality is that of the contents and of the encodings.
+/// Equal if contents and encodings are equal.
 impl PartialEq for Certificate {
     ghost use Rattle.std.specs.Cmp.{partial_equiv_from_equiv};
     ghost use Rattle.sig_registry.specs.Certificate.{is_same, equal};
@@ -132,7 +132,7 @@ impl PartialOrd for Certificate {
     }
 }
 
-/// By content, byte by byte, and then `Der` before `Pem`.
+/// Compares by content, byte by byte, then `Der` before `Pem`.
 impl Ord for Certificate {
     ghost use Rattle.std.proofs.Common.{rules};
     ghost use Rattle.std.specs.Cmp.Rules.{comparing};

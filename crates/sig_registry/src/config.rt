@@ -1,4 +1,4 @@
-// What a client is made of.
+// The configuration of a client.
 ghost use Rattle.std.specs.Prelude.{◌≡◌, IfOk};
 ghost use Rattle.sig_registry.specs.Config.{default_config, oci_config};
 
@@ -45,18 +45,18 @@ impl From<ClientProtocol> for oci_engine::ClientProtocol {
     }
 }
 
-/// What a client is made of, but for what its registry's client has by default.
+/// The configuration of a client; the registry client's other members have their defaults.
 #[derive(Debug, Drop)]
 pub struct ClientConfig {
     pub protocol: ClientProtocol,
-    /// Which image of an index is meant. Where nothing is said of it, an index is refused.
+    /// Selects the image of an index. If `None`, an index is refused.
     pub platform_resolver: Option<PlatformResolver>,
-    /// How many bytes one body may have.
+    /// The maximum number of bytes of one body.
     pub max_body_bytes: u64,
 }
 
 impl ClientConfig {
-    /// `https`, no resolver of platforms, and bodies of less than 4 GiB.
+    /// Returns `https`, no platform resolver, and bodies of less than 4 GiB.
     pub fn default() -> ClientConfig
         ensures { result ≡ default_config }
     {
@@ -67,7 +67,7 @@ impl ClientConfig {
         }
     }
 
-    /// The configuration of the registry's client, whose other members have their defaults.
+    /// Returns the registry client's configuration, whose other members have their defaults.
     pub fn into_oci(self, alloc: Global) -> Result<oci_engine::ClientConfig, AllocError>
         ensures { IfOk result (λ config. config ≡ oci_config self) }
     {

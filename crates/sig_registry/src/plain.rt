@@ -1,4 +1,4 @@
-// A client that keeps no answers.
+// A client that does not cache.
 use crate::calls::{
     blob_made, digest_made, document_made, image_made, manifest_made, referrers_made,
 };
@@ -12,7 +12,7 @@ use oci_transport::Transport;
 use sig_calls::{ClientCapabilities, SigstoreError};
 use std::alloc::Global;
 
-/// A client that keeps no answers between its calls.
+/// A client that caches no responses between its calls.
 #[derive(Drop)]
 pub struct OciClient {
     client: Client,
@@ -28,7 +28,7 @@ impl OciClient {
         OciClient { client }
     }
 
-    /// The client of the registry's that makes the calls, with what it keeps.
+    /// Returns the registry's client that makes the calls, with the credentials and tokens that it keeps.
     pub fn into_client(self) -> Client
         ensures { engine_state result None ≡ plain_state self }
     {

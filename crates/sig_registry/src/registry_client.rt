@@ -1,4 +1,4 @@
-// The clients of a registry that there are.
+// The clients of a registry.
 use crate::caching::OciCachingClient;
 use crate::plain::OciClient;
 use json_values::{Blob, Text};
@@ -11,12 +11,12 @@ use oci_transport::Transport;
 use sig_calls::{ClientCapabilities, SigstoreError};
 use std::alloc::Global;
 
-/// A client of a registry, whatever it keeps between its calls.
+/// A client of a registry, with or without a cache.
 #[derive(Drop)]
 pub enum RegistryClient {
-    /// One that keeps no answers.
+    /// A client that does not cache.
     Plain(OciClient),
-    /// One that keeps answers.
+    /// A client that caches.
     Caching(OciCachingClient),
 }
 
@@ -25,7 +25,7 @@ impl RegistryClient {
     ghost use Rattle.sig_calls.specs.Clients.{now_caching};
     ghost use Rattle.sig_registry.specs.States.{state_of};
 
-    /// The same client, which keeps answers from now on. One that keeps them already is as it was.
+    /// Returns the same client, which caches from now on. A client that caches already is unchanged.
     pub fn caching(self, alloc: Global) -> RegistryClient
         ensures { state_of result ≡ now_caching (state_of self) }
     {

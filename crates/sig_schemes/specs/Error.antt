@@ -1,4 +1,4 @@
--- Which refusal says that memory was wanting.
+-- Whether an error is out of memory.
 use Rattle.std.specs.Prelude.{Bool, true, false}
 use Rattle.sig_schemes.specs.declared.error.KeyError.{KeyError}
 use Rattle.sig_schemes.specs.declared.error.KeyError.TheVariants.{KeyParseError, KeyGenerationError, SigningError}

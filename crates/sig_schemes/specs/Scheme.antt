@@ -23,7 +23,7 @@ curve_scheme curve.P256 = ECDSA_P256_SHA256_ASN1
 curve_scheme curve.P384 = ECDSA_P384_SHA384_ASN1
 curve_scheme curve.P521 = ECDSA_P521_SHA512_ASN1
 
--- the RSA scheme of a padding, which says no size
+-- the RSA scheme of a padding, without a key size
 abbrev pub padding_scheme : PaddingScheme → SigningScheme
 padding_scheme PSS = RSA_PSS_SHA256 0
 padding_scheme PKCS1v15 = RSA_PKCS1_SHA256 0

@@ -1,4 +1,4 @@
-//! Why a call on keys is refused.
+//! Why a call on keys fails.
 ghost use Rattle.std.specs.Prelude.{◌≡◌};
 ghost use Rattle.sig_schemes.specs.Error.{is_memory};
 
@@ -7,10 +7,10 @@ use json_values::Copied;
 use std::alloc::{AllocError, Global};
 use thiserror::Error;
 
-/// Why a call on keys is refused.
+/// Why a call on keys fails.
 #[derive(Clone, Copy, Debug, PartialEq, Eq, Error)]
 pub enum KeyError {
-    /// The maker reads the bytes as no private key of the kinds that were tried.
+    /// The maker does not parse the bytes as a private key of one of the kinds that were tried.
     #[error("the bytes are no private key of this kind: give a key in PKCS 8")]
     KeyParseError,
     /// The maker makes no keys of this kind and size.
@@ -27,7 +27,7 @@ pub enum KeyError {
 }
 
 impl KeyError {
-    /// Whether memory was wanting.
+    /// Returns whether the error is `WantOfMemory`.
     pub fn is_memory(&self) -> bool
         ensures { result ≡ is_memory self.now }
     {

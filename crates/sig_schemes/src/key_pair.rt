@@ -1,4 +1,4 @@
-//! What all pairs of keys give.
+//! Common calls of all key pairs.
 ghost use Rattle.std.specs.Prelude.{◌≡◌, ℕ, List, IfOk};
 ghost use Rattle.sig_schemes.specs.KeyPair.{verification_key};
 ghost use Rattle.sig_schemes.specs.declared.scheme.SigningScheme.{SigningScheme};
@@ -23,18 +23,18 @@ pub trait KeyPair {
     /// The private key.
     ghost private_der: { Self → List ℕ };
 
-    /// The scheme of a verification key, where this one is asked for.
+    /// The scheme of a verification key that is requested with this scheme.
     ghost scheme_under: { Self → SigningScheme → SigningScheme };
 
-    /// A copy of the public key, SubjectPublicKeyInfo in DER.
+    /// Copies the public key, SubjectPublicKeyInfo in DER.
     fn public_key_to_der(&self, alloc: Global) -> Result<Blob, AllocError>
         ensures { IfOk result (λ der. der ≡ public_der self.now) };
 
-    /// A copy of the private key, PKCS 8 in DER.
+    /// Copies the private key, PKCS 8 in DER.
     fn private_key_to_der(&self, alloc: Global) -> Result<Blob, AllocError>
         ensures { IfOk result (λ der. der ≡ private_der self.now) };
 
-    /// The public key under this scheme; that of Ed25519 keys is under `ED25519` whatever the scheme.
+    /// Returns the public key with this scheme; that of Ed25519 keys always has `ED25519`.
     fn to_verification_key(
         &self,
         alloc: Global,

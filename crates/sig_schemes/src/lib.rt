@@ -1,4 +1,4 @@
-//! Kinds of keys, the schemes that they sign under, and who makes keys and signs with them.
+//! Kinds of keys, the schemes under which they sign, and the trait that makes keys and signs with them.
 #![tactic(auto)]
 
 mod error;

@@ -1,4 +1,4 @@
-//! Who makes keys and signs with them.
+//! The trait that makes keys and signs with them.
 ghost use Rattle.std.specs.Prelude.{◌≡◌, ℕ, List, Bool, Option, IfOk};
 ghost use Rattle.sig_schemes.specs.Outcomes.{GivesIf};
 ghost use Rattle.sig_schemes.specs.declared.scheme.KeyKind.{KeyKind};
@@ -8,26 +8,26 @@ use crate::scheme::{KeyKind, SigningScheme};
 use json_values::Blob;
 use std::alloc::{AllocError, Global};
 
-/// Makes keys, reads them and signs with them. Private keys are PKCS 8 (RFC 5958) in DER, public ones
+/// Makes keys, parses them and signs with them. Private keys are PKCS 8 (RFC 5958) in DER, public ones
 /// SubjectPublicKeyInfo (RFC 5280, 4.1.2.7) in DER.
 pub trait KeyMaker {
-    /// The public key of a private one, where the bytes are a private key of this kind.
+    /// The public key of a private one, if the bytes are a private key of this kind.
     ghost public_of: { Self → KeyKind → List ℕ → Option (List ℕ) };
 
-    /// Whether it makes keys of this kind and of so many bits.
+    /// Whether it makes keys of this kind and of this many bits.
     ghost can_make: { Self → KeyKind → ℕ → Bool };
 
-    /// Whether it may make these keys for that: a private one and its public one.
+    /// Whether it may make these keys of this kind and size: a private one and its public one.
     ghost Made: { Self → KeyKind → ℕ → List ℕ → List ℕ → Type 0 };
 
     /// Whether it signs this message under this scheme with this private key.
     ghost can_sign: { Self → SigningScheme → List ℕ → List ℕ → Bool };
 
-    /// Whether it may give this signature for that, the last argument.
+    /// Whether it may return this signature, the last argument, for that.
     ghost Signs: { Self → SigningScheme → List ℕ → List ℕ → List ℕ → Type 0 };
 
-    /// A new private key and its public key, or none where no such keys are made. RSA keys have so many bits; for the
-    /// other kinds the number is 0.
+    /// Makes a new private key and its public key. Returns `None` if it makes no such keys. `bits` is the size of RSA
+    /// keys, and 0 for the other kinds.
     fn generate(
         &self,
         alloc: Global,
@@ -37,11 +37,11 @@ pub trait KeyMaker {
         ensures { IfOk result (GivesIf (can_make self.now kind bits)
             (λ keys. Made self.now kind bits keys.0 keys.1)) };
 
-    /// The public key of a private one, or none where the bytes are no private key of this kind.
+    /// Returns the public key of a private one, or `None` if the bytes are not a private key of this kind.
     fn public(&self, alloc: Global, kind: KeyKind, pkcs8: &[u8]) -> Result<Option<Blob>, AllocError>
         ensures { IfOk result (λ found. found ≡ public_of self.now kind pkcs8.now) };
 
-    /// A signature of the message, or none where it does not sign.
+    /// Returns a signature of the message, or `None` if it does not sign.
     fn sign(
         &self,
         alloc: Global,

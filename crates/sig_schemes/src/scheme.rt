@@ -1,4 +1,4 @@
-//! Kinds of keys, and the schemes that they sign under.
+//! Kinds of keys, and the schemes under which they sign.
 ghost use Rattle.std.specs.Prelude.{◌≡◌};
 ghost use Rattle.sig_schemes.specs.Scheme.{kind_of, curve_scheme, padding_scheme, padding_under, fits};
 
@@ -42,7 +42,7 @@ pub enum PaddingScheme {
     PKCS1v15,
 }
 
-/// How a message is signed. The number of an RSA scheme is the size of its keys in bits, and 0 where it is not said.
+/// How a message is signed. The number of an RSA scheme is the size of its keys in bits, or 0 if unspecified.
 #[derive(Clone, Copy, Debug, PartialEq, Eq)]
 pub enum SigningScheme {
     RSA_PSS_SHA256(usize),
@@ -54,7 +54,7 @@ pub enum SigningScheme {
 }
 
 impl EllipticCurve {
-    /// The kind of the curve's keys.
+    /// Returns the kind of the curve's keys.
     pub fn kind(&self) -> KeyKind
         ensures { result ≡ kind_of self.now }
     {
@@ -65,7 +65,7 @@ impl EllipticCurve {
         }
     }
 
-    /// The scheme that the curve's keys sign under.
+    /// Returns the scheme under which the curve's keys sign.
     pub fn scheme(&self) -> SigningScheme
         ensures { result ≡ curve_scheme self.now }
     {
@@ -78,7 +78,7 @@ impl EllipticCurve {
 }
 
 impl PaddingScheme {
-    /// The scheme that an RSA signer with this padding signs under, with number 0.
+    /// Returns the scheme of an RSA signer with this padding, with number 0.
     pub fn scheme(&self) -> SigningScheme
         ensures { result ≡ padding_scheme self.now }
     {
@@ -90,7 +90,7 @@ impl PaddingScheme {
 }
 
 impl SigningScheme {
-    /// Whether keys of this kind sign under the scheme.
+    /// Returns whether keys of this kind sign under the scheme.
     pub fn fits(&self, key: KeyKind) -> bool
         ensures { result ≡ fits key self.now }
     {
@@ -104,7 +104,7 @@ impl SigningScheme {
         }
     }
 
-    /// The padding of an RSA scheme.
+    /// Returns the padding of an RSA scheme.
     pub fn padding(&self) -> PaddingScheme
         ensures { result ≡ padding_under self.now }
     {

@@ -1,4 +1,4 @@
--- Each refusal of a call to the log has its cause.
+-- Each error of a call to Rekor has its cause.
 use Rattle.std.proofs.Common.{◌≡◌, ◌≤◌, ℕ, List, [], ◌∷◌, Bool, true, false, Option, Some, None, Result, Ok, Err, IfErr, refl, arith}
 use Rattle.std.specs.Prelude.{MatchBool, if◌then◌else◌}
 use Rattle.serde_json.specs.Data.{Data}
@@ -107,7 +107,7 @@ module _ {A E : Type 0} (read : List ℕ → Option A) (entity : Data → E) (s 
   refused_why method content old new k l e true b h = record { conversation = h.conversation; told = h.told; holds = memory_why e old.faults new.faults h.conversation b }
   refused_why method content old new k l e false b h = record { conversation = h.conversation; told = h.told; holds = call_why method content k l old.faults new.faults h.conversation (Err e) h.runs }
 
-  -- of each call's result
+  -- the cause of each call's result
   pub caused : (method : Method) (content : Option (List ℕ)) {old new : Link} (r : Result A (Error E)) → ((k : Unit {0}) → Meets is_memory (call read entity s method path content) old new k k r) → RefusedFor read entity s path old new r
   caused method content (Ok a) met = tt
   caused method content {old} {new} (Err e) met = refused_why method content old new tt tt e (is_memory e) refl (met tt).outcome

@@ -1,4 +1,4 @@
--- One request and its whole answer, each outcome of it.
+-- The outcomes of one request and its complete answer.
 use Rattle.std.proofs.Common.{◌≡◌, ◌≤◌, ◌<◌, ℕ, Bool, true, false, List, Some, Ok, Err, length, refl}
 use Rattle.oci_transport.specs.Link.{Link, Steady, answer_of, EndsUnbroken, TakesPast}
 use Rattle.json_values.specs.Counts.{Rose}

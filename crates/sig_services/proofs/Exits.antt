@@ -11,7 +11,7 @@ use Rattle.oci_protocol.proofs.Laws.{Meets-next, Meets-refused, Meets-ok, Meets-
 use Rattle.sig_services.specs.Exchange.{Row}
 
 module _ {E : Type 0} {of_memory : E → Bool} where
-  -- a step that was refused, at the exit of a `?`
+  -- a step that failed, at the exit of a `?`
   pub refused : {A B : Type 0} {p : Row E A} (f : A → Row E B) {old new : Link} {k l : Unit {0}} {e : E} {r : Result B E}
       → Meets of_memory p old new k l (Err e) → IsErrAnd r (λ x. x ≡ e) → Meets of_memory (p >>= f) old new k l r
   refused f {r} h is = let at = err_from_is_err_and r is in rw (at.1, at.2) (Meets-refused f h)
@@ -20,11 +20,11 @@ module _ {E : Type 0} {of_memory : E → Bool} where
       → Meets of_memory p old mid k l (Ok a) → Meets of_memory (f a) mid new l j r → Meets of_memory (p >>= f) old new k j r
   and_then f first second = Meets-next f first second
 
-  -- an answer with no request
+  -- a result without a request
   pub done : {A : Type 0} {link : Link} {k : Unit {0}} {a : A} → Meets of_memory (Done (Ok a)) link link k k (Ok a)
   done {link} {k} {a} = Meets-ok of_memory link k a
 
-  -- a step with no request
+  -- a step without a request
   pub said : {A : Type 0} (r : Result A E) {s : Result A E} {link : Link} {k : Unit {0}} → Says of_memory r s → Meets of_memory (Done s) link link k k r
   said (Ok a) h = rw h done
   said {A} (Err e) {s} {link} {k} h = record { outcome = refusing (of_memory e) h } where
@@ -32,10 +32,10 @@ module _ {E : Type 0} {of_memory : E → Bool} where
     refusing true h = Breaks-start (Done s) link k
     refusing false h = rw h (Performs-done link k (Err e))
 
-  -- a step that was refused, as the last one
+  -- a step that failed, as the last one
   pub passed_on : {A : Type 0} {p : Row E A} {old new : Link} {k l : Unit {0}} {e : E} {r : Result A E} → Meets of_memory p old new k l (Err e) → IsErrAnd r (λ x. x ≡ e) → Meets of_memory p old new k l r
   passed_on {r} h is = let at = err_from_is_err_and r is in rw (at.1, at.2) h
 
-  -- memory was wanting between two requests
+  -- memory ran out between two requests
   pub wanting : {A : Type 0} {p : Row E A} {link : Link} {k : Unit {0}} (e : E) {r : Result A E} → of_memory e ≡ true → IsErrAnd r (λ x. x ≡ e) → Meets of_memory p link link k k r
   wanting {p} {link} {k} e {r} memory is = let at = err_from_is_err_and r is in rw (at.1, at.2) (Meets-memory of_memory p link k e memory)

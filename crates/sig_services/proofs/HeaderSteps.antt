@@ -1,4 +1,4 @@
--- The headers of a request to the certificate authority, one after another.
+-- The headers of a request to Fulcio, one after another.
 use Rattle.std.proofs.Common.{◌≡◌, ℕ, List, Option, Some, codes, sym, ap, ◌∙◌}
 use Rattle.std.specs.FinMap as map
 use Rattle.json_tables.specs.Reading as option

@@ -1,4 +1,4 @@
--- What the bodies of answers read as.
+-- How the bodies of answers are parsed.
 use Rattle.std.specs.Prelude.{ℕ, List, Option, Some, None, if◌then◌else◌}
 use Rattle.std.specs.Str.{is_utf8}
 use Rattle.serde_json.specs.Data.{Data}
@@ -10,7 +10,7 @@ use Rattle.json_tables.specs.Objects.{an_object}
 abbrev pub text_body : List ℕ → Option (List ℕ)
 text_body bytes = if is_utf8 bytes then Some bytes else None
 
--- an object in which no float stands
+-- an object without floats
 abbrev pub json_body : List ℕ → Option Data
 json_body bytes = do
   json ← plain_json_of bytes

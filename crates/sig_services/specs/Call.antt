@@ -1,4 +1,4 @@
--- A call to the log: a request, and what its answer says.
+-- A call to Rekor: a request, and the meaning of its answer.
 use Rattle.std.specs.Prelude.{◌≡◌, ℕ, List, Bool, false, ◌&&◌, nat_le, nat_lt, if◌then◌else◌, Option, Some, None}
 use Rattle.std.specs.Prelude.{option_map, Result, Ok, Err}
 use Rattle.serde_json.specs.Data.{Data}
@@ -16,11 +16,11 @@ use Rattle.sig_services.specs.declared.configuration.Configuration.{Configuratio
 use Rattle.sig_services.specs.declared.error.Error.{Error}
 use Rattle.sig_services.specs.declared.error.Error.TheVariants.{Link as Broken, BodyTooLong, Json, ResponseError}
 
--- a status of the client's or the server's error (RFC 9110, 15.5 and 15.6)
+-- a 4xx or 5xx status (RFC 9110, 15.5 and 15.6)
 abbrev pub is_refusal : ℕ → Bool
 is_refusal status = nat_le 400 status && nat_lt status 600
 
--- what the JSON of a body reads as, if it is JSON in which no float stands
+-- the entity in a body, if it is JSON without floats
 abbrev pub entity_in : {E : Type 0} → (Data → E) → List ℕ → Option E
 entity_in entity body = option_map entity (plain_json_of body)
 
@@ -28,7 +28,7 @@ abbrev pub read_or_json : {A E : Type 0} → List ℕ → Option A → Result A 
 read_or_json body (Some found) = Ok found
 read_or_json body None = Err (Json body)
 
--- what an answer says
+-- the result of an answer
 abbrev pub judged : {A E : Type 0} → (List ℕ → Option A) → (Data → E) → Answer → Result A (Error E)
 judged read entity answer =
     if is_refusal answer.status
@@ -39,7 +39,7 @@ judged read entity answer =
     }))
     else read_or_json answer.body (read answer.body)
 
--- a call: one request, one answer, and what it says
+-- a call: one request, one answer, and its result
 unfoldable pub call : {A E : Type 0} → (List ℕ → Option A) → (Data → E) → Configuration → Method → List ℕ
     → Option (List ℕ) → Row (Error E) A
 call read entity c method path content = do
@@ -47,7 +47,7 @@ call read entity c method path content = do
   answer ← whole Broken BodyTooLong c.max_body_bytes request
   Done (judged read entity answer)
 
--- the compact text of JSON data; of data in which a float stands any text
+-- the compact text of JSON data; any text if the data contains a float
 abbrev pub IsCompact : List ℕ → Data → Type 0
 IsCompact text d = has_float d ≡ false → text ≡ compact_text d
 

@@ -1,4 +1,4 @@
--- Why a call to the log was refused.
+-- Why a call to Rekor failed.
 use Rattle.std.specs.Prelude.{◌≡◌, ◌<◌, ℕ, List, [], ◌∷◌, length, true, false, Option, Some, None, Result, IfErr}
 use Rattle.serde_json.specs.Data.{Data}
 use Rattle.json_values.specs.Counts.{Rose}
@@ -14,11 +14,11 @@ use Rattle.sig_services.specs.declared.error.Error.{Error}
 use Rattle.sig_services.specs.declared.error.Error.TheVariants.{Link as Broken, BodyTooLong, Url, Header, Json}
 use Rattle.sig_services.specs.declared.error.Error.TheVariants.{ResponseError, WantOfMemory}
 
--- one exchange, and this was answered
+-- one exchange with this answer
 abbrev pub IsAnswer : List Exchange → Answer → Type 0
 IsAnswer c answer = (e : Exchange) × (c ≡ e ∷ []) × (e.answer ≡ Some answer)
 
--- by what was exchanged, and the counts of faults before and after it
+-- the cause of an error, by the exchanges and the fault counts before and after them
 abbrev pub Why : {A E : Type 0} → (List ℕ → Option A) → (Data → E) → Configuration → List ℕ → ℕ → List Exchange
     → ℕ → Error E → Type 0
 Why read entity s path before c after Broken = Rose before after
@@ -36,7 +36,7 @@ Why read entity s path before c after (ResponseError x) = (answer : Answer) × I
     × (x.entity ≡ entity_in entity x.content)
 Why read entity s path before c after WantOfMemory = Unit {0}
 
--- a refusal has its cause, where exchanges are told
+-- an error has its cause, if exchanges are exposed
 abbrev pub RefusedFor : {A E : Type 0} → (List ℕ → Option A) → (Data → E) → Configuration → List ℕ → Link → Link
     → Result A (Error E) → Type 0
 RefusedFor read entity s path old new r =

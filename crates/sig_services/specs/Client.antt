@@ -1,4 +1,4 @@
--- The certificate authority (Fulcio's API, versions 1 and 2).
+-- The calls to Fulcio (its API, versions 1 and 2).
 use Rattle.std.specs.Prelude.{ℕ, List, [], ◌∷◌, ◌++◌, nat_eq, length, if◌then◌else◌, Option, Some, None, Result, Ok}
 use Rattle.std.specs.Prelude.{Err, codes}
 use Rattle.std.specs.FinMap as map
@@ -52,13 +52,13 @@ abbrev pub headers_read : List ℕ → Option Fields → Result Fields FulcioErr
 headers_read token (Some headers) = Ok headers
 headers_read token None = Err (Header token)
 
--- credentials, what the body is, and what is accepted
+-- credentials, the type of the body, and the accepted types
 unfoldable pub headers_with : List ℕ → Option (List ℕ) → Option Fields
 headers_with credentials accept = option.◌>>=◌
     (with_header map.empty (codes "authorization") credentials)
     (λ headers. option.◌>>=◌ (with_type headers) (with_accept accept))
 
--- the token as RFC 6750, 2.1, has it
+-- the token in the form of RFC 6750, 2.1
 abbrev pub headers_of : List ℕ → Option (List ℕ) → Result Fields FulcioError
 headers_of token accept = headers_read token (headers_with (codes "Bearer " ++ token) accept)
 
@@ -68,13 +68,13 @@ request_of root path token accept body = do
   headers ← headers_of token accept
   Ok (record { method = Post; url = serialize url; headers = headers; body = body })
 
--- ---- what an answer says
+-- ---- the result of an answer
 
 abbrev pub certificate_read : List ℕ → Option (List ℕ) → Result FulcioCert FulcioError
 certificate_read body (Some text) = Ok (record { text = text })
 certificate_read body None = Err (Json body)
 
--- version 1: the body is the certificate
+-- version 1: the body is the certificate chain
 abbrev pub certificate_in : List ℕ → Result FulcioCert FulcioError
 certificate_in body = certificate_read body (text_body body)
 
@@ -101,7 +101,7 @@ response_in body = response_read body (read_plain signing_certificate_of body)
 
 -- ---- the calls
 
--- one request, and the answer to it
+-- one request and its answer
 unfoldable pub asked : Parts → List ℕ → List ℕ → Option (List ℕ) → List ℕ → Row FulcioError Answer
 asked root path token accept body =
     protocol.◌>>=◌ (Done (request_of root path token accept body)) (whole Link BodyTooLong 4294967295)

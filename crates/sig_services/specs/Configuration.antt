@@ -1,8 +1,8 @@
--- Where the log is, and how it is asked.
+-- The configuration of calls to Rekor.
 use Rattle.std.specs.Prelude.{Some, None, codes}
 use Rattle.sig_services.specs.declared.configuration.Configuration.{Configuration}
 
--- the public log
+-- the public instance
 abbrev pub usual : Configuration
 usual = record {
   base_path = codes "https://rekor.sigstore.dev";

@@ -1,4 +1,4 @@
--- The addresses of the public certificate authority (Fulcio's API): each public constant is its text.
+-- The addresses of the public Fulcio instance: the text of each public constant.
 use Rattle.std.specs.Prelude.{◌≡◌, codes, refl}
 use Rattle.sig_services.specs.declared.client.TheConstants as constant
 

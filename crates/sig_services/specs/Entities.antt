@@ -1,4 +1,4 @@
--- What the bodies of refusals read as (Rekor's API): the first variant that reads.
+-- How the bodies of error responses are parsed (Rekor's API): as the first variant that matches.
 use Rattle.std.specs.Prelude.{Bool, true, false, option_map, unwrap_or, Option, Some, None, if◌then◌else◌}
 use Rattle.serde_json.specs.Data.{Data, Items, no_items, item}
 use Rattle.serde_json.specs.Find.{as_array}
@@ -21,7 +21,7 @@ use Rattle.sig_services.specs.declared.entities.GetLogInfoError.TheVariants as l
 use Rattle.sig_services.specs.declared.entities.GetLogProofError.{GetLogProofError}
 use Rattle.sig_services.specs.declared.entities.GetLogProofError.TheVariants as log_proof
 
--- the list of nothing
+-- the empty list
 abbrev pub no_items_in : Items → Bool
 no_items_in no_items = true
 no_items_in (item d ds) = false

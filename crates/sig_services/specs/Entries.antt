@@ -1,4 +1,4 @@
--- The calls for entries of the log, each of one request (Rekor's API).
+-- The calls for entries of Rekor, each of one request (its API).
 use Rattle.std.specs.Prelude.{ℕ, ℤ, List, [], ◌∷◌, ◌++◌, Some, None, codes}
 use Rattle.std.specs.Fmt.{signed_decimal}
 use Rattle.form_urlencoded.specs.Form.{byte_serialize}
@@ -24,7 +24,7 @@ index_path index = queried (codes "/log/entries") ((codes "logIndex", signed_dec
 abbrev pub uuid_path : List ℕ → List ℕ
 uuid_path uuid = codes "/log/entries/" ++ byte_serialize uuid
 
--- an entry is given to the log
+-- an entry is submitted to the log
 abbrev pub create_log_entry : Configuration → List ℕ → Row (Error CreateLogEntryError) LogEntry
 create_log_entry c text = call (read_plain log_entry_of) create_error c Post (codes "/log/entries") (Some text)
 

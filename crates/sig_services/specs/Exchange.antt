@@ -1,4 +1,4 @@
--- One request, whose redirects are not followed, and its whole answer.
+-- One request, whose redirects are not followed, and its complete answer.
 use Rattle.std.specs.Prelude.{ℕ, [], Result, Ok, Err}
 use Rattle.oci_transport.specs.Link.{answer_of}
 use Rattle.oci_transport.specs.declared.message.Request.{Request}
@@ -6,16 +6,16 @@ use Rattle.oci_transport.specs.declared.message.Answer.{Answer}
 use Rattle.oci_protocol.specs.Proto.{Reply, Headed, Answered, Failed, TooLong, SinkFailed, read_within, Proto, Done}
 use Rattle.oci_protocol.specs.Follow.{follow}
 
--- a protocol that keeps nothing
+-- a protocol without client state
 abbrev pub Row : Type 0 → Type 0 → Type 0
 Row E A = Proto (Unit {0}) (Result A E)
 
--- the answer, or the name of what went wrong
+-- the answer, or the error of this name
 abbrev pub whole_reply : {E : Type 0} → E → E → Request → Reply → Row E Answer
 whole_reply link too_long last (Answered answer) = Done (Ok answer)
 whole_reply link too_long last TooLong = Done (Err too_long)
 whole_reply link too_long last Failed = Done (Err link)
--- never: the body is read, and into no sink
+-- never: the body is read, and not into a sink
 whole_reply link too_long last (Headed head) = Done (Ok (answer_of head []))
 whole_reply link too_long last SinkFailed = Done (Err link)
 

@@ -14,7 +14,7 @@ use Rattle.sig_services.specs.declared.entities.GetPublicKeyError.{GetPublicKeyE
 use Rattle.sig_services.specs.declared.entities.GetLogInfoError.{GetLogInfoError}
 use Rattle.sig_services.specs.declared.entities.GetLogProofError.{GetLogProofError}
 
--- a field of a form, where its value is given
+-- a field of a form, if its value is given
 abbrev pub field : List ℕ → Option (List ℕ) → List (List ℕ × List ℕ)
 field name (Some value) = (name, value) ∷ []
 field name None = []

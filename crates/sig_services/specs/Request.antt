@@ -1,4 +1,4 @@
--- Requests to the log (Rekor's API).
+-- Requests to Rekor (its API).
 use Rattle.std.specs.Prelude.{ℕ, List, [], ◌++◌, Option, Some, None, unwrap_or, Result, Ok, Err, codes}
 use Rattle.std.specs.FinMap as map
 use Rattle.url.specs.Parts.{Parts, serialize}
@@ -18,7 +18,7 @@ use Rattle.sig_services.specs.declared.error.Error.TheVariants.{Url, Header}
 abbrev pub address : List ℕ → List ℕ → List ℕ
 address base path = base ++ codes "/api/v1" ++ path
 
--- a path with fields of a form behind it
+-- a path followed by fields of a form
 abbrev pub queried : List ℕ → List (List ℕ × List ℕ) → List ℕ
 queried path pairs = path ++ codes "?" ++ extend_pairs [] pairs
 
@@ -29,12 +29,12 @@ url_read text None = Err (Url text)
 abbrev pub url_of : {E : Type 0} → List ℕ → Result Parts (Error E)
 url_of text = url_read text (request_url text)
 
--- the user agent, where there is one
+-- the user agent, if there is one
 abbrev pub with_agent : Option (List ℕ) → Fields → Option Fields
 with_agent None headers = Some headers
 with_agent (Some agent) headers = with_header headers (codes "user-agent") agent
 
--- what the body is, where there is one
+-- the type of the body, if there is one
 abbrev pub with_type : Option (List ℕ) → Fields → Option Fields
 with_type None headers = Some headers
 with_type (Some content) headers = with_header headers (codes "content-type") (codes "application/json")
@@ -55,7 +55,7 @@ headers_of agent content = headers_read agent (headers_sent agent content)
 abbrev pub body_of : Option (List ℕ) → List ℕ
 body_of content = unwrap_or content []
 
--- the request of a call: by this method, for this path, with this JSON text where one is given
+-- the request of a call: this method, this path, and this JSON text if one is given
 unfoldable pub request_of : {E : Type 0} → Configuration → Method → List ℕ → Option (List ℕ) → Result Request (Error E)
 request_of c method path content = do
   url ← url_of (address c.base_path path)

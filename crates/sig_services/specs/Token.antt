@@ -1,4 +1,4 @@
--- The token that the certificate authority is shown.
+-- The token that Fulcio receives.
 use Rattle.std.specs.Prelude.{ℕ, List}
 use Rattle.sig_services.specs.declared.token.TokenProvider.{TokenProvider}
 use Rattle.sig_services.specs.declared.token.TokenProvider.TheVariants.{Static}

@@ -1,4 +1,4 @@
-//! What the bodies of answers read as.
+//! How the bodies of answers are parsed.
 ghost use Rattle.std.specs.Prelude.{◌≡◌, ℕ, List, Option, IfOk};
 ghost use Rattle.json_tables.specs.Plain.{read_plain};
 ghost use Rattle.json_tables.specs.Reading.{list_of, text_of};
@@ -10,16 +10,16 @@ use json_values::{Json, List, Text};
 use sig_models::LogEntry;
 use std::alloc::{AllocError, Global};
 
-/// What the body of a success reads as.
+/// A type that is parsed from the body of a successful answer.
 pub trait Body: Sized {
     ghost body: { List ℕ → Option Self };
 
-    /// None where it does not read.
+    /// Parses the body. Returns `None` if it is malformed.
     fn from_body(alloc: Global, bytes: &[u8]) -> Result<Option<Self>, AllocError>
         ensures { IfOk result (λ found. found ≡ body bytes.now) };
 }
 
-/// JSON without floats: an object of one member, whose value is an object.
+/// JSON without floats: an object with one member, whose value is an object.
 impl Body for LogEntry {
     ghost body = { read_plain log_entry_of };
 
@@ -28,7 +28,7 @@ impl Body for LogEntry {
     }
 }
 
-/// JSON without floats: a list of texts.
+/// JSON without floats: a list of strings.
 impl Body for List<Text> {
     ghost body = { read_plain (list_of text_of) };
 

@@ -1,4 +1,4 @@
-// A call to the log: a request, and what its answer says.
+// A call to Rekor: a request, and the meaning of its answer.
 ghost use Rattle.std.specs.Prelude.{◌≡◌, IfOk};
 ghost use Rattle.serde_json.specs.View.{view};
 ghost use Rattle.oci_protocol.specs.Runs.{Meets};
@@ -48,7 +48,7 @@ impl<E> Refusal for Error<E> {
     }
 }
 
-// A status of the client's or the server's error (RFC 9110, 15.5 and 15.6).
+// Returns whether the status is 4xx or 5xx (RFC 9110, 15.5 and 15.6).
 fn is_refusal(status: u16) -> bool
     ensures { result ≡ is_refusal status }
 {
@@ -85,7 +85,7 @@ fn judged<X: Body, E: Entity>(alloc: Global, answer: Answer) -> Result<X, Error<
     }
 }
 
-/// The compact text of a JSON value.
+/// Returns the compact text of a JSON value.
 pub(crate) fn compact(alloc: Global, value: &Value) -> Result<Blob, AllocError>
     ensures { IfOk result (λ text. IsCompact text (view value.now)) }
 {
@@ -93,8 +93,8 @@ pub(crate) fn compact(alloc: Global, value: &Value) -> Result<Blob, AllocError>
     Ok(Blob::from_vec(text))
 }
 
-/// The whole call: the request by this method, for this path, with this JSON text where one is given, and what its
-/// answer reads as.
+/// Performs a call: sends the request with this method, this path, and this JSON text if one is given, and parses the
+/// answer.
 #[tactic(none)]
 pub(crate) fn call<T: Transport, X: Body, E: Entity>(
     alloc: Global,

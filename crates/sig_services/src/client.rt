@@ -1,4 +1,4 @@
-//! The certificate authority.
+//! Calls to Fulcio.
 ghost use Rattle.std.specs.Prelude.{◌≡◌, ◌++◌, codes, IfOk, option_copied};
 ghost use Rattle.serde_json.specs.Written.{compact_text};
 ghost use Rattle.oci_protocol.specs.Runs.{Meets};
@@ -26,7 +26,7 @@ use std::alloc::{AllocError, Global};
 use std::fmt;
 use url::{ParseError, Url};
 
-/// The public certificate authority.
+/// The URL of the public Fulcio instance.
 pub const FULCIO_ROOT: &str = "https://fulcio.sigstore.dev/";
 
 /// The path of certificates, version 1.
@@ -35,27 +35,27 @@ pub const SIGNING_CERT_PATH: &str = "api/v1/signingCert";
 /// The path of certificates, version 2.
 pub const SIGNING_CERT_V2_PATH: &str = "api/v2/signingCert";
 
-// How many bytes the body of an answer may have.
+// The greatest length of an answer's body in bytes.
 const MAX_BODY_BYTES: u64 = 4294967295;
 
-/// A certificate chain as it was answered, PEM text.
+/// A certificate chain verbatim, in PEM.
 #[derive(Debug, Drop)]
 pub struct FulcioCert {
     pub text: Text,
 }
 
-/// A certificate, those that it is signed under, and the timestamp that stands beside it.
+/// A certificate, the certificates of its issuers, and its separate timestamp.
 #[derive(Debug, Drop)]
 pub struct CertificateResponse {
-    /// The certificate, PEM text.
+    /// The certificate in PEM.
     pub cert: Text,
     /// The further certificates, each the issuer of the one before it.
     pub chain: List<Text>,
-    /// None where the timestamp stands in the certificate.
+    /// `None` if the timestamp is in the certificate.
     pub detached_sct: Option<SigningCertificateDetachedSCT>,
 }
 
-/// A client of a certificate authority.
+/// A client of a Fulcio instance.
 #[derive(Drop)]
 pub struct FulcioClient {
     root_url: Url,
@@ -63,7 +63,7 @@ pub struct FulcioClient {
 }
 
 impl FulcioCert {
-    /// The bytes of the text.
+    /// Returns the bytes of the text.
     pub fn as_ref(&self) -> &[u8]
         ensures { result.now ≡ self.now.text }
     {
@@ -157,7 +157,7 @@ fn request_of(
     })
 }
 
-// The answer to a request for certificates, whatever its status.
+// Returns the answer to a request for certificates, with any status.
 #[tactic(none)]
 fn asked<T: Transport>(
     alloc: Global,
@@ -196,7 +196,7 @@ fn copies(alloc: Global, certificates: &[Text]) -> Result<List<Text>, AllocError
     Ok(chain)
 }
 
-// The first certificate, and the others.
+// Returns the first certificate, and the others.
 fn parted(alloc: Global, chain: &CertificateChain) -> Result<(Text, List<Text>), FulcioError>
     ensures { Says result (parted chain.now.certificates) }
 {
@@ -277,7 +277,7 @@ fn signing_request_text(alloc: Global, request: &[u8]) -> Result<Blob, AllocErro
     Ok(text)
 }
 
-// The token alone.
+// Returns the token without the challenge.
 fn shown_token(provider: &TokenProvider) -> &str
     ensures { result.now ≡ (token_of provider.now).0 }
 {
@@ -287,7 +287,7 @@ fn shown_token(provider: &TokenProvider) -> &str
 }
 
 impl FulcioClient {
-    /// A client of the certificate authority at this URL, as `FULCIO_ROOT`.
+    /// Creates a client of the Fulcio instance at this URL, for example `FULCIO_ROOT`.
     pub fn new(root_url: Url, token_provider: TokenProvider) -> FulcioClient
         ensures { result ≡ record { root_url = root_url; token_provider = token_provider } }
     {
@@ -297,8 +297,8 @@ impl FulcioClient {
         }
     }
 
-    /// Asks for a certificate for this public key, in DER, with the key's signature over the challenge of the token.
-    /// The answer's status is not looked at.
+    /// Requests a certificate for this public key, in DER, with the key's signature over the challenge of the token.
+    /// The status of the answer is ignored.
     #[tactic(none)]
     pub fn request_cert<T: Transport>(
         &self,
@@ -327,8 +327,8 @@ impl FulcioClient {
         Ok(cert)
     }
 
-    /// Asks for a certificate for this signing request, PEM text (RFC 2986), and shows this identity token. The
-    /// answer's status is not looked at.
+    /// Requests a certificate for this certificate signing request in PEM (RFC 2986), and sends this identity token.
+    /// The status of the answer is ignored.
     #[tactic(none)]
     pub fn request_cert_v2<T: Transport>(
         &self,

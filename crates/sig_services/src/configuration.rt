@@ -7,19 +7,19 @@ use std::alloc::{AllocError, Global};
 /// A user's name and password.
 pub type BasicAuth = (Text, Option<Text>);
 
-/// A key of the log's API.
+/// A key of Rekor's API.
 #[derive(Drop)]
 pub struct ApiKey {
     pub prefix: Option<Text>,
     pub key: Text,
 }
 
-/// Where the log is, and how it is asked.
+/// The address of the log, and the settings of requests to it.
 #[derive(Drop)]
 pub struct Configuration {
     /// The URL before `/api/v1`.
     pub base_path: Text,
-    /// What stands in the header `user-agent`.
+    /// The value of the header `user-agent`.
     pub user_agent: Option<Text>,
     /// Sent by no call.
     pub basic_auth: Option<BasicAuth>,
@@ -29,12 +29,12 @@ pub struct Configuration {
     pub bearer_access_token: Option<Text>,
     /// Sent by no call.
     pub api_key: Option<ApiKey>,
-    /// How many bytes the body of an answer may have.
+    /// The greatest length of an answer's body in bytes.
     pub max_body_bytes: u64,
 }
 
 impl Configuration {
-    /// The public log, `https://rekor.sigstore.dev`, without credentials, and bodies of less than 4 GiB.
+    /// Returns the public log, `https://rekor.sigstore.dev`, without credentials, and with bodies of less than 4 GiB.
     pub fn new(alloc: Global) -> Result<Configuration, AllocError>
         ensures { IfOk result (λ configuration. configuration ≡ usual) }
     {

@@ -1,4 +1,4 @@
-//! What the bodies of refusals read as.
+//! How the bodies of error responses are parsed.
 ghost use Rattle.std.specs.Prelude.{◌≡◌, IfOk};
 ghost use Rattle.serde_json.specs.Data.{Data};
 ghost use Rattle.serde_json.specs.View.{items_view};
@@ -12,7 +12,7 @@ use sig_models as models;
 use std::alloc::{AllocError, Global};
 use thiserror::Error;
 
-/// What the JSON of a refusal reads as: the first variant that reads it.
+/// A type that is parsed from the JSON of an error response: the first variant that matches.
 pub trait Entity: Sized {
     ghost entity: { Data → Self };
 
@@ -20,22 +20,22 @@ pub trait Entity: Sized {
         ensures { IfOk result (λ found. found ≡ entity json) };
 }
 
-/// What the log says where `create_log_entry` is refused.
+/// The body if `create_log_entry` is refused.
 #[derive(Debug, Drop, Error)]
 pub enum CreateLogEntryError {
     #[error("the log did not accept the request: look at what it says")]
     Status400(models::Error),
-    /// Never the first that reads.
+    /// Never the first match.
     #[error("the log has the entry already: ask for that one")]
     Status409(models::Error),
-    /// Never the first that reads.
+    /// Never the first match.
     #[error("the log refused the request: look at what it says")]
     DefaultResponse(models::Error),
     #[error("the refusal reads as none that is known: look at the status and the content")]
     UnknownValue(Json),
 }
 
-/// What the log says where `get_log_entry_by_index` is refused.
+/// The body if `get_log_entry_by_index` is refused.
 #[derive(Debug, Drop, Error)]
 pub enum GetLogEntryByIndexError {
     #[error("the log has no such entry: ask for another one")]
@@ -46,7 +46,7 @@ pub enum GetLogEntryByIndexError {
     UnknownValue(Json),
 }
 
-/// What the log says where `get_log_entry_by_uuid` is refused.
+/// The body if `get_log_entry_by_uuid` is refused.
 #[derive(Debug, Drop, Error)]
 pub enum GetLogEntryByUuidError {
     #[error("the log has no such entry: ask for another one")]
@@ -57,31 +57,31 @@ pub enum GetLogEntryByUuidError {
     UnknownValue(Json),
 }
 
-/// What the log says where `search_log_query` is refused.
+/// The body if `search_log_query` is refused.
 #[derive(Debug, Drop, Error)]
 pub enum SearchLogQueryError {
     #[error("the log did not accept the request: look at what it says")]
     Status400(models::Error),
-    /// Never the first that reads.
+    /// Never the first match.
     #[error("the log refused the request: look at what it says")]
     DefaultResponse(models::Error),
     #[error("the refusal reads as none that is known: look at the status and the content")]
     UnknownValue(Json),
 }
 
-/// What the log says where `search_index` is refused.
+/// The body if `search_index` is refused.
 #[derive(Debug, Drop, Error)]
 pub enum SearchIndexError {
     #[error("the log did not accept the request: look at what it says")]
     Status400(models::Error),
-    /// Never the first that reads.
+    /// Never the first match.
     #[error("the log refused the request: look at what it says")]
     DefaultResponse(models::Error),
     #[error("the refusal reads as none that is known: look at the status and the content")]
     UnknownValue(Json),
 }
 
-/// What the log says where `get_public_key` is refused.
+/// The body if `get_public_key` is refused.
 #[derive(Debug, Drop, Error)]
 pub enum GetPublicKeyError {
     #[error("the log refused the request: look at what it says")]
@@ -90,7 +90,7 @@ pub enum GetPublicKeyError {
     UnknownValue(Json),
 }
 
-/// What the log says where `get_log_info` is refused.
+/// The body if `get_log_info` is refused.
 #[derive(Debug, Drop, Error)]
 pub enum GetLogInfoError {
     #[error("the log refused the request: look at what it says")]
@@ -99,12 +99,12 @@ pub enum GetLogInfoError {
     UnknownValue(Json),
 }
 
-/// What the log says where `get_log_proof` is refused.
+/// The body if `get_log_proof` is refused.
 #[derive(Debug, Drop, Error)]
 pub enum GetLogProofError {
     #[error("the log did not accept the request: look at what it says")]
     Status400(models::Error),
-    /// Never the first that reads.
+    /// Never the first match.
     #[error("the log refused the request: look at what it says")]
     DefaultResponse(models::Error),
     #[error("the refusal reads as none that is known: look at the status and the content")]

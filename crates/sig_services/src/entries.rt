@@ -29,13 +29,13 @@ use oci_transport::{Method, Transport};
 use sig_models::{LogEntry, ProposedEntry, SearchLogQuery};
 use std::alloc::{AllocError, Global};
 
-/// Why a text is no entry of the log.
+/// Why a string is not an entry of the log.
 #[derive(Clone, Copy, Debug, PartialEq, Eq, thiserror::Error)]
 pub enum ParseResponseError {
-    /// It is not JSON without floats of an object with one member whose value is an object.
+    /// It is not JSON without floats with one member whose value is an object.
     #[error("not an object of one entry: give the log's answer to a call for one entry")]
     NotOneMember,
-    /// The allocator had no memory.
+    /// The allocator is out of memory.
     #[error("out of memory: free some and try again")]
     WantOfMemory,
 }
@@ -54,7 +54,7 @@ impl From<AllocError> for ParseResponseError {
     }
 }
 
-/// The one entry of an answer, with its name.
+/// Returns the only entry of an answer, with its UUID.
 pub fn parse_response(alloc: Global, content: &str) -> Result<LogEntry, ParseResponseError>
     ensures ok { IfOk result (λ entry. read_plain log_entry_of content.now ≡ Some entry) }
     ensures refused { IsErrOf result ParseResponseError.NotOneMember
@@ -66,7 +66,7 @@ pub fn parse_response(alloc: Global, content: &str) -> Result<LogEntry, ParseRes
     }
 }
 
-/// Gives the log an entry to take, and answers it as the log took it.
+/// Submits an entry to the log, and returns it as the log accepted it.
 #[tactic(none)]
 pub fn create_log_entry<T: Transport>(
     alloc: Global,
@@ -103,7 +103,7 @@ fn index_path(alloc: Global, log_index: i32) -> Result<Text, AllocError>
     Ok(path)
 }
 
-/// The entry at this index of the log.
+/// Returns the entry at this index of the log.
 #[tactic(none)]
 pub fn get_log_entry_by_index<T: Transport>(
     alloc: Global,
@@ -137,7 +137,7 @@ fn uuid_path(alloc: Global, entry_uuid: &str) -> Result<Text, AllocError>
     Ok(path)
 }
 
-/// The entry of this name.
+/// Returns the entry with this UUID.
 #[tactic(none)]
 pub fn get_log_entry_by_uuid<T: Transport>(
     alloc: Global,
@@ -162,7 +162,7 @@ pub fn get_log_entry_by_uuid<T: Transport>(
     )
 }
 
-/// The text of the log's answer to a query.
+/// Returns the text of the log's answer to a query.
 #[tactic(none)]
 pub fn search_log_query<T: Transport>(
     alloc: Global,

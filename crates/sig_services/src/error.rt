@@ -4,39 +4,39 @@ ghost use Rattle.sig_services.specs.declared.error.Error.TheVariants.{WantOfMemo
 use json_values::{Blob, Copied, Text, copied};
 use std::alloc::{AllocError, Global};
 
-/// An answer that refuses.
+/// An answer with a 4xx or 5xx status.
 #[derive(Debug, Drop)]
 pub struct ResponseContent<E> {
     /// From 400 to 599.
     pub status: u16,
     /// The body.
     pub content: Blob,
-    /// What the body reads as; none where it is no JSON, or where a float stands in it.
+    /// The parsed body; `None` if it is not JSON, or contains a float.
     pub entity: Option<E>,
 }
 
-/// Why a call to the log was refused.
+/// Why a call to Rekor failed.
 #[derive(Debug, Drop, thiserror::Error)]
 pub enum Error<E> {
-    /// The transport failed: the count of its faults rose.
+    /// The transport failed: its fault count increased.
     #[error("the connection to the log failed: send the request again")]
     Link,
-    /// The body of the answer has more bytes than `max_body_bytes`.
+    /// The body of the answer has more than `max_body_bytes` bytes.
     #[error("the log's answer has more bytes than the configuration allows: raise its limit or ask for less")]
     BodyTooLong,
-    /// This text is no URL of a request.
+    /// This text is not the URL of a request.
     #[error("the URL of the request does not read: look at the base path")]
     Url(Text),
-    /// This user agent cannot stand in a header.
+    /// This user agent is not a valid header value.
     #[error("the user agent cannot stand in a header: give it no control characters")]
     Header(Text),
-    /// This body of a success does not read.
+    /// This body of a successful answer is malformed.
     #[error("the log's answer does not read: ask whether the base path is that of a log")]
     Json(Blob),
     /// The status is from 400 to 599.
     #[error("the log refused the request: look at the status and the content of its answer")]
     ResponseError(ResponseContent<E>),
-    /// The allocator had no memory.
+    /// The allocator is out of memory.
     #[error("out of memory: free some and try again")]
     WantOfMemory,
 }

@@ -1,4 +1,4 @@
-// One request, whose redirects are not followed, and its whole answer.
+// One request, whose redirects are not followed, and its complete answer.
 ghost use Rattle.std.specs.Prelude.{◌≡◌, true, false, Bool};
 ghost use Rattle.oci_transport.specs.Link.{answer_of};
 ghost use Rattle.oci_protocol.specs.Runs.{Meets};
@@ -9,7 +9,7 @@ use oci_protocol::reach;
 use oci_transport::{Answer, AnswerHead, BodyError, LinkError, Request, Transport, read_body};
 use std::alloc::Global;
 
-/// How a call names what may go wrong with its exchange.
+/// How a call names the errors of its exchange.
 pub trait Refusal: Sized {
     ghost link: { Self };
 
@@ -17,7 +17,7 @@ pub trait Refusal: Sized {
 
     ghost memory: { Self };
 
-    /// Which refusal says that memory was wanting.
+    /// Whether an error is out of memory.
     ghost is_memory: { Self → Bool };
 
     ghost not_link: { is_memory link ≡ false };
@@ -26,15 +26,15 @@ pub trait Refusal: Sized {
 
     ghost of_memory: { is_memory memory ≡ true };
 
-    /// The transport failed.
+    /// Returns the error of a failed transport.
     fn link() -> Self
         ensures { result ≡ link };
 
-    /// The body has more bytes than the limit.
+    /// Returns the error of a body with more bytes than the limit.
     fn too_long() -> Self
         ensures { result ≡ too_long };
 
-    /// The allocator had no memory.
+    /// Returns the out-of-memory error.
     fn memory() -> Self
         ensures { result ≡ memory };
 }
@@ -50,7 +50,7 @@ fn whole_answer(head: AnswerHead, body: Blob) -> Answer
     }
 }
 
-/// The answer to this request, whatever its status; a redirect is not followed.
+/// Returns the answer to this request, with any status; redirects are not followed.
 #[tactic(none)]
 pub(crate) fn exchange<T: Transport, F: Refusal>(
     alloc: Global,

@@ -5,28 +5,28 @@ use crate::exchange::Refusal;
 use json_values::{Blob, Copied, Text};
 use std::alloc::{AllocError, Global};
 
-/// Why a call to the certificate authority was refused.
+/// Why a call to Fulcio failed.
 #[derive(Debug, Drop, thiserror::Error)]
 pub enum FulcioError {
-    /// The transport failed: the count of its faults rose.
+    /// The transport failed: its fault count increased.
     #[error("the connection to the certificate authority failed: send the request again")]
     Link,
-    /// The body of the answer has 4 GiB and more.
+    /// The body of the answer has 4 GiB or more.
     #[error("the certificate authority's answer has 4 GiB and more: ask whether the root is that of an authority")]
     BodyTooLong,
-    /// This path does not join to the root.
+    /// This path cannot be joined to the root URL.
     #[error("the path does not join to the root: give a root that has a host")]
     Url(Text),
-    /// This token cannot stand in a header.
+    /// This token is not a valid header value.
     #[error("the token cannot stand in a header: give it no control characters")]
     Header(Text),
-    /// This body does not read.
+    /// This body is malformed.
     #[error("the certificate authority's answer does not read: look at what it says")]
     Json(Blob),
     /// There are fewer than two certificates.
     #[error("the chain has fewer than two certificates: the certificate's issuer is wanting")]
     ChainTooShort,
-    /// The allocator had no memory.
+    /// The allocator is out of memory.
     #[error("out of memory: free some and try again")]
     WantOfMemory,
 }

@@ -5,7 +5,7 @@ ghost use Rattle.sig_services.specs.Headers.{with_header};
 use oci_transport::{HeaderError, Headers};
 use std::alloc::AllocError;
 
-/// These headers and one more, or none where the value cannot stand in a header.
+/// Adds a header, or returns `None` if its value is invalid.
 pub(crate) fn with_header(
     mut headers: Headers,
     name: &str,

@@ -27,7 +27,7 @@ fn search_text(alloc: Global, query: &SearchIndex) -> Result<Blob, AllocError>
     Ok(text)
 }
 
-/// The names of the entries that this search finds.
+/// Returns the UUIDs of the entries that this search finds.
 #[tactic(none)]
 pub fn search_index<T: Transport>(
     alloc: Global,

@@ -1,4 +1,4 @@
-//! The log itself: its key, its state, a proof of its growth.
+//! The log itself: its key, its state, and consistency proofs.
 ghost use Rattle.std.specs.Prelude.{◌≡◌, IfOk, OnOk, option_copied, codes};
 ghost use Rattle.form_urlencoded.specs.Form.{extend_pairs};
 ghost use Rattle.oci_protocol.specs.Runs.{Meets};
@@ -18,7 +18,7 @@ use json_values::{Json, Text, write_decimal};
 use oci_transport::{Method, Transport};
 use std::alloc::{AllocError, Global};
 
-// A field of a form, where its value is given.
+// Appends a field of a form, if its value is given.
 fn append_field(form: &mut Serializer, name: &str, value: Option<&str>) -> Result<(), AllocError>
     ensures { OnOk result (form.new ≡ record form.old
         { form = extend_pairs form.old.form (field name.now (option_copied value.entry)) }) }
@@ -61,7 +61,7 @@ fn proof_path(
     Ok(path)
 }
 
-/// The public key of the log, or of one of its trees, as PEM text.
+/// Returns the public key of the log, or of one of its trees, in PEM.
 #[tactic(none)]
 pub fn get_public_key<T: Transport>(
     alloc: Global,
@@ -86,7 +86,7 @@ pub fn get_public_key<T: Transport>(
     )
 }
 
-/// The state of the log.
+/// Returns the state of the log.
 #[tactic(none)]
 pub fn get_log_info<T: Transport>(
     alloc: Global,
@@ -101,7 +101,7 @@ pub fn get_log_info<T: Transport>(
     call(alloc, transport, configuration, Method::Get, "/log", None)
 }
 
-/// A proof that the log of one size grew out of that of another.
+/// Returns a proof that the log of one size extends that of another.
 #[tactic(none)]
 pub fn get_log_proof<T: Transport>(
     alloc: Global,

@@ -1,4 +1,4 @@
-//! What the log is asked with and answers.
+//! The requests and responses of Rekor.
 
 pub use sig_models::{
     Alpine, AlpineAllOf, EntryAllOf, Error, Format, Hashedrekord, HashedrekordAllOf, Helm,

@@ -1,4 +1,4 @@
-// Requests to the log.
+// Requests to Rekor.
 ghost use Rattle.std.specs.Prelude.{◌≡◌, IfOk};
 ghost use Rattle.form_urlencoded.specs.Form.{byte_serialize};
 ghost use Rattle.sig_services.specs.Error.{Says};
@@ -14,7 +14,7 @@ use oci_transport::{Headers, Method, Request, UrlError, request_url};
 use std::alloc::{AllocError, Global};
 use url::Url;
 
-/// A text as a form has it (URL Standard, `application/x-www-form-urlencoded`).
+/// Encodes a text for a form (URL Standard, `application/x-www-form-urlencoded`).
 pub fn urlencode(alloc: Global, s: &str) -> Result<Text, AllocError>
     ensures { IfOk result (λ text. text ≡ byte_serialize s.now) }
 {
@@ -93,7 +93,7 @@ fn headers_of<E>(
     }
 }
 
-/// The request of a call: by this method, for this path, with this JSON text where one is given.
+/// Returns the request of a call: this method, this path, and this JSON text if one is given.
 #[tactic(auto, unfolding(crate::specs::Request::request_of))]
 pub(crate) fn request_of<E>(
     alloc: Global,

@@ -4,7 +4,7 @@ ghost use Rattle.sig_services.specs.Token.{token_of};
 use json_values::{Copied, Text, copy_all, row};
 use std::alloc::{AllocError, Global};
 
-/// Where the token comes from that the certificate authority is shown.
+/// Provides the token that Fulcio receives.
 #[derive(Drop)]
 pub enum TokenProvider {
     /// An identity token (OpenID Connect), and the challenge that the caller signs.
@@ -12,7 +12,7 @@ pub enum TokenProvider {
 }
 
 impl TokenProvider {
-    /// The token, and the challenge that the caller signs.
+    /// Returns the token, and the challenge that the caller signs.
     pub fn get_token(&self, alloc: Global) -> Result<(Text, Text), AllocError>
         ensures { IfOk result (λ both. both ≡ token_of self.now) }
     {

@@ -1,4 +1,4 @@
--- Keys tell what calls are asked with.
+-- Equal keys have equal settings.
 use Rattle.std.proofs.Common.{◌≡◌, ℕ, List, [], ◌∷◌, map, codes, Option, Some, None, refl, sym, ap, subst}
 use Rattle.std.specs.Str.{chars}
 use Rattle.serde_json.specs.Data.{Data, string, array, object, Items, item, no_members, member}
@@ -20,11 +20,11 @@ use Rattle.sig_settings.specs.Keys.{auth_text, text_or_null}
 use Rattle.sig_settings.specs.Settings.{ManifestKeysTell, PullKeysTell, ReferrersKeysTell, credentials_value, manifest_value, pull_value, referrers_value}
 use Rattle.sig_settings.proofs.KeyTexts.{manifest_canonical, pull_canonical, referrers_canonical}
 
--- values of one text are one value as maps
+-- values with one canonical text are equal as maps
 one_text : (d e : Data) (t u : List ℕ) → AreApart d → AreApart e → Canonical d t → Canonical e u → t ≡ u → as_maps d ≡ as_maps e
 one_text d e t u a b is also same = one_value d e t (spells d t a is) (spells e t b (subst (Canonical e) (sym same) also))
 
--- ---- no object has a name twice
+-- ---- no object has two members of one name
 
 auth_image : Told (codes "auth") (codes "image")
 unfolding units chars
@@ -62,7 +62,7 @@ null_apart (Some t) = tt
 two_apart : (auth : RegistryAuth) (image : List ℕ) → MembersApart (member (codes "auth") (credentials_value auth) (member (codes "image") (string image) no_members))
 two_apart auth image = ((auth_image, tt), auth_apart auth, (tt, tt, tt))
 
--- ---- the parts of equal values are equal
+-- ---- equal values have equal parts
 
 two_parts : (a b c d : Data) → object (member (codes "auth") a (member (codes "image") b no_members)) ≡ object (member (codes "auth") c (member (codes "image") d no_members)) → (a ≡ c) × (b ≡ d)
 two_parts a b c d e = (cc, cc)

@@ -1,4 +1,4 @@
--- Credentials, as the registry's client takes them and as data.
+-- Credentials as the registry client's type and as JSON values.
 use Rattle.std.specs.Prelude.{ℕ, List, [], ◌∷◌, codes, Some}
 use Rattle.serde_json.specs.Data.{Data, string}
 use Rattle.json_values.specs.Writing.{listed}
@@ -18,7 +18,7 @@ auth_from registry.Anonymous = given.Anonymous
 auth_from (registry.Basic user password) = given.Basic user password
 auth_from (registry.Bearer token) = given.Bearer token
 
--- credentials as data
+-- credentials as a JSON value
 abbrev pub auth_value : Auth → Data
 auth_value given.Anonymous = string (codes "Anonymous")
 auth_value (given.Basic user password) = fields ((codes "Basic", Some (listed string (user ∷ password ∷ []))) ∷ [])

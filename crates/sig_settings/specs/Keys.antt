@@ -1,4 +1,4 @@
--- The texts that answers are kept under: the canonical texts (RFC 8785) of what a call is asked with.
+-- The keys of cached responses: the canonical texts (RFC 8785) of the arguments of a call.
 use Rattle.std.specs.Prelude.{ℕ, List, [], ◌∷◌, codes, map, Option, Some, None}
 use Rattle.json_values.specs.Canon.{quoted_text}
 use Rattle.json_events.specs.Canonical.{array_text, object_text}
@@ -17,12 +17,12 @@ abbrev pub text_or_null : Option (List ℕ) → List ℕ
 text_or_null None = codes "null"
 text_or_null (Some text) = quoted_text text
 
--- of a call for a digest or a manifest
+-- the key of a call for a digest or a manifest
 abbrev pub manifest_key : Reference → RegistryAuth → List ℕ
 manifest_key image auth =
     object_text ((codes "auth", auth_text auth) ∷ (codes "image", quoted_text (whole_text image)) ∷ [])
 
--- of a call for an image, whose layers are of these media types
+-- the key of a call for an image whose layers have these media types
 abbrev pub pull_key : Reference → RegistryAuth → List (List ℕ) → List ℕ
 pull_key image auth types =
     object_text (
@@ -30,7 +30,7 @@ pull_key image auth types =
     ∷ (codes "auth", auth_text auth)
     ∷ (codes "image", quoted_text (whole_text image)) ∷ [])
 
--- of a call for the list of what refers to an image
+-- the key of a call for the list of referrers of an image
 abbrev pub referrers_key : Reference → RegistryAuth → Option (List ℕ) → List ℕ
 referrers_key image auth artifact_type =
     object_text (

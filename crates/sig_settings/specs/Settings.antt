@@ -1,4 +1,4 @@
--- What calls are asked with, as data.
+-- The arguments of calls as JSON values.
 use Rattle.std.specs.Prelude.{◌≡◌, ◌↔◌, ℕ, List, [], ◌∷◌, codes, Option, Some}
 use Rattle.serde_json.specs.Data.{Data, string}
 use Rattle.json_values.specs.Writing.{listed, null_or}
@@ -35,7 +35,7 @@ referrers_value s = fields (
     ∷ (codes "auth", Some (credentials_value s.auth))
     ∷ (codes "artifact_type", Some (null_or string s.artifact_type)) ∷ [])
 
--- ---- two calls have one key exactly if they are asked with the same
+-- ---- two calls have the same key if and only if their arguments are equal
 
 abbrev pub ManifestKeysTell : Type 0
 ManifestKeysTell = (image other : Reference) (auth others : RegistryAuth)

@@ -1,4 +1,4 @@
-// What is shown to a registry.
+// Credentials for a registry.
 ghost use Rattle.std.specs.Prelude.{◌≡◌, ◌∷◌, [], IfOk};
 ghost use Rattle.sig_settings.specs.Auths.{registry_auth, auth_from};
 
@@ -9,7 +9,7 @@ use serde_json::Value;
 use std::alloc::{AllocError, Global};
 use std::fmt;
 
-/// What is shown to a registry: nothing, a user name and a password, or a token.
+/// Credentials for a registry: none, a user name and a password, or a token.
 #[derive(Drop, PartialEq, Eq)]
 pub enum Auth {
     Anonymous,
@@ -18,7 +18,7 @@ pub enum Auth {
 }
 
 impl Auth {
-    /// The same credentials, as the registry's client takes them.
+    /// Returns the same credentials as the registry client's type.
     pub fn to_registry(&self, alloc: Global) -> Result<RegistryAuth, AllocError>
         ensures { IfOk result (λ auth. auth ≡ registry_auth self.now) }
     {
@@ -35,7 +35,7 @@ impl Auth {
         }
     }
 
-    /// The credentials that the registry's client takes.
+    /// Copies the registry client's credentials.
     pub fn from_registry(alloc: Global, auth: &RegistryAuth) -> Result<Auth, AllocError>
         ensures made { IfOk result (λ made. made ≡ auth_from auth.now) }
         ensures back { IfOk result (λ made. registry_auth made ≡ auth.now) }
@@ -65,7 +65,7 @@ fn pair(alloc: Global, user: &Text, password: &Text) -> Result<List<Text>, Alloc
     Ok(pair)
 }
 
-/// `"Anonymous"`, `{"Basic": [user, password]}` or `{"Bearer": token}`.
+/// Converts to `"Anonymous"`, `{"Basic": [user, password]}` or `{"Bearer": token}`.
 impl ToValue for Auth {
     ghost use Rattle.sig_settings.specs.Auths.{auth_value};
 
@@ -100,7 +100,7 @@ impl Copied for Auth {
     }
 }
 
-/// Neither the password nor the token is shown, whatever the formatter.
+/// Prints neither the password nor the token, in any format.
 impl fmt::Debug for Auth {
     ghost use Rattle.std.specs.Prelude.{Some};
     ghost use Rattle.std.specs.Fmt.{DisplaysOnOk, WritesStyledOnOk};

@@ -1,8 +1,8 @@
 // Laws of keys, as contracts of a function that does nothing.
 ghost use Rattle.sig_settings.specs.Settings.{ManifestKeysTell, PullKeysTell, ReferrersKeysTell};
 
-/// Two settings of one type have one key text exactly if image text and credentials are equal, and the media types in
-/// their order, or the artifact types.
+/// Proves that two settings of one type have equal key texts if and only if their image texts and credentials are
+/// equal, and so are the media types in their order or the artifact types.
 pub fn keys_tell_settings()
     ensures manifests { ManifestKeysTell }
     ensures pulls { PullKeysTell }

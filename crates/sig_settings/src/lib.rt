@@ -1,4 +1,4 @@
-//! What calls of a registry's client are asked with, and the texts that their answers are kept under.
+//! The arguments of a registry client's calls as JSON values, and the keys of their cached responses.
 #![tactic(auto)]
 
 mod auth;

@@ -15,7 +15,7 @@ use oci_names::Reference;
 use serde_json::Value;
 use std::alloc::{AllocError, Global};
 
-/// What a call for a digest or a manifest is asked with.
+/// The arguments of a call for a digest or a manifest.
 #[derive(Drop)]
 pub struct PullManifestSettings {
     image: Reference,
@@ -46,7 +46,7 @@ impl PullManifestSettings {
         &self.auth
     }
 
-    /// The canonical text (RFC 8785) of the settings.
+    /// Returns the canonical text (RFC 8785) of the settings.
     pub fn key_text(&self, alloc: Global) -> Result<Blob, AllocError>
         ensures key { IfOk result (λ text. text ≡ manifest_key self.now.image self.now.auth) }
         ensures canonical { IfOk result (λ text. Canonical (manifest_value self.now) text) }
@@ -54,7 +54,7 @@ impl PullManifestSettings {
         text_of(alloc, self)
     }
 
-    /// The 64 lower-case digits of the SHA-256 of the key text.
+    /// Returns the SHA-256 of the key text as 64 lower-case hexadecimal digits.
     pub fn hash(&self, alloc: Global) -> Result<Text, AllocError>
         ensures { IfOk result (λ digits. digits
             ≡ encode_lower (sha256 (manifest_key self.now.image self.now.auth))) }
@@ -64,7 +64,7 @@ impl PullManifestSettings {
     }
 }
 
-/// An object with `image`, the whole text of the reference, and `auth`.
+/// Converts to an object with `image`, the whole text of the reference, and `auth`.
 impl ToValue for PullManifestSettings {
     ghost written = { manifest_value };
 

@@ -15,7 +15,7 @@ use oci_names::Reference;
 use serde_json::Value;
 use std::alloc::{AllocError, Global};
 
-/// What a call for an image is asked with.
+/// The arguments of a call for an image.
 #[derive(Drop)]
 pub struct PullSettings {
     image: Reference,
@@ -67,7 +67,7 @@ impl PullSettings {
         &self.auth
     }
 
-    /// The canonical text (RFC 8785) of the settings.
+    /// Returns the canonical text (RFC 8785) of the settings.
     pub fn key_text(&self, alloc: Global) -> Result<Blob, AllocError>
         ensures key { IfOk result (λ text. text
             ≡ pull_key self.now.image self.now.auth self.now.accepted_media_types) }
@@ -76,7 +76,7 @@ impl PullSettings {
         text_of(alloc, self)
     }
 
-    /// The 64 lower-case digits of the SHA-256 of the key text.
+    /// Returns the SHA-256 of the key text as 64 lower-case hexadecimal digits.
     pub fn hash(&self, alloc: Global) -> Result<Text, AllocError>
         ensures { IfOk result (λ digits. digits ≡ encode_lower (sha256
             (pull_key self.now.image self.now.auth self.now.accepted_media_types))) }
@@ -86,7 +86,7 @@ impl PullSettings {
     }
 }
 
-/// An object with `image`, the whole text of the reference, `auth` and `accepted_media_types`.
+/// Converts to an object with `image`, the whole text of the reference, `auth` and `accepted_media_types`.
 impl ToValue for PullSettings {
     ghost written = { pull_value };
 

@@ -15,7 +15,7 @@ use oci_names::Reference;
 use serde_json::Value;
 use std::alloc::{AllocError, Global};
 
-/// What a call for the list of what refers to an image is asked with.
+/// The arguments of a call for the list of referrers of an image.
 #[derive(Drop)]
 pub struct PullReferrersSettings {
     image: Reference,
@@ -66,7 +66,7 @@ impl PullReferrersSettings {
         &self.auth
     }
 
-    /// The canonical text (RFC 8785) of the settings.
+    /// Returns the canonical text (RFC 8785) of the settings.
     pub fn key_text(&self, alloc: Global) -> Result<Blob, AllocError>
         ensures key { IfOk result (λ text. text
             ≡ referrers_key self.now.image self.now.auth self.now.artifact_type) }
@@ -75,7 +75,7 @@ impl PullReferrersSettings {
         text_of(alloc, self)
     }
 
-    /// The 64 lower-case digits of the SHA-256 of the key text.
+    /// Returns the SHA-256 of the key text as 64 lower-case hexadecimal digits.
     pub fn hash(&self, alloc: Global) -> Result<Text, AllocError>
         ensures { IfOk result (λ digits. digits ≡ encode_lower (sha256
             (referrers_key self.now.image self.now.auth self.now.artifact_type))) }
@@ -85,7 +85,7 @@ impl PullReferrersSettings {
     }
 }
 
-/// An object with `image`, the whole text of the reference, `auth` and `artifact_type`, which is null where it is none.
+/// Converts to an object with `image`, the whole text of the reference, `auth` and `artifact_type`, null if `None`.
 impl ToValue for PullReferrersSettings {
     ghost written = { referrers_value };
 

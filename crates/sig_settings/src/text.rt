@@ -11,7 +11,7 @@ use json_values::{Blob, Text, ToValue};
 use sha2::{Digest, Sha256};
 use std::alloc::{AllocError, Global};
 
-// The canonical text of a value in which no number is refused.
+// The canonical text of a value whose numbers are all accepted.
 pub(crate) fn text_of<V: ToValue>(alloc: Global, value: &V) -> Result<Blob, AllocError>
     requires { refused (V.written value.now) ≡ None }
     ensures { IfOk result (λ text. Canonical (V.written value.now) text) }
@@ -23,7 +23,7 @@ pub(crate) fn text_of<V: ToValue>(alloc: Global, value: &V) -> Result<Blob, Allo
     }
 }
 
-// The digits of the SHA-256 of a text.
+// The hexadecimal digits of the SHA-256 of a text.
 pub(crate) fn digits_of(alloc: Global, text: &[u8]) -> Result<Text, AllocError>
     ensures { IfOk result (λ digits. digits ≡ encode_lower (sha256 text.now)) }
 {

@@ -1,4 +1,4 @@
-// A member that is written whatever it is: none is null.
+// A member that is always written: `None` is written as null.
 ghost use Rattle.std.specs.Prelude.{◌≡◌, Some, ⊤};
 
 use json_values::ToValue;

@@ -1,4 +1,4 @@
--- A transport that tells nothing.
+-- A transport that exposes nothing.
 use Rattle.std.specs.Prelude.{None}
 use Rattle.oci_transport.specs.Link.{Link}
 use Rattle.stream_bench.specs.declared.pieces.Pieces.{Pieces}

@@ -1,7 +1,7 @@
-//! Pulls a blob of so many MiB as a stream (`stream MIB DIGEST`), or only hashes the same bytes (`hash MIB DIGEST`), to
-//! be timed. No bytes are kept: each piece is made as it is asked for.
+//! Pulls a blob of MIB MiB as a stream (`stream MIB DIGEST`), or only hashes the same bytes (`hash MIB DIGEST`), to be
+//! timed. No bytes are kept: each piece is made when it is requested.
 //!
-//! It ends with 1 where the digest is another one, with 2 for other words, and with 6 where memory was wanting.
+//! The exit status is 1 if the digest differs, 2 for other arguments, and 6 if memory ran out.
 #![tactic(auto)]
 
 mod pieces;
@@ -15,7 +15,7 @@ use std::alloc::{AllocError, Global};
 use std::env::{self, Env};
 use std::process::ExitCode;
 
-/// How many pieces a MiB has.
+/// The number of pieces in a MiB.
 const PIECES: u64 = 16;
 
 #[derive(Clone, Copy)]
@@ -24,7 +24,7 @@ enum Way {
     Hash,
 }
 
-/// What is timed: so many pieces, whose digest this is.
+/// What is timed: the number of pieces, and their digest.
 #[derive(Drop)]
 struct Asked {
     way: Way,
@@ -40,7 +40,7 @@ fn way_of(word: &str) -> Option<Way> {
     }
 }
 
-// What the words say, where they are of this form.
+// The arguments, if they are of this form.
 fn what_words_say<R: Env + Alloc>(rt: &R, alloc: Global) -> Option<Asked> {
     let mut words = env::args(rt).ok()?.skip(1);
     let way = way_of(words.next()?.as_str())?;
@@ -86,7 +86,7 @@ fn is_streamed(alloc: Global, asked: &Asked) -> Result<bool, OciDistributionErro
     Ok(last.is_none())
 }
 
-// 6 for want of memory, and 1 for any other refusal.
+// 6 if memory ran out, and 1 for any other error.
 fn streamed(alloc: Global, asked: &Asked) -> u8 {
     match is_streamed(alloc, asked) {
         Ok(true) => 0,

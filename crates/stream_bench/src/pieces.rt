@@ -1,18 +1,18 @@
-// A transport that makes what it answers.
+// A transport that computes its answers.
 use json_values::{Blob, Copied};
 use oci_transport::{AnswerHead, Headers, LinkError, Request, Transport};
 use std::alloc::{AllocError, Global};
 
-/// How many bytes a piece has.
+/// The number of bytes of a piece.
 const PIECE: usize = 65536;
 
-/// Answers each request with status 200 and as many pieces as are left. It tells no exchange.
+/// Responds to each request with status 200 and all the pieces that are left. It exposes no exchange.
 #[derive(Drop)]
 pub struct Pieces {
     pub left: u64,
 }
 
-/// A piece: 65536 bytes of the letter `a`.
+/// Returns a piece: 65536 bytes of the letter `a`.
 pub fn piece(alloc: Global) -> Result<Blob, AllocError> {
     let bytes = vec![in alloc; 97; PIECE]?;
     Ok(Blob::from_vec(bytes))

@@ -1,4 +1,4 @@
-//! Tests of blobs that are given piece by piece.
+//! Tests of streams of blobs.
 #![tactic(auto)]
 
 #[cfg(test)]

@@ -1,4 +1,4 @@
-// A registry that is recorded, and streams that are opened over it.
+// A recorded registry, and streams that are opened over it.
 ghost use Rattle.std.specs.Prelude.{IfOk};
 ghost use Rattle.oci_transport.specs.Pieces.{NoneEmpty};
 
@@ -14,7 +14,7 @@ use oci_transport::{HeaderError, Headers, Recorded, Script};
 use std::alloc::{AllocError, Global};
 use test_answers::LAYER_DIGEST;
 
-// The body in these pieces, without the empty ones.
+// Returns the pieces, without the empty ones.
 fn pieces(alloc: Global, given: &[&str]) -> Result<List<Blob>, AllocError>
     ensures { IfOk result (λ pieces. NoneEmpty pieces) }
 {
@@ -27,7 +27,7 @@ fn pieces(alloc: Global, given: &[&str]) -> Result<List<Blob>, AllocError>
     Ok(pieces)
 }
 
-/// A registry that answers once: with this status, length and body, and fails before this many pieces of it.
+/// Returns a registry that responds once, with this status, length and body, and fails before this many pieces of it.
 pub fn registry(
     alloc: Global,
     status: u16,
@@ -60,7 +60,7 @@ fn settings(alloc: Global, limit: u64) -> Result<Settings, AllocError> {
     })
 }
 
-/// A stream of `hello world` that may have so many bytes.
+/// Returns a stream of `hello world` with at most `limit` bytes.
 pub fn whole(
     alloc: Global,
     script: &mut Script,
@@ -83,7 +83,7 @@ pub fn whole(
     pull_blob_stream(alloc, script, &mut memory, &call, &layer)
 }
 
-/// These bytes of it.
+/// Returns a stream of these bytes of it.
 pub fn part(
     alloc: Global,
     script: &mut Script,
@@ -106,7 +106,7 @@ pub fn part(
     pull_blob_stream_partial(alloc, script, &mut memory, &call, &layer, range)
 }
 
-/// Whether each `next` says this, in order: a piece, nothing at the end, or the name of the refusal.
+/// Whether the calls of `next` return this, in order: a piece, nothing at the end, or the name of the refusal.
 pub fn says(alloc: Global, stream: &mut SizedStream, script: &mut Script, want: &[&str]) -> bool {
     for word in want {
         let said = match stream.next(alloc, script) {

@@ -3,7 +3,7 @@ use crate::recorded::{part, registry, says, whole};
 use engine_streams::{BlobResponse, ByteRange};
 use std::alloc::Global;
 
-// Whether a stream of this body says this.
+// Whether a stream of this body returns this.
 fn whole_says(
     alloc: Global,
     length: &str,
@@ -71,7 +71,7 @@ fn a_fault_ends_a_stream(rt: HostRuntime) {
     assert!(rt; whole_says(rt.alloc(), "11", &["hello", " world"], Some(1), &want));
 }
 
-// Whether an answer of this status to a request for the last five bytes is a part, and says this.
+// Whether a response with this status to a request for the last five bytes is a part, and its stream returns this.
 fn part_says(alloc: Global, status: u16, body: &[&str], partial: bool, want: &[&str]) -> bool {
     let range = ByteRange {
         offset: 6,
@@ -114,7 +114,7 @@ fn a_part_is_compared_with_nothing(rt: HostRuntime) {
     );
 }
 
-// The name of the refusal of these bytes.
+// Whether a request for these bytes is refused with this name.
 fn is_refused(alloc: Global, status: u16, range: ByteRange, name: &str) -> bool {
     let Ok(mut script) = registry(alloc, status, "5", &["world"], None) else {
         return false;

@@ -1,9 +1,9 @@
-// Answers as truth values.
+// Results as `bool`.
 use json_values::ToValue;
 use serde_json::Value;
 use std::alloc::{AllocError, Global};
 
-/// Whether an answer is true.
+/// Returns whether a result is `Ok(true)`.
 pub fn holds(answer: Result<bool, AllocError>) -> bool {
     match answer {
         Ok(holds) => holds,
@@ -11,7 +11,7 @@ pub fn holds(answer: Result<bool, AllocError>) -> bool {
     }
 }
 
-/// Whether the value is written as this text.
+/// Returns whether the value is written as this text.
 pub fn is_written<V: ToValue>(alloc: Global, value: &V, want: &str) -> bool {
     match text_of(alloc, value) {
         Ok(text) => text.as_str() == want,
@@ -25,7 +25,7 @@ fn text_of<V: ToValue>(alloc: Global, value: &V) -> Result<String, AllocError> {
     Ok(text)
 }
 
-/// The value of a JSON text, or null.
+/// Returns the value of a JSON text, or null.
 pub fn json(alloc: Global, text: &str) -> Value {
     match Value::from_str(alloc, text) {
         Ok(value) => value,

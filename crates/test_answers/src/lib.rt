@@ -1,4 +1,4 @@
-//! What the tests share: answers as truth values, and a registry that is recorded.
+//! What the tests share: results as `bool`, and a recorded registry.
 #![tactic(auto)]
 
 mod answers;

@@ -1,4 +1,4 @@
-// What the registry of the tests is recorded to answer.
+// The recorded answers of the tests' registry.
 ghost use Rattle.std.specs.Prelude.{IfOk};
 ghost use Rattle.oci_transport.specs.Pieces.{NoneEmpty};
 
@@ -24,7 +24,7 @@ pub const LAYER_DIGEST: &str =
 
 pub const LAYER_TYPE: &str = "application/vnd.oci.image.layer.v1.tar";
 
-// The body in one piece, where it has any byte.
+// The body in one piece, if it is not empty.
 fn pieces(alloc: Global, body: &str) -> Result<List<Blob>, AllocError>
     ensures { IfOk result (λ pieces. NoneEmpty pieces) }
 {
@@ -35,7 +35,7 @@ fn pieces(alloc: Global, body: &str) -> Result<List<Blob>, AllocError>
     Ok(pieces)
 }
 
-// An answer of the status 200 that names this digest.
+// An answer with status 200 that names this digest.
 fn answer(alloc: Global, digest: &str, body: &str) -> Result<Recorded, HeaderError> {
     let mut headers = Headers::new(alloc);
     headers.add("docker-content-digest", digest.as_bytes())?;
@@ -49,7 +49,7 @@ fn answer(alloc: Global, digest: &str, body: &str) -> Result<Recorded, HeaderErr
     })
 }
 
-/// These answers, as digest and body, in order.
+/// Returns a script of these answers, each a digest and a body, in order.
 pub fn script(alloc: Global, given: &[(&str, &str)]) -> Result<Script, HeaderError> {
     let mut answers = List::new(alloc);
     for (digest, body) in given {

@@ -1,4 +1,4 @@
-// What a registry wants shown (RFC 9110, 11.6.1).
+// The challenges of a registry (RFC 9110, 11.6.1).
 use json_values::{Copied, Text};
 use oci_link::{BearerChallenge, Challenge, ChallengeError, challenges};
 use std::alloc::{AllocError, Global};
@@ -50,7 +50,7 @@ fn challenges_are_read_as_the_grammar_says(rt: HostRuntime) {
     }
 }
 
-// Whether the header asks for a token at this realm, of this service.
+// Whether the header names this realm and this service.
 fn asks(alloc: Global, header: &[u8], realm: &str, service: &str) -> bool {
     match BearerChallenge::from_header(alloc, header) {
         Ok(bearer) => {
@@ -76,7 +76,7 @@ fn the_first_bearer_challenge_with_a_realm_is_asked(rt: HostRuntime) {
     assert!(rt; is_refused(rt.alloc(), b"\x80", ChallengeError::NotText));
 }
 
-// Why the first challenge of a text is refused.
+// Why the first challenge in a header is refused.
 fn refusal(alloc: Global, text: &str) -> Option<ChallengeError> {
     let list = challenges(alloc, text).ok()?;
     let first = list.as_slice().first()?;

@@ -1,4 +1,4 @@
-// What a guard lets pass.
+// The requests that a guard allows.
 use crate::headers::holds;
 use crate::scripts::recorded;
 use crate::urls::request;
@@ -12,7 +12,7 @@ fn texts(alloc: Global, text: &str) -> Result<List<Text>, AllocError> {
     Ok(texts)
 }
 
-// Whether a request is sent, where `localhost:5000` may be asked over http.
+// Whether a request is sent, if `localhost:5000` accepts http.
 fn passes(alloc: Global, hosts: Hosts, url: &str, shows: bool) -> Result<bool, AllocError> {
     let mut asked = request(alloc, Method::Get, url)?;
     if shows && asked.headers.add("authorization", b"Basic YQ==").is_err() {

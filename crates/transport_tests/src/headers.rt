@@ -1,8 +1,8 @@
-// Fields of headers.
+// Header fields.
 use oci_link::{HeaderError, Headers, header_text};
 use std::alloc::Global;
 
-/// Whether an answer is true.
+/// Whether a result is true.
 pub(crate) fn holds<E: Drop>(answer: Result<bool, E>) -> bool {
     match answer {
         Ok(holds) => holds,
@@ -10,7 +10,7 @@ pub(crate) fn holds<E: Drop>(answer: Result<bool, E>) -> bool {
     }
 }
 
-// Whether this value stands at this place of a name.
+// Whether a name has this value at this index.
 fn is_value(headers: &Headers, name: &str, place: usize, want: &[u8]) -> bool {
     match headers.value_at(name, place) {
         Some(value) => value == want,

@@ -8,7 +8,7 @@ use json_values::{Blob, List};
 use oci_link::{BodyError, Headers, Method, Recorded, Script, Transport, read_body};
 use std::alloc::{AllocError, Global};
 
-// So many pieces of one byte.
+// Returns `count` pieces of one byte.
 fn pieces(alloc: Global, count: u64) -> Result<List<Blob>, AllocError>
     ensures { IfOk result (λ pieces. NoneEmpty pieces) }
 {
@@ -35,7 +35,7 @@ pub(crate) fn recorded(
     })
 }
 
-// This one answer.
+// A script with this one answer.
 fn script(
     alloc: Global,
     count: u64,
@@ -63,7 +63,7 @@ pub(crate) fn is_sent<T: Transport>(
     }
 }
 
-/// The length of the body that is read.
+/// The length of the body in bytes.
 pub(crate) fn length<T: Transport>(
     alloc: Global,
     transport: &mut T,

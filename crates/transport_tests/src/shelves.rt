@@ -21,14 +21,14 @@ fn empty(alloc: Global) -> Result<Shelf, AllocError> {
     })
 }
 
-// A shelf whose one blob has this content.
+// A shelf with one blob of this content.
 fn with_blob(alloc: Global, content: Blob) -> Result<Shelf, AllocError> {
     let mut shelf = empty(alloc)?;
     shelf.blobs.insert(Text::new(alloc, "sha256:b")?, content)?;
     Ok(shelf)
 }
 
-// One tag of one document, and the list of its referrers.
+// A shelf with one tag of one document, and the list of its referrers.
 fn with_document(alloc: Global) -> Result<Shelf, AllocError> {
     let mut shelf = empty(alloc)?;
     let media_type = Text::new(alloc, "text/m")?;
@@ -160,7 +160,7 @@ fn first(alloc: Global) -> Result<List<u64>, AllocError> {
     Ok(numbers)
 }
 
-// The first send fails, and the first call for a piece.
+// The first send and the first call for a piece fail.
 fn fails_twice(alloc: Global) -> Result<bool, AllocError> {
     let shelf = with_blob(alloc, Blob::new(alloc, b"blob")?)?;
     if !shelf.redirects_lead(alloc)? {

@@ -1,4 +1,4 @@
-// URLs that are asked, and where redirects lead.
+// URLs of requests, and the targets of redirects.
 use crate::headers::holds;
 use json_values::{Blob, Text};
 use oci_link::{
@@ -71,7 +71,7 @@ fn asked(alloc: Global, method: Method) -> Result<Request, HeaderError> {
     Ok(asked)
 }
 
-// Whether a redirect leads on, and with the credentials.
+// Whether a redirect is followed, and with the credentials.
 fn leads(alloc: Global, method: Method, status: u16, location: &str) -> Option<bool> {
     let asked = asked(alloc, method).ok()?;
     let head = redirect(alloc, status, location).ok()?;

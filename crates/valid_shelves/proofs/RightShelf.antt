@@ -1,4 +1,4 @@
--- The shelf that is built of an image of one layer and of a signature of it is a valid one.
+-- The shelf built from an image of one layer and a signature of it is a valid one.
 use Rattle.std.specs.Prelude.{unwrap_or, Contains, IsTrue, IfSome}
 use Rattle.std.specs.Cmp.{eq_by_cmp_equiv}
 use Rattle.std.specs.Cmp.Lexicographic.{nat_list_cmp_total}
@@ -51,18 +51,18 @@ same_key : (x y : List ℕ) → eq_by_cmp by_bytes x y ≡ true → x ≡ y
 same_key x y h = slice_cmp-IsAntisymmetric nat_cmp-IsAntisymmetric x y (equal_from (by_bytes x y) h)
 
 module _ {V : Type 0} where
-  -- what was put in last is there
+  -- the last inserted value is found
   get_here : (m : Texts V) (key : List ℕ) (v : V) → map.get (map.insert m key v) key ≡ Some v
   get_here m key v = get-insert nat_list_cmp_total m key v key ∙ ap (λ b. cond b (Some v) (map.get m key)) ((eq_by_cmp_equiv nat_list_cmp_total).refl key)
 
-  -- and what was there before, under another key
+  -- and earlier values under other keys
   get_other : (m : Texts V) (key other : List ℕ) (v : V) → ((other ≡ key) → ⊥) → map.get (map.insert m key v) other ≡ map.get m other
   get_other m key other v differ = get-insert nat_list_cmp_total m key v other ∙ by_test (eq_by_cmp by_bytes other key) refl where
     by_test : (b : Bool) → eq_by_cmp by_bytes other key ≡ b → cond b (Some v) (map.get m other) ≡ map.get m other
     by_test true same = absurd (differ (same_key other key same))
     by_test false is = refl
 
-  -- what is so of all values that are put in is so of each that is found
+  -- a property of all inserted values holds for each that is found
   get_all : (P : List ℕ → V → Type 0) (m : Texts V) (key : List ℕ) (v : V) → P key v → ((other : List ℕ) (w : V) → map.get m other ≡ Some w → P other w) → (other : List ℕ) (w : V) → map.get (map.insert m key v) other ≡ Some w → P other w
   get_all P m key v here before other w is = by_test (eq_by_cmp by_bytes other key) refl (sym (get-insert nat_list_cmp_total m key v other) ∙ is) where
     by_test : (b : Bool) → eq_by_cmp by_bytes other key ≡ b → cond b (Some v) (map.get m other) ≡ Some w → P other w
@@ -78,7 +78,7 @@ module _ {V : Type 0} where
 abbrev IsNamed : List ℕ → List ℕ → Type 0
 IsNamed key blob = key ≡ sha256 blob
 
--- a key that is there stays there
+-- an existing key stays
 there_still : (m : Texts (List ℕ)) (key other v : List ℕ) → (w : List ℕ) × (map.get m other ≡ Some w) → (w : List ℕ) × (map.get (map.insert m key v) other ≡ Some w)
 there_still m key other v (w, is) = by_test (eq_by_cmp by_bytes other key) (get-insert nat_list_cmp_total m key v other) where
   by_test : (b : Bool) → map.get (map.insert m key v) other ≡ cond b (Some v) (map.get m other) → (w : List ℕ) × (map.get (map.insert m key v) other ≡ Some w)
@@ -173,7 +173,7 @@ module _ {V : Type 0} {H : V → Type 0} {meaning : Meaning V H} {s : Settings} 
   image_on : ImageOn s shelf d accepted
   image_on = record { first = packed.bytes; there = image_document; document = Image packed.manifest; reads = packed.reads; manifest = packed.manifest; leads = refl; blobs = blobs_on packed accepted own_config own_layer small.accepts }
 
-  -- the payload is read as the layer that stands
+  -- the payload is read as the layer that satisfies the policy
   read_is : read_layer meaning.trust d signing.descriptor (named_layer signing.descriptor.digest (layers_on shelf signing.manifest.layers)) ≡ Ok small.signature
   read_is =
       let own : ImageLayer = layer_of signing.descriptor signing.layer in
@@ -214,7 +214,7 @@ module _ {V : Type 0} {H : V → Type 0} {meaning : Meaning V H} {s : Settings} 
     referrers = get_none FitsBlob;
   }
 
-  -- so there is a valid shelf
+  -- the shelf is valid
   pub small_valid : ValidShelf meaning s image a accepted shelf
   small_valid = record {
     asked = asked;

@@ -1,4 +1,4 @@
--- A shelf that is built of the bytes of an image of one layer and of a signature of it.
+-- A shelf built from the bytes of an image of one layer and of a signature of it.
 use Rattle.std.specs.Prelude.{Contains, IsTrue, ◌≡◌, ◌≤◌, ℕ, true, List, [], ◌∷◌, length, Some, None, Ok}
 use Rattle.std.specs.FinMap as map
 use Rattle.std.specs.FinMap.{FinMap}
@@ -31,7 +31,7 @@ Texts V = FinMap by_bytes V
 abbrev pub sha256 : List ℕ → List ℕ
 sha256 bytes = digest_text Sha256 bytes
 
--- ---- what is built
+-- ---- the shelf
 
 -- a manifest of a configuration and one layer, with the bytes of all three
 pub record Packed : Type 0 where
@@ -75,7 +75,7 @@ shelf_of repository tag image signing = record {
 }
 
 -- An image by a tag that is not its digest's signature tag, and a signature of it, which is another document. The
--- signature's payload is read as a layer that stands for the image. Nothing is longer than a body may be.
+-- signature's payload is read as a layer that stands for the image. Nothing exceeds the limit of a body.
 pub record IsSmall {V : Type 0} {H : V → Type 0} (meaning : Meaning V H) (s : Settings) (image : Reference)
     (a : RegistryAuth) (accepted : List (List ℕ)) (tag : List ℕ) (packed signing : Packed) : Type 0 where
   pub by_tag : tag_of image ≡ Some tag

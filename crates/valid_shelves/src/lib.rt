@@ -1,3 +1,3 @@
-//! That shelves are there which give a verified image: one is built of the bytes of an image of one layer and of a
-//! signature of it. It has definitions and laws alone.
+//! Shows that `ValidShelf` is satisfiable: builds a shelf from the bytes of an image of one layer and of a signature of
+//! it. Definitions and laws only.
 #![tactic(auto)]

@@ -1,4 +1,4 @@
-// The canonical texts of whole values.
+// The canonical texts of complete values.
 use crate::plain::write_value;
 use crate::values::{failing_at, holds};
 use json_canon::{CanonError, JcsSerializer, json_to_vec, pipe, to_string, to_vec, to_writer};
@@ -42,7 +42,7 @@ fn texts_have_no_space_and_names_in_order(rt: HostRuntime) {
     }
 }
 
-// The examples of RFC 8785, 3.2.2 (but for its floats) and 3.2.3.
+// The examples of RFC 8785, 3.2.2 (except floats) and 3.2.3.
 #[test]
 fn examples_of_the_standard(rt: HostRuntime) {
     for (json, want) in [
@@ -158,7 +158,7 @@ fn texts_go_to_a_sink(rt: HostRuntime) {
     assert!(rt; texts_in_a_row(rt.alloc()));
 }
 
-// A value by its number, inside out.
+// A value by its number, built from the inside out.
 fn generated(alloc: Global, number: usize) -> Result<Text, AllocError> {
     let wraps = [
         ("[null,", ",\"\\n\"]"),

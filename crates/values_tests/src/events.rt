@@ -37,7 +37,7 @@ fn call_of_object<K: Sink>(
     }
 }
 
-// `n` null, `t` true, `1` the greatest whole number and `2` the next one, `~` a float, `!` a fragment; else a string.
+// `n` null, `t` true, `1` the greatest integer and `2` the next one, `~` a float, `!` a fragment; else a string.
 fn call_of_value<K: Sink>(
     f: &mut JcsFormatter,
     sink: &mut K,
@@ -63,7 +63,7 @@ fn play<K: Sink>(f: &mut JcsFormatter, sink: &mut K, events: &str) -> Result<(),
     Ok(())
 }
 
-// Whether the events are taken, with this text gone out and this text held for a member.
+// Whether the events are accepted, with this text written out and this text held for a member.
 fn writes(alloc: Global, events: &str, taken: &str, text: &str) -> bool {
     let mut sink = PlainSink::new(alloc);
     let mut f = JcsFormatter::new(alloc);
@@ -99,7 +99,7 @@ fn a_member_holds_its_text_until_its_object_ends(rt: HostRuntime) {
     }
 }
 
-// Whether the last event is refused so, and each later one too, with nothing written.
+// Whether the last event has this refusal, and each later one too, with nothing written.
 fn refuses(alloc: Global, events: &str, refusal: CanonError, taken: &str) -> bool {
     let mut sink = PlainSink::new(alloc);
     let mut f = JcsFormatter::new(alloc);

@@ -1,4 +1,4 @@
-// The plain program of the definition: a value's text by recursion, with no formatter.
+// The definition as a plain program: a value's text by recursion, without a formatter.
 use json_canon::JsonProperty;
 use json_values::{Blob, write_quoted};
 use serde_json::{Map, Value};

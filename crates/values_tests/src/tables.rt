@@ -1,4 +1,4 @@
-// Members of JSON objects read.
+// Reading members of JSON objects.
 use crate::values::holds;
 use json_tables::{
     Member, ReadError, Reads, an_object, decode_base64, holds_float, only, optional, read_document,

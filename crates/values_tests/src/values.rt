@@ -7,7 +7,7 @@ use json_writing::Holder;
 use serde_json::Value;
 use std::alloc::{AllocError, Global};
 
-/// Whether an answer is true.
+/// Whether a result is true.
 pub(crate) fn holds(answer: Result<bool, AllocError>) -> bool {
     match answer {
         Ok(holds) => holds,
@@ -45,7 +45,7 @@ fn texts_bytes_and_lists_grow_and_copy(rt: HostRuntime) {
     assert!(rt; Blob::empty(rt.alloc()).as_slice().is_empty());
 }
 
-// What is put in front of a long text goes into the room that is kept there.
+// Bytes that are prepended to a long text go into the room that is kept for them.
 fn wrapped(alloc: Global, text: Blob, times: u8) -> Result<Blob, AllocError> {
     let mut whole = text;
     for _ in 0..times {
@@ -242,7 +242,7 @@ fn texts_lists_maps_and_sets_stand_for_json(rt: HostRuntime) {
     assert!(rt; holds(json_is_written(rt.alloc())));
 }
 
-/// A sink that fails at this call.
+/// Returns a sink that fails at this call.
 pub(crate) fn failing_at(alloc: Global, call: u64) -> Result<MemorySink, AllocError> {
     let mut failing = List::new(alloc);
     failing.push(call)?;

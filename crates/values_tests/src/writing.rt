@@ -1,4 +1,4 @@
-// Members of JSON objects written.
+// Writing members of JSON objects.
 use crate::values::holds;
 use json_tables::Reads;
 use json_values::{Annotations, Json, List, Text, TextSet};

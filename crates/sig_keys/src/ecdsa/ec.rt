@@ -31,7 +31,7 @@ pub struct EcdsaSigner {
 }
 
 impl EcdsaKeys {
-    /// New keys on this curve. `KeyGenerationError` exactly where the maker makes none.
+    /// Makes new keys on this curve. Returns `KeyGenerationError` if and only if the maker makes none.
     pub fn new<M: KeyMaker>(
         alloc: Global,
         maker: &M,
@@ -49,8 +49,8 @@ impl EcdsaKeys {
         }
     }
 
-    /// Reads a private key: the first of P-256, P-384 and P-521 of which the maker reads it. `KeyParseError` exactly
-    /// where it reads it on none of them.
+    /// Parses a private key on the first of P-256, P-384 and P-521 on which the maker parses it. Returns
+    /// `KeyParseError` if and only if there is none.
     pub fn from_der<M: KeyMaker>(alloc: Global, maker: &M, pkcs8: &[u8]) -> Result<Self, KeyError>
         ensures { Parses result (ecdsa_keys_of (M.public_of maker.now) pkcs8.now) }
     {
@@ -60,7 +60,7 @@ impl EcdsaKeys {
         }
     }
 
-    /// The same as `from_der`.
+    /// Does the same as `from_der`.
     pub fn from_pkcs8_der<M: KeyMaker>(
         alloc: Global,
         maker: &M,
@@ -71,7 +71,7 @@ impl EcdsaKeys {
         Self::from_der(alloc, maker, pkcs8)
     }
 
-    // The keys on the first curve on which the maker reads them.
+    // Returns the keys on the first curve on which the maker parses them.
     pub(crate) fn read<M: KeyMaker>(
         alloc: Global,
         maker: &M,
@@ -107,7 +107,7 @@ impl EcdsaKeys {
         }))
     }
 
-    /// A signer with a copy of the keys.
+    /// Returns a signer with a copy of the keys.
     pub fn to_signer(&self, alloc: Global) -> Result<EcdsaSigner, AllocError>
         ensures { IfOk result (λ signer. signer ≡ ecdsa_signer self.now) }
     {
@@ -115,7 +115,7 @@ impl EcdsaKeys {
         Ok(EcdsaSigner { keys })
     }
 
-    /// A copy, under the variant of its curve.
+    /// Copies the keys, under the variant of their curve.
     pub fn to_wrapped_ecdsa_keys(&self, alloc: Global) -> Result<AnyCurveKeys, AllocError>
         ensures { IfOk result (λ keys. keys ≡ wrapped self.now) }
     {
@@ -123,7 +123,7 @@ impl EcdsaKeys {
         Ok(keys.into_wrapped())
     }
 
-    // These keys, under the variant of their curve.
+    // Returns these keys under the variant of their curve.
     pub(crate) fn into_wrapped(self) -> AnyCurveKeys
         ensures { result ≡ wrapped self }
     {
@@ -161,14 +161,14 @@ impl KeyPair for EcdsaKeys {
 }
 
 impl EcdsaSigner {
-    /// A signer with a copy of these keys.
+    /// Returns a signer with a copy of these keys.
     pub fn from_ecdsa_keys(alloc: Global, keys: &EcdsaKeys) -> Result<EcdsaSigner, AllocError>
         ensures { IfOk result (λ signer. signer ≡ ecdsa_signer keys.now) }
     {
         keys.to_signer(alloc)
     }
 
-    /// The signer's keys.
+    /// Returns the signer's keys.
     pub fn ecdsa_keys(&self) -> &EcdsaKeys
         ensures { result.now ≡ self.now.keys }
     {
@@ -221,7 +221,7 @@ impl Copied for EcdsaSigner {
     }
 }
 
-/// The curve is shown and no key, whatever the formatter.
+/// The curve is printed and no key, whatever the formatter.
 impl fmt::Debug for EcdsaKeys {
     ghost use Rattle.std.specs.Prelude.{Some};
     ghost use Rattle.std.specs.Fmt.{DisplaysOnOk, WritesStyledOnOk};
@@ -241,7 +241,7 @@ impl fmt::Debug for EcdsaKeys {
     }
 }
 
-/// No key is shown, whatever the formatter.
+/// No key is printed, whatever the formatter.
 impl fmt::Debug for EcdsaSigner {
     ghost use Rattle.std.specs.Prelude.{Some, codes};
     ghost use Rattle.std.specs.Fmt.{DisplaysOnOk, WritesStyledOnOk};

@@ -2,7 +2,7 @@ use Rattle.std.proofs.Common.{◌≡◌, length}
 use Rattle.cosign_layers.specs.Judge.{has_two_equal}
 use Rattle.cosign_layers.proofs.judge.has_two_equal.Given as goal
 
--- none so far, so the rest decides
+-- none among the rows so far, so the others decide
 abbrev pub invariant-loop-row : goal.invariant-loop-row
 invariant-loop-row l = has_two_equal l.rest ≡ has_two_equal l.rows
 

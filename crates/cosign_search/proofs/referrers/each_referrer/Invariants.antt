@@ -7,7 +7,7 @@ use Rattle.cosign_rows.proofs.Leads.{Leads}
 use Rattle.cosign_search.specs.Gathered.{gathered}
 use Rattle.cosign_search.proofs.referrers.each_referrer.Given as goal
 
--- what was asked so far leads to the referrers that are left
+-- the requests so far lead to the referrers that are left
 abbrev pub invariant-loop-entry : goal.invariant-loop-entry
 invariant-loop-entry g l = (s : Settings) → let trust = trust_of g.V.SignatureVerifier.valid g.O.Offline.vouched l.referred.trusted.now in
     Leads s (gathered l.fn.part (referrers_row trust l.referred.digest.now (within s l.referred.moment) l.referred.image.now l.referred.auth.now l.entries)) (gathered l.part (referrers_row trust l.referred.digest.now (within s l.referred.moment) l.referred.image.now l.referred.auth.now (drop l.entry-index l.entries)))

@@ -5,6 +5,6 @@ use Rattle.engine_rows.specs.Offers.{tried}
 use Rattle.engine_blobs.proofs.PlacesInTurn.{LeadsOn}
 use Rattle.engine_blobs.proofs.blobs.held_tried.Given as goal
 
--- what was asked so far leads to the places that are left
+-- the requests so far lead to the places that are left
 abbrev pub invariant-loop-url : goal.invariant-loop-url
 invariant-loop-url g l = LeadsOn (tried IntoMemory l.settings l.digest (places_of l.urls) l.fn.request) (tried IntoMemory l.settings l.digest (places_of (drop l.url-index l.urls)) l.request) (g.T.Transport.state l.fn.transport) (g.T.Transport.state l.transport)

@@ -4,6 +4,6 @@ use Rattle.engine_rows.specs.Image.{pull_layers}
 use Rattle.engine_blobs.proofs.Layers.{Leads}
 use Rattle.engine_pull.proofs.image.pull_layers.Given as goal
 
--- what was asked so far leads to the descriptors that are left
+-- the requests so far lead to the descriptors that are left
 abbrev pub invariant-loop-descriptor : goal.invariant-loop-descriptor
 invariant-loop-descriptor g l = Leads (pull_layers (context_of l.call) l.call.image.now l.descriptors l.fn.layers) (pull_layers (context_of l.call) l.call.image.now (drop l.descriptor-index l.descriptors) l.layers) (g.T.Transport.state l.fn.transport) (g.T.Transport.state l.transport) l.fn.memory l.memory

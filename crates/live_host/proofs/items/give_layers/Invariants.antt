@@ -3,7 +3,7 @@ use Rattle.live_host.specs.Items.{WereTold, layers_sent}
 use Rattle.live_host.specs.Wire.{Wire, wire}
 use Rattle.live_host.proofs.items.give_layers.Given as goal
 
--- what is told from here on is told behind what was
+-- what is sent from here on follows what was sent
 abbrev pub invariant-loop-descriptor : goal.invariant-loop-descriptor
 invariant-loop-descriptor g l = (end : Wire) → WereTold (layers_sent l.named l.rest) (wire g.S.Source.state g.K.Sink.state l.streams) end
     → WereTold (layers_sent l.descriptors l.layers) (wire g.S.Source.state g.K.Sink.state l.initial.streams) end

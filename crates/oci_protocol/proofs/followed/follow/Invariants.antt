@@ -1,7 +1,7 @@
 use Rattle.oci_protocol.specs.Follow.{Follows}
 use Rattle.oci_protocol.proofs.followed.follow.Given as goal
 
--- what was asked so far led to the request that is left
+-- the requests so far led to the request that is left
 abbrev pub invariant-loop-head : goal.invariant-loop-head
 invariant-loop-head g l = Follows l.times l.request l.left l.last (g.S.Sender.state l.fn.sender) (g.S.Sender.state l.sender)
 

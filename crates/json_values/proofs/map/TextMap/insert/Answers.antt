@@ -7,7 +7,7 @@ use Rattle.json_values.proofs.map.TextMap.insert.Goals as goal
 pub place-requires : goal.place-requires
 place-requires g c = subst Sorted (sym c.as_slice.ensures.value) c.self.invariant
 
--- the name is there, and its value is replaced
+-- the name is present, and its value is replaced
 pub invariant_of-self : goal.invariant_of-self
 invariant_of-self g c =
     let there = sym (c.in-Ok.ensures.place ∙ ap (λ k. place_of k c.as_slice.result.now) c.as_str.ensures ∙ ap (place_of c.args.name) c.as_slice.ensures.value) in
@@ -23,7 +23,7 @@ returns-in-Ok-clause-ok g c =
     ap map.from_sorted (sym is) ∙ from_put c.self.inside.entries.items c.self.invariant c.args.name c.args.value
     ∙ ap (λ m. map.insert m c.args.name c.args.value) c.self.view_is
 
--- the name is not there, and goes to its place
+-- the name is missing, and is inserted at its index
 pub invariant_of-self-in-Err : goal.invariant_of-self-in-Err
 invariant_of-self-in-Err g c =
     let gap = sym (c.in-Err.ensures.place ∙ ap (λ k. place_of k c.as_slice.result.now) c.as_str.ensures ∙ ap (place_of c.args.name) c.as_slice.ensures.value) in
