@@ -7,6 +7,6 @@ mod trust_root;
 
 pub use builder::ClientBuilder;
 pub use client::Client;
-pub use cosign_chain::{VerifiedImage, check_links};
+pub use cosign_chain::{VerifiedImage, check_chain, check_links};
 pub use cosign_rows::{PullRefusal, SkipCause, Skipped, SourceKind, TrustedLayers};
 pub use trust_root::TrustRoot;

@@ -30,19 +30,19 @@ pub enum LayerRejection {
     #[error("the layer has no signature: sign the image anew with cosign")]
     NoSignature,
     /// No key is known for the log of this id.
-    #[error("the log's key is unknown: give it where it is to be trusted")]
+    #[error("the log's key is unknown: add it to the log keys, if the log is to be trusted")]
     UnknownLogKey(Text),
     /// The log's signature is not valid for the entry's canonical text.
     #[error("the log's signature is not valid: do not trust the entry, and sign the image anew")]
     BadLogSignature,
     /// The entry with this body logs another signature.
-    #[error("the log entry is of another signature: sign the image anew with cosign")]
+    #[error("the entry logs another signature: sign the image anew with cosign")]
     OtherLogEntry(Text),
     /// There is a certificate, and no log entry that states when it was used.
     #[error("the certificate has no log entry: sign the image with an upload to the log")]
     NoLogEntry,
     /// The judge does not vouch for this certificate at the time of the log entry.
-    #[error("nobody vouches for the certificate: give the root that issued it where it is to be trusted")]
+    #[error("the judge does not vouch for the certificate: add the root that issued it, if it is to be trusted")]
     NotVouched,
     /// The layer is described, but was not among those that were received.
     #[error("the layer was not pulled: pull again, since the signature tag may have moved")]

@@ -12,27 +12,27 @@ use thiserror::Error;
 #[derive(Drop, Error)]
 pub enum PullRefusal {
     /// The policy has no constraint. No request was sent.
-    #[error("the policy has no constraint: say who has to have signed")]
+    #[error("the policy has no constraint: add one that says who must have signed")]
     EmptyPolicy,
     /// The image's reference does not round-trip, and no request was sent; or the one by the returned digest does not.
-    #[error("the reference does not read: write it as [domain/]path[:tag][@digest]")]
+    #[error("the reference is malformed: write it as [domain/]path[:tag][@digest]")]
     OciReferenceNotValidError {
         reference: Text,
     },
     /// The image's digest was not returned.
-    #[error("the image's digest was not answered: look at what the registry's client says")]
+    #[error("the image's digest was not returned: read the error of the registry's client")]
     RegistryFetchManifestError {
         image: Text,
         error: OciDistributionError,
     },
     /// A signature layer stands for the digest, but its image was not pulled.
-    #[error("the image was not pulled: look at what the registry's client says")]
+    #[error("the image was not pulled: read the error of the registry's client")]
     RegistryPullError {
         image: Text,
         error: OciDistributionError,
     },
     /// No signature layer that was found stands for the digest.
-    #[error("no trusted signature stands for the image: look at what was found and skipped")]
+    #[error("no signature of the image satisfies the policy: read which layers were found and why others were skipped")]
     Unsatisfied {
         digest: Text,
         collected: List<SignatureLayer>,

@@ -11,19 +11,33 @@ use crate::content::Content;
 use crate::pieces::{Upload, pieces_read, pieces_sent};
 use crate::uploads::{upload_begun, upload_ended};
 use engine_terms::{Call, GenericCause, OciDistributionError};
-use json_values::Text;
+use json_values::{Copied, Text, copied};
 use oci_auth::Memory;
 use oci_digests::{Algorithm, Digester};
 use oci_pieces::PieceSource;
 use oci_transport::Transport;
-use std::alloc::Global;
+use std::alloc::{AllocError, Global};
 
 /// The result of pushing a stream: the URL of the blob, its SHA-256 digest, and its size in bytes.
-#[derive(Debug, Drop)]
+#[derive(Debug, Drop, PartialEq, Eq)]
 pub struct PushBlobStreamChunkedResponse {
     pub blob_url: Text,
     pub blob_digest: Text,
     pub size: u64,
+}
+
+impl Copied for PushBlobStreamChunkedResponse {
+    fn copy(&self, alloc: Global) -> Result<PushBlobStreamChunkedResponse, AllocError> {
+        copied!(
+            alloc,
+            self,
+            PushBlobStreamChunkedResponse {
+                blob_url,
+                blob_digest,
+                size
+            }
+        )
+    }
 }
 
 #[tactic(none)]

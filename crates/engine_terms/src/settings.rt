@@ -3,12 +3,12 @@ ghost use Rattle.std.specs.Prelude.{◌≡◌};
 ghost use Rattle.engine_terms.specs.Settings.{is_listed, scheme_for};
 ghost use Rattle.engine_terms.specs.declared.settings.ClientProtocol.TheVariants.{Https as https_alone};
 
-use json_values::{Copied, List, Text};
+use json_values::{Copied, List, Text, copied};
 use oci_platforms::PlatformResolver;
 use std::alloc::{AllocError, Global};
 
 /// The scheme of a registry's URLs.
-#[derive(Debug, Drop)]
+#[derive(Debug, Drop, PartialEq, Eq)]
 pub enum ClientProtocol {
     Http,
     Https,
@@ -76,5 +76,21 @@ impl Copied for ClientProtocol {
                 Ok(ClientProtocol::HttpsExcept(registries))
             }
         }
+    }
+}
+
+impl Copied for Settings {
+    fn copy(&self, alloc: Global) -> Result<Settings, AllocError> {
+        copied!(
+            alloc,
+            self,
+            Settings {
+                protocol,
+                user_agent,
+                max_body_bytes,
+                use_monolithic_push,
+                platform_resolver
+            }
+        )
     }
 }

@@ -25,16 +25,16 @@ pub struct BearerChallenge {
 #[derive(Clone, Copy, Debug, PartialEq, Eq, Error)]
 pub enum ChallengeError {
     /// The header has a byte that is neither a tab nor from 0x20 to 0x7E.
-    #[error("the header of challenges is not text: ask the registry for visible ASCII")]
+    #[error("the header `www-authenticate` is not text: the registry must send visible ASCII")]
     NotText,
     /// No challenge in the header has the scheme Bearer and a realm.
-    #[error("no challenge is of the scheme Bearer and has a realm: show credentials in another way")]
+    #[error("no challenge has the scheme Bearer and a realm: send credentials in another way")]
     NoBearer,
     /// The challenge has another scheme than Bearer.
-    #[error("the challenge is of another scheme than Bearer: show credentials in another way")]
+    #[error("the challenge does not have the scheme Bearer: send credentials in another way")]
     OtherScheme,
     /// The challenge has no parameter `realm`.
-    #[error("the challenge has no realm: there is no URL to ask for a token")]
+    #[error("the challenge has no realm: there is no URL to request a token from")]
     NoRealm,
     /// The allocator is out of memory.
     #[error("out of memory: free some and try again")]

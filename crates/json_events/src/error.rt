@@ -6,25 +6,25 @@ use thiserror::Error;
 #[derive(Clone, Copy, Debug, PartialEq, Eq, Error)]
 pub enum CanonError {
     /// The value contains a float.
-    #[error("a float has no canonical text here: give whole numbers or texts")]
+    #[error("a float has no canonical text here: use integers or strings")]
     Float,
     /// The value contains an integer of a magnitude greater than 9007199254740991.
-    #[error("a whole number is past 9007199254740991: give it as a text")]
+    #[error("an integer has a magnitude greater than 9007199254740991: write it as a string")]
     IntegerOutOfRange,
     /// An object has a duplicate name.
-    #[error("an object has a name twice: give each name once")]
+    #[error("an object has a duplicate name: use each name once")]
     DuplicateKey,
     /// A fragment of JSON was to be written verbatim.
-    #[error("a raw fragment has no canonical text: give its value")]
+    #[error("a raw fragment has no canonical text: pass its value")]
     RawFragment,
     /// The event is not part of a value at this place.
-    #[error("the event stands in no value: begin arrays, objects and members before what is in them")]
+    #[error("the event is not valid at this place: begin arrays, objects and members before their contents")]
     NotWellNested,
     /// The text is not JSON.
-    #[error("the text is no JSON: give one value of JSON")]
+    #[error("the text is not JSON: pass one JSON value")]
     Unreadable,
     /// The sink failed.
-    #[error("the sink failed: what it took is a front of the text, so write the value again elsewhere")]
+    #[error("the sink failed after a prefix of the text: write the value again to another sink")]
     SinkFault,
     #[error("out of memory: free some and try again")]
     WantOfMemory,

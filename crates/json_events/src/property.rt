@@ -2,7 +2,7 @@ ghost use Rattle.std.specs.Prelude.{◌≡◌, IfOk};
 ghost use Rattle.json_events.specs.Units.{units};
 
 use crate::units::units_of;
-use json_values::{Blob, List};
+use json_values::{Blob, Copied, List, copied};
 use std::alloc::{AllocError, Global};
 use std::cmp::Ordering;
 
@@ -34,6 +34,20 @@ impl JsonProperty {
             key,
             value,
         })
+    }
+}
+
+impl Copied for JsonProperty {
+    fn copy(&self, alloc: Global) -> Result<JsonProperty, AllocError> {
+        copied!(
+            alloc,
+            self,
+            JsonProperty {
+                sorting_key,
+                key,
+                value
+            }
+        )
     }
 }
 

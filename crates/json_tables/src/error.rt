@@ -6,13 +6,13 @@ use thiserror::Error;
 #[derive(Clone, Copy, Debug, PartialEq, Eq, Error)]
 pub enum ReadError {
     /// The value contains a float.
-    #[error("a float stands in the value: write its numbers as whole ones")]
+    #[error("the value contains a float: write its numbers as integers")]
     Float,
     /// The value does not match its table.
-    #[error("the value has another shape: compare its members with those of the document")]
+    #[error("the value does not match the document: compare their members")]
     Shape,
     /// The value matches the tables of two documents.
-    #[error("the value reads as two documents: leave out the members of one of them")]
+    #[error("the value matches two documents: remove the members of one of them")]
     Ambiguous,
     #[error("out of memory: free some and try again")]
     WantOfMemory,

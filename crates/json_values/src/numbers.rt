@@ -44,6 +44,24 @@ impl Copied for usize {
     }
 }
 
+impl Copied for u128 {
+    fn copy(&self, _alloc: Global) -> Result<u128, AllocError> {
+        Ok(*self)
+    }
+}
+
+impl Copied for i8 {
+    fn copy(&self, _alloc: Global) -> Result<i8, AllocError> {
+        Ok(*self)
+    }
+}
+
+impl Copied for i16 {
+    fn copy(&self, _alloc: Global) -> Result<i16, AllocError> {
+        Ok(*self)
+    }
+}
+
 impl Copied for i32 {
     fn copy(&self, _alloc: Global) -> Result<i32, AllocError> {
         Ok(*self)
@@ -58,6 +76,12 @@ impl Copied for i64 {
 
 impl Copied for i128 {
     fn copy(&self, _alloc: Global) -> Result<i128, AllocError> {
+        Ok(*self)
+    }
+}
+
+impl Copied for isize {
+    fn copy(&self, _alloc: Global) -> Result<isize, AllocError> {
         Ok(*self)
     }
 }

@@ -11,9 +11,9 @@ use thiserror::Error;
 #[derive(Clone, Copy, Debug, PartialEq, Eq, Error)]
 pub enum SinkError {
     /// The destination refused the bytes.
-    #[error("the sink refused the bytes: see whether its disk is full or its pipe is closed")]
+    #[error("the sink refused the bytes: check whether its disk is full or its pipe is closed")]
     Failed,
-    #[error("out of memory: the sink took nothing, so the same bytes may be put again")]
+    #[error("out of memory: the sink accepted nothing, so write the same bytes again")]
     WantOfMemory,
 }
 

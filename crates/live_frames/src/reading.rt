@@ -23,16 +23,16 @@ const ROOM: u64 = 65536;
 #[derive(Clone, Copy, Debug, PartialEq, Eq, Error)]
 pub enum FrameError {
     /// The source failed, and its fault count increased.
-    #[error("the source failed: what was read of the frame is let go")]
+    #[error("the source failed: the bytes read of the frame are lost")]
     SourceFault,
     /// The source ended within a frame, or before one.
-    #[error("the source ended where a frame should be: see why who writes it stopped")]
+    #[error("the source ended before or within a frame: check why its writer stopped")]
     Ended,
     /// The line, or the size that it states, is more than the limit.
     #[error("the frame is longer than the limit: send shorter ones")]
     TooLong,
     /// The line is not a JSON object with a size.
-    #[error("the line is no frame: an object is wanted, whose member `bytes` is a number or absent")]
+    #[error("the line is not a frame: it must be an object whose member `bytes` is a number or absent")]
     NoFrame,
     #[error("out of memory: free some and try again")]
     WantOfMemory,

@@ -18,10 +18,10 @@ use thiserror::Error;
 #[derive(Clone, Copy, Debug, PartialEq, Eq, Error)]
 pub enum HostError {
     /// The host's stream failed, ended, or sent something malformed.
-    #[error("the host broke off, or answered what does not read: look at its own message")]
+    #[error("the host's stream ended or was malformed: read the host's own message")]
     Broken,
     /// The output failed.
-    #[error("the output could not be written: see whether the host still runs")]
+    #[error("the output could not be written: check whether the host is still running")]
     Unwritten,
     /// The allocator had no memory.
     #[error("out of memory: free some and try again")]

@@ -22,7 +22,7 @@ pub enum RegistryToken {
 #[derive(Clone, Copy, Debug, PartialEq, Eq, Error)]
 pub enum TokenError {
     /// The body is not a JSON object without floats that has a string `token` or a string `access_token`.
-    #[error("the realm's answer holds no token: it should have a text `token` or `access_token`")]
+    #[error("the realm's response contains no token: it must have a string `token` or `access_token`")]
     Unreadable,
     #[error("out of memory: free some and try again")]
     WantOfMemory,

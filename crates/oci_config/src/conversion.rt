@@ -12,10 +12,10 @@ use thiserror::Error;
 #[derive(Clone, Copy, Debug, PartialEq, Eq, Error)]
 pub enum ConfigError {
     /// Its bytes are not JSON, or not a configuration file.
-    #[error("the configuration is no configuration file: its bytes are no JSON, or lack a member of config.md")]
+    #[error("the configuration is not a configuration file: its bytes are not JSON, or a member of config.md is missing")]
     Unreadable,
     /// The allocator is out of memory.
-    #[error("out of memory: the same call may be made again")]
+    #[error("out of memory: free some and try again")]
     WantOfMemory,
 }
 

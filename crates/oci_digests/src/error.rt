@@ -10,7 +10,7 @@ use thiserror::Error;
 #[derive(Debug, Drop, Error)]
 pub enum DigestError {
     /// The digest header is not text: it has a byte that is neither 0x09 nor from 0x20 to 0x7E.
-    #[error("the digest header is not text: ask the registry for visible ASCII")]
+    #[error("the digest header is not text: the registry must send visible ASCII")]
     InvalidHeader(Blob),
     /// The text before the first colon does not name a supported algorithm.
     #[error("the digest's algorithm is not supported: give sha256, sha384 or sha512")]

@@ -3,7 +3,7 @@ ghost use Rattle.std.specs.Prelude.{◌≡◌, IfOk};
 ghost use Rattle.oci_engine.specs.Clients.{default_config};
 
 use engine_terms::ClientProtocol;
-use json_values::Text;
+use json_values::{Copied, Text, copied};
 use oci_platforms::PlatformResolver;
 use std::alloc::{AllocError, Global};
 
@@ -58,5 +58,24 @@ impl ClientConfig {
             user_agent,
             max_body_bytes: 4294967295,
         })
+    }
+}
+
+impl Copied for ClientConfig {
+    fn copy(&self, alloc: Global) -> Result<ClientConfig, AllocError> {
+        copied!(
+            alloc,
+            self,
+            ClientConfig {
+                protocol,
+                use_monolithic_push,
+                platform_resolver,
+                max_concurrent_upload,
+                max_concurrent_download,
+                default_token_expiration_secs,
+                user_agent,
+                max_body_bytes
+            }
+        )
     }
 }

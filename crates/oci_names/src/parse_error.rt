@@ -10,16 +10,16 @@ pub enum ParseError {
     #[error("the reference is empty: give [domain/]path[:tag][@digest]")]
     NameEmpty,
     /// The text is not in the grammar.
-    #[error("the reference does not read: write it as [domain/]path[:tag][@digest]")]
+    #[error("the reference is malformed: write it as [domain/]path[:tag][@digest]")]
     ReferenceInvalidFormat,
     /// The repository, including an implied `library/`, has more than 255 characters.
     #[error("the repository has more than 255 characters: give a shorter one")]
     NameTooLong,
     /// The digest has an unsupported algorithm.
-    #[error("the digest's algorithm is none of sha256, sha384 and sha512: give a digest of these")]
+    #[error("the digest's algorithm is not sha256, sha384 or sha512: use one of these")]
     DigestUnsupported,
     /// The digest has the wrong number of digits for its algorithm.
-    #[error("the digest has not as many digits as its algorithm gives: give it whole")]
+    #[error("the digest has the wrong number of digits for its algorithm: pass all of them")]
     DigestInvalidLength,
     /// The allocator is out of memory.
     #[error("out of memory: free some and try again")]

@@ -14,13 +14,13 @@ use thiserror::Error;
 #[derive(Clone, Copy, Debug, PartialEq, Eq, Error)]
 pub enum PourError {
     /// The transport failed, and its fault count increased.
-    #[error("the connection failed while a body was read: send the request again")]
+    #[error("the connection failed while reading a body: send the request again")]
     TransportFault,
     /// The body has more than `limit` bytes.
-    #[error("the body has more bytes than its limit: read it with a greater one")]
+    #[error("the body is longer than the limit: read it with a greater limit")]
     BodyTooLong,
     /// The sink failed, and its fault count increased.
-    #[error("the sink failed: look at where the bytes go")]
+    #[error("the sink failed: check where the bytes are written")]
     SinkFault,
     /// The allocator ran out of memory.
     #[error("out of memory: free some and try again")]

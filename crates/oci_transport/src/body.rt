@@ -12,10 +12,10 @@ use thiserror::Error;
 #[derive(Clone, Copy, Debug, PartialEq, Eq, Error)]
 pub enum BodyError {
     /// The transport failed, and its fault count increased.
-    #[error("the connection failed while a body was read: send the request again")]
+    #[error("the connection failed while reading a body: send the request again")]
     TransportFault,
     /// The body is longer than the limit.
-    #[error("the body has more bytes than its limit: read it with a greater one")]
+    #[error("the body is longer than the limit: read it with a greater limit")]
     BodyTooLong,
     /// The allocator is out of memory.
     #[error("out of memory: free some and try again")]

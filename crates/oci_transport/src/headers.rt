@@ -50,13 +50,13 @@ impl Model for Headers {
 #[derive(Clone, Copy, Debug, PartialEq, Eq, Error)]
 pub enum HeaderError {
     /// The name is not a field name (RFC 9110, section 5.1).
-    #[error("the name is no header name: give letters, digits and marks of a token alone")]
+    #[error("the name is not a header name: use only letters, digits and marks of a token")]
     BadName,
     /// The value has a control byte other than a tab.
-    #[error("the value has a control byte: give none but the tab")]
+    #[error("the header value has a control byte: use none except the tab")]
     BadValue,
     /// There are 1000 values already.
-    #[error("there are 1000 header values already: leave some out")]
+    #[error("there are 1000 header values already: remove some")]
     TooMany,
     /// The allocator is out of memory.
     #[error("out of memory: free some and try again")]

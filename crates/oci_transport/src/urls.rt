@@ -12,7 +12,7 @@ use url::{ParseError, Url};
 #[derive(Clone, Copy, Debug, PartialEq, Eq, Error)]
 pub enum UrlError {
     /// It is not a URL, its scheme is neither `http` nor `https`, or it has a user name or a password.
-    #[error("not a URL that a request can go to: give http or https, a host, and no user or password")]
+    #[error("not the URL of a request: use http or https, a host, and neither user nor password")]
     Refused,
     /// The allocator is out of memory.
     #[error("out of memory: free some and try again")]

@@ -17,9 +17,9 @@ const PIECE: usize = 65536;
 #[derive(Clone, Copy, Debug, PartialEq, Eq, Error)]
 pub enum ReadRefusal {
     /// The source has more bytes than the limit.
-    #[error("the source has more bytes than the limit: give fewer, or read them with a greater limit")]
+    #[error("the source has more bytes than the limit: pass fewer, or use a greater limit")]
     TooLong,
-    #[error("the source failed: what was read of it is let go, so read it again from its start")]
+    #[error("the source failed: the bytes read so far are dropped, so read it again from its start")]
     SourceFault,
     #[error("out of memory: free some and try again")]
     WantOfMemory,

@@ -10,7 +10,7 @@ use thiserror::Error;
 
 /// The source returned no bytes, and those that are left are unchanged.
 #[derive(Clone, Copy, Debug, PartialEq, Eq, Error)]
-#[error("the source failed: what it has left may be taken by a further call")]
+#[error("the source failed: call again for the bytes that are left")]
 pub struct Failed;
 
 impl Copied for Failed {

@@ -9,9 +9,9 @@ use std::process::ExitCode;
 // What an exit status other than 0 and 1 means, and what to do.
 fn advice(status: u8) -> &'static str {
     match status {
-        3 => "the settings do not read: see docs/HOST.md for their members",
-        4 => "the host's stream failed, or a frame of it does not read: see docs/HOST.md",
-        5 => "the output could not be written: see whether the host still runs",
+        3 => "the settings are malformed: see docs/HOST.md for their members",
+        4 => "the host's stream failed, or one of its frames is malformed: see docs/HOST.md",
+        5 => "the output could not be written: check whether the host is still running",
         6 => "out of memory",
         _ => "",
     }

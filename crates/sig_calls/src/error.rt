@@ -11,24 +11,24 @@ use thiserror::Error;
 #[derive(Debug, Drop, Error)]
 pub enum SigstoreError {
     /// The text is not a reference, or does not round-trip.
-    #[error("the reference does not read: write it as [domain/]path[:tag][@digest]")]
+    #[error("the reference is malformed: write it as [domain/]path[:tag][@digest]")]
     OciReferenceNotValidError {
         reference: Text,
     },
     /// The image's digest was not returned.
-    #[error("the image's digest was not answered: look at what the registry's client says")]
+    #[error("the image's digest was not returned: read the error of the registry's client")]
     RegistryFetchManifestError {
         image: Text,
         error: OciDistributionError,
     },
     /// An image, a document or a blob was not pulled.
-    #[error("the image was not pulled: look at what the registry's client says")]
+    #[error("the image was not pulled: read the error of the registry's client")]
     RegistryPullError {
         image: Text,
         error: OciDistributionError,
     },
     /// A manifest was not pulled.
-    #[error("the manifest was not pulled: look at what the registry's client says")]
+    #[error("the manifest was not pulled: read the error of the registry's client")]
     RegistryPullManifestError {
         image: Text,
         error: OciDistributionError,

@@ -16,13 +16,13 @@ pub enum DecryptCause {
     #[error("the key derivation is not scrypt: encrypt the key with cosign")]
     UnknownKdf(Text),
     /// N is neither 32768 nor 65536, r is not 8, or p is not 1.
-    #[error("the parameters of scrypt are none that cosign writes: encrypt the key with cosign")]
+    #[error("the parameters of scrypt are not ones that cosign writes: encrypt the key with cosign")]
     UnexpectedParameters,
     /// The nonce does not have 24 bytes.
-    #[error("the nonce has not 24 bytes: the envelope was changed")]
+    #[error("the nonce does not have 24 bytes: the envelope was changed")]
     NonceLength,
     /// The box does not open the ciphertext.
-    #[error("the ciphertext is not opened: check the password")]
+    #[error("the ciphertext cannot be decrypted: check the password")]
     UnsealRefused,
 }
 
@@ -30,10 +30,10 @@ pub enum DecryptCause {
 #[derive(Debug, Drop, Error)]
 pub enum KdfError {
     /// The bytes are not JSON without floats that matches the envelope's table.
-    #[error("the bytes are no envelope: give the JSON that an encrypted key holds")]
+    #[error("the bytes are not an envelope: pass the JSON of an encrypted key")]
     EnvelopeUnreadable,
     /// The envelope is well-formed, but cannot be opened.
-    #[error("the private key is not decrypted: {0}")]
+    #[error("the private key cannot be decrypted: {0}")]
     PrivateKeyDecryptError(DecryptCause),
     #[error("out of memory: free some and try again")]
     WantOfMemory,

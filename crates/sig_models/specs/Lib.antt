@@ -13,4 +13,5 @@ pub mod Sct
 pub mod SearchIndex
 pub mod SearchLogQuery
 pub mod Single
+pub mod Token
 pub mod Values

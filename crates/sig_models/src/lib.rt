@@ -16,6 +16,7 @@ mod sct;
 mod search_index;
 mod search_log_query;
 mod single;
+mod token;
 mod whole;
 
 pub use all_of::{
@@ -39,3 +40,4 @@ pub use public_key::SearchIndexPublicKey;
 pub use sct::{InnerDetachedSCT, SCTVersion, SctError, read_sct_signature};
 pub use search_index::SearchIndex;
 pub use search_log_query::SearchLogQuery;
+pub use token::TokenProvider;

@@ -11,10 +11,10 @@ use thiserror::Error;
 #[derive(Clone, Copy, Debug, PartialEq, Eq, Error)]
 pub enum ModelError {
     /// The value contains a float.
-    #[error("a float stands in the value: write its numbers as whole ones")]
+    #[error("the value contains a float: write its numbers as integers")]
     Float,
     /// The value does not match its table.
-    #[error("the value has another shape: compare its members with those of the model")]
+    #[error("the value does not match the model: compare their members")]
     Shape,
     /// The allocator is out of memory.
     #[error("out of memory: free some and try again")]

@@ -32,10 +32,10 @@ pub struct InnerDetachedSCT {
 #[derive(Clone, Copy, Debug, PartialEq, Eq, Error)]
 pub enum SctError {
     /// There are fewer than four bytes.
-    #[error("a signature of a timestamp has four bytes before it: give them too")]
+    #[error("the signature of a timestamp follows four bytes: pass them too")]
     TooShort,
     /// The length in the third and fourth byte differs from that of the rest.
-    #[error("the length before the signature is another one: give all bytes and no more")]
+    #[error("the length before the signature is wrong: pass exactly its bytes")]
     LengthMismatch,
 }
 

@@ -2,12 +2,12 @@
 ghost use Rattle.std.specs.Prelude.{◌≡◌, IfOk};
 ghost use Rattle.sig_registry.specs.Config.{default_config, oci_config};
 
-use json_values::{Copied, List, Text};
+use json_values::{Copied, List, Text, copied};
 use oci_engine::PlatformResolver;
 use std::alloc::{AllocError, Global};
 
 /// The scheme of a registry's URLs.
-#[derive(Debug, Drop)]
+#[derive(Debug, Drop, PartialEq, Eq)]
 pub enum ClientProtocol {
     Http,
     Https,
@@ -81,5 +81,19 @@ impl ClientConfig {
         config.platform_resolver = platform_resolver;
         config.max_body_bytes = max_body_bytes;
         Ok(config)
+    }
+}
+
+impl Copied for ClientConfig {
+    fn copy(&self, alloc: Global) -> Result<ClientConfig, AllocError> {
+        copied!(
+            alloc,
+            self,
+            ClientConfig {
+                protocol,
+                platform_resolver,
+                max_body_bytes
+            }
+        )
     }
 }

@@ -11,10 +11,10 @@ use thiserror::Error;
 #[derive(Clone, Copy, Debug, PartialEq, Eq, Error)]
 pub enum KeyError {
     /// The maker does not parse the bytes as a private key of one of the kinds that were tried.
-    #[error("the bytes are no private key of this kind: give a key in PKCS 8")]
+    #[error("the bytes are not a private key of this kind: pass a key in PKCS 8")]
     KeyParseError,
     /// The maker makes no keys of this kind and size.
-    #[error("no keys of this kind and size are made: ask for another size")]
+    #[error("keys of this kind and size cannot be made: choose another size")]
     KeyGenerationError,
     /// The maker does not sign with this key under its scheme.
     #[error("the key does not sign under its scheme: check that it belongs to the scheme")]

@@ -1,3 +1,4 @@
+mod AuthorityCauses
 pub mod CallCauses
 pub mod Exchanges
 pub mod Exits

@@ -1,8 +1,11 @@
 -- A call to Rekor: a request, and the meaning of its answer.
-use Rattle.std.specs.Prelude.{◌≡◌, ℕ, List, Bool, false, ◌&&◌, nat_le, nat_lt, if◌then◌else◌, Option, Some, None}
-use Rattle.std.specs.Prelude.{option_map, Result, Ok, Err}
-use Rattle.serde_json.specs.Data.{Data}
-use Rattle.serde_json.specs.Written.{has_float, compact_text}
+use Rattle.std.specs.Prelude.{◌≡◌, ◌≤◌, ℕ, List, Bool, true, false, ◌&&◌, ◌⊎◌, nat_le, nat_lt, if◌then◌else◌, Option, Some}
+use Rattle.std.specs.Prelude.{None, option_map, Result, Ok, Err, IsErrAnd}
+use Rattle.json.specs.Lex.{tokens}
+use Rattle.json.specs.Print.{print}
+use Rattle.serde_json.specs.Data.{Data, depth}
+use Rattle.serde_json.specs.Read.{read, max_depth}
+use Rattle.serde_json.specs.Written.{has_float, compact_text, IsInOrder}
 use Rattle.json_values.specs.JsonText.{plain_json_of}
 use Rattle.oci_transport.specs.declared.message.Answer.{Answer}
 use Rattle.oci_transport.specs.declared.message.Method.{Method}
@@ -47,13 +50,25 @@ call read entity c method path content = do
   answer ← whole Broken BodyTooLong c.max_body_bytes request
   Done (judged read entity answer)
 
--- the compact text of JSON data; any text if the data contains a float
-abbrev pub IsCompact : List ℕ → Data → Type 0
-IsCompact text d = has_float d ≡ false → text ≡ compact_text d
+-- JSON text of this data without spaces: its members in order; it reads back as the data, unless that nests too deep
+pub record IsCompact (text : List ℕ) (d : Data) : Type 0 where
+  -- of data without floats there is one such text
+  pub exact : has_float d ≡ false → text ≡ compact_text d
+  pub spaceless : text ≡ print (tokens text)
+  pub ordered : IsInOrder text d
+  pub reads_back : depth d ≤ max_depth → read text ≡ Some d
 
--- a call that sent the compact text of this data
-pub record Posts {A E : Type 0}
+-- the request carried compact text of this data
+pub record Sends {A E : Type 0}
     (d : Data) (row : List ℕ → Row (Error E) A) (old new : Link) (r : Result A (Error E)) : Type 0 where
   pub text : List ℕ
   pub compact : IsCompact text d
   pub met : (k : Unit {0}) → Meets is_memory (row text) old new k k r
+
+-- memory ran out before anything was sent
+abbrev pub Unsent : {A E : Type 0} → Link → Link → Result A (Error E) → Type 0
+Unsent old new r = (new ≡ old) × IsErrAnd r (λ e. is_memory e ≡ true)
+
+-- a call that sends compact text of this data
+abbrev pub Posts : {A E : Type 0} → Data → (List ℕ → Row (Error E) A) → Link → Link → Result A (Error E) → Type 0
+Posts d row old new r = Sends d row old new r ⊎ Unsent old new r

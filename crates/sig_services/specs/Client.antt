@@ -23,7 +23,7 @@ use Rattle.oci_protocol.specs.Proto.{Done}
 use Rattle.sig_services.specs.Body.{text_body}
 use Rattle.sig_services.specs.Exchange.{Row, whole}
 use Rattle.sig_services.specs.Headers.{with_header}
-use Rattle.sig_services.specs.Token.{token_of}
+use Rattle.sig_models.specs.Token.{token_of}
 use Rattle.sig_services.specs.declared.client.FulcioClient.{FulcioClient}
 use Rattle.sig_services.specs.declared.client.FulcioCert.{FulcioCert}
 use Rattle.sig_services.specs.declared.client.CertificateResponse.{CertificateResponse}

@@ -1,3 +1,4 @@
+pub mod AuthorityCauses
 pub mod Body
 pub mod Call
 pub mod Causes
@@ -13,4 +14,3 @@ pub mod Headers
 pub mod Index
 pub mod Log
 pub mod Request
-pub mod Token

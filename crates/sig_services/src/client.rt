@@ -1,26 +1,26 @@
-//! Calls to Fulcio.
-ghost use Rattle.std.specs.Prelude.{◌≡◌, ◌++◌, codes, IfOk, option_copied};
+//! The certificate authority.
+ghost use Rattle.std.specs.Prelude.{◌≡◌, ◌++◌, codes, IfOk, Some, None, option_copied};
 ghost use Rattle.serde_json.specs.Written.{compact_text};
 ghost use Rattle.oci_protocol.specs.Runs.{Meets};
 ghost use Rattle.sig_models.specs.CertificateRequest.{request_written, signing_request_written};
 ghost use Rattle.sig_services.specs.Client.{asked, certificate_in, headers_of, joined};
 ghost use Rattle.sig_services.specs.FulcioError.{Says, is_memory};
 ghost use Rattle.sig_services.specs.Client.{parted, request_of, response_in, response_of};
+ghost use Rattle.sig_services.specs.AuthorityCauses.{AuthorityRefusedFor};
 ghost use Rattle.sig_services.specs.Client as row;
-ghost use Rattle.sig_services.specs.Token.{token_of};
+ghost use Rattle.sig_models.specs.Token.{token_of};
 
 use crate::body::Body;
 use crate::call::compact;
 use crate::exchange::exchange;
 use crate::fulcio_error::FulcioError;
 use crate::headers::with_header;
-use crate::token::TokenProvider;
 use json_tables::read_plain;
 use json_values::{Blob, Copied, List, Text, ToValue, copied};
 use oci_transport::{Answer, Headers, Method, Request, Transport};
 use sig_models::{
     CertificateChain, CertificateRequest, CreateSigningCertificateRequest, KeyAlgorithm,
-    SigningCertificate, SigningCertificateDetachedSCT,
+    SigningCertificate, SigningCertificateDetachedSCT, TokenProvider,
 };
 use std::alloc::{AllocError, Global};
 use std::fmt;
@@ -72,7 +72,15 @@ impl FulcioCert {
 }
 
 impl fmt::Display for FulcioCert {
-    fn fmt<W: fmt::Write>(&self, f: &mut fmt::Formatter<W>) -> fmt::Result {
+    ghost use Rattle.std.specs.Prelude.{Some};
+    ghost use Rattle.std.specs.Fmt.{DisplaysOnOk, WritesStyledOnOk};
+
+    ghost output = { λ c. Some c.text };
+
+    fn fmt<W: fmt::Write>(&self, f: &mut fmt::Formatter<W>) -> fmt::Result
+        ensures writes { DisplaysOnOk W.write_str_gives f.old result (Some self.now.text) f.new }
+        ensures styled { WritesStyledOnOk W.write_str_gives f.old result self.now.text f.new }
+    {
         f.write_str(self.text.as_str())
     }
 }
@@ -297,8 +305,8 @@ impl FulcioClient {
         }
     }
 
-    /// Requests a certificate for this public key, in DER, with the key's signature over the challenge of the token.
-    /// The status of the answer is ignored.
+    /// Asks for a certificate for this public key, in DER, with the key's signature over the challenge of the token.
+    /// The response's status is ignored.
     #[tactic(none)]
     pub fn request_cert<T: Transport>(
         &self,
@@ -308,9 +316,11 @@ impl FulcioClient {
         public_key: &[u8],
         signature: &[u8],
     ) -> Result<FulcioCert, FulcioError>
-        ensures { (k : Unit {0}) → Meets is_memory
+        ensures run { (k : Unit {0}) → Meets is_memory
             (row.request_cert self.now algorithm public_key.now signature.now)
             (T.state transport.old) (T.state transport.new) k k result }
+        ensures causes { AuthorityRefusedFor certificate_in self.now.root_url (codes "api/v1/signingCert")
+            (token_of self.now.token_provider).0 None (T.state transport.old) (T.state transport.new) result }
     {
         let token = shown_token(&self.token_provider);
         let body = request_text(alloc, algorithm, public_key, signature)?;
@@ -337,9 +347,12 @@ impl FulcioClient {
         request: &[u8],
         identity: &str,
     ) -> Result<CertificateResponse, FulcioError>
-        ensures { (k : Unit {0}) → Meets is_memory
+        ensures run { (k : Unit {0}) → Meets is_memory
             (row.request_cert_v2 self.now request.now identity.now)
             (T.state transport.old) (T.state transport.new) k k result }
+        ensures causes { AuthorityRefusedFor response_in self.now.root_url (codes "api/v2/signingCert")
+            identity.now (Some (codes "application/pem-certificate-chain"))
+            (T.state transport.old) (T.state transport.new) result }
     {
         let body = signing_request_text(alloc, request)?;
         let answer = asked(

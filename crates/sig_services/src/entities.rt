@@ -23,91 +23,91 @@ pub trait Entity: Sized {
 /// The body if `create_log_entry` is refused.
 #[derive(Debug, Drop, Error)]
 pub enum CreateLogEntryError {
-    #[error("the log did not accept the request: look at what it says")]
+    #[error("the log did not accept the request: read its message")]
     Status400(models::Error),
     /// Never the first match.
-    #[error("the log has the entry already: ask for that one")]
+    #[error("the log has the entry already: request that one")]
     Status409(models::Error),
     /// Never the first match.
-    #[error("the log refused the request: look at what it says")]
+    #[error("the log refused the request: read its message")]
     DefaultResponse(models::Error),
-    #[error("the refusal reads as none that is known: look at the status and the content")]
+    #[error("the error response has an unknown form: read its status and content")]
     UnknownValue(Json),
 }
 
 /// The body if `get_log_entry_by_index` is refused.
 #[derive(Debug, Drop, Error)]
 pub enum GetLogEntryByIndexError {
-    #[error("the log has no such entry: ask for another one")]
+    #[error("the log has no such entry: request another one")]
     Status404,
-    #[error("the log refused the request: look at what it says")]
+    #[error("the log refused the request: read its message")]
     DefaultResponse(models::Error),
-    #[error("the refusal reads as none that is known: look at the status and the content")]
+    #[error("the error response has an unknown form: read its status and content")]
     UnknownValue(Json),
 }
 
 /// The body if `get_log_entry_by_uuid` is refused.
 #[derive(Debug, Drop, Error)]
 pub enum GetLogEntryByUuidError {
-    #[error("the log has no such entry: ask for another one")]
+    #[error("the log has no such entry: request another one")]
     Status404,
-    #[error("the log refused the request: look at what it says")]
+    #[error("the log refused the request: read its message")]
     DefaultResponse(models::Error),
-    #[error("the refusal reads as none that is known: look at the status and the content")]
+    #[error("the error response has an unknown form: read its status and content")]
     UnknownValue(Json),
 }
 
 /// The body if `search_log_query` is refused.
 #[derive(Debug, Drop, Error)]
 pub enum SearchLogQueryError {
-    #[error("the log did not accept the request: look at what it says")]
+    #[error("the log did not accept the request: read its message")]
     Status400(models::Error),
     /// Never the first match.
-    #[error("the log refused the request: look at what it says")]
+    #[error("the log refused the request: read its message")]
     DefaultResponse(models::Error),
-    #[error("the refusal reads as none that is known: look at the status and the content")]
+    #[error("the error response has an unknown form: read its status and content")]
     UnknownValue(Json),
 }
 
 /// The body if `search_index` is refused.
 #[derive(Debug, Drop, Error)]
 pub enum SearchIndexError {
-    #[error("the log did not accept the request: look at what it says")]
+    #[error("the log did not accept the request: read its message")]
     Status400(models::Error),
     /// Never the first match.
-    #[error("the log refused the request: look at what it says")]
+    #[error("the log refused the request: read its message")]
     DefaultResponse(models::Error),
-    #[error("the refusal reads as none that is known: look at the status and the content")]
+    #[error("the error response has an unknown form: read its status and content")]
     UnknownValue(Json),
 }
 
 /// The body if `get_public_key` is refused.
 #[derive(Debug, Drop, Error)]
 pub enum GetPublicKeyError {
-    #[error("the log refused the request: look at what it says")]
+    #[error("the log refused the request: read its message")]
     DefaultResponse(models::Error),
-    #[error("the refusal reads as none that is known: look at the status and the content")]
+    #[error("the error response has an unknown form: read its status and content")]
     UnknownValue(Json),
 }
 
 /// The body if `get_log_info` is refused.
 #[derive(Debug, Drop, Error)]
 pub enum GetLogInfoError {
-    #[error("the log refused the request: look at what it says")]
+    #[error("the log refused the request: read its message")]
     DefaultResponse(models::Error),
-    #[error("the refusal reads as none that is known: look at the status and the content")]
+    #[error("the error response has an unknown form: read its status and content")]
     UnknownValue(Json),
 }
 
 /// The body if `get_log_proof` is refused.
 #[derive(Debug, Drop, Error)]
 pub enum GetLogProofError {
-    #[error("the log did not accept the request: look at what it says")]
+    #[error("the log did not accept the request: read its message")]
     Status400(models::Error),
     /// Never the first match.
-    #[error("the log refused the request: look at what it says")]
+    #[error("the log refused the request: read its message")]
     DefaultResponse(models::Error),
-    #[error("the refusal reads as none that is known: look at the status and the content")]
+    #[error("the error response has an unknown form: read its status and content")]
     UnknownValue(Json),
 }
 

@@ -33,7 +33,7 @@ use std::alloc::{AllocError, Global};
 #[derive(Clone, Copy, Debug, PartialEq, Eq, thiserror::Error)]
 pub enum ParseResponseError {
     /// It is not JSON without floats with one member whose value is an object.
-    #[error("not an object of one entry: give the log's answer to a call for one entry")]
+    #[error("not an object with one entry: pass the log's response to a call for one entry")]
     NotOneMember,
     /// The allocator is out of memory.
     #[error("out of memory: free some and try again")]

@@ -22,19 +22,19 @@ pub enum Error<E> {
     #[error("the connection to the log failed: send the request again")]
     Link,
     /// The body of the answer has more than `max_body_bytes` bytes.
-    #[error("the log's answer has more bytes than the configuration allows: raise its limit or ask for less")]
+    #[error("the log's response is longer than the configuration allows: raise the limit or request less")]
     BodyTooLong,
     /// This text is not the URL of a request.
-    #[error("the URL of the request does not read: look at the base path")]
+    #[error("the URL of the request is malformed: check the base path")]
     Url(Text),
     /// This user agent is not a valid header value.
-    #[error("the user agent cannot stand in a header: give it no control characters")]
+    #[error("the user agent is not a valid header value: remove control characters")]
     Header(Text),
     /// This body of a successful answer is malformed.
-    #[error("the log's answer does not read: ask whether the base path is that of a log")]
+    #[error("the log's response is malformed: check whether the base path is that of a log")]
     Json(Blob),
     /// The status is from 400 to 599.
-    #[error("the log refused the request: look at the status and the content of its answer")]
+    #[error("the log refused the request: read the status and the content of its response")]
     ResponseError(ResponseContent<E>),
     /// The allocator is out of memory.
     #[error("out of memory: free some and try again")]

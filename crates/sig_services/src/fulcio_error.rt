@@ -1,35 +1,89 @@
-ghost use Rattle.std.specs.Prelude.{◌≡◌};
+ghost use Rattle.std.specs.Prelude.{◌≡◌, codes};
+ghost use Rattle.sig_services.specs.FulcioError.{message_of};
 ghost use Rattle.sig_services.specs.declared.fulcio_error.FulcioError.TheVariants.{WantOfMemory as out_of_memory};
 
 use crate::exchange::Refusal;
 use json_values::{Blob, Copied, Text};
 use std::alloc::{AllocError, Global};
+use std::error::Error;
+use std::fmt;
 
 /// Why a call to Fulcio failed.
-#[derive(Debug, Drop, thiserror::Error)]
+#[derive(Drop)]
 pub enum FulcioError {
     /// The transport failed: its fault count increased.
-    #[error("the connection to the certificate authority failed: send the request again")]
     Link,
-    /// The body of the answer has 4 GiB or more.
-    #[error("the certificate authority's answer has 4 GiB and more: ask whether the root is that of an authority")]
+    /// The body of the response has more than 4294967295 bytes.
     BodyTooLong,
-    /// This path cannot be joined to the root URL.
-    #[error("the path does not join to the root: give a root that has a host")]
+    /// This path does not join to the root URL.
     Url(Text),
     /// This token is not a valid header value.
-    #[error("the token cannot stand in a header: give it no control characters")]
     Header(Text),
-    /// This body is malformed.
-    #[error("the certificate authority's answer does not read: look at what it says")]
+    /// This body of a response is malformed.
     Json(Blob),
-    /// There are fewer than two certificates.
-    #[error("the chain has fewer than two certificates: the certificate's issuer is wanting")]
+    /// The chain has fewer than two certificates.
     ChainTooShort,
-    /// The allocator is out of memory.
-    #[error("out of memory: free some and try again")]
+    /// The allocator had no memory.
     WantOfMemory,
 }
+
+impl FulcioError {
+    fn message(&self) -> &'static str
+        ensures { result.now ≡ message_of self.now }
+    {
+        match self {
+            FulcioError::Link => {
+                "the connection to the certificate authority failed: send the request again"
+            }
+            FulcioError::BodyTooLong => {
+                "the response has more than 4294967295 bytes: check that the root URL is an authority's"
+            }
+            FulcioError::Url(_) => {
+                "the path does not join to the root URL: use a root URL that has a host"
+            }
+            FulcioError::Header(_) => {
+                "the token is not a valid header value: remove its control characters"
+            }
+            FulcioError::Json(_) => "the response is malformed: inspect its body",
+            FulcioError::ChainTooShort => {
+                "the chain has fewer than two certificates: ask the authority for the issuer's too"
+            }
+            FulcioError::WantOfMemory => "out of memory: free some and try again",
+        }
+    }
+}
+
+/// The message alone, whatever the formatter: a token is never printed.
+impl fmt::Debug for FulcioError {
+    ghost use Rattle.std.specs.Prelude.{Some};
+    ghost use Rattle.std.specs.Fmt.{DisplaysOnOk, WritesStyledOnOk};
+
+    ghost debug_output = { λ e. Some (message_of e) };
+
+    fn fmt<W: fmt::Write>(&self, f: &mut fmt::Formatter<W>) -> fmt::Result
+        ensures writes { DisplaysOnOk W.write_str_gives f.old result (Some (message_of self.now)) f.new }
+        ensures styled { WritesStyledOnOk W.write_str_gives f.old result (message_of self.now) f.new }
+    {
+        f.write_str(self.message())
+    }
+}
+
+/// What was refused, and what to do; a token is never printed.
+impl fmt::Display for FulcioError {
+    ghost use Rattle.std.specs.Prelude.{Some};
+    ghost use Rattle.std.specs.Fmt.{DisplaysOnOk, WritesStyledOnOk};
+
+    ghost output = { λ e. Some (message_of e) };
+
+    fn fmt<W: fmt::Write>(&self, f: &mut fmt::Formatter<W>) -> fmt::Result
+        ensures writes { DisplaysOnOk W.write_str_gives f.old result (Some (message_of self.now)) f.new }
+        ensures styled { WritesStyledOnOk W.write_str_gives f.old result (message_of self.now) f.new }
+    {
+        f.write_str(self.message())
+    }
+}
+
+impl Error for FulcioError {}
 
 impl From<AllocError> for FulcioError {
     ghost from_gives = { λ _ e. e ≡ out_of_memory };

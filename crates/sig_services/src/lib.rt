@@ -15,7 +15,6 @@ mod index;
 mod log;
 pub mod models;
 mod request;
-mod token;
 
 pub use client::{
     CertificateResponse, FULCIO_ROOT, FulcioCert, FulcioClient, SIGNING_CERT_PATH,
@@ -38,6 +37,5 @@ pub use request::urlencode;
 pub use sig_models::{
     CertificateChain, CreateSigningCertificateRequest, InnerDetachedSCT, KeyAlgorithm, LogEntry,
     SCTVersion, SctError, SigningCertificate, SigningCertificateDetachedSCT,
-    SigningCertificateEmbeddedSCT, read_sct_signature,
+    SigningCertificateEmbeddedSCT, TokenProvider, read_sct_signature,
 };
-pub use token::TokenProvider;

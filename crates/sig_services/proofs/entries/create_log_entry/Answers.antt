@@ -1,28 +1,27 @@
-use Rattle.std.proofs.Common.{refl, Some, None, codes}
-use Rattle.serde_json.specs.Written.{compact_text}
+use Rattle.std.proofs.Common.{refl, inl, inr, Some, None, codes}
 use Rattle.json_tables.specs.Plain.{read_plain}
 use Rattle.sig_models.specs.LogEntry.{log_entry_of}
 use Rattle.sig_models.specs.ProposedEntry.{proposed_entry_written}
 use Rattle.oci_transport.specs.declared.message.Method.TheVariants.{Post}
 use Rattle.sig_services.specs.Entities.{create_error}
-use Rattle.sig_services.proofs.Exits.{wanting}
+use Rattle.sig_services.proofs.Exits.{wanting, wanted}
 use Rattle.sig_services.proofs.CallCauses.{caused}
 use Rattle.sig_services.proofs.entries.create_log_entry.Goals as goal
 
 pub returns-in_err-value-clause-run : goal.returns-in_err-value-clause-run
-returns-in_err-value-clause-run g c = record { text = compact_text (proposed_entry_written c.args.proposed_entry.now); compact = λ none. refl; met = λ k. wanting _ refl c.from_residual.ensures.1 }
+returns-in_err-value-clause-run g c = inr (refl, wanted _ refl c.from_residual.ensures.1)
 
 pub returns-in_err-value-clause-causes : goal.returns-in_err-value-clause-causes
 returns-in_err-value-clause-causes g c = caused (read_plain log_entry_of) create_error c.args.configuration.now (codes "/log/entries") Post None _ (λ k. wanting _ refl c.from_residual.ensures.1)
 
 pub returns-in_err-content-clause-run : goal.returns-in_err-content-clause-run
-returns-in_err-content-clause-run g c = record { text = compact_text (proposed_entry_written c.args.proposed_entry.now); compact = λ none. refl; met = λ k. wanting _ refl c.from_residual-in_err-content.ensures.1 }
+returns-in_err-content-clause-run g c = inr (refl, wanted _ refl c.from_residual-in_err-content.ensures.1)
 
 pub returns-in_err-content-clause-causes : goal.returns-in_err-content-clause-causes
 returns-in_err-content-clause-causes g c = caused (read_plain log_entry_of) create_error c.args.configuration.now (codes "/log/entries") Post None _ (λ k. wanting _ refl c.from_residual-in_err-content.ensures.1)
 
 pub returns-clause-run : goal.returns-clause-run
-returns-clause-run g c = record { text = _; compact = rw c.in_ok-value.ensures.exact at c.in_ok-content.ensures; met = c.call.ensures }
+returns-clause-run g c = inl (record { text = _; compact = rw c.in_ok-value.ensures.exact at c.in_ok-content.ensures; met = c.call.ensures })
 
 pub returns-clause-causes : goal.returns-clause-causes
 returns-clause-causes g c = caused (read_plain log_entry_of) create_error c.args.configuration.now (codes "/log/entries") Post (Some _) _ c.call.ensures

@@ -1,27 +1,26 @@
-use Rattle.std.proofs.Common.{refl, Some, None, codes}
-use Rattle.serde_json.specs.Written.{compact_text}
+use Rattle.std.proofs.Common.{refl, inl, inr, Some, None, codes}
 use Rattle.sig_services.specs.Body.{text_body}
 use Rattle.sig_models.specs.SearchLogQuery.{query_written}
 use Rattle.oci_transport.specs.declared.message.Method.TheVariants.{Post}
 use Rattle.sig_services.specs.Entities.{search_log_error}
-use Rattle.sig_services.proofs.Exits.{wanting}
+use Rattle.sig_services.proofs.Exits.{wanting, wanted}
 use Rattle.sig_services.proofs.CallCauses.{caused}
 use Rattle.sig_services.proofs.entries.search_log_query.Goals as goal
 
 pub returns-in_err-value-clause-run : goal.returns-in_err-value-clause-run
-returns-in_err-value-clause-run g c = record { text = compact_text (query_written c.args.entry.now); compact = λ none. refl; met = λ k. wanting _ refl c.from_residual.ensures.1 }
+returns-in_err-value-clause-run g c = inr (refl, wanted _ refl c.from_residual.ensures.1)
 
 pub returns-in_err-value-clause-causes : goal.returns-in_err-value-clause-causes
 returns-in_err-value-clause-causes g c = caused text_body search_log_error c.args.configuration.now (codes "/log/entries/retrieve") Post None _ (λ k. wanting _ refl c.from_residual.ensures.1)
 
 pub returns-in_err-content-clause-run : goal.returns-in_err-content-clause-run
-returns-in_err-content-clause-run g c = record { text = compact_text (query_written c.args.entry.now); compact = λ none. refl; met = λ k. wanting _ refl c.from_residual-in_err-content.ensures.1 }
+returns-in_err-content-clause-run g c = inr (refl, wanted _ refl c.from_residual-in_err-content.ensures.1)
 
 pub returns-in_err-content-clause-causes : goal.returns-in_err-content-clause-causes
 returns-in_err-content-clause-causes g c = caused text_body search_log_error c.args.configuration.now (codes "/log/entries/retrieve") Post None _ (λ k. wanting _ refl c.from_residual-in_err-content.ensures.1)
 
 pub returns-clause-run : goal.returns-clause-run
-returns-clause-run g c = record { text = _; compact = rw c.in_ok-value.ensures.exact at c.in_ok-content.ensures; met = c.call.ensures }
+returns-clause-run g c = inl (record { text = _; compact = rw c.in_ok-value.ensures.exact at c.in_ok-content.ensures; met = c.call.ensures })
 
 pub returns-clause-causes : goal.returns-clause-causes
 returns-clause-causes g c = caused text_body search_log_error c.args.configuration.now (codes "/log/entries/retrieve") Post (Some _) _ c.call.ensures

@@ -1,5 +1,5 @@
 ghost use Rattle.std.specs.Prelude.{◌≡◌, IfOk};
-ghost use Rattle.sig_services.specs.Token.{token_of};
+ghost use Rattle.sig_models.specs.Token.{token_of};
 
 use json_values::{Copied, Text, copy_all, row};
 use std::alloc::{AllocError, Global};
